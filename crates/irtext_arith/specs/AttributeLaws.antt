@@ -12,7 +12,7 @@ use Rattle.irtext_syntax.specs.Sequences.{anything_ends}
 use Rattle.irtext_syntax.specs.ShapeLaws.{Proved, angle_encloses, colon_joins, comma_joins, number_proved, quoted_proved, flag_proved, ranged_proved, own_proved, then_proved, within_proved}
 use Rattle.irtext_syntax.specs.TableLaws.{part_row, part_sincere, table_lawful, table_led, table_sincere, table_unreserved}
 use Rattle.irtext_syntax.specs.Tables.{Row}
-use Rattle.irtext_arith.specs.Attributes.{value_shape, compares_shape, overflow_shape, align_shape, doc_shape, attr_words, attr_word, attr_text, attr_behind, attr_at, attr_eq}
+use Rattle.irtext_arith.specs.Attributes.{value_shape, compares_shape, overflow_shape, align_shape, doc_shape, attr_words, attr_word, attr_text, attr_after, attr_at, attr_eq}
 use Rattle.irtext_arith.specs.PredicateLaws.{predicate_proved, predicate_last}
 use Rattle.irtext_arith.specs.contracts.fixed.BytesRange.TheImpl as bytes
 use Rattle.irtext_arith.specs.declared.attributes.AttrWord.{AttrWord}
@@ -38,7 +38,7 @@ module _ {T : Type 0} {type_at : Reader T} {type_text : T → Text} {type_eq : T
   doc_shape_proved = quoted_proved
 
   -- how the text of each attribute is parsed back
-  rows : (x : ArithAttr T) → Row attr_word (attr_behind type_at type_text type_eq) attr_words (attr_text type_at type_text type_eq) x
+  rows : (x : ArithAttr T) → Row attr_word (attr_after type_at type_text type_eq) attr_words (attr_text type_at type_text type_eq) x
   rows (attr.Value x) = part_row (codes "arith.value") word.Value attr.Value x value_shape_proved.law anything_ends refl refl refl (λ text. refl)
   rows (attr.Compares x) = part_row (codes "arith.predicate") word.Compares attr.Compares x compares_shape_proved.law predicate_last refl refl refl (λ text. refl)
   rows (attr.Overflow x) = part_row (codes "arith.overflow") word.Overflow attr.Overflow x overflow_shape_proved.law anything_ends refl refl refl (λ text. refl)
@@ -46,12 +46,12 @@ module _ {T : Type 0} {type_at : Reader T} {type_text : T → Text} {type_eq : T
   rows (attr.Doc x) = part_row (codes "arith.doc") word.Doc attr.Doc x doc_shape_proved.law anything_ends refl refl refl (λ text. refl)
 
   -- what comes after each word is about the text
-  behind_sincere : (w : AttrWord) → Sincere (attr_behind type_at type_text type_eq w)
-  behind_sincere word.Value = part_sincere attr.Value value_shape_proved.law
-  behind_sincere word.Compares = part_sincere attr.Compares compares_shape_proved.law
-  behind_sincere word.Overflow = part_sincere attr.Overflow overflow_shape_proved.law
-  behind_sincere word.Align = part_sincere attr.Align align_shape_proved.law
-  behind_sincere word.Doc = part_sincere attr.Doc doc_shape_proved.law
+  after_sincere : (w : AttrWord) → Sincere (attr_after type_at type_text type_eq w)
+  after_sincere word.Value = part_sincere attr.Value value_shape_proved.law
+  after_sincere word.Compares = part_sincere attr.Compares compares_shape_proved.law
+  after_sincere word.Overflow = part_sincere attr.Overflow overflow_shape_proved.law
+  after_sincere word.Align = part_sincere attr.Align align_shape_proved.law
+  after_sincere word.Doc = part_sincere attr.Doc doc_shape_proved.law
 
   pub attr_lawful : Lawful (ArithAttr T) (texts_of (attr_at type_at type_text type_eq) (attr_text type_at type_text type_eq))
   attr_lawful = table_lawful (codes "Unregistered attribute ") AnAttribute rows
@@ -63,7 +63,7 @@ module _ {T : Type 0} {type_at : Reader T} {type_text : T → Text} {type_eq : T
   attr_unreserved = table_unreserved (attr_at type_at type_text type_eq) rows refl
 
   pub attr_sincere : Sincere (attr_at type_at type_text type_eq)
-  attr_sincere = table_sincere attr_word (codes "Unregistered attribute ") AnAttribute behind_sincere
+  attr_sincere = table_sincere attr_word (codes "Unregistered attribute ") AnAttribute after_sincere
 
   same : (x y : ArithAttr T) → attr_eq type_at type_text type_eq x y ≡ true → x ≡ y
   same (attr.Value x) (attr.Value y) e = ap attr.Value ((value_shape_proved.decides x y).0 e)

@@ -64,16 +64,16 @@ module _ {T : Type 0} (type_at : Reader T) (type_text : T → Text) (type_eq : T
   attr_text (attr.Doc x) = codes "arith.doc " ++ doc_shape.written x
 
   -- the rest of an attribute, after its word
-  abbrev pub attr_behind : AttrWord → Reader (ArithAttr T)
-  attr_behind word.Value = (space_at ▷ value_shape.reading) ⇒ attr.Value
-  attr_behind word.Compares = (space_at ▷ compares_shape.reading) ⇒ attr.Compares
-  attr_behind word.Overflow = (space_at ▷ overflow_shape.reading) ⇒ attr.Overflow
-  attr_behind word.Align = (space_at ▷ align_shape.reading) ⇒ attr.Align
-  attr_behind word.Doc = (space_at ▷ doc_shape.reading) ⇒ attr.Doc
+  abbrev pub attr_after : AttrWord → Reader (ArithAttr T)
+  attr_after word.Value = (space_at ▷ value_shape.reading) ⇒ attr.Value
+  attr_after word.Compares = (space_at ▷ compares_shape.reading) ⇒ attr.Compares
+  attr_after word.Overflow = (space_at ▷ overflow_shape.reading) ⇒ attr.Overflow
+  attr_after word.Align = (space_at ▷ align_shape.reading) ⇒ attr.Align
+  attr_after word.Doc = (space_at ▷ doc_shape.reading) ⇒ attr.Doc
 
   -- an attribute's word, and the rest of the attribute
   abbrev pub attr_at : Reader (ArithAttr T)
-  attr_at = table_at attr_word attr_behind (codes "Unregistered attribute ") AnAttribute
+  attr_at = table_at attr_word attr_after (codes "Unregistered attribute ") AnAttribute
 
   -- whether two attributes are equal
   abbrev pub attr_eq : ArithAttr T → ArithAttr T → Bool

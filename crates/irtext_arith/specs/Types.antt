@@ -32,10 +32,10 @@ type_text (ty.Int x) = codes "arith.int " ++ int_shape.written x
 type_text ty.Index = codes "arith.index"
 
 -- the rest of a type, after its word
-abbrev pub type_behind : TypeWord → Reader ArithType
-type_behind word.Int = (space_at ▷ int_shape.reading) ⇒ ty.Int
-type_behind word.Index = nothing ty.Index
+abbrev pub type_after : TypeWord → Reader ArithType
+type_after word.Int = (space_at ▷ int_shape.reading) ⇒ ty.Int
+type_after word.Index = nothing ty.Index
 
 -- a type's word, and the rest of the type
 abbrev pub type_at : Reader ArithType
-type_at = table_at type_word type_behind (codes "Unregistered type ") AType
+type_at = table_at type_word type_after (codes "Unregistered type ") AType

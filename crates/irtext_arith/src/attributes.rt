@@ -10,7 +10,7 @@ use irtext_syntax::part::TryClone;
 use irtext_syntax::range::Ranged;
 use irtext_syntax::ready::{Angle, Colon, Comma};
 use irtext_syntax::sequence::{Then, Within};
-use irtext_syntax::table::{Table, behind_word, table_parse, write_row};
+use irtext_syntax::table::{Table, after_word, table_parse, write_row};
 use irtext_syntax::{Characters, Number, match_text, matches_text};
 use std::alloc::AllocError;
 use std::fmt;
@@ -54,11 +54,11 @@ pub enum AttrWord {
 }
 
 impl<B, T: IrText<B>> Table<ArithAttr<T>, B> for AttrWord {
-    ghost use Rattle.irtext_arith.specs.Attributes.{attr_word, attr_behind};
+    ghost use Rattle.irtext_arith.specs.Attributes.{attr_word, attr_after};
 
     ghost word = { attr_word };
 
-    ghost behind = { attr_behind T.reading T.written T.eq };
+    ghost following = { attr_after T.reading T.written T.eq };
 
     fn of(text: &str) -> Option<AttrWord> {
         match_text!(text; "arith.value" => AttrWord::Value, "arith.predicate" => AttrWord::Compares,
@@ -68,11 +68,11 @@ impl<B, T: IrText<B>> Table<ArithAttr<T>, B> for AttrWord {
 
     fn parse(self, stream: &mut TextStream) -> ParseResult<ArithAttr<T>, B> {
         match self {
-            AttrWord::Value => Ok(ArithAttr::Value(behind_word(stream)?)),
-            AttrWord::Compares => Ok(ArithAttr::Compares(behind_word(stream)?)),
-            AttrWord::Overflow => Ok(ArithAttr::Overflow(behind_word(stream)?)),
-            AttrWord::Align => Ok(ArithAttr::Align(behind_word(stream)?)),
-            AttrWord::Doc => Ok(ArithAttr::Doc(behind_word(stream)?)),
+            AttrWord::Value => Ok(ArithAttr::Value(after_word(stream)?)),
+            AttrWord::Compares => Ok(ArithAttr::Compares(after_word(stream)?)),
+            AttrWord::Overflow => Ok(ArithAttr::Overflow(after_word(stream)?)),
+            AttrWord::Align => Ok(ArithAttr::Align(after_word(stream)?)),
+            AttrWord::Doc => Ok(ArithAttr::Doc(after_word(stream)?)),
         }
     }
 }

@@ -3,7 +3,7 @@ use irtext_base::parsable::{ParseResult, TextStream};
 use irtext_base::result::Expected;
 use irtext_base::text::{Family, IrText, Worded};
 use irtext_syntax::part::TryClone;
-use irtext_syntax::table::{Table, behind_word, table_parse, word_alone, write_row, write_word};
+use irtext_syntax::table::{Table, after_word, table_parse, word_alone, write_row, write_word};
 use irtext_syntax::{Number, match_text, matches_text};
 use std::alloc::AllocError;
 use std::fmt;
@@ -27,11 +27,11 @@ pub enum TypeWord {
 }
 
 impl<A> Table<ArithType, A> for TypeWord {
-    ghost use Rattle.irtext_arith.specs.Types.{type_word, type_behind};
+    ghost use Rattle.irtext_arith.specs.Types.{type_word, type_after};
 
     ghost word = { type_word };
 
-    ghost behind = { type_behind };
+    ghost following = { type_after };
 
     fn of(text: &str) -> Option<TypeWord> {
         match_text!(text; "arith.int" => TypeWord::Int, "arith.index" => TypeWord::Index)
@@ -39,7 +39,7 @@ impl<A> Table<ArithType, A> for TypeWord {
 
     fn parse(self, stream: &mut TextStream) -> ParseResult<ArithType, A> {
         match self {
-            TypeWord::Int => Ok(ArithType::Int(behind_word(stream)?)),
+            TypeWord::Int => Ok(ArithType::Int(after_word(stream)?)),
             TypeWord::Index => word_alone(stream, ArithType::Index),
         }
     }

@@ -12,7 +12,7 @@ use Rattle.irtext_base.specs.Seen.{more_among}
 use Rattle.irtext_base.specs.StableHash.{attr_writes, metadata_writes, location_writes, row_writes, row_len}
 use Rattle.irtext_base.specs.Feeds.{feeding, hashing}
 use Rattle.irtext_base.specs.Visits.{visited, row_visited, of_sources}
-use Rattle.irtext_base.proofs.RowEnds.{with_true, behind}
+use Rattle.irtext_base.proofs.RowEnds.{with_true, and_same}
 use Rattle.irtext_base.proofs.Visits.{in_two, in_three, apart, written_visited}
 
 module _ {S A : Type 0} (write : S → List ℕ → S) (feeds : A → HashWrites) where
@@ -46,11 +46,11 @@ module _ {A : Type 0} (count : ℕ) where
     all_among b (named name child) = all_among b child
     all_among b (call_site k l) =
         ap (λ z. visited (of_sources more_among) z l) (all_among b k)
-        ∙ (all_among (b && are_known count k) l ∙ ap (among count) (sym (behind b (are_known count k) (are_known count k && are_known count l) (are_known count l) refl)))
+        ∙ (all_among (b && are_known count k) l ∙ ap (among count) (sym (and_same b (are_known count k) (are_known count k && are_known count l) (are_known count l) refl)))
     all_among b unknown = ap (among count) (sym (with_true b))
 
     row_among : (b : Bool) (ls : LocationViews A) → row_visited (of_sources more_among) (among count b) ls ≡ among count (b && row_known count ls)
     row_among b no_location = ap (among count) (sym (with_true b))
     row_among b (location l ls) =
         ap (λ z. row_visited (of_sources more_among) z ls) (all_among b l)
-        ∙ (row_among (b && are_known count l) ls ∙ ap (among count) (sym (behind b (are_known count l) (are_known count l && row_known count ls) (row_known count ls) refl)))
+        ∙ (row_among (b && are_known count l) ls ∙ ap (among count) (sym (and_same b (are_known count l) (are_known count l && row_known count ls) (row_known count ls) refl)))

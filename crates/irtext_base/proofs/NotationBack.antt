@@ -8,7 +8,7 @@ use Rattle.std.specs.Char.{is_ascii_digit, is_ascii_graphic, is_whitespace}
 use Rattle.std.specs.List.{list_all}
 use Rattle.irtext_base.specs.Text.{Text, begins, front, after, after_space, begins_word, in_word, is_identifier}
 use Rattle.irtext_base.specs.Format.{Directive, Format, canonical, custom, word, operand, operands, successor, successors, attribute, dictionary, result_type, region, regions, header}
-use Rattle.irtext_stream.specs.NotationPieces.{spelled, Meaning, means, lacks, mapped, followed, is_end, past, led, index_of, index_at, closed_at, letters_after}
+use Rattle.irtext_stream.specs.NotationPieces.{spelled, Meaning, means, unmet, mapped, followed, is_end, past, led, index_of, index_at, closed_at, letters_after}
 use Rattle.irtext_base.specs.FormatViews.{format_of}
 use Rattle.irtext_base.specs.Stream.{StreamView}
 use Rattle.irtext_base.specs.declared.format.OpFormat.{OpFormat}
@@ -52,7 +52,7 @@ closed_back : (c : ℕ) (expected : NotationPart) (i : ℕ) (rest : Text) → na
 closed_back c expected i rest e d =
     let same : (c == c) ≡ true = grind (arith, nat_tests) in
     let q : index_at part.Index ((decimal i ++ (c ∷ [])) ++ rest) ≡ means i (c ∷ rest) = ap (index_at part.Index) (append_assoc (decimal i) (c ∷ []) rest) ∙ index_back part.Index i (c ∷ rest) e d in
-    ap (λ m. followed m (λ i rest. led (past (c ∷ []) rest) (means i) (lacks expected rest))) q ∙ ap (λ b. led (cond b (Some rest) None) (means i) (lacks expected (c ∷ rest))) same
+    ap (λ m. followed m (λ i rest. led (past (c ∷ []) rest) (means i) (unmet expected rest))) q ∙ ap (λ b. led (cond b (Some rest) None) (means i) (unmet expected (c ∷ rest))) same
 
 digit_no_word : (c : ℕ) → is_ascii_digit c ≡ true → begins_word c ≡ false
 digit_no_word c e = grind (arith, nat_tests)
@@ -192,7 +192,7 @@ notation_back (custom (d ∷ ds)) e =
 -- ---- what is parsed has a notation
 abbrev Whole : Meaning Format → Type 0
 Whole (means f rest) = (has_notation f ≡ true) × (rest ≡ [])
-Whole (lacks expected rest) = Unit {0}
+Whole (unmet expected rest) = Unit {0}
 
 directives_whole : (n : ℕ) (found : List Directive) (text : Text) → list_all has_text found ≡ true → Whole (directives_after n found text)
 directives_whole n found [] h = (h, refl)
@@ -201,7 +201,7 @@ directives_whole (suc n) found (c ∷ text) h = go (directive_at (c ∷ text)) (
   where
     go : (o : Meaning Directive) → ((d : Directive) (rest : Text) → o ≡ means d rest → has_text d ≡ true) → ((d : Directive) (rest : Text) → has_text d ≡ true → Whole (directives_after n (found ++ d ∷ []) (after_space rest))) → Whole (followed o (λ d rest. directives_after n (found ++ d ∷ []) (after_space rest)))
     go (means d rest) ok more = more d rest (ok d rest refl)
-    go (lacks expected rest) ok more = tt
+    go (unmet expected rest) ok more = tt
 
 format_whole : (text : Text) → Whole (format_at text)
 format_whole text = go (past (codes "canonical") text)

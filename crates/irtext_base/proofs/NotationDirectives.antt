@@ -7,9 +7,9 @@ use Rattle.std.specs.Char.{is_ascii_digit, is_ascii_graphic, is_whitespace}
 use Rattle.std.specs.List.{list_all}
 use Rattle.std.specs.Str.{chars, IsUtf8, encode_utf8_all}
 use Rattle.irtext_base.specs.Text.{Text, begins, front, after, after_space, begins_word, in_word, is_identifier}
-use Rattle.irtext_base.specs.Stream.{StreamView, behind}
+use Rattle.irtext_base.specs.Stream.{StreamView, after_taken}
 use Rattle.irtext_base.specs.Format.{Directive, canonical, custom, word, operand, operands, successor, successors, attribute, dictionary, result_type, region, regions, header}
-use Rattle.irtext_stream.specs.NotationPieces.{Meaning, means, lacks, mapped, followed, is_end, past, led, index_of, index_at, closed_at, letters_after}
+use Rattle.irtext_stream.specs.NotationPieces.{Meaning, means, unmet, mapped, followed, is_end, past, led, index_of, index_at, closed_at, letters_after}
 use Rattle.irtext_base.specs.Notation.{variable_at, filled, literal_at, directive_at, directives_after, canonical_at, format_at, notation_at, has_text}
 use Rattle.irtext_stream.specs.NotationFaults.{whole, Faults}
 use Rattle.irtext_stream.specs.declared.notation.fault.NotationPart.{NotationPart}
@@ -38,15 +38,15 @@ key_there old mid key b e k = rw b (ap₂ (λ x y. means (attribute x) y) (sym k
 -- a value passes the test, and at most this many characters are left
 abbrev pub Sound : {X : Type 0} → (X → Bool) → ℕ → Meaning X → Type 0
 Sound test n (means x rest) = (test x ≡ true) × (length rest ≤ n)
-Sound test n (lacks expected rest) = Unit {0}
+Sound test n (unmet expected rest) = Unit {0}
 
 sound_up : {X : Type 0} (test : X → Bool) (m n : ℕ) (o : Meaning X) → m ≤ n → Sound test m o → Sound test n o
 sound_up test m n (means x rest) l h = (h.0, omega (arith, l, h.1))
-sound_up test m n (lacks expected rest) l h = tt
+sound_up test m n (unmet expected rest) l h = tt
 
 sound_mapped : {X Y : Type 0} (test : X → Bool) (more : Y → Bool) (see : X → Y) (n : ℕ) (o : Meaning X) → ((x : X) → test x ≡ true → more (see x) ≡ true) → Sound test n o → Sound more n (mapped see o)
 sound_mapped test more see n (means x rest) k h = (k x h.0, h.1)
-sound_mapped test more see n (lacks expected rest) k h = tt
+sound_mapped test more see n (unmet expected rest) k h = tt
 
 sound_led : {X : Type 0} (test : X → Bool) (n : ℕ) (s text : Text) (next : Text → Meaning X) (other : Meaning X) → 0 < length s → length text ≤ suc n → ((rest : Text) → Sound test (length rest) (next rest)) → Sound test n other → Sound test n (led (past s text) next other)
 sound_led test n s text next other some l k h = go (past s text) (λ rest e. omega (arith, past_shorter s text rest e, some, l))
@@ -69,7 +69,7 @@ fits i = nat_lt i (2 ^ 64)
 index_sound : (expected : NotationPart) (text : Text) → Sound fits (length text) (index_at expected text)
 index_sound expected text = go (begins is_ascii_digit text) (fits (index_of text)) refl
   where
-    go : (b d : Bool) → fits (index_of text) ≡ d → Sound fits (length text) (cond (b && d) (means (index_of text) (after is_ascii_digit text)) (lacks expected text))
+    go : (b d : Bool) → fits (index_of text) ≡ d → Sound fits (length text) (cond (b && d) (means (index_of text) (after is_ascii_digit text)) (unmet expected text))
     go true true e = (e, after_short is_ascii_digit text)
     go true false e = tt
     go false d e = tt
@@ -77,13 +77,13 @@ index_sound expected text = go (begins is_ascii_digit text) (fits (index_of text
 closed_sound : (s : Text) (expected : NotationPart) (text : Text) → Sound fits (length text) (closed_at s expected text)
 closed_sound s expected text = go (index_at part.Index text) (index_sound part.Index text)
   where
-    go : (o : Meaning ℕ) → Sound fits (length text) o → Sound fits (length text) (followed o (λ i rest. led (past s rest) (means i) (lacks expected rest)))
+    go : (o : Meaning ℕ) → Sound fits (length text) o → Sound fits (length text) (followed o (λ i rest. led (past s rest) (means i) (unmet expected rest)))
     go (means i rest) h = at (past s rest) (λ left e. past_shorter s rest left e)
       where
-        at : (o : Option Text) → ((left : Text) → o ≡ Some left → length left + length s ≡ length rest) → Sound fits (length text) (led o (means i) (lacks expected rest))
+        at : (o : Option Text) → ((left : Text) → o ≡ Some left → length left + length s ≡ length rest) → Sound fits (length text) (led o (means i) (unmet expected rest))
         at (Some left) e = (h.0, omega (arith, h.1, e left refl))
         at None e = tt
-    go (lacks p rest) h = tt
+    go (unmet p rest) h = tt
 
 variable_sound : (text : Text) → Sound has_text (length text) (variable_at text)
 variable_sound text = go (begins begins_word text) refl
@@ -114,7 +114,7 @@ letters_sound found true (c ∷ text) h = go (c == 96) refl (λ e. letters_sound
 letters_sound found false (c ∷ text) h = go (c == 96) (is_ascii_graphic c) refl (letters_sound found true text h) (λ e. letters_sound (found ++ c ∷ []) false text (all_more is_ascii_graphic found c h e))
   where
     go : (b d : Bool) → is_ascii_graphic c ≡ d → Sound (list_all is_ascii_graphic) (length text) (letters_after found true text) → (is_ascii_graphic c ≡ true → Sound (list_all is_ascii_graphic) (length text) (letters_after (found ++ c ∷ []) false text))
-        → Sound (list_all is_ascii_graphic) (length (c ∷ text)) (cond b (letters_after found true text) (cond d (letters_after (found ++ c ∷ []) false text) (lacks part.Backquote (c ∷ text))))
+        → Sound (list_all is_ascii_graphic) (length (c ∷ text)) (cond b (letters_after found true text) (cond d (letters_after (found ++ c ∷ []) false text) (unmet part.Backquote (c ∷ text))))
     go true d e l more = sound_up (list_all is_ascii_graphic) (length text) (length (c ∷ text)) (letters_after found true text) (omega arith) l
     go false true e l more = sound_up (list_all is_ascii_graphic) (length text) (length (c ∷ text)) (letters_after (found ++ c ∷ []) false text) (omega arith) (more e)
     go false false e l more = tt
@@ -125,7 +125,7 @@ literal_sound text = go (letters_after [] false text) (letters_sound [] false te
     go : (o : Meaning Text) → Sound (list_all is_ascii_graphic) (length text) o → Sound has_text (length text) (followed o (filled text))
     go (means [] rest) h = tt
     go (means (c ∷ s) rest) h = let some : nat_lt 0 (length (c ∷ s)) ≡ true = grind (arith, nat_tests) in (both (nat_lt 0 (length (c ∷ s))) (list_all is_ascii_graphic (c ∷ s)) some h.0, h.1)
-    go (lacks p rest) h = tt
+    go (unmet p rest) h = tt
 
 -- a directive has a notation, and takes a character
 directive_sound : (n : ℕ) (text : Text) → length text ≤ suc n → Sound has_text n (directive_at text)
@@ -139,7 +139,7 @@ directive_sound n text l =
     (sound_led has_text n (codes "operands") text (means operands) _ (omega arith) l (λ rest. (refl, omega arith))
     (sound_led has_text n (codes "successors") text (means successors) _ (omega arith) l (λ rest. (refl, omega arith))
     (sound_led has_text n (codes "regions") text (means regions) _ (omega arith) l (λ rest. (refl, omega arith))
-    (sound_led has_text n (codes "attr_dict") text (means dictionary) (lacks part.Directive text) (omega arith) l (λ rest. (refl, omega arith)) tt)))))))))
+    (sound_led has_text n (codes "attr_dict") text (means dictionary) (unmet part.Directive text) (omega arith) l (λ rest. (refl, omega arith)) tt)))))))))
 
 -- a directive that was found has a notation, and took a character
 pub directive_found : (text : Text) (d : Directive) (rest : Text) → directive_at text ≡ means d rest → (has_text d ≡ true) × (length rest < length text)
@@ -152,7 +152,7 @@ chars_none [] u e = sym (chars_from_encodes [] [] u refl)
 chars_none (c ∷ bytes) u e = absurd (omega (arith, e))
 
 -- a literal without characters
-pub literal_empty : (text rest : Text) (bytes : List ℕ) → IsUtf8 bytes → length bytes ≡ 0 → letters_after [] false text ≡ means (chars bytes) rest → literal_at text ≡ lacks part.Character text
+pub literal_empty : (text rest : Text) (bytes : List ℕ) → IsUtf8 bytes → length bytes ≡ 0 → letters_after [] false text ≡ means (chars bytes) rest → literal_at text ≡ unmet part.Character text
 literal_empty text rest bytes u e h = ap (λ m. followed m (filled text)) h ∙ ap (λ z. filled text z rest) (chars_none bytes u e)
 
 -- a literal with some
@@ -191,7 +191,7 @@ module _ {start text : Text} {found : List Directive} {now : StreamView} (s : Li
       subst (λ z. Faults z (directives_after (length start) [] start) e) s.same (subst (λ m. Faults (whole now) m e) (sym (s.left ∙ k.2)) f)
 
   -- the next directive was found, and the white space after it
-  pub listed_more : (d : Directive) (mid next : StreamView) → is_end now.rest ≡ false → directive_at now.rest ≡ means d mid.rest → whole mid ≡ whole now → next ≡ behind mid (front is_whitespace mid.rest) (after is_whitespace mid.rest) → Listed start text (found ++ d ∷ []) next
+  pub listed_more : (d : Directive) (mid next : StreamView) → is_end now.rest ≡ false → directive_at now.rest ≡ means d mid.rest → whole mid ≡ whole now → next ≡ after_taken mid (front is_whitespace mid.rest) (after is_whitespace mid.rest) → Listed start text (found ++ d ∷ []) next
   listed_more d mid next some h w n =
       let k = directives_step s.bound found now.rest some s.enough in
       let p = passed_front is_whitespace mid next n in
@@ -211,7 +211,7 @@ module _ {start text : Text} {found : List Directive} {now : StreamView} (s : Li
       go (c ∷ rest) e = absurd (cc)
 
 -- less is left after a directive
-pub listed_shorter : (d : Directive) (now mid next : StreamView) → directive_at now.rest ≡ means d mid.rest → next ≡ behind mid (front is_whitespace mid.rest) (after is_whitespace mid.rest) → length next.rest < length now.rest
+pub listed_shorter : (d : Directive) (now mid next : StreamView) → directive_at now.rest ≡ means d mid.rest → next ≡ after_taken mid (front is_whitespace mid.rest) (after is_whitespace mid.rest) → length next.rest < length now.rest
 listed_shorter d now mid next h n = omega (arith, (directive_found now.rest d mid.rest h).1, after_short is_whitespace mid.rest, ap (λ v. length v.rest) n)
 
 -- the start
@@ -223,7 +223,7 @@ listed_start now = record { bound = length now.rest; enough = omega arith; left 
 pub faults_as : {X : Type 0} (t u : Text) (m n : Meaning X) (e : NotationFault) → n ≡ m → t ≡ u → Faults t m e → Faults u n e
 faults_as t u m n e q w h = subst (λ z. Faults z n e) w (subst (λ z. Faults t z e) (sym q) h)
 
-module _ (old mid now : StreamView) (begun : mid ≡ behind old (front is_whitespace old.rest) (after is_whitespace old.rest)) where
+module _ (old mid now : StreamView) (begun : mid ≡ after_taken old (front is_whitespace old.rest) (after is_whitespace old.rest)) where
   -- directives come
   pub format_listed : past (codes "canonical") mid.rest ≡ None → now ≡ mid → (notation_at old.rest ≡ directives_after (length now.rest) [] now.rest) × (whole now ≡ whole old)
   format_listed e n =
@@ -233,7 +233,7 @@ module _ (old mid now : StreamView) (begun : mid ≡ behind old (front is_whites
       )
 
   -- the canonical form comes
-  pub format_canonical : (end : StreamView) → past (codes "canonical") mid.rest ≡ Some now.rest → whole now ≡ whole mid → end ≡ behind now (front is_whitespace now.rest) (after is_whitespace now.rest) → (notation_at old.rest ≡ canonical_at end.rest) × (whole end ≡ whole old)
+  pub format_canonical : (end : StreamView) → past (codes "canonical") mid.rest ≡ Some now.rest → whole now ≡ whole mid → end ≡ after_taken now (front is_whitespace now.rest) (after is_whitespace now.rest) → (notation_at old.rest ≡ canonical_at end.rest) × (whole end ≡ whole old)
   format_canonical end e w n =
       let p = passed_front is_whitespace old mid begun in
       let q = passed_front is_whitespace now end n in (
@@ -243,7 +243,7 @@ module _ (old mid now : StreamView) (begun : mid ≡ behind old (front is_whites
 
 -- the text ends there, or not
 pub canonical_ends : (text : Text) → is_end text ≡ true → canonical_at text ≡ means canonical text
-canonical_ends text e = ap (λ b. cond b (means canonical text) (lacks part.End text)) e
+canonical_ends text e = ap (λ b. cond b (means canonical text) (unmet part.End text)) e
 
-pub canonical_goes_on : (text : Text) → is_end text ≡ false → canonical_at text ≡ lacks part.End text
-canonical_goes_on text e = ap (λ b. cond b (means canonical text) (lacks part.End text)) e
+pub canonical_goes_on : (text : Text) → is_end text ≡ false → canonical_at text ≡ unmet part.End text
+canonical_goes_on text e = ap (λ b. cond b (means canonical text) (unmet part.End text)) e

@@ -41,8 +41,8 @@ last_get [] y = refl
 last_get (x ∷ xs) y = last_get xs y
 
 -- a kept path is under its key
-pub path_stands : (paths : List (List ℕ)) (path : List ℕ) → slice_get (with_path paths path) (path_index paths path) ≡ Some path
-path_stands paths path = by (nat_lt (position_or_len (bytes_eq path) paths) (length paths)) refl
+pub path_is_kept : (paths : List (List ℕ)) (path : List ℕ) → slice_get (with_path paths path) (path_index paths path) ≡ Some path
+path_is_kept paths path = by (nat_lt (position_or_len (bytes_eq path) paths) (length paths)) refl
   where
     by : (b : Bool) → nat_lt (position_or_len (bytes_eq path) paths) (length paths) ≡ b
         → slice_get (found_or_last (cond b (Some (position_or_len (bytes_eq path) paths)) None) paths path) (index_or_next (cond b (Some (position_or_len (bytes_eq path) paths)) None) paths) ≡ Some path
@@ -52,7 +52,7 @@ path_stands paths path = by (nat_lt (position_or_len (bytes_eq path) paths) (len
 
 -- the key that a path is given names it
 pub path_found : (old new : List (List ℕ)) (path : List ℕ) (key : PathKey) → key.index ≡ path_index old path → new ≡ with_path old path → path_of new (File key) ≡ Some path
-path_found old new path key e f = rw (e, f) (path_stands old path)
+path_found old new path key e f = rw (e, f) (path_is_kept old path)
 
 pub path_known : (old new : List (List ℕ)) (path : List ℕ) (key : PathKey) → key.index ≡ path_index old path → new ≡ with_path old path → is_known (length new) (File key) ≡ true
 path_known old new path key e f = less key.index (length new) (slice_get_within new key.index path (path_found old new path key e f))

@@ -8,9 +8,9 @@ pub with_true : (b : Bool) → (b && true) ≡ b
 with_true true = refl
 with_true false = refl
 
-pub behind : (b c d e : Bool) → d ≡ (c && e) → (b && d) ≡ ((b && c) && e)
-behind true c d e h = h
-behind false c d e h = refl
+pub and_same : (b c d e : Bool) → d ≡ (c && e) → (b && d) ≡ ((b && c) && e)
+and_same true c d e h = h
+and_same false c d e h = refl
 
 -- what is left of a list from a place on is the location there, and what is left after it
 pub first_left : {A : Type 0} (all : List (Location A)) (i : ℕ) (l : Location A) → i < length all → l ≡ get_or all i l

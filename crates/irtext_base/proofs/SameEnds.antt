@@ -10,7 +10,7 @@ use Rattle.irtext_base.specs.Locations.{location_view, in_row, attr_view_in}
 use Rattle.irtext_base.specs.SameLocations.{same_attr, same_view, same_rows}
 use Rattle.irtext_base.specs.SameLeft.{several}
 use Rattle.irtext_base.proofs.LocationViews.{at-fused}
-use Rattle.irtext_base.proofs.RowEnds.{first_left, with_true, behind}
+use Rattle.irtext_base.proofs.RowEnds.{first_left, with_true, and_same}
 
 with_false : (b : Bool) → (b && false) ≡ false
 with_false true = refl
@@ -36,7 +36,7 @@ module _ {A : Type 0} (E : A → A → Bool) where
   rows_last [] (h ∷ i ∷ ks) l k = with_false (views l h)
   rows_last (h ∷ []) [] l k = with_false (views h k)
   rows_last (h ∷ i ∷ ls) [] l k = with_false (views h k)
-  rows_last (h ∷ ls) (i ∷ ks) l k = behind (views h i) (rows ls ks) (rows (ls ++ l ∷ []) (ks ++ k ∷ [])) (views l k) (rows_last ls ks l k)
+  rows_last (h ∷ ls) (i ∷ ks) l k = and_same (views h i) (rows ls ks) (rows (ls ++ l ∷ []) (ks ++ k ∷ [])) (views l k) (rows_last ls ks l k)
 
   pub none_same : (ls ks : List (Location A)) → length ls ≡ 0 → rows ls ks ≡ (length ks == 0)
   none_same [] [] h = refl

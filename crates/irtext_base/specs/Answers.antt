@@ -1,7 +1,7 @@
 -- The results of parsers, and what they leave of the stream.
 use Rattle.std.specs.Prelude.{◌≡◌, ◌⊎◌, Bool, true, false, Result, Ok, Err, [], ◌++◌}
 use Rattle.irtext_base.specs.Text.{Text}
-use Rattle.irtext_base.specs.Stream.{StreamView, IsAt, behind, after_failure}
+use Rattle.irtext_base.specs.Stream.{StreamView, IsAt, after_taken, after_failure}
 use Rattle.irtext_base.specs.Faults.{Fault, Memory, Failed, fault_of}
 use Rattle.irtext_base.specs.declared.parsable.fault.ParseFault.{ParseFault}
 
@@ -63,7 +63,7 @@ module _ {S : Type 0} (view : S → StreamView) (at : S → StreamView → S) wh
 
   -- the stream consumed these characters, a prefix of what was left
   pub record Takes (taken rest : Text) (old new : S) : Type 0 where
-    pub is : new ≡ at old (behind (view old) taken rest)
+    pub is : new ≡ at old (after_taken (view old) taken rest)
     pub same : taken ++ rest ≡ (view old).rest
 
   -- the value is the one that is parsed there, and its characters were consumed
@@ -81,7 +81,7 @@ module _ {S : Type 0} (view : S → StreamView) (at : S → StreamView → S) wh
 
   module _ {A : Type 0} where
     -- out of memory on a stream that had not failed: a committed error at the stream's new position, and the stream has failed
-    pub record Starves (old : S) (fault : ParseFault A) (new : S) : Type 0 where
+    pub record RunsOut (old : S) (fault : ParseFault A) (new : S) : Type 0 where
       pub because : fault_of fault.cause ≡ Memory
       pub committed : fault.committed ≡ true
       pub fine : (view old).failed ≡ false
@@ -89,15 +89,15 @@ module _ {S : Type 0} (view : S → StreamView) (at : S → StreamView → S) wh
       pub left : SameStream true old new
 
     -- a committed error at the position after the characters `passed`, and the stream is marked as failed without being moved
-    pub record FailsBehind (cause : Fault) (passed : Text) (old : S) (fault : ParseFault A) (new : S) : Type 0 where
+    pub record FailsAfter (cause : Fault) (passed : Text) (old : S) (fault : ParseFault A) (new : S) : Type 0 where
       pub because : fault_of fault.cause ≡ cause
       pub committed : fault.committed ≡ true
       pub place : IsAt fault.pos.line fault.pos.column passed
       pub left : new ≡ at old (after_failure (view old))
 
     -- out of memory at the stream's position, and the stream is marked as failed without being moved
-    abbrev pub StarvesHere : S → ParseFault A → S → Type 0
-    StarvesHere old fault new = FailsBehind Memory (view old).passed old fault new
+    abbrev pub RunsOutHere : S → ParseFault A → S → Type 0
+    RunsOutHere old fault new = FailsAfter Memory (view old).passed old fault new
 
     -- a committed error at the position after the characters `upto`, and the stream has failed
     pub record Commits (cause : Fault) (upto : Text) (old : S) (fault : ParseFault A) (new : S) : Type 0 where
@@ -134,11 +134,11 @@ module _ {S : Type 0} (view : S → StreamView) (at : S → StreamView → S) wh
     -- The result of a parser, with `see` applied to its value, is the one of the outcome, or out of memory.
     abbrev pub Answers : {X Y : Type 0} → (Y → X) → Outcome X → S → Result Y (ParseFault A) → S → Type 0
     Answers see o old (Ok y) new = Gives o old (see y) new
-    Answers see o old (Err fault) new = Starves old fault new ⊎ Refuses o old fault new
+    Answers see o old (Err fault) new = RunsOut old fault new ⊎ Refuses o old fault new
 
     -- an error that the relation allows of the text, or out of memory
     pub data Refused {X : Type 0} (R : Text → Outcome X → Type 0) (old : S) (fault : ParseFault A) (new : S) : Type 0 where
-      starved : Starves old fault new → Refused R old fault new
+      ran_out : RunsOut old fault new → Refused R old fault new
       missing : (cause : Fault) → Outcomes R (view old).failed (view old).rest (Missing cause) → Passes cause old fault new → Refused R old fault new
       bad : (cause : Fault) (upto : Text) → Outcomes R (view old).failed (view old).rest (Bad cause upto) → Commits cause upto old fault new → Refused R old fault new
 

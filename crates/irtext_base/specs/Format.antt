@@ -107,9 +107,9 @@ count test [] = 0
 count test (d ∷ ds) = cond (test d) (suc (count test ds)) (count test ds)
 
 -- no directive that passes `late` has one after it that passes `early`
-abbrev pub none_behind : (Directive → Bool) → (Directive → Bool) → List Directive → Bool
-none_behind late early [] = true
-none_behind late early (d ∷ ds) = (not (late d) || list_all (λ e. not (early e)) ds) && none_behind late early ds
+abbrev pub none_follows : (Directive → Bool) → (Directive → Bool) → List Directive → Bool
+none_follows late early [] = true
+none_follows late early (d ∷ ds) = (not (late d) || list_all (λ e. not (early e)) ds) && none_follows late early ds
 
 -- if the directive is a fixed word, it is one or more printable ASCII characters
 abbrev pub word_prints : Directive → Bool
@@ -133,7 +133,7 @@ c4 ds = are_places (type_places ds)
 
 -- C5: the indices of single regions are 0, 1 and so on, in this order, and there is at most one list of regions, after all of them
 abbrev pub c5 : List Directive → Bool
-c5 ds = ascend 0 (region_places ds) && nat_lt (count is_regions ds) 2 && none_behind is_regions (λ d. elim d [ region i ↦ true | _ ↦ false ]) ds
+c5 ds = ascend 0 (region_places ds) && nat_lt (count is_regions ds) 2 && none_follows is_regions (λ d. elim d [ region i ↦ true | _ ↦ false ]) ds
 
 -- the key of the given names of results or arguments
 abbrev pub given_names_key : Text
@@ -156,7 +156,7 @@ c6 ds = distinct same_text (keys ds) && not (has same_text given_names_key (keys
 
 -- C7: no name and no type comes after a region
 abbrev pub c7 : List Directive → Bool
-c7 ds = none_behind is_any_region (λ d. elim d [ operand i ↦ true | operands ↦ true | successor i ↦ true | successors ↦ true | result_type i ↦ true | _ ↦ false ]) ds
+c7 ds = none_follows is_any_region (λ d. elim d [ operand i ↦ true | operands ↦ true | successor i ↦ true | successors ↦ true | result_type i ↦ true | _ ↦ false ]) ds
 
 -- The kind of a character, for C8: all letters and `_` are of one kind, which is `_`; each other character is its own kind.
 abbrev pub kind : ℕ → ℕ

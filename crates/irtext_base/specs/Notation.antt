@@ -10,7 +10,7 @@ use Rattle.irtext_base.specs.Format.{Format, canonical, custom, Directive, word,
 use Rattle.irtext_base.specs.declared.format.OpFormat.{OpFormat}
 use Rattle.irtext_stream.specs.NotationFaults.{Faults}
 use Rattle.irtext_stream.specs.declared.notation.fault.NotationFault.{NotationFault}
-use Rattle.irtext_stream.specs.NotationPieces.{spelled, Meaning, means, lacks, mapped, followed, is_end, past, led, index_at, closed_at, letters_after}
+use Rattle.irtext_stream.specs.NotationPieces.{spelled, Meaning, means, unmet, mapped, followed, is_end, past, led, index_at, closed_at, letters_after}
 use Rattle.irtext_stream.specs.declared.notation.fault.NotationPart.TheVariants as part
 
 -- the notation of a directive
@@ -38,7 +38,7 @@ variable_at text = cond (begins begins_word text) (means (attribute (front in_wo
 
 -- a literal with these characters, of which there must be one
 abbrev pub filled : Text → Text → Text → Meaning Directive
-filled text [] rest = lacks part.Character text
+filled text [] rest = unmet part.Character text
 filled text (c ∷ s) rest = means (word (c ∷ s)) rest
 
 -- after a backquote: the characters of a literal, and a backquote
@@ -52,7 +52,7 @@ fixed_at text = led (past (codes "@name") text) (means header)
     (led (past (codes "successors") text) (means successors)
     (led (past (codes "regions") text) (means regions)
     (led (past (codes "attr_dict") text) (means dictionary)
-    (lacks part.Directive text)))))
+    (unmet part.Directive text)))))
 
 -- a directive
 abbrev pub directive_at : Text → Meaning Directive
@@ -67,12 +67,12 @@ directive_at text = led (past (codes "`") text) literal_at
 -- so no more of them come than the text has characters, which is the number.
 abbrev pub directives_after : ℕ → List Directive → Text → Meaning Format
 directives_after n found [] = means (custom found) []
-directives_after zero found (c ∷ text) = lacks part.Directive (c ∷ text)
+directives_after zero found (c ∷ text) = unmet part.Directive (c ∷ text)
 directives_after (suc n) found (c ∷ text) = followed (directive_at (c ∷ text)) (λ d rest. directives_after n (found ++ d ∷ []) (after_space rest))
 
 -- the canonical form, if the text ends here
 abbrev pub canonical_at : Text → Meaning Format
-canonical_at text = cond (is_end text) (means canonical text) (lacks part.End text)
+canonical_at text = cond (is_end text) (means canonical text) (unmet part.End text)
 
 -- the format that a text without white space before it denotes: the canonical form for the word `canonical` alone, or directives
 abbrev pub format_at : Text → Meaning Format

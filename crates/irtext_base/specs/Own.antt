@@ -9,25 +9,25 @@ use Rattle.irtext_base.specs.Faults.{Fault, Unexpected, NumberRange, BadEscape, 
 use Rattle.irtext_base.specs.Format.{Format, Id, has}
 
 -- what the grammar uses of an outcome: a value and the rest of the text, that no such value begins here, or that the text is bad
-pub data Standing (X : Type 0) : Type 0 where
-  found : X → Text → Standing X
-  missing : Standing X
-  bad : Standing X
+pub data Verdict (X : Type 0) : Type 0 where
+  found : X → Text → Verdict X
+  missing : Verdict X
+  bad : Verdict X
 
 -- the outcome of a parser, as the grammar uses it
-abbrev pub standing : {X : Type 0} → Outcome X → Standing X
-standing (Read x taken rest) = found x rest
-standing (Missing cause) = missing
-standing (Bad cause upto) = bad
+abbrev pub verdict : {X : Type 0} → Outcome X → Verdict X
+verdict (Read x taken rest) = found x rest
+verdict (Missing cause) = missing
+verdict (Bad cause upto) = bad
 
 -- what a type means by its texts: what is parsed of a text, and what is printed of a value
 pub record Texts (X : Type 0) : Type 0 where
-  pub outcome : Text → Standing X
+  pub outcome : Text → Verdict X
   pub written : X → Text
 
 -- the texts of a type with these outcomes and these printed texts
 abbrev pub texts_of : {X : Type 0} → (Text → Outcome X) → (X → Text) → Texts X
-texts_of reading written = record { outcome = λ text. standing (reading text); written = written }
+texts_of reading written = record { outcome = λ text. verdict (reading text); written = written }
 
 -- where nodes are in the text, what types and attributes mean by their texts, the format of each registered operation, and what is parsed
 -- where a region is left out

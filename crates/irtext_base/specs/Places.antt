@@ -1,2 +1,2 @@
 -- Positions in a stream.
-pub use Rattle.irtext_stream.specs.Places.{StandsBehind, IsPlaceOf}
+pub use Rattle.irtext_stream.specs.Places.{IsPlaceAfter, IsPlaceOf}

@@ -48,7 +48,7 @@ fn fate_of(
 }
 
 /// Checks a row. If it has only a format, returns why that is rejected, or `accepted`.
-fn told(alloc: Global, row: &str) -> Result<String, AllocError> {
+fn result_text(alloc: Global, row: &str) -> Result<String, AllocError> {
     let Some((words, rest)) = row.split_once(PART) else {
         return match refused(alloc, row)? {
             Some(why) => Ok(why),
@@ -65,8 +65,8 @@ fn told(alloc: Global, row: &str) -> Result<String, AllocError> {
 pub fn formats(alloc: Global, text: &str) -> Result<String, AllocError> {
     let mut lines = String::new(alloc);
     for row in text.split(BETWEEN) {
-        let told = told(alloc, row)?;
-        lines.push_str(told.as_str())?;
+        let result_text = result_text(alloc, row)?;
+        lines.push_str(result_text.as_str())?;
         lines.push('\n')?;
     }
     Ok(lines)

@@ -6,7 +6,7 @@ use pliron_text::parsable::{ParseResult, TextStream};
 use std::alloc::{AllocError, Global};
 
 /// Returns the result for a list: how many items it has, or the error.
-fn told<X: Drop>(
+fn result_text<X: Drop>(
     alloc: Global,
     items: ParseResult<Vec<X>, DemoAttr>,
     bytes: usize,
@@ -21,7 +21,7 @@ fn told<X: Drop>(
 pub fn numbers(alloc: Global, text: &str) -> Result<String, AllocError> {
     let mut stream = TextStream::new(alloc, text)?;
     let items: ParseResult<Vec<i64>, DemoAttr> = list_parser(&mut stream, ',', int_parse);
-    told(alloc, items, text.len())
+    result_text(alloc, items, text.len())
 }
 
 /// Parses a list of quoted texts with commas between. Returns a line with their number.
@@ -32,5 +32,5 @@ pub fn strings(alloc: Global, text: &str) -> Result<String, AllocError> {
         ',',
         quoted_string_parse,
     );
-    told(alloc, items, text.len())
+    result_text(alloc, items, text.len())
 }

@@ -49,8 +49,8 @@ fn measure(rt: &HostRuntime) -> io::Result<()> {
     }
     let text = io::read_to_string(rt.alloc(), rt.reader())?;
     let times = words.count();
-    let told = measured(rt.alloc(), word.as_str(), times, text.as_str())?;
-    println!(rt; "{told}")
+    let result_text = measured(rt.alloc(), word.as_str(), times, text.as_str())?;
+    println!(rt; "{result_text}")
 }
 
 fn main(rt: HostRuntime) -> ExitCode {

@@ -11,7 +11,7 @@ use std::alloc::{AllocError, Global};
 const BETWEEN: char = '\u{1}';
 
 /// A module with a function that returns a constant, which is in the context before any text is parsed.
-const STANDS: &str =
+const LIVE_ROOT: &str =
     "builtin.module @bar \n{\n  ^block1v1():\n    builtin.func @foo: builtin.function <()->(builtin.integer si64)> \n    {\n      ^entry_block2v1() !0:\n        c0_v0 = test.constant builtin.integer <0: si64>: builtin.integer si64 !1;\n        test.return c0_v0\n    }\n}\n\noutlined_attributes:\n!0 = [builtin_block_label = builtin.identifier entry]\n!1 = [builtin_given_names = builtin.given_names [c0]]\n";
 
 /// Registers the demo dialects.
@@ -35,7 +35,7 @@ fn said_alone(alloc: Global, text: &str) -> Result<Said, AllocError> {
 }
 
 /// Returns the line for a text with this result.
-fn told(alloc: Global, said: &Said) -> Result<String, AllocError> {
+fn result_text(alloc: Global, said: &Said) -> Result<String, AllocError> {
     match said {
         Said::Printed(first) => String::from_str(alloc, fate(alloc, None, first.as_str(), "same")?),
         Said::Unprinted => String::from_str(alloc, "not printed"),
@@ -68,8 +68,14 @@ fn is_said_beside(
 }
 
 /// Whether the first root is still printed as before, and as many objects are live.
-fn is_as_it_was(alloc: Global, ctx: &Ctx, stands: Ptr<Operation>, before: &str, live: u64) -> bool {
-    match printed(alloc, ctx, stands) {
+fn is_as_it_was(
+    alloc: Global,
+    ctx: &Ctx,
+    live_root: Ptr<Operation>,
+    before: &str,
+    live: u64,
+) -> bool {
+    match printed(alloc, ctx, live_root) {
         Some(text) => text.as_str() == before && ctx.num_live() == live,
         None => false,
     }
@@ -79,7 +85,7 @@ fn is_as_it_was(alloc: Global, ctx: &Ctx, stands: Ptr<Operation>, before: &str, 
 fn line(
     alloc: Global,
     ctx: &mut Ctx,
-    stands: Ptr<Operation>,
+    live_root: Ptr<Operation>,
     before: &str,
     text: &str,
 ) -> Result<String, AllocError> {
@@ -88,25 +94,25 @@ fn line(
     if !is_said_beside(alloc, ctx, text, &said)? {
         return String::from_str(alloc, "wrong: something else is said of it beside a root");
     }
-    if !is_as_it_was(alloc, ctx, stands, before, live) {
+    if !is_as_it_was(alloc, ctx, live_root, before, live) {
         return String::from_str(alloc, "wrong: what stood has changed");
     }
-    told(alloc, &said)
+    result_text(alloc, &said)
 }
 
 /// Returns a line for each text.
 fn lines(
     alloc: Global,
     ctx: &mut Ctx,
-    stands: Ptr<Operation>,
+    live_root: Ptr<Operation>,
     texts: &str,
 ) -> Result<String, AllocError> {
-    let Some(before) = printed(alloc, ctx, stands) else {
+    let Some(before) = printed(alloc, ctx, live_root) else {
         return Err(AllocError);
     };
     let mut lines = String::new(alloc);
     for text in texts.split(BETWEEN) {
-        let line = line(alloc, ctx, stands, before.as_str(), text)?;
+        let line = line(alloc, ctx, live_root, before.as_str(), text)?;
         lines.push_str(line.as_str())?;
         lines.push('\n')?;
     }
@@ -116,8 +122,8 @@ fn lines(
 /// Parses the first root with an empty context of the caller, and then does the same.
 fn lines_beside(alloc: Global, ctx: &mut Ctx, texts: &str) -> Result<String, AllocError> {
     register(ctx)?;
-    match read(ctx, STANDS) {
-        Ok(stands) => lines(alloc, ctx, stands, texts),
+    match read(ctx, LIVE_ROOT) {
+        Ok(live_root) => lines(alloc, ctx, live_root, texts),
         Err(_) => Err(AllocError),
     }
 }

@@ -1,7 +1,7 @@
 //! Whether values and blocks are in a context.
 ghost use Rattle.std.specs.Prelude.{◌↔◌, IsTrue};
-ghost use Rattle.irtext_graph.specs.Parts.{ValueStands};
-ghost use Rattle.irtext_context.specs.Made.{BlocksStand, ValuesStand};
+ghost use Rattle.irtext_graph.specs.Parts.{IsDefinedValue};
+ghost use Rattle.irtext_context.specs.Made.{AreLiveBlocks, AreDefinedValues};
 
 use irtext_base::text::{AttrText, IrText};
 use irtext_context::base::{BasicBlock, Context, Ptr};
@@ -21,15 +21,15 @@ pub trait ContainsParts {
 
     /// Whether the value is defined: its operation or block is live, and has a result or an argument with this index.
     fn contains_value(&self, value: Value) -> bool
-        ensures { IsTrue result ↔ ValueStands (context self.now).graph value };
+        ensures { IsTrue result ↔ IsDefinedValue (context self.now).graph value };
 
     /// Whether each of these values is defined, as `Operation::new` requires of its operands.
     fn contains_values(&self, values: &[Value]) -> bool
-        ensures { IsTrue result ↔ ValuesStand (context self.now) values.now };
+        ensures { IsTrue result ↔ AreDefinedValues (context self.now) values.now };
 
     /// Whether each of these blocks is live, as `Operation::new` requires of its successors.
     fn contains_blocks(&self, blocks: &[Ptr<BasicBlock>]) -> bool
-        ensures { IsTrue result ↔ BlocksStand (context self.now) blocks.now };
+        ensures { IsTrue result ↔ AreLiveBlocks (context self.now) blocks.now };
 }
 
 impl<T: IrText<A>, A: AttrText<A>> ContainsParts for Context<T, A> {

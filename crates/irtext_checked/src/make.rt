@@ -3,7 +3,7 @@ ghost use Rattle.std.specs.Prelude.{◌≡◌, ◌≤◌, ℕ, IsSome, IfOk, IfE
 ghost use Rattle.irtext_base.specs.declared.location.Location.{Unknown};
 ghost use Rattle.irtext_context.specs.Context.{operation, KeepsOlder};
 ghost use Rattle.irtext_context.specs.DialectTable.{registered};
-ghost use Rattle.irtext_context.specs.Made.{BlocksStand, MakesWithRegions, SameObjects, ValuesStand};
+ghost use Rattle.irtext_context.specs.Made.{AreLiveBlocks, MakesWithRegions, SameObjects, AreDefinedValues};
 ghost use Rattle.irtext_checked.specs.Checked.{RefusesNew};
 
 use crate::contains::ContainsParts;
@@ -33,7 +33,7 @@ pub trait TryNewOperation {
         ensures made { IfOk result (λ op. MakesWithRegions num_regions ctx.old ctx.new op id result_types
             operands.now successors.now) }
         ensures live { IfOk result (λ op. IsSome (operation ctx.new op)) }
-        ensures used { OnOk result (ValuesStand ctx.old operands.now × BlocksStand ctx.old successors.now) }
+        ensures used { OnOk result (AreDefinedValues ctx.old operands.now × AreLiveBlocks ctx.old successors.now) }
         ensures registered { OnOk result (IsSome (registered ctx.old.dialects id)) }
         ensures kept { (mark : ℕ) → mark ≤ ctx.old.graph.made → KeepsOlder mark ctx.old ctx.new }
         ensures objects { OnErr result (SameObjects ctx.old ctx.new) }

@@ -41,8 +41,8 @@ known_found test (e ∷ es) = go (test e.0) (known_found test es)
     go false r = r
 
 -- the same for the value under the reference that a look-up returns
-pub known_behind : (r : Option (Bor OpInfo)) (test : OpId → Bool) (es : List (OpId × OpInfo)) → option_copied r ≡ lookup test es → option_map (λ info. known_of info.now) r ≡ lookup test (known_entries es)
-known_behind r test es e = go r ∙ ap (option_map known_of) e ∙ sym (known_found test es)
+pub known_after : (r : Option (Bor OpInfo)) (test : OpId → Bool) (es : List (OpId × OpInfo)) → option_copied r ≡ lookup test es → option_map (λ info. known_of info.now) r ≡ lookup test (known_entries es)
+known_after r test es e = go r ∙ ap (option_map known_of) e ∙ sym (known_found test es)
   where
     go : (r : Option (Bor OpInfo)) → option_map (λ info. known_of info.now) r ≡ option_map known_of (option_copied r)
     go None = refl
@@ -72,9 +72,9 @@ accepted_found name test (e ∷ es) a = go (test e.0) (accepted_found name test 
     go false r = r
 
 -- the same for the value under the reference that a look-up returns
-pub accepted_behind : (r : Option (Bor OpInfo)) → IsAccepted (option_map (λ info. known_of info.now) r) → IfSome r (λ info. Accepted (format_of info.now.format))
-accepted_behind None a = tt
-accepted_behind (Some info) a = a
+pub accepted_after : (r : Option (Bor OpInfo)) → IsAccepted (option_map (λ info. known_of info.now) r) → IfSome r (λ info. Accepted (format_of info.now.format))
+accepted_after None a = tt
+accepted_after (Some info) a = a
 
 -- the entries after one was put, or not
 pub accepted_put : {X E : Type 0} (r : Result X E) (name : Text) (old new : List (OpId × OpInfo)) (id : OpId) (info : OpInfo)

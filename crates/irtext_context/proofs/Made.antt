@@ -28,8 +28,8 @@ There T A o = IsSome (option_map (shown {O = Option (OperationData A)} {B = Bloc
 
 module _ {T A : Type 0} where
   -- an operation is live after a region was added to it
-  pub still_stands : {old new : ContextView T A} {op : Ptr Operation} {r : Ptr Region} → IsLive old.graph (TheOperation op) → AddsRegion old new op r → IsLive new.graph (TheOperation op)
-  still_stands {old} {new} {op} {r} h a = subst (There T A) (sym a.graph.operations.updates.changed) (go (get old.graph.operations op) h)
+  pub still_live : {old new : ContextView T A} {op : Ptr Operation} {r : Ptr Region} → IsLive old.graph (TheOperation op) → AddsRegion old new op r → IsLive new.graph (TheOperation op)
+  still_live {old} {new} {op} {r} h a = subst (There T A) (sym a.graph.operations.updates.changed) (go (get old.graph.operations op) h)
     where
       go : (o : Option (OperationEntry T A)) → There T A o → There T A (option_map (object_of (with_child r)) o)
       go None h = h

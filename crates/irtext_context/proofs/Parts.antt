@@ -15,8 +15,8 @@ use Rattle.irtext_context.proofs.Made.{There}
 
 module _ {T A : Type 0} (c : ContextView T A) (p : Ptr Operation) where
   -- an operation with a view is live in the graph
-  pub stands_seen : IsSome (operation c p) → IsLive c.graph (TheOperation p)
-  stands_seen h = go (get c.graph.operations p) h
+  pub seen_is_live : IsSome (operation c p) → IsLive c.graph (TheOperation p)
+  seen_is_live h = go (get c.graph.operations p) h
     where
       go : (o : Option (OperationEntry T A)) → IsSome (option_and_then operation_of o) → There T A o
       go None h = absurd (cc)

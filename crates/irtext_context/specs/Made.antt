@@ -6,7 +6,7 @@ use Rattle.irtext_context.specs.Dialects.{Table}
 use Rattle.irtext_context.specs.DialectTable.{dialect_of, registered}
 use Rattle.irtext_context.specs.Context.{ContextView, OperationView, BlockView, known, MakesOperation, AddsRegion}
 use Rattle.irtext_graph.specs.Graph.{IsLive}
-use Rattle.irtext_graph.specs.Parts.{ValueStands}
+use Rattle.irtext_graph.specs.Parts.{IsDefinedValue}
 use Rattle.irtext_graph.specs.Store.{get}
 use Rattle.irtext_base.specs.Paths.{KeepsPaths}
 use Rattle.irtext_graph.specs.declared.arena.Ptr.{Ptr}
@@ -37,12 +37,12 @@ bare_block label = record { label = label; attributes = []; loc = Unknown }
 
 module _ {T A : Type 0} where
   -- each of these values is defined in the graph
-  abbrev pub ValuesStand : ContextView T A → List Value → Type 0
-  ValuesStand c values = (i : ℕ) (v : Value) → slice_get values i ≡ Some v → ValueStands c.graph v
+  abbrev pub AreDefinedValues : ContextView T A → List Value → Type 0
+  AreDefinedValues c values = (i : ℕ) (v : Value) → slice_get values i ≡ Some v → IsDefinedValue c.graph v
 
   -- each of these blocks is live
-  abbrev pub BlocksStand : ContextView T A → List (Ptr BasicBlock) → Type 0
-  BlocksStand c blocks = (i : ℕ) (b : Ptr BasicBlock) → slice_get blocks i ≡ Some b → IsLive c.graph (TheBlock b)
+  abbrev pub AreLiveBlocks : ContextView T A → List (Ptr BasicBlock) → Type 0
+  AreLiveBlocks c blocks = (i : ℕ) (b : Ptr BasicBlock) → slice_get blocks i ≡ Some b → IsLive c.graph (TheBlock b)
 
   -- the view of a new operation with this data and results of these types, without regions
   abbrev pub made_view : OperationData A → List T → OperationView T A

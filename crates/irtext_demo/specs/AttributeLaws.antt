@@ -9,7 +9,7 @@ use Rattle.irtext_syntax.specs.Sequences.{anything_ends}
 use Rattle.irtext_syntax.specs.ShapeLaws.{Proved, angle_encloses, arrow_joins, colon_joins, list_proved, number_proved, quoted_proved, round_encloses, then_proved, within_proved}
 use Rattle.irtext_syntax.specs.TableLaws.{part_row, part_sincere, table_lawful, table_led, table_sincere, table_unreserved}
 use Rattle.irtext_syntax.specs.Tables.{Row}
-use Rattle.irtext_demo.specs.Attributes.{attr_words, attr_word, integer_shape, types_shape, function_shape, attr_text, attr_behind, attr_at}
+use Rattle.irtext_demo.specs.Attributes.{attr_words, attr_word, integer_shape, types_shape, function_shape, attr_text, attr_after, attr_at}
 use Rattle.irtext_demo.specs.IntegerTypeLaws.{integer_type_proved}
 use Rattle.irtext_demo.specs.TypeLaws.{type_proved, type_missing}
 use Rattle.irtext_demo.specs.declared.attributes.AttrWord.{AttrWord}
@@ -28,18 +28,18 @@ function_proved : Proved function_shape
 function_proved = within_proved angle_encloses (then_proved types_proved (arrow_joins (λ rest. refl)) types_proved)
 
 -- how the text of each attribute is parsed back
-rows : (x : DemoAttr) → Row attr_word attr_behind attr_words attr_text x
+rows : (x : DemoAttr) → Row attr_word attr_after attr_words attr_text x
 rows (attr.Integer x) = part_row (codes "builtin.integer") word.Integer attr.Integer x integer_proved.law anything_ends refl refl refl (λ text. refl)
 rows (attr.String x) = part_row (codes "builtin.string") word.String attr.String x quoted_proved.law anything_ends refl refl refl (λ text. refl)
 rows (attr.Function x) = part_row (codes "builtin.function") word.Function attr.Function x function_proved.law anything_ends refl refl refl (λ text. refl)
 rows (attr.Debug x) = part_row (codes "test.dbg") word.Debug attr.Debug x quoted_proved.law anything_ends refl refl refl (λ text. refl)
 
 -- what comes after each word is about the text
-behind_sincere : (w : AttrWord) → Sincere (attr_behind w)
-behind_sincere word.Integer = part_sincere attr.Integer integer_proved.law
-behind_sincere word.String = part_sincere attr.String quoted_proved.law
-behind_sincere word.Function = part_sincere attr.Function function_proved.law
-behind_sincere word.Debug = part_sincere attr.Debug quoted_proved.law
+after_sincere : (w : AttrWord) → Sincere (attr_after w)
+after_sincere word.Integer = part_sincere attr.Integer integer_proved.law
+after_sincere word.String = part_sincere attr.String quoted_proved.law
+after_sincere word.Function = part_sincere attr.Function function_proved.law
+after_sincere word.Debug = part_sincere attr.Debug quoted_proved.law
 
 pub attr_lawful : Lawful DemoAttr (texts_of attr_at attr_text)
 attr_lawful = table_lawful (codes "Unregistered attribute ") AnAttribute rows
@@ -51,7 +51,7 @@ pub attr_unreserved : Unreserved DemoAttr (texts_of attr_at attr_text)
 attr_unreserved = table_unreserved attr_at rows refl
 
 pub attr_sincere : Sincere attr_at
-attr_sincere = table_sincere attr_word (codes "Unregistered attribute ") AnAttribute behind_sincere
+attr_sincere = table_sincere attr_word (codes "Unregistered attribute ") AnAttribute after_sincere
 
 same : (x y : DemoAttr) → test.ghosts.eq x y ≡ true → x ≡ y
 same (attr.Integer x) (attr.Integer y) e = ap attr.Integer ((integer_proved.decides x y).0 e)

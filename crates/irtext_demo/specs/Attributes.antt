@@ -52,15 +52,15 @@ attr_text (attr.Function x) = codes "builtin.function " ++ function_shape.writte
 attr_text (attr.Debug x) = codes "test.dbg " ++ quoted.written x
 
 -- the rest of an attribute, after its word
-abbrev pub attr_behind : AttrWord → Reader DemoAttr
-attr_behind word.Integer = (space_at ▷ integer_shape.reading) ⇒ attr.Integer
-attr_behind word.String = (space_at ▷ quoted.reading) ⇒ attr.String
-attr_behind word.Function = (space_at ▷ function_shape.reading) ⇒ attr.Function
-attr_behind word.Debug = (space_at ▷ quoted.reading) ⇒ attr.Debug
+abbrev pub attr_after : AttrWord → Reader DemoAttr
+attr_after word.Integer = (space_at ▷ integer_shape.reading) ⇒ attr.Integer
+attr_after word.String = (space_at ▷ quoted.reading) ⇒ attr.String
+attr_after word.Function = (space_at ▷ function_shape.reading) ⇒ attr.Function
+attr_after word.Debug = (space_at ▷ quoted.reading) ⇒ attr.Debug
 
 -- an attribute's word, and the rest of the attribute
 abbrev pub attr_at : Reader DemoAttr
-attr_at = table_at attr_word attr_behind (codes "Unregistered attribute ") AnAttribute
+attr_at = table_at attr_word attr_after (codes "Unregistered attribute ") AnAttribute
 
 -- only debug notes are outlined and print-once
 abbrev pub is_debug : DemoAttr → Bool

@@ -13,7 +13,7 @@ use Rattle.irtext_base.specs.Reading.{the}
 use Rattle.irtext_base.specs.Faults.{ADigit, Unexpected}
 use Rattle.irtext_base.specs.Stream.{first_of}
 use Rattle.irtext_base.specs.Answers.{Read, Missing, prefixed, mapped, followed}
-use Rattle.irtext_base.specs.Own.{standing, Ends, can_follow}
+use Rattle.irtext_base.specs.Own.{verdict, Ends, can_follow}
 use Rattle.irtext_base.proofs.Along.{front_after}
 use Rattle.irtext_base.proofs.Characters.{and_left, front_all, after_all}
 use Rattle.irtext_base.proofs.Numbers.{digits_every}
@@ -69,9 +69,9 @@ back t rest e = by t.kind refl
     more kind k word = rw k (ap (λ o. prefixed word (mapped (integer_type_with t.kind) o)) (width-here t.width rest (no_digit rest e)))
 
     by : (kind : Signedness) → kind ≡ t.kind → IsRead integer_type_at t ((signedness_text kind ++ decimal t.width.bits) ++ rest) rest
-    by Signed k = (rest, ap standing (more Signed k (codes "si")), refl)
-    by Unsigned k = (rest, ap standing (more Unsigned k (codes "ui")), refl)
-    by Signless k = (rest, ap standing (more Signless k (codes "i")), refl)
+    by Signed k = (rest, ap verdict (more Signed k (codes "si")), refl)
+    by Unsigned k = (rest, ap verdict (more Unsigned k (codes "ui")), refl)
+    by Signless k = (rest, ap verdict (more Signless k (codes "i")), refl)
 
 -- ---- what ends it
 digit_not_end : (c : ℕ) → can_follow c ≡ true → not (is_ascii_digit c) ≡ true

@@ -12,7 +12,7 @@ use Rattle.irtext_syntax.specs.TableLaws.{part_row, spaced_word_row, part_sincer
 use Rattle.irtext_syntax.specs.Tables.{Row}
 use Rattle.irtext_demo.specs.EqualTypes.{integer_same}
 use Rattle.irtext_demo.specs.IntegerTypeLaws.{integer_type_law, integer_type_last}
-use Rattle.irtext_demo.specs.Types.{type_words, type_word, type_text, type_behind, type_at, demo_type}
+use Rattle.irtext_demo.specs.Types.{type_words, type_word, type_text, type_after, type_at, demo_type}
 use Rattle.irtext_demo.specs.declared.types.TypeWord.{TypeWord}
 use Rattle.irtext_demo.specs.declared.types.TypeWord.TheVariants as word
 use Rattle.irtext_demo.specs.declared.types.DemoType.{DemoType}
@@ -20,19 +20,19 @@ use Rattle.irtext_demo.specs.declared.types.DemoType.TheVariants.{Integer, Point
 use Rattle.irtext_demo.specs.contracts.types.DemoTypePartialEq.TheImpl as type_test
 use Rattle.irtext_demo.specs.contracts.types.DemoTypeEq.TheImpl.Laws as type_laws
 
-rows : (x : DemoType) → Row type_word type_behind type_words type_text x
+rows : (x : DemoType) → Row type_word type_after type_words type_text x
 rows (Integer t) = part_row (codes "builtin.integer") word.Integer Integer t integer_type_law integer_type_last refl refl refl (λ text. refl)
 rows Pointer = spaced_word_row (codes "test.ptr") word.Pointer Pointer refl refl refl (λ text. refl)
 
-sincere_behind : (w : TypeWord) → Sincere (type_behind w)
-sincere_behind word.Integer = part_sincere Integer integer_type_law
-sincere_behind word.Pointer = word_sincere Pointer
+sincere_after : (w : TypeWord) → Sincere (type_after w)
+sincere_after word.Integer = part_sincere Integer integer_type_law
+sincere_after word.Pointer = word_sincere Pointer
 
 pub type_lawful : Lawful DemoType (texts_of type_at type_text)
 type_lawful = table_lawful (codes "Unregistered type ") AType rows
 
 pub type_sincere : Sincere type_at
-type_sincere = table_sincere type_word (codes "Unregistered type ") AType sincere_behind
+type_sincere = table_sincere type_word (codes "Unregistered type ") AType sincere_after
 
 type_same : (x y : DemoType) → type_test.ghosts.eq x y ≡ true → x ≡ y
 type_same (Integer s) (Integer t) e = ap Integer (integer_same s t e)

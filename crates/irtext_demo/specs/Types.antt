@@ -29,13 +29,13 @@ type_text (Integer t) = codes "builtin.integer " ++ integer_type_text t
 type_text Pointer = codes "test.ptr "
 
 -- the rest of a type, after its word
-abbrev pub type_behind : TypeWord → Reader DemoType
-type_behind word.Integer = (space_at ▷ integer_type_at) ⇒ Integer
-type_behind word.Pointer = nothing Pointer
+abbrev pub type_after : TypeWord → Reader DemoType
+type_after word.Integer = (space_at ▷ integer_type_at) ⇒ Integer
+type_after word.Pointer = nothing Pointer
 
 -- a type's word, and the rest of the type
 abbrev pub type_at : Reader DemoType
-type_at = table_at type_word type_behind (codes "Unregistered type ") AType
+type_at = table_at type_word type_after (codes "Unregistered type ") AType
 
 -- as a part of other texts
 abbrev pub demo_type : Shape DemoType

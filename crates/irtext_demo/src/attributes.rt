@@ -10,7 +10,7 @@ use irtext_base::result::Expected;
 use irtext_base::text::{AttrText, Family, IrText, Worded};
 use irtext_syntax::characters::Characters;
 use irtext_syntax::part::TryClone;
-use irtext_syntax::table::{Table, behind_word, table_parse, write_row};
+use irtext_syntax::table::{Table, after_word, table_parse, write_row};
 use irtext_syntax::{match_text, matches_text};
 use std::alloc::AllocError;
 use std::fmt;
@@ -42,11 +42,11 @@ pub enum AttrWord {
 }
 
 impl<B: Drop> Table<DemoAttr, B> for AttrWord {
-    ghost use Rattle.irtext_demo.specs.Attributes.{attr_word, attr_behind};
+    ghost use Rattle.irtext_demo.specs.Attributes.{attr_word, attr_after};
 
     ghost word = { attr_word };
 
-    ghost behind = { attr_behind };
+    ghost following = { attr_after };
 
     fn of(text: &str) -> Option<AttrWord> {
         match_text!(text; "builtin.integer" => AttrWord::Integer, "builtin.string" => AttrWord::String,
@@ -55,10 +55,10 @@ impl<B: Drop> Table<DemoAttr, B> for AttrWord {
 
     fn parse(self, stream: &mut TextStream) -> ParseResult<DemoAttr, B> {
         match self {
-            AttrWord::Integer => Ok(DemoAttr::Integer(behind_word(stream)?)),
-            AttrWord::String => Ok(DemoAttr::String(behind_word(stream)?)),
-            AttrWord::Function => Ok(DemoAttr::Function(behind_word(stream)?)),
-            AttrWord::Debug => Ok(DemoAttr::Debug(behind_word(stream)?)),
+            AttrWord::Integer => Ok(DemoAttr::Integer(after_word(stream)?)),
+            AttrWord::String => Ok(DemoAttr::String(after_word(stream)?)),
+            AttrWord::Function => Ok(DemoAttr::Function(after_word(stream)?)),
+            AttrWord::Debug => Ok(DemoAttr::Debug(after_word(stream)?)),
         }
     }
 }

@@ -5,7 +5,7 @@ use irtext_base::result::Expected;
 use irtext_base::text::{Family, IrText, Worded};
 use irtext_syntax::part::{Item, Part, Plain};
 use irtext_syntax::table::{
-    Table, alone_known, behind_known, behind_word, table_parse, word_alone, write_word,
+    Table, after_known, after_word, alone_known, table_parse, word_alone, write_word,
 };
 use irtext_syntax::{match_text, matches_text};
 use std::fmt;
@@ -43,11 +43,11 @@ impl fmt::Display for DemoType {
 }
 
 impl<A> Table<DemoType, A> for TypeWord {
-    ghost use Rattle.irtext_demo.specs.Types.{type_word, type_behind};
+    ghost use Rattle.irtext_demo.specs.Types.{type_word, type_after};
 
     ghost word = { type_word };
 
-    ghost behind = { type_behind };
+    ghost following = { type_after };
 
     fn of(text: &str) -> Option<TypeWord> {
         match_text!(text; "builtin.integer" => TypeWord::Integer, "test.ptr" => TypeWord::Pointer)
@@ -55,7 +55,7 @@ impl<A> Table<DemoType, A> for TypeWord {
 
     fn parse(self, stream: &mut TextStream) -> ParseResult<DemoType, A> {
         match self {
-            TypeWord::Integer => Ok(DemoType::Integer(behind_word(stream)?)),
+            TypeWord::Integer => Ok(DemoType::Integer(after_word(stream)?)),
             TypeWord::Pointer => word_alone(stream, DemoType::Pointer),
         }
     }
@@ -63,7 +63,7 @@ impl<A> Table<DemoType, A> for TypeWord {
     #[inline(always)]
     fn parse_known(self, stream: &mut TextStream) -> Option<DemoType> {
         match self {
-            TypeWord::Integer => match behind_known::<IntegerType, A>(stream) {
+            TypeWord::Integer => match after_known::<IntegerType, A>(stream) {
                 Some(ty) => Some(DemoType::Integer(ty)),
                 None => None,
             },

@@ -135,14 +135,14 @@ module _ {V : Type 0} where
   none_more [] = refl
   none_more (x ∷ xs) = ap (λ l. x ∷ l) (none_more xs)
 
-  put_behind : (es fs : List (Text × V)) → distinct bytes_eq (keys_of (es ++ fs)) ≡ true → insert_all bytes_eq es fs ≡ es ++ fs
-  put_behind es [] h = sym (none_more es)
-  put_behind es (e ∷ fs) h =
+  put_after : (es fs : List (Text × V)) → distinct bytes_eq (keys_of (es ++ fs)) ≡ true → insert_all bytes_eq es fs ≡ es ++ fs
+  put_after es [] h = sym (none_more es)
+  put_after es (e ∷ fs) h =
       let last = insert-last bytes_eq e.0 e.1 es (absent_before es fs e h) in
       ap (λ l. insert_all bytes_eq l fs) (sym last)
-      ∙ put_behind (es ++ e ∷ []) fs (ap (λ l. distinct bytes_eq (keys_of l)) (one_more es fs e) ∙ h)
+      ∙ put_after (es ++ e ∷ []) fs (ap (λ l. distinct bytes_eq (keys_of l)) (one_more es fs e) ∙ h)
       ∙ one_more es fs e
 
   -- entries whose keys differ, put in one after the other, are those entries
   pub all_put : (es : List (Text × V)) → distinct bytes_eq (keys_of es) ≡ true → insert_all bytes_eq [] es ≡ es
-  all_put es h = put_behind [] es h
+  all_put es h = put_after [] es h

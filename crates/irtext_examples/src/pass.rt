@@ -47,7 +47,7 @@ fn double(ctx: &mut Ir, op: Ptr<Operation>) -> Answer<()>
 
 /// Doubles each number that is the value of an `arith.constant` in the root. Nothing but attributes changes. If twice a number does not
 /// fit in 64 bits, that is an error at the operation's location; the numbers before it are doubled then.
-#[tactic(auto, using(irtext_context::proofs::Parts::stands_seen, crate::proofs::Changes::unchanged, crate::proofs::Changes::changed_again))]
+#[tactic(auto, using(irtext_context::proofs::Parts::seen_is_live, crate::proofs::Changes::unchanged, crate::proofs::Changes::changed_again))]
 pub fn double_all(ctx: &mut Ir, root: Ptr<Operation>) -> Answer<()>
     requires { IsSome (operation ctx.old root) }
     ensures { ChangesAttributes ctx.old ctx.new }

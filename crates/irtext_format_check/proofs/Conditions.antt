@@ -7,10 +7,10 @@ use Rattle.std.proofs.lemmas.Bool.{and_parts, and_from, or_cases, or_left, or_ri
 use Rattle.std.proofs.lemmas.Map.Steps.{length-le_from_distinct_below}
 use Rattle.irtext_base.specs.Text.{Text}
 use Rattle.irtext_base.specs.Format as format
-use Rattle.irtext_base.specs.Format.{Directive, has, distinct, same_text, are_places, ascend, count, none_behind, word_prints, keys, region_places, is_operands, is_successors, is_regions, is_dictionary, is_header, is_any_region, given_names_key, sym_name_key, c1, c2, c3, c4, c5, c6, c7}
+use Rattle.irtext_base.specs.Format.{Directive, has, distinct, same_text, are_places, ascend, count, none_follows, word_prints, keys, region_places, is_operands, is_successors, is_regions, is_dictionary, is_header, is_any_region, given_names_key, sym_name_key, c1, c2, c3, c4, c5, c6, c7}
 use Rattle.irtext_format_check.specs.Directives.{place_of, key_of, is_region, is_named}
 use Rattle.irtext_format_check.specs.declared.format.parts.Part.TheVariants as part
-use Rattle.irtext_format_check.specs.Conditions.{StandsAt, Stands, StandsOnceAtMost, NameAllBelow, C1, C2, C3, C4, C5, C6, C7, WritesRegions, WritesNamesOrType}
+use Rattle.irtext_format_check.specs.Conditions.{IsListedAt, IsListed, IsListedOnce, NameAllBelow, C1, C2, C3, C4, C5, C6, C7, WritesRegions, WritesNamesOrType}
 
 -- ---- lists and tests
 pub some_inside : {X : Type 0} (x y : X) → Some x ≡ Some y → x ≡ y
@@ -45,12 +45,12 @@ module _ (D : Directive) (test : Directive → Bool) (own : test D ≡ true) (on
   passes : (d : Directive) → Some d ≡ Some D → test d ≡ true
   passes d h = ap test (some_inside d D h) ∙ own
 
-  counted_none : (ds : List Directive) → count test ds ≡ 0 → (i : ℕ) → StandsAt D ds i → ⊥
+  counted_none : (ds : List Directive) → count test ds ≡ 0 → (i : ℕ) → IsListedAt D ds i → ⊥
   counted_none [] e i h = nothing i D h
   counted_none (d ∷ ds) e zero h = let m = more (test d) (count test ds) (passes d h) in omega (arith, e, m)
   counted_none (d ∷ ds) e (suc i) h = let m = fewer (test d) (count test ds) in counted_none ds (omega (arith, e, m)) i h
 
-  none_counted : (ds : List Directive) → ((i : ℕ) → StandsAt D ds i → ⊥) → count test ds ≡ 0
+  none_counted : (ds : List Directive) → ((i : ℕ) → IsListedAt D ds i → ⊥) → count test ds ≡ 0
   none_counted [] f = refl
   none_counted (d ∷ ds) f = go (test d) refl (none_counted ds (λ i h. f (suc i) h))
     where
@@ -58,14 +58,14 @@ module _ (D : Directive) (test : Directive → Bool) (own : test D ≡ true) (on
       go true t e = absurd (f zero (ap Some (only d t)))
       go false t e = e
 
-  once_at : (ds : List Directive) → count test ds < 2 → StandsOnceAtMost D ds
+  once_at : (ds : List Directive) → count test ds < 2 → IsListedOnce D ds
   once_at [] l i j h k = absurd (nothing i D h)
   once_at (d ∷ ds) l zero zero h k = refl
   once_at (d ∷ ds) l zero (suc j) h k = let m = more (test d) (count test ds) (passes d h) in absurd (counted_none ds (omega (arith, l, m)) j k)
   once_at (d ∷ ds) l (suc i) zero h k = let m = more (test d) (count test ds) (passes d k) in absurd (counted_none ds (omega (arith, l, m)) i h)
   once_at (d ∷ ds) l (suc i) (suc j) h k = let m = fewer (test d) (count test ds) in ap suc (once_at ds (omega (arith, l, m)) i j h k)
 
-  at_once : (ds : List Directive) → StandsOnceAtMost D ds → count test ds < 2
+  at_once : (ds : List Directive) → IsListedOnce D ds → count test ds < 2
   at_once [] f = omega arith
   at_once (d ∷ ds) f = go (test d) refl (at_once ds (λ i j h k. omega (arith, f (suc i) (suc j) h k)))
     where
@@ -73,21 +73,21 @@ module _ (D : Directive) (test : Directive → Bool) (own : test D ≡ true) (on
       go true t l = let z = none_counted ds (λ i h. omega (arith, f zero (suc i) (ap Some (only d t)) h)) in omega (arith, z)
       go false t l = l
 
-  once : (ds : List Directive) → nat_lt (count test ds) 2 ≡ true → StandsOnceAtMost D ds
+  once : (ds : List Directive) → nat_lt (count test ds) 2 ≡ true → IsListedOnce D ds
   once ds e = once_at ds (ltb-true (count test ds) 2 e)
 
-  is_once : (ds : List Directive) → StandsOnceAtMost D ds → nat_lt (count test ds) 2 ≡ true
+  is_once : (ds : List Directive) → IsListedOnce D ds → nat_lt (count test ds) 2 ≡ true
   is_once ds f = lt-ltb (count test ds) 2 (at_once ds f)
 
-  some_counted : (ds : List Directive) → nat_lt 0 (count test ds) ≡ true → Stands D ds
+  some_counted : (ds : List Directive) → nat_lt 0 (count test ds) ≡ true → IsListed D ds
   some_counted [] e = let l = ltb-true 0 0 e in absurd (omega (arith, l))
   some_counted (d ∷ ds) e = go (test d) refl e (some_counted ds)
     where
-      go : (b : Bool) → test d ≡ b → nat_lt 0 (cond b (suc (count test ds)) (count test ds)) ≡ true → (nat_lt 0 (count test ds) ≡ true → Stands D ds) → Stands D (d ∷ ds)
+      go : (b : Bool) → test d ≡ b → nat_lt 0 (cond b (suc (count test ds)) (count test ds)) ≡ true → (nat_lt 0 (count test ds) ≡ true → IsListed D ds) → IsListed D (d ∷ ds)
       go true t e f = (zero, ap Some (only d t))
       go false t e f = let s = f e in (suc s.0, s.1)
 
-  counted_some : (ds : List Directive) → Stands D ds → nat_lt 0 (count test ds) ≡ true
+  counted_some : (ds : List Directive) → IsListed D ds → nat_lt 0 (count test ds) ≡ true
   counted_some ds s = go (count test ds) refl
     where
       go : (n : ℕ) → count test ds ≡ n → nat_lt 0 n ≡ true
@@ -103,19 +103,19 @@ module _ {X : Type 0} (same : X → X → Bool) (sound : (x y : X) → same x y 
   names_it : (d : Directive) (x : X) → Some d ≡ Some (single x) → named d ≡ Some x
   names_it d x h = ap named (some_inside d (single x) h) ∙ own x
 
-  has_stands : (x : X) (ds : List Directive) → has same x (names ds) ≡ true → Stands (single x) ds
-  has_stands x [] e = absurd (true≢false (sym e))
-  has_stands x (d ∷ ds) e = go (named d) refl e (has_stands x ds)
+  has_listed : (x : X) (ds : List Directive) → has same x (names ds) ≡ true → IsListed (single x) ds
+  has_listed x [] e = absurd (true≢false (sym e))
+  has_listed x (d ∷ ds) e = go (named d) refl e (has_listed x ds)
     where
-      go : (o : Option X) → named d ≡ o → has same x (cons_option o (names ds)) ≡ true → (has same x (names ds) ≡ true → Stands (single x) ds) → Stands (single x) (d ∷ ds)
+      go : (o : Option X) → named d ≡ o → has same x (cons_option o (names ds)) ≡ true → (has same x (names ds) ≡ true → IsListed (single x) ds) → IsListed (single x) (d ∷ ds)
       go None p e f = let s = f e in (suc s.0, s.1)
       go (Some y) p e f =
           ⊎_elim (λ (q : same x y ≡ true). (zero, ap Some (only d y p ∙ ap single (sym (sound x y q))))) (λ (q : has same x (names ds) ≡ true). let s = f q in (suc s.0, s.1)) (or_cases (same x y) (has same x (names ds)) e)
 
-  stands_has : (x : X) (ds : List Directive) (i : ℕ) → StandsAt (single x) ds i → has same x (names ds) ≡ true
-  stands_has x [] i h = absurd (nothing i (single x) h)
-  stands_has x (d ∷ ds) zero h = subst (λ o. has same x (cons_option o (names ds)) ≡ true) (sym (names_it d x h)) (or_left (same x x) (has same x (names ds)) (self x))
-  stands_has x (d ∷ ds) (suc i) h = go (named d) (stands_has x ds i h)
+  listed_has : (x : X) (ds : List Directive) (i : ℕ) → IsListedAt (single x) ds i → has same x (names ds) ≡ true
+  listed_has x [] i h = absurd (nothing i (single x) h)
+  listed_has x (d ∷ ds) zero h = subst (λ o. has same x (cons_option o (names ds)) ≡ true) (sym (names_it d x h)) (or_left (same x x) (has same x (names ds)) (self x))
+  listed_has x (d ∷ ds) (suc i) h = go (named d) (listed_has x ds i h)
     where
       go : (o : Option X) → has same x (names ds) ≡ true → has same x (cons_option o (names ds)) ≡ true
       go None e = e
@@ -131,19 +131,19 @@ module _ {X : Type 0} (same : X → X → Bool) (sound : (x y : X) → same x y 
   distinct_tail None xs e = e
   distinct_tail (Some y) xs e = (and_parts (not (has same y xs)) (distinct same xs) e).1
 
-  differ_once : (ds : List Directive) → distinct same (names ds) ≡ true → (x : X) → StandsOnceAtMost (single x) ds
+  differ_once : (ds : List Directive) → distinct same (names ds) ≡ true → (x : X) → IsListedOnce (single x) ds
   differ_once [] e x i j h k = absurd (nothing i (single x) h)
   differ_once (d ∷ ds) e x zero zero h k = refl
-  differ_once (d ∷ ds) e x zero (suc j) h k = absurd (named_no_more d ds x e (names_it d x h) (stands_has x ds j k))
-  differ_once (d ∷ ds) e x (suc i) zero h k = absurd (named_no_more d ds x e (names_it d x k) (stands_has x ds i h))
+  differ_once (d ∷ ds) e x zero (suc j) h k = absurd (named_no_more d ds x e (names_it d x h) (listed_has x ds j k))
+  differ_once (d ∷ ds) e x (suc i) zero h k = absurd (named_no_more d ds x e (names_it d x k) (listed_has x ds i h))
   differ_once (d ∷ ds) e x (suc i) (suc j) h k = ap suc (differ_once ds (distinct_tail (named d) (names ds) e) x i j h k)
 
-  once_differ : (ds : List Directive) → ((x : X) → StandsOnceAtMost (single x) ds) → distinct same (names ds) ≡ true
+  once_differ : (ds : List Directive) → ((x : X) → IsListedOnce (single x) ds) → distinct same (names ds) ≡ true
   once_differ [] f = refl
   once_differ (d ∷ ds) f = go (named d) refl (once_differ ds (λ x i j h k. omega (arith, f x (suc i) (suc j) h k)))
     where
       again : (y : X) → named d ≡ Some y → has same y (names ds) ≡ true → ⊥
-      again y p q = let s = has_stands y ds q in omega (arith, f y zero (suc s.0) (ap Some (only d y p)) s.1)
+      again y p q = let s = has_listed y ds q in omega (arith, f y zero (suc s.0) (ap Some (only d y p)) s.1)
 
       go : (o : Option X) → named d ≡ o → distinct same (names ds) ≡ true → distinct same (cons_option o (names ds)) ≡ true
       go None p e = e
@@ -227,37 +227,37 @@ module _ (named : Directive → Option ℕ) (single : ℕ → Directive) (own : 
       let ks = filter_map named ds in
       let p = and_parts (distinct ◌==◌ ks) (list_all (λ k. nat_lt k (length ks)) ks) e in (
         length ks,
-        (λ k l. (has_stands ◌==◌ eqb-true (λ x. eq-eqb x x refl) named single own only k ds (all_there ks p.0 p.1 k l), differ_once ◌==◌ eqb-true (λ x. eq-eqb x x refl) named single own only ds p.0 k)),
-        (λ k l s. let q = below (length ks) k ks p.1 (stands_has ◌==◌ eqb-true (λ x. eq-eqb x x refl) named single own only k ds s.0 s.1) in omega (arith, l, q)),
+        (λ k l. (has_listed ◌==◌ eqb-true (λ x. eq-eqb x x refl) named single own only k ds (all_there ks p.0 p.1 k l), differ_once ◌==◌ eqb-true (λ x. eq-eqb x x refl) named single own only ds p.0 k)),
+        (λ k l s. let q = below (length ks) k ks p.1 (listed_has ◌==◌ eqb-true (λ x. eq-eqb x x refl) named single own only k ds s.0 s.1) in omega (arith, l, q)),
       )
 
   places_named : (ds : List Directive) → NameAllBelow single ds → are_places (filter_map named ds) ≡ true
   places_named ds f =
       let ks = filter_map named ds in
-      let room : f.0 ≤ length ks = covers f.0 ks (λ k l. let s = (f.1 k l).0 in stands_has ◌==◌ eqb-true (λ x. eq-eqb x x refl) named single own only k ds s.0 s.1) in
+      let room : f.0 ≤ length ks = covers f.0 ks (λ k l. let s = (f.1 k l).0 in listed_has ◌==◌ eqb-true (λ x. eq-eqb x x refl) named single own only k ds s.0 s.1) in
       and_from (distinct ◌==◌ ks) (list_all (λ k. nat_lt k (length ks)) ks)
       (once_differ ◌==◌ eqb-true (λ x. eq-eqb x x refl) named single own only ds (λ k. ⊎_elim (λ (l : k < f.0). (f.1 k l).1) (λ (l : f.0 ≤ k). (λ i j h m. absurd (f.2 k l (i, h)))) (cases_lt k f.0)))
       (are_below (length ks) ks
-      (λ k h. ⊎_elim (λ (l : k < f.0). omega (arith, l, room)) (λ (l : f.0 ≤ k). absurd (f.2 k l (has_stands ◌==◌ eqb-true (λ x. eq-eqb x x refl) named single own only k ds h))) (cases_lt k f.0)))
+      (λ k h. ⊎_elim (λ (l : k < f.0). omega (arith, l, room)) (λ (l : f.0 ≤ k). absurd (f.2 k l (has_listed ◌==◌ eqb-true (λ x. eq-eqb x x refl) named single own only k ds h))) (cases_lt k f.0)))
 
 -- ---- no early directive is after a late one
 module _ (late early : Directive → Bool) where
-  none_at : (ds : List Directive) → none_behind late early ds ≡ true → (i j : ℕ) (d e : Directive) → StandsAt d ds i → StandsAt e ds j → i < j → late d ≡ true → early e ≡ true → ⊥
+  none_at : (ds : List Directive) → none_follows late early ds ≡ true → (i j : ℕ) (d e : Directive) → IsListedAt d ds i → IsListedAt e ds j → i < j → late d ≡ true → early e ≡ true → ⊥
   none_at [] n i j d e h k l p q = nothing i d h
   none_at (x ∷ ds) n i zero d e h k l p q = omega (arith, l)
   none_at (x ∷ ds) n zero (suc j) d e h k l p q =
-      let a = and_parts (not (late x) || list_all (λ e. not (early e)) ds) (none_behind late early ds) n in
+      let a = and_parts (not (late x) || list_all (λ e. not (early e)) ds) (none_follows late early ds) n in
       let t : late x ≡ true = ap late (some_inside x d h) ∙ p in
       ⊎_elim (λ (f : not (late x) ≡ true). not_both (late x) t f) (λ (f : list_all (λ e. not (early e)) ds ≡ true). not_both (early e) q (all_at (λ e. not (early e)) ds f j e k))
       (or_cases (not (late x)) (list_all (λ e. not (early e)) ds) a.0)
   none_at (x ∷ ds) n (suc i) (suc j) d e h k l p q =
-      let a = and_parts (not (late x) || list_all (λ e. not (early e)) ds) (none_behind late early ds) n in
+      let a = and_parts (not (late x) || list_all (λ e. not (early e)) ds) (none_follows late early ds) n in
       none_at ds a.1 i j d e h k (omega (arith, l)) p q
 
-  at_none : (ds : List Directive) → ((i j : ℕ) (d e : Directive) → StandsAt d ds i → StandsAt e ds j → i < j → late d ≡ true → early e ≡ true → ⊥) → none_behind late early ds ≡ true
+  at_none : (ds : List Directive) → ((i j : ℕ) (d e : Directive) → IsListedAt d ds i → IsListedAt e ds j → i < j → late d ≡ true → early e ≡ true → ⊥) → none_follows late early ds ≡ true
   at_none [] f = refl
   at_none (x ∷ ds) f =
-      and_from (not (late x) || list_all (λ e. not (early e)) ds) (none_behind late early ds) (go (late x) refl)
+      and_from (not (late x) || list_all (λ e. not (early e)) ds) (none_follows late early ds) (go (late x) refl)
       (at_none ds (λ i j d e h k l p q. f (suc i) (suc j) d e h k (omega (arith, l)) p q))
     where
       go : (b : Bool) → late x ≡ b → (not b || list_all (λ e. not (early e)) ds) ≡ true
@@ -279,7 +279,7 @@ c1_says ds e s h =
 pub says_c1 : (ds : List Directive) → C1 ds → c1 ds ≡ true
 says_c1 ds f = all_from word_prints ds prints
   where
-    prints : (i : ℕ) (d : Directive) → StandsAt d ds i → word_prints d ≡ true
+    prints : (i : ℕ) (d : Directive) → IsListedAt d ds i → word_prints d ≡ true
     prints i (format.word s) h =
         let p = f s (i, h) in
         and_from (nat_lt 0 (length s)) (list_all is_ascii_graphic s) (lt-ltb 0 (length s) p.0) (all_from is_ascii_graphic s (λ j c k. is_graphic c (p.1 j c k)))
@@ -328,10 +328,10 @@ bare _ = record { operands = not_so; successors = not_so; regions = not_so; dict
 -- the directives of one kind are places, and at most one directive is for all of them
 module _ (named : Directive → Option ℕ) (single : ℕ → Directive) (sees : (k : ℕ) → named (single k) ≡ Some k) (is_single : (d : Directive) (k : ℕ) → named d ≡ Some k → d ≡ single k)
     (all : Directive) (test : Directive → Bool) (tested : test all ≡ true) (is_all : (d : Directive) → test d ≡ true → d ≡ all) (ds : List Directive) where
-  places_say : (are_places (filter_map named ds) && nat_lt (count test ds) 2) ≡ true → NameAllBelow single ds × StandsOnceAtMost all ds
+  places_say : (are_places (filter_map named ds) && nat_lt (count test ds) 2) ≡ true → NameAllBelow single ds × IsListedOnce all ds
   places_say e = let p = and_parts (are_places (filter_map named ds)) (nat_lt (count test ds) 2) e in (name_places named single sees is_single ds p.0, once all test tested is_all ds p.1)
 
-  say_places : NameAllBelow single ds × StandsOnceAtMost all ds → (are_places (filter_map named ds) && nat_lt (count test ds) 2) ≡ true
+  say_places : NameAllBelow single ds × IsListedOnce all ds → (are_places (filter_map named ds) && nat_lt (count test ds) 2) ≡ true
   say_places f = and_from (are_places (filter_map named ds)) (nat_lt (count test ds) 2) (places_named named single sees is_single ds f.0) (is_once all test tested is_all ds f.1)
 
 pub c2_says : (ds : List Directive) → c2 ds ≡ true → C2 ds
@@ -370,7 +370,7 @@ region_is _ e = absurd (true≢false (sym e))
 
 pub c5_says : (ds : List Directive) → c5 ds ≡ true → C5 ds
 c5_says ds e =
-    let p = and_parts (ascend 0 (region_places ds) && nat_lt (count is_regions ds) 2) (none_behind is_regions is_region ds) e in
+    let p = and_parts (ascend 0 (region_places ds) && nat_lt (count is_regions ds) 2) (none_follows is_regions is_region ds) e in
     let q = and_parts (ascend 0 (region_places ds)) (nat_lt (count is_regions ds) 2) p.0 in (
       (λ j k h. omega (arith, ascends 0 (region_places ds) q.0 j k h)),
       once format.regions is_regions refl (λ d. (bare d).regions) ds q.1,
@@ -379,12 +379,12 @@ c5_says ds e =
 
 pub says_c5 : (ds : List Directive) → C5 ds → c5 ds ≡ true
 says_c5 ds f =
-    and_from (ascend 0 (region_places ds) && nat_lt (count is_regions ds) 2) (none_behind is_regions is_region ds)
+    and_from (ascend 0 (region_places ds) && nat_lt (count is_regions ds) 2) (none_follows is_regions is_region ds)
     (and_from (ascend 0 (region_places ds)) (nat_lt (count is_regions ds) 2) (ascending 0 (region_places ds) (λ j k h. omega (arith, f.0 j k h))) (is_once format.regions is_regions refl (λ d. (bare d).regions) ds f.1))
     (at_none is_regions is_region ds
     (λ i j d e h k l p q.
     let r = region_is e q in
-    f.2 i j r.0 (subst (λ x. StandsAt x ds i) ((bare d).regions p) h) (subst (λ x. StandsAt x ds j) r.1 k) l))
+    f.2 i j r.0 (subst (λ x. IsListedAt x ds i) ((bare d).regions p) h) (subst (λ x. IsListedAt x ds j) r.1 k) l))
 
 -- ---- C6
 same_sound : (s t : Text) → same_text s t ≡ true → s ≡ t
@@ -397,11 +397,11 @@ same_self : (s : Text) → same_text s s ≡ true
 same_self [] = refl
 same_self (c ∷ s) = and_from (c == c) (same_text s s) (eq-eqb c c refl) (same_self s)
 
-key_stands : (k : Text) (ds : List Directive) → has same_text k (keys ds) ≡ true → Stands (format.attribute k) ds
-key_stands k ds e = has_stands same_text same_sound same_self key_of format.attribute (λ k. refl) is_key k ds e
+key_listed : (k : Text) (ds : List Directive) → has same_text k (keys ds) ≡ true → IsListed (format.attribute k) ds
+key_listed k ds e = has_listed same_text same_sound same_self key_of format.attribute (λ k. refl) is_key k ds e
 
-stands_key : (k : Text) (ds : List Directive) → Stands (format.attribute k) ds → has same_text k (keys ds) ≡ true
-stands_key k ds s = stands_has same_text same_sound same_self key_of format.attribute (λ k. refl) is_key k ds s.0 s.1
+listed_key : (k : Text) (ds : List Directive) → IsListed (format.attribute k) ds → has same_text k (keys ds) ≡ true
+listed_key k ds s = listed_has same_text same_sound same_self key_of format.attribute (λ k. refl) is_key k ds s.0 s.1
 
 module _ (ds : List Directive) where
   -- the five tests of C6, in their order
@@ -427,12 +427,12 @@ module _ (ds : List Directive) where
       let r = and_parts (keys_differ && no_given_names) one_dictionary q.0 in
       let t = and_parts keys_differ no_given_names r.0 in (
         (λ k. differ_once same_text same_sound same_self key_of format.attribute (λ k. refl) is_key ds t.0 k),
-        (λ s. not_both (has same_text given_names_key (keys ds)) (stands_key given_names_key ds s) t.1),
+        (λ s. not_both (has same_text given_names_key (keys ds)) (listed_key given_names_key ds s) t.1),
         once format.dictionary is_dictionary refl (λ d. (bare d).dictionary) ds r.1,
         once format.header is_header refl (λ d. (bare d).header) ds q.1,
         (λ h s.
             ⊎_elim (λ (f : not (nat_lt 0 (count is_header ds)) ≡ true). not_both (nat_lt 0 (count is_header ds)) (counted_some format.header is_header refl (λ d. (bare d).header) ds h) f)
-            (λ (f : not (has same_text sym_name_key (keys ds)) ≡ true). not_both (has same_text sym_name_key (keys ds)) (stands_key sym_name_key ds s) f)
+            (λ (f : not (has same_text sym_name_key (keys ds)) ≡ true). not_both (has same_text sym_name_key (keys ds)) (listed_key sym_name_key ds s) f)
             (or_cases (not (nat_lt 0 (count is_header ds))) (not (has same_text sym_name_key (keys ds))) p.1)),
       )
 
@@ -442,14 +442,14 @@ module _ (ds : List Directive) where
       (and_from (keys_differ && no_given_names && one_dictionary) one_header
       (and_from (keys_differ && no_given_names) one_dictionary
       (and_from keys_differ no_given_names (once_differ same_text same_sound same_self key_of format.attribute (λ k. refl) is_key ds f.0)
-      (not_from_false (has same_text given_names_key (keys ds)) (false_from_ne_true (has same_text given_names_key (keys ds)) (λ q. f.1 (key_stands given_names_key ds q)))))
+      (not_from_false (has same_text given_names_key (keys ds)) (false_from_ne_true (has same_text given_names_key (keys ds)) (λ q. f.1 (key_listed given_names_key ds q)))))
       (is_once format.dictionary is_dictionary refl (λ d. (bare d).dictionary) ds f.2))
       (is_once format.header is_header refl (λ d. (bare d).header) ds f.3))
       (go (nat_lt 0 (count is_header ds)) refl)
     where
       go : (x : Bool) → nat_lt 0 (count is_header ds) ≡ x → (not x || not (has same_text sym_name_key (keys ds))) ≡ true
       go true x =
-          not_from_false (has same_text sym_name_key (keys ds)) (false_from_ne_true (has same_text sym_name_key (keys ds)) (λ q. f.4 (some_counted format.header is_header refl (λ d. (bare d).header) ds x) (key_stands sym_name_key ds q)))
+          not_from_false (has same_text sym_name_key (keys ds)) (false_from_ne_true (has same_text sym_name_key (keys ds)) (λ q. f.4 (some_counted format.header is_header refl (λ d. (bare d).header) ds x) (key_listed sym_name_key ds q)))
       go false x = refl
 
 -- ---- C7

@@ -4,7 +4,7 @@ use Rattle.std.proofs.lemmas.List.Recursion.{is_count_by}
 use Rattle.std.specs.List.{list_all, list_any, count_by, cons_option}
 use Rattle.std.specs.Str.{bytes_eq}
 use Rattle.irtext_base.specs.Text.{Text}
-use Rattle.irtext_base.specs.Format.{Directive, has, distinct, same_text, count, none_behind, keys, is_regions, is_any_region, continuings, followers, disjoint, c8}
+use Rattle.irtext_base.specs.Format.{Directive, has, distinct, same_text, count, none_follows, keys, is_regions, is_any_region, continuings, followers, disjoint, c8}
 use Rattle.irtext_format_check.specs.Directives.{place_of, places_of, key_of, is_value, is_below, again, is_region, is_named, all_keep}
 use Rattle.irtext_format_check.specs.declared.format.parts.Part.{Part}
 use Rattle.irtext_format_check.specs.declared.format.rules.Rule.TheVariants as rule
@@ -73,11 +73,11 @@ keys_differ (d ∷ ds) = go (key_of d) (keys_differ ds)
     go None e = e
     go (Some k) e = ap (λ b. not (has same_text k (keys ds)) && b) e
 
-pub regions_last : (ds : List Directive) → all_keep rule.RegionsBefore ds ≡ none_behind is_regions is_region ds
+pub regions_last : (ds : List Directive) → all_keep rule.RegionsBefore ds ≡ none_follows is_regions is_region ds
 regions_last [] = refl
 regions_last (d ∷ ds) = ap (λ b. (not (is_regions d) || list_all (λ e. not (is_region e)) ds) && b) (regions_last ds)
 
-pub names_first : (ds : List Directive) → all_keep rule.NamesBefore ds ≡ none_behind is_any_region is_named ds
+pub names_first : (ds : List Directive) → all_keep rule.NamesBefore ds ≡ none_follows is_any_region is_named ds
 names_first [] = refl
 names_first (d ∷ ds) = ap (λ b. (not (is_any_region d) || list_all (λ e. not (is_named e)) ds) && b) (names_first ds)
 

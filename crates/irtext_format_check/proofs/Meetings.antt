@@ -5,7 +5,7 @@ use Rattle.std.proofs.lemmas.Bool.{and_parts, and_from, or_cases, or_left, or_ri
 use Rattle.irtext_base.specs.Text.{begins_word}
 use Rattle.irtext_base.specs.Format as format
 use Rattle.irtext_base.specs.Format.{Directive, has, is_list, kind, beginnings, continuings, followers, disjoint, c8}
-use Rattle.irtext_format_check.specs.Conditions.{C8, WritesList, Begins, GoesOn, StandsBehind, ListsAlone, CanFollow}
+use Rattle.irtext_format_check.specs.Conditions.{C8, WritesList, Begins, GoesOn, MayFollow, ListsAlone, CanFollow}
 use Rattle.irtext_format_check.proofs.Conditions.{some_inside, nothing, not_both}
 
 -- ---- kinds of characters
@@ -126,7 +126,7 @@ follow_kind : (ds : List Directive) (c : ℕ) → CanFollow ds c → has ◌==�
 follow_kind [] c (inl f) = absurd (nothing f.0 f.1 f.2)
 follow_kind [] c (inr f) = ends f.1
   where
-    ends : StandsBehind c → has ◌==◌ (kind c) (codes "!;}^") ≡ true
+    ends : MayFollow c → has ◌==◌ (kind c) (codes "!;}^") ≡ true
     ends (inl e) = subst (λ z. has ◌==◌ (kind z) (codes "!;}^") ≡ true) (sym e) refl
     ends (inr (inl e)) = subst (λ z. has ◌==◌ (kind z) (codes "!;}^") ≡ true) (sym e) refl
     ends (inr (inr (inl e))) = subst (λ z. has ◌==◌ (kind z) (codes "!;}^") ≡ true) (sym e) refl
@@ -152,7 +152,7 @@ kind_follow [] q e = go (or_cases (q == 33) (has ◌==◌ q (codes ";}^")) e)
     none : ListsAlone 0 []
     none m d k h = absurd (omega (arith, k))
 
-    end : (c : ℕ) → q ≡ c → kind c ≡ c → StandsBehind c → (c : ℕ) × (kind c ≡ q) × CanFollow [] c
+    end : (c : ℕ) → q ≡ c → kind c ≡ c → MayFollow c → (c : ℕ) × (kind c ≡ q) × CanFollow [] c
     end c h k b = (c, k ∙ sym h, inr (none, b))
 
     last : ((q == 125) ≡ true) ⊎ (has ◌==◌ q (codes "^") ≡ true) → (c : ℕ) × (kind c ≡ q) × CanFollow [] c

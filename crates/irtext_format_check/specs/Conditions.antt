@@ -4,32 +4,32 @@ use Rattle.irtext_base.specs.Text.{Text, begins_word}
 use Rattle.irtext_base.specs.Format.{Directive, word, operand, operands, successor, successors, attribute, dictionary, result_type, region, regions, header, region_places, given_names_key, sym_name_key}
 
 -- the directive is at this index of the list
-abbrev pub StandsAt : Directive → List Directive → ℕ → Type 0
-StandsAt d ds i = slice_get ds i ≡ Some d
+abbrev pub IsListedAt : Directive → List Directive → ℕ → Type 0
+IsListedAt d ds i = slice_get ds i ≡ Some d
 
 -- the directive is in the list
-abbrev pub Stands : Directive → List Directive → Type 0
-Stands d ds = (i : ℕ) × StandsAt d ds i
+abbrev pub IsListed : Directive → List Directive → Type 0
+IsListed d ds = (i : ℕ) × IsListedAt d ds i
 
 -- the directive is not at two indices of the list
-abbrev pub StandsOnceAtMost : Directive → List Directive → Type 0
-StandsOnceAtMost d ds = (i j : ℕ) → StandsAt d ds i → StandsAt d ds j → i ≡ j
+abbrev pub IsListedOnce : Directive → List Directive → Type 0
+IsListedOnce d ds = (i j : ℕ) → IsListedAt d ds i → IsListedAt d ds j → i ≡ j
 
 -- the directives of one kind name the numbers below some number, each once, and no other
 abbrev pub NameAllBelow : (ℕ → Directive) → List Directive → Type 0
-NameAllBelow single ds = (n : ℕ) × ((k : ℕ) → k < n → Stands (single k) ds × StandsOnceAtMost (single k) ds) × ((k : ℕ) → n ≤ k → Stands (single k) ds → ⊥)
+NameAllBelow single ds = (n : ℕ) × ((k : ℕ) → k < n → IsListed (single k) ds × IsListedOnce (single k) ds) × ((k : ℕ) → n ≤ k → IsListed (single k) ds → ⊥)
 
 -- C1: a fixed word has a character, and each of its characters is printable ASCII and no space
 abbrev pub C1 : List Directive → Type 0
-C1 ds = (s : Text) → Stands (word s) ds → (0 < length s) × ((i c : ℕ) → slice_get s i ≡ Some c → (33 ≤ c) × (c ≤ 126))
+C1 ds = (s : Text) → IsListed (word s) ds → (0 < length s) × ((i c : ℕ) → slice_get s i ≡ Some c → (33 ≤ c) × (c ≤ 126))
 
 -- C2: the indices of the operands that are named are 0 to one below their number, each once, and there is at most one list of operands
 abbrev pub C2 : List Directive → Type 0
-C2 ds = NameAllBelow operand ds × StandsOnceAtMost operands ds
+C2 ds = NameAllBelow operand ds × IsListedOnce operands ds
 
 -- C3: the same for successors
 abbrev pub C3 : List Directive → Type 0
-C3 ds = NameAllBelow successor ds × StandsOnceAtMost successors ds
+C3 ds = NameAllBelow successor ds × IsListedOnce successors ds
 
 -- C4: the indices of the results whose types are named are 0 to one below their number, each once
 abbrev pub C4 : List Directive → Type 0
@@ -38,12 +38,12 @@ C4 ds = NameAllBelow result_type ds
 -- C5: the indices of the regions that are named are 0, 1 and so on, in this order; there is at most one list of regions, and none is named
 -- after it
 abbrev pub C5 : List Directive → Type 0
-C5 ds = ((j k : ℕ) → slice_get (region_places ds) j ≡ Some k → k ≡ j) × StandsOnceAtMost regions ds × ((i j k : ℕ) → StandsAt regions ds i → StandsAt (region k) ds j → i < j → ⊥)
+C5 ds = ((j k : ℕ) → slice_get (region_places ds) j ≡ Some k → k ≡ j) × IsListedOnce regions ds × ((i j k : ℕ) → IsListedAt regions ds i → IsListedAt (region k) ds j → i < j → ⊥)
 
 -- C6: each key is named at most once, and that of given names never; there are at most one dictionary and at most one header; and beside a
 -- header the key of the symbol's name is not named
 abbrev pub C6 : List Directive → Type 0
-C6 ds = ((k : Text) → StandsOnceAtMost (attribute k) ds) × (Stands (attribute given_names_key) ds → ⊥) × StandsOnceAtMost dictionary ds × StandsOnceAtMost header ds × (Stands header ds → Stands (attribute sym_name_key) ds → ⊥)
+C6 ds = ((k : Text) → IsListedOnce (attribute k) ds) × (IsListed (attribute given_names_key) ds → ⊥) × IsListedOnce dictionary ds × IsListedOnce header ds × (IsListed header ds → IsListed (attribute sym_name_key) ds → ⊥)
 
 -- the directive prints one region or a list of regions
 abbrev pub WritesRegions : Directive → Type 0
@@ -62,7 +62,7 @@ WritesNamesOrType _ = ⊥
 
 -- C7: after regions there are no names and no type
 abbrev pub C7 : List Directive → Type 0
-C7 ds = (i j : ℕ) (d e : Directive) → StandsAt d ds i → StandsAt e ds j → i < j → WritesRegions d → WritesNamesOrType e → ⊥
+C7 ds = (i j : ℕ) (d e : Directive) → IsListedAt d ds i → IsListedAt e ds j → i < j → WritesRegions d → WritesNamesOrType e → ⊥
 
 -- the directive prints a list, which may be empty
 abbrev pub WritesList : Directive → Type 0
@@ -94,18 +94,18 @@ GoesOn regions c = c ≡ 123
 GoesOn _ c = ⊥
 
 -- this character can come after an operation: `!`, `;` (59), `}` (125), or the `^` of the next block
-abbrev pub StandsBehind : ℕ → Type 0
-StandsBehind c = (c ≡ 33) ⊎ ((c ≡ 59) ⊎ ((c ≡ 125) ⊎ (c ≡ 94)))
+abbrev pub MayFollow : ℕ → Type 0
+MayFollow c = (c ≡ 33) ⊎ ((c ≡ 59) ⊎ ((c ≡ 125) ⊎ (c ≡ 94)))
 
 -- all directives before this index print lists
 abbrev pub ListsAlone : ℕ → List Directive → Type 0
-ListsAlone j ds = (m : ℕ) (d : Directive) → m < j → StandsAt d ds m → WritesList d
+ListsAlone j ds = (m : ℕ) (d : Directive) → m < j → IsListedAt d ds m → WritesList d
 
 -- this character can come first in what these directives print, with what comes after the operation: one of them can begin with it and all
 -- before it print lists, or all of them print lists and it can come after the operation
 abbrev pub CanFollow : List Directive → ℕ → Type 0
-CanFollow ds c = ((j : ℕ) × (e : Directive) × StandsAt e ds j × ListsAlone j ds × Begins e c) ⊎ (ListsAlone (length ds) ds × StandsBehind c)
+CanFollow ds c = ((j : ℕ) × (e : Directive) × IsListedAt e ds j × ListsAlone j ds × Begins e c) ⊎ (ListsAlone (length ds) ds × MayFollow c)
 
 -- C8: no character that can come after a list could continue it
 abbrev pub C8 : List Directive → Type 0
-C8 ds = (i : ℕ) (d : Directive) (c : ℕ) → StandsAt d ds i → GoesOn d c → CanFollow (drop (suc i) ds) c → ⊥
+C8 ds = (i : ℕ) (d : Directive) (c : ℕ) → IsListedAt d ds i → GoesOn d c → CanFollow (drop (suc i) ds) c → ⊥

@@ -17,7 +17,7 @@ pub mod InlineEntries
 pub mod WrittenAs
 pub mod Fillings
 pub mod Regained
-pub mod StandsClosed
+pub mod RepresentsClosed
 pub mod BuiltNamed
 pub mod BuiltClosed
 pub mod OwnEquality

@@ -1,5 +1,5 @@
 -- The section after a root: its indices, its entries, and how they are parsed back.
-pub mod BehindRoot
+pub mod AfterRoot
 pub mod Back
 pub mod Marked
 pub mod Bare

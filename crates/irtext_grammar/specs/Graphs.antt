@@ -8,5 +8,5 @@ pub mod Identifiers
 pub mod Links
 pub mod Contents
 pub mod Regained
-pub mod StandsFor
+pub mod Represents
 pub mod RoundTrip

@@ -1,7 +1,7 @@
 //! The names under which values and blocks are printed.
 ghost use Rattle.std.specs.Prelude.{◌≡◌, ◌+◌, ℕ, Some, IsSome, IfOk, string_bytes, option_copied, option_and_then};
 ghost use Rattle.std.specs.Str.{chars};
-ghost use Rattle.irtext_graph.specs.Parts.{ValueStands};
+ghost use Rattle.irtext_graph.specs.Parts.{IsDefinedValue};
 ghost use Rattle.irtext_context.specs.Context.{block, operation};
 ghost use Rattle.irtext_grammar.specs.Spelling.PrintedNames as printed;
 ghost use Rattle.irtext_grammar.specs.UniqueNames.{given_at, given_name, value_name, block_name};
@@ -59,7 +59,7 @@ pub fn given_name<T: IrText<A>, A: AttrText<A>>(
     ctx: &Context<T, A>,
     v: Value,
 ) -> Option<&Identifier>
-    requires { ValueStands ctx.now.graph v }
+    requires { IsDefinedValue ctx.now.graph v }
     ensures { option_copied result ≡ given_name ctx.now v }
 {
     match v {
@@ -108,7 +108,7 @@ pub trait UniqueName: Sized {
     ghost use Rattle.irtext_context.specs.Context.{ContextView};
 
     // it is live
-    ghost stands: { (T A : Type 0) → ContextView T A → Self → Type 0 };
+    ghost alive: { (T A : Type 0) → ContextView T A → Self → Type 0 };
 
     // its name, if it is live
     ghost name: { (T A : Type 0) → ContextView T A → Self → Option Text };
@@ -121,12 +121,12 @@ pub trait UniqueName: Sized {
         self,
         ctx: &Context<T, A>,
     ) -> Result<String, AllocError>
-        requires { stands T A ctx.now self }
+        requires { alive T A ctx.now self }
         ensures { IfOk result (λ s. Some (chars (string_bytes s)) ≡ name T A ctx.now self) };
 }
 
 impl UniqueName for Value {
-    ghost stands = { λ T A ctx v. ValueStands ctx.graph v };
+    ghost alive = { λ T A ctx v. IsDefinedValue ctx.graph v };
 
     ghost name = { λ T A. value_name };
 
@@ -140,7 +140,7 @@ impl UniqueName for Value {
 }
 
 impl UniqueName for Ptr<BasicBlock> {
-    ghost stands = { λ T A ctx p. IsSome (block ctx p) };
+    ghost alive = { λ T A ctx p. IsSome (block ctx p) };
 
     ghost name = { λ T A. block_name };
 

@@ -125,7 +125,7 @@ module _ {O B T : Type 0} where
   }
 
   module _ (x : Objects O B T) (made : ℕ) (grown : Arena (Nest BasicBlock Region (OperationData O T))) (after : Arena (Nest Operation BasicBlock RegionData)) (op : Ptr Operation) (p : Ptr Region)
-      (e : Entry (Nest Operation BasicBlock RegionData)) (g : Grown x grown op p) (i : arena.Inserts x.regions after p e) (stands : e.content.parent ≡ Some op) (empty : listed e.content.children ≡ []) where
+      (e : Entry (Nest Operation BasicBlock RegionData)) (g : Grown x grown op p) (i : arena.Inserts x.regions after p e) (alive : e.content.parent ≡ Some op) (empty : listed e.content.children ≡ []) where
     abbrev added : Objects O B T
     added = record x { operations = grown; regions = after }
 
@@ -158,7 +158,7 @@ module _ {O B T : Type 0} where
       apart = apart f;
       here = ap (map TheRegion) g.here ∙ map-append TheRegion (children_at x.operations op) (p ∷ []);
       others = kids_others;
-      up_here = ap (λ s. option_map TheOperation (parent_in s)) i.updates.changed ∙ ap (option_map TheOperation) stands;
+      up_here = ap (λ s. option_map TheOperation (parent_in s)) i.updates.changed ∙ ap (option_map TheOperation) alive;
       ups = up_others;
     })
 
@@ -203,7 +203,7 @@ module _ {O B T : Type 0} where
     }
       where
         like : object_of (node_of region_content) e ≡ record { born = made; content = record { parent = Some op; children = []; content = record {} } }
-        like = rw (born, stands, empty) refl
+        like = rw (born, alive, empty) refl
 
   -- what is older than the region and its operation is unchanged
   pub added-keeps : (m : ℕ) (old new : GraphView O B T) (op : Ptr Operation) (p : Ptr Region) → m ≤ old.made → before m old.operations op ≡ None → AddsRegion old new op p → KeepsOlder m old new

@@ -5,7 +5,7 @@ use Rattle.irtext_graph.specs.declared.objects.Objects.{Objects}
 use Rattle.irtext_graph.specs.Nested.{climb, Within}
 use Rattle.irtext_graph.specs.Chained.{Among}
 use Rattle.irtext_graph.specs.Objects.{up, kids, IsForest, eq_object}
-use Rattle.irtext_graph.specs.Preorder.{left, behind, onward, slots}
+use Rattle.irtext_graph.specs.Preorder.{left, after_inside, onward, slots}
 use Rattle.irtext_graph.proofs.Inside.{within_up}
 use Rattle.irtext_graph.proofs.Same.{object_tells}
 use Rattle.irtext_graph.proofs.Rank.{way_le, no_cycle}
@@ -13,10 +13,10 @@ use Rattle.irtext_graph.proofs.Places.{code, counts}
 use Rattle.irtext_graph.proofs.Preorders.{from_leaf, from_first, from_next, from_last, rest_end, comes, onward_same}
 
 -- after the end of a list there is no element
-pub none_behind : (xs : List Object) (i : ℕ) → length xs ≤ i → slice_get xs i ≡ None
-none_behind [] i low = refl
-none_behind (x ∷ xs) zero low = absurd (omega (arith, low))
-none_behind (x ∷ xs) (suc i) low = none_behind xs i (omega (arith, low))
+pub none_follows : (xs : List Object) (i : ℕ) → length xs ≤ i → slice_get xs i ≡ None
+none_follows [] i low = refl
+none_follows (x ∷ xs) zero low = absurd (omega (arith, low))
+none_follows (x ∷ xs) (suc i) low = none_follows xs i (omega (arith, low))
 
 pub empty_list : (xs : List Object) → length xs ≤ 0 → xs ≡ []
 empty_list [] low = refl
@@ -25,7 +25,7 @@ empty_list (x ∷ xs) low = absurd (omega (arith, low))
 module _ {O B T : Type 0} where
   -- what comes inside o after an object and everything nested in it
   abbrev pub rest : Objects O B T → Object → Object → List Object
-  rest x o q = behind eq_object (kids x) (up x) (suc (slots x)) o (suc (slots x)) (Some q)
+  rest x o q = after_inside eq_object (kids x) (up x) (suc (slots x)) o (suc (slots x)) (Some q)
 
   short : (x : Objects O B T) → IsForest x → (n : ℕ) (q z : Object) → climb (up x) n (Some q) ≡ Some z → n ≤ slots x
   short x s = way_le (up x) (code x) (slots x) (counts x) s.ends

@@ -16,10 +16,10 @@ use Rattle.irtext_graph.proofs.Pointers.{equal_or_not, ptr_or, ptr_same, slice_g
 
 module _ {X : Type 0} where
   -- what is found under a generation is in the slot
-  pub stands : (s : Option (Slot X)) (g : ℕ) (o : Entry X) → found s g ≡ Some o → s ≡ Some (Full g o)
-  stands None g o e = absurd (cc)
-  stands (Some (Vacant h n)) g o e = absurd (cc)
-  stands (Some (Full h x)) g o e =
+  pub in_slot : (s : Option (Slot X)) (g : ℕ) (o : Entry X) → found s g ≡ Some o → s ≡ Some (Full g o)
+  in_slot None g o e = absurd (cc)
+  in_slot (Some (Vacant h n)) g o e = absurd (cc)
+  in_slot (Some (Full h x)) g o e =
       let k = cond_some (h == g) x o e in
       let a : h ≡ g = eqb-true h g k.0 in
       rw (a, k.1) refl
@@ -59,7 +59,7 @@ module _ {X : Type 0} where
   -- the arena with another content of a live object
   pub lent : {K : Type 0} (a : Arena X) (p : Ptr K) (o : Entry X) (w : X) → get a p ≡ Some o →
       with_content_at a p.index w ≡ record a { slots = with_item a.slots p.index (Full p.generation (filled o w)) }
-  lent a p o w e = ap (λ s. with_content_of s a p.index w) (stands (slice_get a.slots.items p.index) p.generation o e)
+  lent a p o w e = ap (λ s. with_content_of s a p.index w) (in_slot (slice_get a.slots.items p.index) p.generation o e)
 
   pub edited : {K : Type 0} (a : Arena X) (p : Ptr K) (o : Entry X) (w : X) → get a p ≡ Some o → Edited a (with_content_at a p.index w) p (filled o w)
   edited {K} a p o w e = subst (λ b. Edited a b p (filled o w)) (sym (lent a p o w e)) it
@@ -68,7 +68,7 @@ module _ {X : Type 0} where
       new = record a { slots = with_item a.slots p.index (Full p.generation (filled o w)) }
 
       was : slice_get a.slots.items p.index ≡ Some (Full p.generation o)
-      was = stands (slice_get a.slots.items p.index) p.generation o e
+      was = in_slot (slice_get a.slots.items p.index) p.generation o e
 
       here : slice_get new.slots.items p.index ≡ Some (Full p.generation (filled o w))
       here = slice_get-set_same a.slots.items p.index (Full p.generation (filled o w)) (Full p.generation o) was
@@ -187,8 +187,8 @@ module _ {X : Type 0} where
       go (inr n) = ap view (r.others q n)
 
   -- what has a content is live
-  pub stood : {K : Type 0} (a : Arena X) (p : Ptr K) (x : X) → option_map (λ o. o.content) (get a p) ≡ Some x → (b : ℕ) × (get a p ≡ Some (record { born = b; content = x }))
-  stood a p x e = go (get a p) e
+  pub content_is_live : {K : Type 0} (a : Arena X) (p : Ptr K) (x : X) → option_map (λ o. o.content) (get a p) ≡ Some x → (b : ℕ) × (get a p ≡ Some (record { born = b; content = x }))
+  content_is_live a p x e = go (get a p) e
     where
       go : (s : Option (Entry X)) → option_map (λ o. o.content) s ≡ Some x → (b : ℕ) × (s ≡ Some (record { born = b; content = x }))
       go None h = absurd (cc)

@@ -1,10 +1,10 @@
 use Rattle.std.proofs.Common.{◌≡◌, ◌<◌, ◌≤◌, ◌+◌, ◌⊎◌, ℕ, zero, suc, Option, Some, None, refl, sym, ap, ◌∙◌, inl, inr, arith, Bool, true, false, cond, List, [], ◌∷◌}
 use Rattle.irtext_graph.specs.Chained.{Chained, Among}
-use Rattle.irtext_graph.proofs.Nests.{Tells, told, seen, some_eq}
+use Rattle.irtext_graph.proofs.Nests.{Tells, same_or_other, seen, some_eq}
 
 pub is_some_of : {X : Type 0} {eq : X → X → Bool} → Tells eq → (o : Option X) (y : X) → (o ≡ Some y) ⊎ ((o ≡ Some y) → ⊥)
 is_some_of t None y = inr (λ p. cc)
-is_some_of t (Some z) y = elim (told t z y) [ inl p ↦ inl (ap Some p) | inr ne ↦ inr (λ p. ne (some_eq p)) ]
+is_some_of t (Some z) y = elim (same_or_other t z y) [ inl p ↦ inl (ap Some p) | inr ne ↦ inr (λ p. ne (some_eq p)) ]
 
 module _ {U D : Type 0} where
   -- with an empty list no slot uses the definition
@@ -37,7 +37,7 @@ module _ {U D : Type 0} where
       -- a slot that uses e now is another slot, which did before
       was : (x : U) (e : D) → val' x ≡ Some e → (x ≡ u → ⊥) × (val x ≡ Some e)
       was x e used =
-          elim (told tU x u) [
+          elim (same_or_other tU x u) [
             | inl p ↦ let g = s.gone in let q : val' x ≡ val' u = ap val' p in cc
             | inr ne ↦ let k = s.kept x ne in (ne, cc)
           ]
@@ -93,7 +93,7 @@ module _ {U D : Type 0} where
           elim (is_some_of tU (nxt u) x) [ inl after ↦ prev_over x w e old.1 after px | inr away ↦ prev_kept x w e old.0 old.1 away px ]
 
       head_of : (e : D) → (e ≡ d) ⊎ ((e ≡ d) → ⊥)
-      head_of e = told tD e d
+      head_of e = same_or_other tD e d
 
       first_ok' : (x : U) (e : D) → val' x ≡ Some e → prv' x ≡ None → heads' e ≡ Some (Some x)
       first_ok' x e vx px =
@@ -141,10 +141,10 @@ module _ {U D : Type 0} where
             ]
           ]
 
-      stands' : (x : U) (e : D) → val' x ≡ Some e → (h : Option U) × (heads' e ≡ Some h)
-      stands' x e vx =
+      alive' : (x : U) (e : D) → val' x ≡ Some e → (h : Option U) × (heads' e ≡ Some h)
+      alive' x e vx =
           let old = was x e vx in
-          let st = c.stands x e old.1 in
+          let st = c.alive x e old.1 in
           elim (head_of e) [
             | inr other ↦ (st.0, s.heads_kept e other ∙ st.1)
             | inl same ↦ elim (seen (prv u)) [
@@ -161,7 +161,7 @@ module _ {U D : Type 0} where
         prev_ok = prev_ok';
         first_ok = first_ok';
         head_ok = head_ok';
-        stands = stands';
+        alive = alive';
         below = λ x e vx. c.below x e (was x e vx).1;
       }
 
@@ -206,7 +206,7 @@ module _ {U D : Type 0} where
 
       a_next_ok : (x w : U) (e : D) → val' x ≡ Some e → nxt' x ≡ Some w → (val' w ≡ Some e) × (prv' w ≡ Some x) × (rank_now w < rank_now x)
       a_next_ok x w e vx nx =
-          elim (told tU x u) [
+          elim (same_or_other tU x u) [
             | inl here ↦
                 let hw : h ≡ Some w = sym s.on_here ∙ ap nxt' (sym here) ∙ nx in
                 let hu = head_used w hw in
@@ -228,7 +228,7 @@ module _ {U D : Type 0} where
 
       a_prev_ok : (x w : U) (e : D) → val' x ≡ Some e → prv' x ≡ Some w → (val' w ≡ Some e) × (nxt' w ≡ Some x)
       a_prev_ok x w e vx px =
-          elim (told tU x u) [
+          elim (same_or_other tU x u) [
             | inl here ↦ let b = s.back_here in let q : prv' x ≡ prv' u = ap prv' here in cc
             | inr ne ↦
                 let vx0 = is_used x e ne vx in
@@ -247,7 +247,7 @@ module _ {U D : Type 0} where
 
       a_first_ok : (x : U) (e : D) → val' x ≡ Some e → prv' x ≡ None → heads' e ≡ Some (Some x)
       a_first_ok x e vx px =
-          elim (told tU x u) [
+          elim (same_or_other tU x u) [
             | inl here ↦
                 let ed : d ≡ e = some_eq (sym s.used ∙ ap val' (sym here) ∙ vx) in
                 ap heads' (sym ed) ∙ s.head ∙ ap (λ y. Some (Some y)) (sym here)
@@ -257,7 +257,7 @@ module _ {U D : Type 0} where
                   | inl was_head ↦ let b = s.back_old x was_head in cc
                   | inr not_head ↦
                       let first = c.first_ok x e vx0 (sym (s.back x ne not_head) ∙ px) in
-                      elim (told tD e d) [
+                      elim (same_or_other tD e d) [
                         | inr other ↦ s.heads_kept e other ∙ first
                         | inl same ↦ absurd (not_head (some_eq (sym s.first ∙ ap heads (sym same) ∙ first)))
                       ]
@@ -266,7 +266,7 @@ module _ {U D : Type 0} where
 
       a_head_ok : (e : D) (x : U) → heads' e ≡ Some (Some x) → (val' x ≡ Some e) × (prv' x ≡ None)
       a_head_ok e x hx =
-          elim (told tD e d) [
+          elim (same_or_other tD e d) [
             | inl same ↦
                 let xu : u ≡ x = some_eq (some_eq (sym s.head ∙ ap heads' (sym same) ∙ hx)) in
                 (ap val' (sym xu) ∙ s.used ∙ ap Some (sym same), ap prv' (sym xu) ∙ s.back_here)
@@ -277,19 +277,19 @@ module _ {U D : Type 0} where
                 (s.kept x nx ∙ before.0, s.back x nx not_head ∙ before.1)
           ]
 
-      a_stands : (x : U) (e : D) → val' x ≡ Some e → (k : Option U) × (heads' e ≡ Some k)
-      a_stands x e vx =
-          elim (told tD e d) [
+      a_has_head : (x : U) (e : D) → val' x ≡ Some e → (k : Option U) × (heads' e ≡ Some k)
+      a_has_head x e vx =
+          elim (same_or_other tD e d) [
             | inl same ↦ (Some u, ap heads' same ∙ s.head)
             | inr other ↦
                 let ne : x ≡ u → ⊥ = λ here. other (some_eq (sym vx ∙ ap val' here ∙ s.used)) in
-                let st = c.stands x e (is_used x e ne vx) in
+                let st = c.alive x e (is_used x e ne vx) in
                 (st.0, s.heads_kept e other ∙ st.1)
           ]
 
       a_below : (x : U) (e : D) → val' x ≡ Some e → rank_now x < c.bound + 1
       a_below x e vx =
-          elim (told tU x u) [
+          elim (same_or_other tU x u) [
             | inl here ↦ let r : rank_now x ≡ c.bound = ap rank_now here ∙ rank_here in omega arith
             | inr ne ↦ let r = rank_other x ne in let b = c.below x e (is_used x e ne vx) in omega arith
           ]
@@ -302,7 +302,7 @@ module _ {U D : Type 0} where
         prev_ok = a_prev_ok;
         first_ok = a_first_ok;
         head_ok = a_head_ok;
-        stands = a_stands;
+        alive = a_has_head;
         below = a_below;
       }
 
@@ -340,9 +340,9 @@ module _ {U D : Type 0} where
               | inl same ↦ let k = c.head_ok e x (sym same ∙ hx) in (s.vals x ∙ k.0, s.prevs x e k.0 ∙ k.1)
               | inr gone ↦ absurd (gone.1 x hx)
             ];
-        stands = λ x e vx.
+        alive = λ x e vx.
             let v0 = r_used x e vx in
-            let k = c.stands x e v0 in (k.0, r_head x e v0 ∙ k.1);
+            let k = c.alive x e v0 in (k.0, r_head x e v0 ∙ k.1);
         below = λ x e vx. c.below x e (r_used x e vx);
       }
 

@@ -11,7 +11,7 @@ use Rattle.irtext_graph.specs.declared.nest.Nest.{Nest}
 use Rattle.irtext_graph.specs.Arena.{get, filled}
 use Rattle.irtext_graph.specs.Lending.{with_content_at}
 use Rattle.irtext_graph.specs.Nest.{links, size}
-use Rattle.irtext_graph.proofs.Arenas.{lent, stands, within}
+use Rattle.irtext_graph.proofs.Arenas.{lent, in_slot, within}
 
 get_or-get : {X : Type 0} (xs : List X) (i : ℕ) (y : X) → slice_get xs i ≡ Some y → get_or xs i y ≡ y
 get_or-get [] i y e = refl
@@ -30,7 +30,7 @@ module _ {X : Type 0} (count : Slot X → ℕ) (size : X → ℕ) (counted : (g 
       go (Some o) f h =
           let same : o.content ≡ x = cc in
           let xs = a.slots.items in
-          let here = stands (slice_get xs p.index) p.generation o f in
+          let here = in_slot (slice_get xs p.index) p.generation o f in
           let new : Slot X = Full p.generation (filled o w) in
           let old : Slot X = Full p.generation o in
           let sum = sum_by-set count xs p.index new old (within xs p.index p.generation (rw f refl)) in

@@ -164,11 +164,11 @@ module _ {O B T : Type 0} (made : ℕ) (values : Counters) (x : Objects O B T) (
 
   used_lives : (d : Defined) (u : Site) → val x u ≡ Some d → Lives x (owner_of d)
   used_lives (OfValue (Result p i)) u e =
-      op_lives x p (λ n. let k : head_at x (OfValue (Result p i)) ≡ None = ap (λ s. first_of (result_in s i)) n in let h = (s.uses.stands u (OfValue (Result p i)) e).1 in cc)
+      op_lives x p (λ n. let k : head_at x (OfValue (Result p i)) ≡ None = ap (λ s. first_of (result_in s i)) n in let h = (s.uses.alive u (OfValue (Result p i)) e).1 in cc)
   used_lives (OfValue (Argument b i)) u e =
-      block_lives b (λ n. let k : head_at x (OfValue (Argument b i)) ≡ None = ap (λ s. first_of (argument_in s i)) n in let h = (s.uses.stands u (OfValue (Argument b i)) e).1 in cc)
+      block_lives b (λ n. let k : head_at x (OfValue (Argument b i)) ≡ None = ap (λ s. first_of (argument_in s i)) n in let h = (s.uses.alive u (OfValue (Argument b i)) e).1 in cc)
   used_lives (OfBlock b) u e =
-      block_lives b (λ n. let k : head_at x (OfBlock b) ≡ None = ap preds_in n in let h = (s.uses.stands u (OfBlock b) e).1 in cc)
+      block_lives b (λ n. let k : head_at x (OfBlock b) ≡ None = ap preds_in n in let h = (s.uses.alive u (OfBlock b) e).1 in cc)
 
   named_lives : (u : Site) (d : Defined) → (o : Use Defined) × (use_at x u ≡ Some o) × (o.def ≡ d) → Lives x (owner_of d)
   named_lives u d n = used_lives d u (used_def (use_at x u) n.0 n.1 (s.all_used u (rw n.1 refl)) ∙ ap Some n.2)

@@ -37,7 +37,7 @@ use Rattle.irtext_graph.specs.Objects.{up, kids, born_of, is_older}
 use Rattle.irtext_graph.specs.Parts.{operation_at, block_at}
 use Rattle.irtext_graph.specs.Sound.{IsSound, IsKept}
 use Rattle.irtext_graph.specs.Uses.{operand_in, successor_in, result_in, argument_in, preds_in, first_of, use_at, head_at, either}
-use Rattle.irtext_graph.proofs.Arenas.{Replaced, replaced, same_view, edited as arena_edited, lent, stood, places_kept}
+use Rattle.irtext_graph.proofs.Arenas.{Replaced, replaced, same_view, edited as arena_edited, lent, content_is_live, places_kept}
 use Rattle.irtext_graph.proofs.Logs.{logged_kept}
 use Rattle.irtext_graph.proofs.Made.{older_kept, at_least}
 use Rattle.irtext_graph.proofs.Kept.{keeps_self}
@@ -52,7 +52,7 @@ use Rattle.irtext_graph.proofs.Stores.{get_seen, edited-keeps as store-keeps}
 pub content_set : {X Y K : Type 0} (see : X → Y) (change : Y → Y) (a : Arena X) (p : Ptr K) (x w : X) → option_map (λ o. o.content) (arena.get a p) ≡ Some x → see w ≡ change (see x)
     → store_of see (with_content_at a p.index w) ≡ edited_at (store_of see a) p change
 content_set {X} {Y} see change a p x w e same =
-    let s = stood a p x e in
+    let s = content_is_live a p x e in
     let o : Entry X = record { born = s.0; content = x } in
     let was : get (store_of see a) p ≡ Some (object_of see o) = get_seen see a p ∙ ap (option_map (object_of see)) s.1 in
     let cells : map (cell_of see) (with_content_at a p.index w).slots.items ≡ set (map (cell_of see) a.slots.items) p.index (record { generation = p.generation; object = Some (record { born = s.0; content = change (see x) }) }) =

@@ -21,7 +21,7 @@ use Rattle.irtext_graph.specs.declared.objects.Use.{Use}
 use Rattle.irtext_graph.proofs.Backs.{use_there, not_some}
 use Rattle.irtext_graph.proofs.Linked.{site_tells}
 use Rattle.irtext_graph.proofs.Moves.{lower}
-use Rattle.irtext_graph.proofs.Nests.{told}
+use Rattle.irtext_graph.proofs.Nests.{same_or_other}
 use Rattle.irtext_graph.proofs.Pointers.{equal_or_not}
 
 module _ {O B T : Type 0} where
@@ -46,7 +46,7 @@ module _ {O B T : Type 0} where
   pub detaching_on : (w x y : Objects O B T) (site : ℕ → Site) (n : ℕ) → Detaching w x site n → AreUsesLinked y → val y (site n) ≡ None → ((u : Site) → u ≢ site n → val y u ≡ val x u) → seen y ≡ seen x → Detaching w y site (n + 1)
   detaching_on w x y site n d linked gone kept same = record {
     linked = linked;
-    gone = λ j low. elim (told site_tells (site j) (site n)) [
+    gone = λ j low. elim (same_or_other site_tells (site j) (site n)) [
       | inl here ↦ ap (val y) here ∙ gone
       | inr away ↦ kept (site j) away ∙ d.gone j (elim (equal_or_not j n) [ inl e ↦ absurd (away (ap site e)) | inr ne ↦ omega (arith, low, ne) ])
     ];

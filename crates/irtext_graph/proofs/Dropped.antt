@@ -27,7 +27,7 @@ use Rattle.irtext_graph.specs.Nest.{datum_in}
 use Rattle.irtext_graph.specs.Objects.{what, SamePlaces}
 use Rattle.irtext_graph.specs.Uses.{use_at, val, operand_in, successor_in, result_in, argument_in, preds_in, first_of, head_at, def_of, prev_of, next_of, either, AreUsesLinked, eq_site, eq_defined}
 use Rattle.irtext_graph.specs.Erasing.{user, named_at}
-use Rattle.irtext_graph.proofs.Nests.{told}
+use Rattle.irtext_graph.proofs.Nests.{same_or_other}
 use Rattle.irtext_graph.proofs.Same.{object_tells}
 use Rattle.irtext_graph.proofs.Linked.{site_tells, defined_tells}
 use Rattle.irtext_graph.proofs.Chains.{reframed}
@@ -110,7 +110,7 @@ module _ {O B T : Type 0} where
     stays (AtSuccessor q i) ne = ap (λ e. option_map (either OfBlock) (successor_in e i)) (others q (λ s. ne (ap TheOperation s)))
 
     same_val : (u : Site) → val z u ≡ val x u
-    same_val u = elim (told object_tells (user u) (TheOperation p)) [
+    same_val u = elim (same_or_other object_tells (user u) (TheOperation p)) [
       | inl e ↦ ap def_of (cleared u e) ∙ sym (gone u e)
       | inr ne ↦ ap def_of (stays u ne)
     ]
@@ -133,7 +133,7 @@ module _ {O B T : Type 0} where
     })
 
     pub drop_used : ((u : Site) → IsSome (use_at x0 u) → IsSome (val x0 u)) → (u : Site) → IsSome (use_at z u) → IsSome (val z u)
-    drop_used used u l = elim (told object_tells (user u) (TheOperation p)) [
+    drop_used used u l = elim (same_or_other object_tells (user u) (TheOperation p)) [
       | inl e ↦ absurd (let n = cleared u e in let m = rw n at l in cc)
       | inr ne ↦
           let there : IsSome (use_at x u) = rw (stays u ne) at l in

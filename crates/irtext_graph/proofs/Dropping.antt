@@ -19,7 +19,7 @@ use Rattle.irtext_graph.specs.Uses.{use_at, val, AreUsesLinked}
 use Rattle.irtext_graph.specs.Erasing.{without_uses}
 use Rattle.irtext_graph.specs.Used.{without_uses_in}
 use Rattle.irtext_graph.specs.Preorder.{left, slots}
-use Rattle.irtext_graph.proofs.Nests.{told, some_eq, renested, climb-same}
+use Rattle.irtext_graph.proofs.Nests.{same_or_other, some_eq, renested, climb-same}
 use Rattle.irtext_graph.proofs.Same.{object_tells}
 use Rattle.irtext_graph.proofs.Inside.{within_self}
 use Rattle.irtext_graph.proofs.Views.{up_seen, kids_seen, what_seen}
@@ -140,7 +140,7 @@ module _ {O B T : Type 0} where
       same_up = y_up;
       same_kids = y_kids;
       places = y_places;
-      inside = λ r w. elim (told object_tells r q) [
+      inside = λ r w. elim (same_or_other object_tells r q) [
         | inl e ↦ inr (subst (λ z. what y z ≡ option_map without_uses (what x0 z)) (sym e) now_here)
         | inr ne ↦ elim (d.inside r w) [
           | inr done ↦ inr (others r ne ∙ done)
@@ -150,7 +150,7 @@ module _ {O B T : Type 0} where
           ]
         ]
       ];
-      either = λ r. elim (told object_tells r q) [
+      either = λ r. elim (same_or_other object_tells r q) [
         | inl e ↦ inr (subst (λ z. Within (up x0) o z × (what y z ≡ option_map without_uses (what x0 z))) (sym e) (d.at_inside q refl, now_here))
         | inr ne ↦ elim (d.either r) [ inl e ↦ inl (others r ne ∙ e) | inr e ↦ inr (e.0, others r ne ∙ e.1) ]
       ];

@@ -6,7 +6,7 @@ use Rattle.irtext_graph.specs.declared.object.Object.{Object}
 use Rattle.irtext_graph.specs.declared.object.Object.TheVariants.{TheOperation, TheBlock, TheRegion}
 use Rattle.irtext_graph.specs.declared.objects.Objects.{Objects}
 use Rattle.irtext_graph.specs.Nested.{climb, Within}
-use Rattle.irtext_graph.proofs.Nests.{told, seen, some_eq, renested, climb-none}
+use Rattle.irtext_graph.proofs.Nests.{same_or_other, seen, some_eq, renested, climb-none}
 use Rattle.irtext_graph.proofs.Inside.{within_self, within_on, alone, carried, fewer_ways}
 use Rattle.irtext_graph.specs.Objects.{up, kids, what, Lives, SameAt, IsGone, IsForest, Drops, Appends, KeepsOlder, stays, is_older, eq_object, SameDatum, Sheds}
 use Rattle.irtext_graph.specs.Content.{Content, Content.{AnOperation, ABlock, ARegion}, operation_content, block_content, region_content}
@@ -102,13 +102,13 @@ module _ {O B T : Type 0} where
     k_lives = parent_lives x c k v.forest e
 
     pub ups : (q : Object) → q ≢ c → up y q ≡ up x q
-    ups q nc = elim (told object_tells q k) [ inl same ↦ rw same d.parent | inr nk ↦ (d.others q nk nc).same_up ]
+    ups q nc = elim (same_or_other object_tells q k) [ inl same ↦ rw same d.parent | inr nk ↦ (d.others q nk nc).same_up ]
 
     whats : (q : Object) → q ≢ c → what y q ≡ what x q
-    whats q nc = elim (told object_tells q k) [ inl same ↦ rw same d.same | inr nk ↦ (d.others q nk nc).same_what ]
+    whats q nc = elim (same_or_other object_tells q k) [ inl same ↦ rw same d.same | inr nk ↦ (d.others q nk nc).same_what ]
 
     step : (q p : Object) → up y q ≡ Some p → up x q ≡ Some p
-    step q p f = elim (told object_tells q c) [
+    step q p f = elim (same_or_other object_tells q c) [
       | inl same ↦ let h = ap (up y) same in let z = d.gone.gone_up in absurd (cc)
       | inr nc ↦ sym (ups q nc) ∙ f
     ]
@@ -120,7 +120,7 @@ module _ {O B T : Type 0} where
     k_not_c s = childless x c c v.forest v.leaf (e ∙ ap Some s)
 
     still_gone : (q : Object) → IsGone x q → IsGone y q
-    still_gone q h = elim (told object_tells q c) [
+    still_gone q h = elim (same_or_other object_tells q c) [
       | inl same ↦ rw same d.gone
       | inr nc ↦
           let nk : q ≢ k = λ s. not_gone x k k_lives (rw (← s) h) in
@@ -135,7 +135,7 @@ module _ {O B T : Type 0} where
       inside = λ q w. v.inside q (fewer_ways (up x) (up y) step o w.0 q w.1);
       done = λ q w. elim (v.done q w) [
         | inr h ↦ inr (still_gone q h)
-        | inl there ↦ elim (told object_tells q c) [
+        | inl there ↦ elim (same_or_other object_tells q c) [
           | inl same ↦ inr (rw same d.gone)
           | inr nc ↦ inl (still q nc there)
         ]
@@ -158,11 +158,11 @@ module _ {O B T : Type 0} where
   module _ (x0 x x4 : Objects O B T) (o : Object) (v : Erasing x0 x o o) (gone : what x4 o ≡ None) (gone_up : up x4 o ≡ None) (gone_kids : kids x4 o ≡ []) (others : (q : Object) → q ≢ o → SameAt x x4 q) where
     pub end_forest : IsForest x4
     end_forest = renested eq_object object_tells v.forest
-        (λ q. elim (told object_tells q o) [ inl e ↦ rw e (gone_kids ∙ sym v.leaf) | inr ne ↦ (others q ne).same_kids ])
-        (λ q. elim (told object_tells q o) [ inl e ↦ rw e (gone_up ∙ sym v.free) | inr ne ↦ (others q ne).same_up ])
+        (λ q. elim (same_or_other object_tells q o) [ inl e ↦ rw e (gone_kids ∙ sym v.leaf) | inr ne ↦ (others q ne).same_kids ])
+        (λ q. elim (same_or_other object_tells q o) [ inl e ↦ rw e (gone_up ∙ sym v.free) | inr ne ↦ (others q ne).same_up ])
 
     pub end_gone : (q : Object) → Within (up x0) o q → IsGone x4 q
-    end_gone q w = elim (told object_tells q o) [
+    end_gone q w = elim (same_or_other object_tells q o) [
       | inl e ↦ rw e (record { gone_up = gone_up; gone_kids = gone_kids; gone_what = gone })
       | inr ne ↦ elim (v.done q w) [
         | inl there ↦ absurd (ne (alone v.forest o q v.leaf there))

@@ -27,7 +27,7 @@ use Rattle.irtext_graph.specs.Objects.{up, kids, what, Lives, IsForest, SameAt, 
 use Rattle.irtext_graph.specs.Uses.{use_at, val, head_at, first_of, result_in, argument_in, preds_in, def_of, prev_of, next_of, AreUsesLinked, eq_site, eq_defined}
 use Rattle.irtext_graph.specs.Sound.{IsSound}
 use Rattle.irtext_graph.specs.Erasing.{user, owner, named_at, without_uses, DropsUses, CanErase, Erases, IsAllUsedInside}
-use Rattle.irtext_graph.proofs.Nests.{told, some_eq, seen as none_or}
+use Rattle.irtext_graph.proofs.Nests.{same_or_other, some_eq, seen as none_or}
 use Rattle.irtext_graph.proofs.Same.{object_tells}
 use Rattle.irtext_graph.proofs.Linked.{site_tells, defined_tells}
 use Rattle.irtext_graph.proofs.Chains.{reframed}
@@ -36,7 +36,7 @@ use Rattle.irtext_graph.proofs.Stores.{generation_seen}
 use Rattle.irtext_graph.specs.Content.{node_of}
 use Rattle.irtext_graph.proofs.Views.{up_seen, kids_seen, what_seen, within_at, within_seen, rest_seen}
 use Rattle.irtext_graph.proofs.Sounds.{use_same, head_same}
-use Rattle.irtext_graph.proofs.Frames.{stood_keeps}
+use Rattle.irtext_graph.proofs.Frames.{older_or_kept}
 use Rattle.irtext_graph.proofs.Dropped.{named_what}
 use Rattle.irtext_graph.proofs.Dropping.{way_same}
 
@@ -59,7 +59,7 @@ module _ {O B T : Type 0} where
 
   pub dropped-keeps : (m : ℕ) (g h : GraphView O B T) (o : Object) → DropsUses g h o → ((q : Object) → (IsInside g o q) ⊎ (IsInside g o q → ⊥))
       → ((p : _) → IsInside g o (TheOperation p) → IsNew m g (TheOperation p)) → KeepsOlder m g h
-  dropped-keeps m g h o d known new = stood_keeps m g h (λ q. at q (known q)) (let e = d.rest.made in omega (arith, e)) (let e = d.rest.values in omega (arith, e)) d.rest.first_place
+  dropped-keeps m g h o d known new = older_or_kept m g h (λ q. at q (known q)) (let e = d.rest.made in omega (arith, e)) (let e = d.rest.values in omega (arith, e)) d.rest.first_place
     where
       same : (q : Object) → content h q ≡ content g q → (IsNew m g q × IsNew m h q) ⊎ ((parent h q ≡ parent g q) × (children h q ≡ children g q) × (content h q ≡ content g q))
       same q e = inr (d.parents q, d.lists q, e)
@@ -196,7 +196,7 @@ module _ {O B T : Type 0} where
     up_z : (q : Object) → (Within (up y) o q → ⊥) → up z q ≡ up y q
     up_z q out = elim (none_or (up y o)) [
       | inl none ↦ (kept q out (λ e. let f = none in cc)).same_up
-      | inr (k, e) ↦ elim (told object_tells q k) [
+      | inr (k, e) ↦ elim (same_or_other object_tells q k) [
         | inl same ↦ parent_kept q (e ∙ ap Some (sym same))
         | inr ne ↦ (kept q out (λ f. ne (some_eq (sym f ∙ e)))).same_up
       ]
@@ -222,13 +222,13 @@ module _ {O B T : Type 0} where
 
   pub erased-keeps : (m : ℕ) (g h : GraphView O B T) (o : Object) → Erases g h o → ((q : Object) → (IsInside g o q) ⊎ (IsInside g o q → ⊥))
       → ((q : Object) → IsInside g o q → IsNew m g q) → ((k : Object) → parent g o ≡ Some k → IsNew m g k) → KeepsOlder m g h
-  erased-keeps m g h o d known new above = stood_keeps m g h (λ q. at q (known q)) (let e = d.made in omega (arith, e)) (let e = d.values in omega (arith, e)) d.first_place
+  erased-keeps m g h o d known new above = older_or_kept m g h (λ q. at q (known q)) (let e = d.made in omega (arith, e)) (let e = d.values in omega (arith, e)) d.first_place
     where
       at : (q : Object) → (IsInside g o q) ⊎ (IsInside g o q → ⊥) → (IsNew m g q × IsNew m h q) ⊎ ((parent h q ≡ parent g q) × (children h q ≡ children g q) × (content h q ≡ content g q))
       at q (inl w) = inl (new q w, ap (is_older m) (d.gone q w))
       at q (inr out) = elim (none_or (parent g o)) [
         | inl none ↦ inr (d.parents q out, d.others q out (λ e. let f = none in cc), d.contents q out)
-        | inr (k, e) ↦ elim (told object_tells q k) [
+        | inr (k, e) ↦ elim (same_or_other object_tells q k) [
           | inl same ↦ let n : IsNew m g q = above q (e ∙ ap Some (sym same)) in inl (n, ap (is_older m) (d.contents q out) ∙ n)
           | inr ne ↦ inr (d.parents q out, d.others q out (λ f. ne (some_eq (sym f ∙ e))), d.contents q out)
         ]

@@ -23,7 +23,7 @@ use Rattle.irtext_graph.specs.Lending.{with_content_at}
 use Rattle.irtext_graph.specs.Store.{cell_of}
 use Rattle.irtext_graph.specs.Used.{without_uses_in, operations_bare, uses_in, uses_of, uses_left}
 use Rattle.irtext_graph.specs.Uses.{eq_defined, operations_seen, operand_in, successor_in, either, use_at, renamed}
-use Rattle.irtext_graph.proofs.Arenas.{stood}
+use Rattle.irtext_graph.proofs.Arenas.{content_is_live}
 use Rattle.irtext_graph.proofs.Children.{sum_with}
 use Rattle.irtext_graph.proofs.Counts.{sum-less}
 use Rattle.irtext_graph.proofs.Linked.{defined_tells}
@@ -93,7 +93,7 @@ module _ {O T : Type 0} (a : Arena (Nest BasicBlock Region (OperationData O T)))
 
   -- what is seen of it under the pointer
   in_data : {V : Type 0} (view : Option (Entry (Nest BasicBlock Region (OperationData O T))) → V) → (b : ℕ) × (view (Some (record { born = b; content = x })) ≡ view (get a p))
-  in_data view = let r = stood a p x at in (r.0, ap view (sym r.1))
+  in_data view = let r = content_is_live a p x at in (r.0, ap view (sym r.1))
 
 module _ {O B T : Type 0} (x : Objects O B T) (p : Ptr Operation) (n : Nest BasicBlock Region (OperationData O T)) (at : option_map (λ o. o.content) (get x.operations p) ≡ Some n) (u : Site) (i : ℕ) (d : Defined) where
   -- an operand names another value

@@ -5,7 +5,7 @@ use Rattle.irtext_graph.specs.declared.log.Made.{Made}
 use Rattle.irtext_graph.specs.declared.object.Object.{Object}
 use Rattle.irtext_graph.specs.declared.objects.Objects.{Objects}
 use Rattle.irtext_graph.specs.Content.{Content}
-use Rattle.irtext_graph.specs.Log.{age, IsByAge, IsLogged, stands_in}
+use Rattle.irtext_graph.specs.Log.{age, IsByAge, IsLogged, is_live_in}
 use Rattle.irtext_graph.specs.Objects.{what, born_of}
 use Rattle.irtext_graph.proofs.Logs.{age_what}
 
@@ -57,9 +57,9 @@ module _ {O B T : Type 0} where
       go None e = absurd (cc)
       go (Some c) e = refl
 
-  pub logged_standing : (made : ℕ) (log after : List Made) (x : Objects O B T) → after ≡ filter (stands_in x) log → IsLogged made log x → IsLogged made after x
-  logged_standing made log after x e i = rw e (record {
-    listed = λ o b f. let k = i.listed o b f in in_filter (stands_in x) log k.0 (record { born = b; object = o }) k.1 (aged x o b f);
-    by_age = by_age (stands_in x) log i.by_age;
-    below = λ k a f. let j = in_list (stands_in x) log k a f in i.below j.0 a j.1;
+  pub logged_live : (made : ℕ) (log after : List Made) (x : Objects O B T) → after ≡ filter (is_live_in x) log → IsLogged made log x → IsLogged made after x
+  logged_live made log after x e i = rw e (record {
+    listed = λ o b f. let k = i.listed o b f in in_filter (is_live_in x) log k.0 (record { born = b; object = o }) k.1 (aged x o b f);
+    by_age = by_age (is_live_in x) log i.by_age;
+    below = λ k a f. let j = in_list (is_live_in x) log k a f in i.below j.0 a j.1;
   })

@@ -13,7 +13,7 @@ use Rattle.irtext_graph.specs.Store.{get, before}
 use Rattle.irtext_graph.specs.Content.{Node, Content, Content.{AnOperation, ABlock, ARegion}, OperationContent, BlockContent, RegionContent}
 use Rattle.irtext_graph.specs.Objects.{is_older}
 use Rattle.irtext_graph.specs.Graph.{GraphView, parent_of, children_of, content_of, parent, children, content, IsNew, KeepsOlder, Appends, Unlinks}
-use Rattle.irtext_graph.proofs.Nests.{told, seen, some_eq}
+use Rattle.irtext_graph.proofs.Nests.{same_or_other, seen, some_eq}
 use Rattle.irtext_graph.proofs.Same.{object_tells}
 use Rattle.irtext_graph.proofs.Made.{same_keeps}
 
@@ -119,10 +119,10 @@ module _ {O B T : Type 0} where
   still_new m g h q e n = ap (is_older m) e ∙ n
 
   -- each object is no older than the mark, or as it was
-  pub stood_keeps : (m : ℕ) (g h : GraphView O B T)
+  pub older_or_kept : (m : ℕ) (g h : GraphView O B T)
       → ((q : Object) → (IsNew m g q × IsNew m h q) ⊎ ((parent h q ≡ parent g q) × (children h q ≡ children g q) × (content h q ≡ content g q)))
       → g.made ≤ h.made → g.values ≤ h.values → h.first_place ≡ g.first_place → KeepsOlder m g h
-  stood_keeps m g h f made values first = record {
+  older_or_kept m g h f made values first = record {
     operations = λ p. elim (f (TheOperation p)) [
       | inl n ↦ new_operation m h p n.1 ∙ sym (new_operation m g p n.0)
       | inr s ↦ ap (older m) (entry_alike TheBlock block_same TheRegion region_same (get h.operations p) (get g.operations p) s.0 s.1 (operation_content_same g h p s.2))
@@ -141,14 +141,14 @@ module _ {O B T : Type 0} where
   }
 
   pub framed_keeps : (m : ℕ) (g h : GraphView O B T) → Framed m g h → g.made ≤ h.made → g.values ≤ h.values → h.first_place ≡ g.first_place → KeepsOlder m g h
-  framed_keeps m g h f made values first = stood_keeps m g h (λ q. elim (f.same q) [ inl n ↦ inl (n, still_new m g h q (f.contents q) n) | inr s ↦ inr (s.0, s.1, f.contents q) ]) made values first
+  framed_keeps m g h f made values first = older_or_kept m g h (λ q. elim (f.same q) [ inl n ↦ inl (n, still_new m g h q (f.contents q) n) | inr s ↦ inr (s.0, s.1, f.contents q) ]) made values first
 
   pub appended-keeps : (m : ℕ) (g h : GraphView O B T) (k c : Object) → IsNew m g k → IsNew m g c → Appends g h k c → KeepsOlder m g h
   appended-keeps m g h k c nk nc a = framed_keeps m g h (record {
     contents = a.objects.contents;
-    same = λ q. elim (told object_tells q k) [
+    same = λ q. elim (same_or_other object_tells q k) [
       | inl e ↦ inl (ap (λ q. is_older m (content g q)) e ∙ nk)
-      | inr away ↦ elim (told object_tells q c) [
+      | inr away ↦ elim (same_or_other object_tells q c) [
         | inl e ↦ inl (ap (λ q. is_older m (content g q)) e ∙ nc)
         | inr apart ↦ inr (a.parents q apart, a.others q away)
       ]
@@ -164,11 +164,11 @@ module _ {O B T : Type 0} where
   unlinked-keeps m g h c nc nk a = framed_keeps m g h (record { contents = a.objects.contents; same = same }) (let e = a.objects.rest.made in omega (arith, e)) (let e = a.objects.rest.values in omega (arith, e)) a.objects.rest.first_place
     where
       same : (q : Object) → (IsNew m g q) ⊎ ((parent h q ≡ parent g q) × (children h q ≡ children g q))
-      same q = elim (told object_tells q c) [
+      same q = elim (same_or_other object_tells q c) [
         | inl e ↦ inl (ap (λ q. is_older m (content g q)) e ∙ nc)
         | inr apart ↦ elim (seen (parent g c)) [
           | inl none ↦ inr (a.parents q apart, a.others q (λ e. let f = none in cc))
-          | inr (k, at) ↦ elim (told object_tells q k) [
+          | inr (k, at) ↦ elim (same_or_other object_tells q k) [
             | inl e ↦ inl (ap (λ q. is_older m (content g q)) e ∙ nk k at)
             | inr away ↦ inr (a.parents q apart, a.others q (λ e. away (some_eq (sym e ∙ at))))
           ]

@@ -18,9 +18,9 @@ use Rattle.irtext_graph.specs.Preorder.{onward}
 use Rattle.irtext_graph.specs.Store.{Store, Edits, get, object_of}
 use Rattle.irtext_graph.specs.Throughout.{changed, places, all_from, IsNewInside, SameObject, ChangedObject, EditsObject, EditsInside}
 use Rattle.irtext_graph.proofs.Data.{edited, edited_block}
-use Rattle.irtext_graph.proofs.Frames.{stood_keeps}
+use Rattle.irtext_graph.proofs.Frames.{older_or_kept}
 use Rattle.irtext_graph.proofs.Inside.{within_self, within_or}
-use Rattle.irtext_graph.proofs.Nests.{told, climb-same}
+use Rattle.irtext_graph.proofs.Nests.{same_or_other, climb-same}
 use Rattle.irtext_graph.proofs.Preorders.{onward_same}
 use Rattle.irtext_graph.proofs.Same.{object_tells}
 use Rattle.irtext_graph.proofs.Stores.{seen_mapped}
@@ -149,7 +149,7 @@ module _ {O B T : Type 0} where
       pub either : (q : Object) → SameObject old now q ⊎ (IsInside old o q × ChangedObject old now q f h)
       pub rest : KeepsRest old now
       pub at_inside : IfSome at (λ q. IsInside old o q)
-      pub at_stands : IfSome at (λ q. IsLive now q)
+      pub at_is_live : IfSome at (λ q. IsLive now q)
 
     pub going_begins : (g : GraphView O B T) (o : Object) → IsLive g o → ((o q : Object) → IsInside g o q → Among q (all_from g o (Some o))) → Going g g o (Some o)
     going_begins g o l all = record {
@@ -157,7 +157,7 @@ module _ {O B T : Type 0} where
       either = λ q. inl (object_self g q);
       rest = rest_self g;
       at_inside = within_self (parent g) o;
-      at_stands = l;
+      at_is_live = l;
     }
 
     module _ (old now : GraphView O B T) (o : Object) (at : Option Object) (d : Going old now o at) where
@@ -179,9 +179,9 @@ module _ {O B T : Type 0} where
           ap (λ (k : ℕ). onward eq_object (children now) (parent now) (suc k) o r) n
           ∙ onward_same eq_object (children old) (children now) (parent old) (parent now) now_items now_holder (suc (places old)) o r
 
-    stands_on : (k : Option (Content O B T)) → IsSome k → IsSome (option_map (changed f h) k)
-    stands_on None l = l
-    stands_on (Some k) l = refl
+    going_is_live : (k : Option (Content O B T)) → IsSome k → IsSome (option_map (changed f h) k)
+    going_is_live None l = l
+    going_is_live (Some k) l = refl
 
     module _ (again_f : (x : O) → f (f x) ≡ f x) (again_h : (x : B) → h (h x) ≡ h x) where
       twice : (k : Option (Content O B T)) → option_map (changed f h) (option_map (changed f h) k) ≡ option_map (changed f h) k
@@ -211,8 +211,8 @@ module _ {O B T : Type 0} where
           changed_on r a b = record { what = b.what ∙ a.what; holder = b.holder ∙ a.holder; items = b.items ∙ a.items }
 
           still : (r : Object) → IsLive now r → IsLive then r
-          still r l = elim (told object_tells r q) [
-            | inl s ↦ subst (λ z. IsLive then z) (sym s) (subst IsSome (sym e.here.what) (stands_on (content now q) (subst (λ z. IsLive now z) s l)))
+          still r l = elim (same_or_other object_tells r q) [
+            | inl s ↦ subst (λ z. IsLive then z) (sym s) (subst IsSome (sym e.here.what) (going_is_live (content now q) (subst (λ z. IsLive now z) s l)))
             | inr ne ↦ subst IsSome (sym (e.others r ne).what) l
           ]
 
@@ -220,27 +220,27 @@ module _ {O B T : Type 0} where
           found_was None w = w
           found_was (Some r) w = was_inside old now o (Some q) d r w
 
-          found_stands : (r : Option Object) → IfSome r (λ r. IsLive now r) → IfSome r (λ r. IsLive then r)
-          found_stands None l = l
-          found_stands (Some r) l = still r l
+          found_is_live : (r : Option Object) → IfSome r (λ r. IsLive now r) → IfSome r (λ r. IsLive then r)
+          found_is_live None l = l
+          found_is_live (Some r) l = still r l
 
           -- the data of the object that comes next are changed
           pub going_on : Going old then o next
           going_on = record {
-            inside = λ r w. elim (told object_tells r q) [
+            inside = λ r w. elim (same_or_other object_tells r q) [
               | inl s ↦ inr (subst (λ z. ChangedObject old then z f h) (sym s) here)
               | inr ne ↦ elim (d.inside r w) [
                 | inr done ↦ inr (changed_on r done (e.others r ne))
                 | inl comes ↦ elim (subst (Among r) was_step comes) [ inl s ↦ absurd (ne s) | inr later ↦ inl later ]
               ]
             ];
-            either = λ r. elim (told object_tells r q) [
+            either = λ r. elim (same_or_other object_tells r q) [
               | inl s ↦ inr (subst (λ z. IsInside old o z × ChangedObject old then z f h) (sym s) (d.at_inside, here))
               | inr ne ↦ elim (d.either r) [ inl s ↦ inl (same_on r s (e.others r ne)) | inr s ↦ inr (s.0, changed_on r s.1 (e.others r ne)) ]
             ];
             rest = rest_on old now then d.rest e.rest;
             at_inside = found_was next found;
-            at_stands = found_stands next there;
+            at_is_live = found_is_live next there;
           }
 
     -- after the last object all is changed
@@ -259,7 +259,7 @@ module _ {O B T : Type 0} where
 
     -- what is older than all objects inside is unchanged
     pub edited_inside-keeps : (m : ℕ) (old new : GraphView O B T) (o : Object) → Nested (children old) (parent old) → EditsInside old new o f h → IsNewInside m old o → KeepsOlder m old new
-    edited_inside-keeps m old new o s e young = stood_keeps m old new at (let k = e.rest.made in omega (arith, k)) (let k = e.rest.values in omega (arith, k)) e.rest.first_place
+    edited_inside-keeps m old new o s e young = older_or_kept m old new at (let k = e.rest.made in omega (arith, k)) (let k = e.rest.values in omega (arith, k)) e.rest.first_place
       where
         at : (q : Object) → (IsNew m old q × IsNew m new q) ⊎ ((parent new q ≡ parent old q) × (children new q ≡ children old q) × (content new q ≡ content old q))
         at q = elim (within_or eq_object object_tells (parent old) s.ends o q) [

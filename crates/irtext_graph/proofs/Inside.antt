@@ -1,7 +1,7 @@
 -- Which objects are inside which, while an object is erased piece by piece.
 use Rattle.std.proofs.Common.{◌≡◌, ◌+◌, ◌⊎◌, ℕ, zero, suc, Option, Some, None, refl, sym, ap, ◌∙◌, inl, inr, Bool, List, [], slice_get}
 use Rattle.irtext_graph.specs.Nested.{climb, Within, Nested}
-use Rattle.irtext_graph.proofs.Nests.{Tells, told, seen, some_eq, climb-none, climb-add}
+use Rattle.irtext_graph.proofs.Nests.{Tells, same_or_other, seen, some_eq, climb-none, climb-add}
 
 module _ {O : Type 0} (eqO : O → O → Bool) (t : Tells eqO) where
   -- whether c is among o and its ancestors, within n steps
@@ -9,7 +9,7 @@ module _ {O : Type 0} (eqO : O → O → Bool) (t : Tells eqO) where
   way up c zero o e = inr (λ m f. let k = climb-none up m in let g : climb up m o ≡ climb up m None = ap (climb up m) e in cc)
   way up c (suc n) None e = inr (λ m f. let k = climb-none up m in cc)
   way up c (suc n) (Some x) e =
-      elim (told t x c) [
+      elim (same_or_other t x c) [
         | inl here ↦ inl (zero, ap Some here)
         | inr ne ↦ elim (way up c n (up x) e) [
           | inl (m, f) ↦ inl (suc m, f)

@@ -11,7 +11,7 @@ use Rattle.irtext_graph.specs.declared.objects.Objects.{Objects}
 use Rattle.irtext_graph.specs.declared.object.Value.{Value}
 use Rattle.irtext_graph.specs.declared.object.Value.TheVariants.{Result, Argument}
 use Rattle.irtext_graph.proofs.Same.{both, all, ptr_tells}
-use Rattle.irtext_graph.proofs.Nests.{Tells, told}
+use Rattle.irtext_graph.proofs.Nests.{Tells, same_or_other}
 use Rattle.irtext_graph.specs.Uses.{eq_site, eq_value, eq_defined, use_at, def_of, relinked}
 
 site_is : (u : Site) → eq_site u u ≡ true
@@ -66,7 +66,7 @@ used_def o p e h = ap def_of e ∙ go p.links.linked (rw e at h)
 -- if a use has other links, what does not depend on them is unchanged
 pub relinked_same : {O B T V : Type 0} (x y : Objects O B T) (u : Site) (l : Links) (o : Use Defined) (view : Option (Use Defined) → V) → use_at x u ≡ Some o → use_at y u ≡ option_map (relinked l) (use_at x u) → ((w : Site) → w ≢ u → use_at y w ≡ use_at x w)
     → view (Some (relinked l o)) ≡ view (Some o) → (s : Site) → view (use_at y s) ≡ view (use_at x s)
-relinked_same x y u l o view read here others same s = elim (told site_tells s u) [
+relinked_same x y u l o view read here others same s = elim (same_or_other site_tells s u) [
   | inl e ↦ ap (λ s. view (use_at y s)) e ∙ ap view (here ∙ ap (option_map (relinked l)) read) ∙ same ∙ sym (ap view read) ∙ sym (ap (λ s. view (use_at x s)) e)
   | inr ne ↦ ap view (others s ne)
 ]

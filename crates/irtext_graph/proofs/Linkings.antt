@@ -33,7 +33,7 @@ use Rattle.irtext_graph.specs.declared.objects.Definition.{Definition}
 use Rattle.irtext_graph.specs.Linking.{unlinked, site_of, Defines, IsBlank}
 use Rattle.irtext_graph.specs.Sound.{IsSound}
 use Rattle.irtext_graph.proofs.Same.{ptr_tells, object_tells}
-use Rattle.irtext_graph.proofs.Nests.{told, renested}
+use Rattle.irtext_graph.proofs.Nests.{same_or_other, renested}
 use Rattle.irtext_graph.proofs.Linked.{site_tells, defined_tells}
 use Rattle.irtext_graph.proofs.Chains.{reframed}
 use Rattle.irtext_graph.proofs.Arenas.{older_later, older_inserted, new_view, was_none}
@@ -168,7 +168,7 @@ module _ {O B T : Type 0} (x : Objects O B T) (made : ℕ) (after : Arena (Nest 
 
   -- a use is at the new operation, or is unchanged
   at_site : (s : Side) (q : Ptr Operation) (j : ℕ) → (site_of s q j ≡ site_of s p j) ⊎ ((use_at with_operation (site_of s q j) ≡ use_at x (site_of s q j)) × ((t : Side) (k : ℕ) → site_of s q j ≢ site_of t p k))
-  at_site s q j = elim (told ptr_tells q p) [
+  at_site s q j = elim (same_or_other ptr_tells q p) [
     | inl same ↦ inl (ap (λ q. site_of s q j) same)
     | inr ne ↦ inr (use_elsewhere s q j ne, λ t k f. ne (owner s t q j k f))
   ]
@@ -200,7 +200,7 @@ module _ {O B T : Type 0} (x : Objects O B T) (made : ℕ) (after : Arena (Nest 
   ]
 
   operation_heads : AreUsesLinked x → (d : Defined) → (head_at with_operation d ≡ head_at x d) ⊎ (((u : Site) → val x u ≡ Some d → ⊥) × ((u : Site) → head_at with_operation d ≡ Some (Some u) → ⊥))
-  operation_heads c (OfValue (Result q j)) = new_head (val x) x.operations after p e i (λ s. first_of (result_in s j)) refl (b.results.unused j) (OfValue (Result q j)) q (λ u. c.stands u (OfValue (Result q j)))
+  operation_heads c (OfValue (Result q j)) = new_head (val x) x.operations after p e i (λ s. first_of (result_in s j)) refl (b.results.unused j) (OfValue (Result q j)) q (λ u. c.alive u (OfValue (Result q j)))
   operation_heads c (OfValue (Argument q j)) = inl refl
   operation_heads c (OfBlock q) = inl refl
 
@@ -215,14 +215,14 @@ module _ {O B T : Type 0} (x : Objects O B T) (made : ℕ) (after : Arena (Nest 
   head_kept : (d : Defined) → IsSome (head_at x d) → IsSome (head_at with_operation d)
   head_kept (OfValue (Argument q j)) h = h
   head_kept (OfBlock q) h = h
-  head_kept (OfValue (Result q j)) h = elim (told ptr_tells q p) [
+  head_kept (OfValue (Result q j)) h = elim (same_or_other ptr_tells q p) [
     | inl same ↦ let n : head_at x (OfValue (Result q j)) ≡ None = ap (λ q. first_of (result_in (get x.operations q) j)) same ∙ ap (λ s. first_of (result_in s j)) (was_none x.operations after p e i) in let m = rw n at h in absurd (cc)
     | inr ne ↦ subst (λ o. IsSome o) (sym (ap (λ s. first_of (result_in s j)) (i.updates.others q ne))) h
   ]
 
   -- what the new uses name is there
-  pub stands_here : ((s : Side) (j : ℕ) (d : Defined) → named_by operands successors s j ≡ Some d → IsSome (head_at x d)) → (s : Side) (j : ℕ) (u : Use Defined) → use_at with_operation (site_of s p j) ≡ Some u → IsSome (head_at with_operation u.def)
-  stands_here h s j u f = go (named_by operands successors s j) refl (sym (use_here s j) ∙ f)
+  pub live_here : ((s : Side) (j : ℕ) (d : Defined) → named_by operands successors s j ≡ Some d → IsSome (head_at x d)) → (s : Side) (j : ℕ) (u : Use Defined) → use_at with_operation (site_of s p j) ≡ Some u → IsSome (head_at with_operation u.def)
+  live_here h s j u f = go (named_by operands successors s j) refl (sym (use_here s j) ∙ f)
     where
       go : (o : Option Defined) → named_by operands successors s j ≡ o → option_map unlinked o ≡ Some u → IsSome (head_at with_operation u.def)
       go None n k = absurd (cc)

@@ -22,14 +22,14 @@ module _ {U D : Type 0} {val : U → Option D} {prv nxt : U → Option U} {heads
       let l = low u p.0 in
       omega (arith, r, l)
 
-  behind : (u : U) (us : List U) → val u ≡ Some d → Path val prv nxt d (nxt u) us → (i : ℕ) → slice_get us i ≡ Some u → ⊥
-  behind u us used p i e = let r = ranks us (nxt u) (c.rank u) p (λ w f. (c.next_ok u w d used f).2) i u e in omega (arith, r)
+  following : (u : U) (us : List U) → val u ≡ Some d → Path val prv nxt d (nxt u) us → (i : ℕ) → slice_get us i ≡ Some u → ⊥
+  following u us used p i e = let r = ranks us (nxt u) (c.rank u) p (λ w f. (c.next_ok u w d used f).2) i u e in omega (arith, r)
 
   once : (us : List U) (h : Option U) → Path val prv nxt d h us → (i j : ℕ) (w : U) → slice_get us i ≡ Some w → slice_get us j ≡ Some w → i ≡ j
   once [] h p i j w e f = absurd (cc)
   once (u ∷ us) h p zero zero w e f = refl
-  once (u ∷ us) h p zero (suc j) w e f = absurd (behind u us p.1 p.2 j (f ∙ sym e))
-  once (u ∷ us) h p (suc i) zero w e f = absurd (behind u us p.1 p.2 i (e ∙ sym f))
+  once (u ∷ us) h p zero (suc j) w e f = absurd (following u us p.1 p.2 j (f ∙ sym e))
+  once (u ∷ us) h p (suc i) zero w e f = absurd (following u us p.1 p.2 i (e ∙ sym f))
   once (u ∷ us) h p (suc i) (suc j) w e f = ap suc (once us (nxt u) p.2 i j w e f)
 
   only : (us : List U) (h : Option U) → Path val prv nxt d h us → (u : U) → Among u us → val u ≡ Some d

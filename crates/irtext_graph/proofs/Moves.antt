@@ -2,7 +2,7 @@
 use Rattle.std.proofs.Common.{◌≡◌, ◌<◌, ◌≤◌, ◌⊎◌, ℕ, zero, suc, Option, Some, None, refl, sym, ap, ◌∙◌, inl, inr, arith, Bool, List, [], ◌∷◌, slice_get, length}
 use Rattle.std.specs.List.{remove}
 use Rattle.irtext_graph.specs.Nested.{climb, Nested}
-use Rattle.irtext_graph.proofs.Nests.{Tells, told, some_eq, ends-on}
+use Rattle.irtext_graph.proofs.Nests.{Tells, same_or_other, some_eq, ends-on}
 
 pub lower : (a b : ℕ) → (a < b) ⊎ (b ≤ a)
 lower zero zero = inr (omega arith)
@@ -37,7 +37,7 @@ module _ {O : Type 0} (eqO : O → O → Bool) (t : Tells eqO) where
     where
       -- the index that a child had
       was_at : (x : O) (j : ℕ) (d : O) → slice_get (kids' x) j ≡ Some d → (m : ℕ) × (slice_get (kids x) m ≡ Some d) × ((x ≡ k) → ((m ≡ j) × (j < i)) ⊎ ((m ≡ suc j) × (i ≤ j))) × ((x ≡ k → ⊥) → m ≡ j)
-      was_at x j d e = elim (told t x k) [
+      was_at x j d e = elim (same_or_other t x k) [
         | inr ne ↦ (j, rw (a.others x ne) at e, λ p. absurd (ne p), λ _. refl)
         | inl p ↦
             let o : slice_get (kids' k) j ≡ Some d = rw p at e in
@@ -64,7 +64,7 @@ module _ {O : Type 0} (eqO : O → O → Bool) (t : Tells eqO) where
       down x j d e = let w = was_at x j d e in a.ups d (not_c x j d e) ∙ s.down x w.0 d w.1
 
       here : (d x : O) (m : ℕ) → (d ≡ c → ⊥) → slice_get (kids x) m ≡ Some d → (j : ℕ) × (slice_get (kids' x) j ≡ Some d)
-      here d x m ne e = elim (told t x k) [
+      here d x m ne e = elim (same_or_other t x k) [
         | inr nk ↦ (m, rw (a.others x nk) e)
         | inl p ↦
             let o : slice_get (kids k) m ≡ Some d = rw p at e in
@@ -82,7 +82,7 @@ module _ {O : Type 0} (eqO : O → O → Bool) (t : Tells eqO) where
           ]
 
       listed : (d x : O) → up' d ≡ Some x → (j : ℕ) × (slice_get (kids' x) j ≡ Some d)
-      listed d x e = elim (told t d c) [
+      listed d x e = elim (same_or_other t d c) [
         | inl p ↦ let q : up' c ≡ Some x = ap up' (sym p) ∙ e in let r = a.up_here in absurd (cc)
         | inr ne ↦ let old = s.listed d x (sym (a.ups d ne) ∙ e) in here d x old.0 ne old.1
       ]
@@ -92,7 +92,7 @@ module _ {O : Type 0} (eqO : O → O → Bool) (t : Tells eqO) where
           let w = was_at x j d e in
           let v = was_at x l d f in
           let same = s.once x w.0 v.0 d w.1 v.1 in
-          elim (told t x k) [
+          elim (same_or_other t x k) [
             | inr ne ↦ let m = w.3 ne in let n = v.3 ne in omega (arith, same, m, n)
             | inl p ↦ elim (w.2 p) [
               | inl m ↦ elim (v.2 p) [

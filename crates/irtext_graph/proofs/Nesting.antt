@@ -26,9 +26,9 @@ child_fits g (TheRegion p) c i e = let m = mapped TheBlock (children_of (get g.r
 
 module _ {O B T : Type 0} (m : ℕ) (v : Counters) (x : Objects O B T) where
   -- the parent of an object is live
-  pub holder_stands : (o : Object) → IsForest x → (r : Option Object) → r ≡ up x o → IfSome r (λ k. IsLive (graph_of m v x) k)
-  holder_stands o f None e = tt
-  holder_stands o f (Some k) e = lives_seen m v x k (parent_lives x o k f (sym e))
+  pub holder_is_live : (o : Object) → IsForest x → (r : Option Object) → r ≡ up x o → IfSome r (λ k. IsLive (graph_of m v x) k)
+  holder_is_live o f None e = tt
+  holder_is_live o f (Some k) e = lives_seen m v x k (parent_lives x o k f (sym e))
 
   -- what is shown of a forest is one
   pub forest_seen : IsForest x → Nested (children (graph_of m v x)) (parent (graph_of m v x))

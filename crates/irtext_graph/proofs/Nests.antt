@@ -8,8 +8,8 @@ pub record Tells {U : Type 0} (eq : U → U → Bool) : Type 0 where
   pub same : (x : U) → eq x x ≡ true
   pub sound : (x y : U) → eq x y ≡ true → x ≡ y
 
-pub told : {U : Type 0} {eq : U → U → Bool} → Tells eq → (x y : U) → (x ≡ y) ⊎ ((x ≡ y) → ⊥)
-told {U} {eq} t x y = cases (eq x y) refl
+pub same_or_other : {U : Type 0} {eq : U → U → Bool} → Tells eq → (x y : U) → (x ≡ y) ⊎ ((x ≡ y) → ⊥)
+same_or_other {U} {eq} t x y = cases (eq x y) refl
   where
     cases : (b : Bool) → eq x y ≡ b → (x ≡ y) ⊎ ((x ≡ y) → ⊥)
     cases true e = inl (t.sound x y e)
@@ -72,7 +72,7 @@ module _ {O : Type 0} where
       meets zero o = inr (λ m low e. omega arith)
       meets (suc n) None = inr (λ m low e. let k = climb-none up m in cc)
       meets (suc n) (Some x) =
-          elim (told t x c) [
+          elim (same_or_other t x c) [
             | inl here ↦ inl (zero, omega arith, ap Some here, ap Some here)
             | inr ne ↦ elim (meets n (up x)) [
               | inl (m, low, e, e') ↦ inl (suc m, omega arith, e, ap (climb up' m) (others x ne) ∙ e')
@@ -108,7 +108,7 @@ module _ {O : Type 0} where
         not_c x j d e here = let u = s.down x j d e in let f = a.free in let g = ap up here in cc
 
         in_kids : (x : O) (i : ℕ) (d : O) → slice_get (kids' x) i ≡ Some d → (slice_get (kids x) i ≡ Some d) ⊎ ((x ≡ k) × (i ≡ length (kids k)) × (d ≡ c))
-        in_kids x i d e = elim (told t x k) [
+        in_kids x i d e = elim (same_or_other t x k) [
           | inr ne ↦ inl (rw (a.others x ne) at e)
           | inl p ↦
               let e' : slice_get (kids k ++ c ∷ []) i ≡ Some d = rw (← a.here, ← p) e in
@@ -128,13 +128,13 @@ module _ {O : Type 0} where
         still x p i d e = let o : slice_get (kids k) i ≡ Some d = rw p at e in rw (p, a.here) (get-before (kids k) c d i o)
 
         listed : (d x : O) → up' d ≡ Some x → (i : ℕ) × (slice_get (kids' x) i ≡ Some d)
-        listed d x e = elim (told t d c) [
+        listed d x e = elim (same_or_other t d c) [
           | inl p ↦
               let kx : k ≡ x = some_eq (sym a.up_here ∙ ap up' (sym p) ∙ e) in
               (length (kids k), rw (← kx, a.here, p) (get-last (kids k) c))
           | inr ne ↦
               let old = s.listed d x (sym (a.ups d ne) ∙ e) in
-              elim (told t x k) [
+              elim (same_or_other t x k) [
                 | inr nk ↦ (old.0, rw (a.others x nk) old.1)
                 | inl p ↦ (old.0, still x p old.0 d old.1)
               ]
@@ -174,7 +174,7 @@ module _ {O : Type 0} where
         last = rw a.here (get-last (kids' k) c)
 
         was : (x : O) (i : ℕ) (d : O) → slice_get (kids' x) i ≡ Some d → slice_get (kids x) i ≡ Some d
-        was x i d e = elim (told t x k) [
+        was x i d e = elim (same_or_other t x k) [
           | inr ne ↦ rw (a.others x ne) at e
           | inl p ↦ let o : slice_get (kids' k) i ≡ Some d = rw (← p) e in rw (p, a.here) (get-before (kids' k) c d i o)
         ]
@@ -202,11 +202,11 @@ module _ {O : Type 0} where
             ]
 
         listed : (d x : O) → up' d ≡ Some x → (i : ℕ) × (slice_get (kids' x) i ≡ Some d)
-        listed d x e = elim (told t d c) [
+        listed d x e = elim (same_or_other t d c) [
           | inl p ↦ let q : up' c ≡ Some x = rw (← p) e in let r = a.up_here in absurd (cc)
           | inr ne ↦
               let old = s.listed d x (sym (a.ups d ne) ∙ e) in
-              elim (told t x k) [
+              elim (same_or_other t x k) [
                 | inr nk ↦ (old.0, rw (a.others x nk) old.1)
                 | inl p ↦ (old.0, still x p old.0 d ne old.1)
               ]

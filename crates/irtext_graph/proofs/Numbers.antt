@@ -25,7 +25,7 @@ use Rattle.irtext_graph.specs.Store.{get, object_of, object_in, cell_of}
 use Rattle.irtext_graph.specs.Used as used
 use Rattle.irtext_graph.specs.Used.{Replaces, without_uses_in}
 use Rattle.irtext_graph.proofs.Logs.{logged_same}
-use Rattle.irtext_graph.proofs.Nests.{told}
+use Rattle.irtext_graph.proofs.Nests.{same_or_other}
 use Rattle.irtext_graph.proofs.Same.{ptr_tells}
 use Rattle.irtext_graph.proofs.Sounds.{sound_moved}
 use Rattle.irtext_graph.specs.declared.log.Made.{Made}
@@ -225,7 +225,7 @@ module _ {O B T : Type 0} where
     where
       at : (v : Value) → (value_at new v ≡ value_at old v) ⊎ ((i : ℕ) × (v ≡ Argument p i) × (value_at new v ≡ slice_get (numbered old.values types) i))
       at (Result q i) = inl (ap (λ s. result_of i (get s q)) k.operations)
-      at (Argument q i) = elim (told ptr_tells q p) [
+      at (Argument q i) = elim (same_or_other ptr_tells q p) [
         | inl here ↦ inr (i, ap (λ r. Argument r i) here, ap (λ r. argument_of i (get new.blocks r)) here ∙ ap (argument_of i) k.blocks.updates.changed)
         | inr ne ↦ inl (ap (argument_of i) (k.blocks.updates.others q ne))
       ]
@@ -234,7 +234,7 @@ module _ {O B T : Type 0} where
   operation_numbers old new p value types operands successors k = numbers_made old new types (Result p) k.values at
     where
       at : (v : Value) → (value_at new v ≡ value_at old v) ⊎ ((i : ℕ) × (v ≡ Result p i) × (value_at new v ≡ slice_get (numbered old.values types) i))
-      at (Result q i) = elim (told ptr_tells q p) [
+      at (Result q i) = elim (same_or_other ptr_tells q p) [
         | inl here ↦ inr (i, ap (λ r. Result r i) here, ap (λ r. result_of i (get new.operations r)) here ∙ ap (result_of i) k.operations.updates.changed)
         | inr ne ↦ inl (ap (result_of i) (k.operations.updates.others q ne))
       ]

@@ -24,7 +24,7 @@ use Rattle.irtext_graph.specs.Nest.{datum_in}
 use Rattle.irtext_graph.specs.Content.{node_of, typed, operation_content, block_content}
 use Rattle.irtext_graph.specs.Graph.{graph_of, IsLive}
 use Rattle.irtext_graph.specs.Uses.{result_in, argument_in}
-use Rattle.irtext_graph.specs.Parts.{operation_at, block_at, operands_of, successors_of, results_of, arguments_of, operands, successors, results, arguments, value_at, ValueStands, definition_at}
+use Rattle.irtext_graph.specs.Parts.{operation_at, block_at, operands_of, successors_of, results_of, arguments_of, operands, successors, results, arguments, value_at, IsDefinedValue, definition_at}
 use Rattle.irtext_graph.proofs.Stores.{get_seen, seen_mapped}
 use Rattle.irtext_graph.proofs.Views.{lives_at}
 
@@ -102,8 +102,8 @@ module _ {O B T : Type 0} (m : ℕ) (v : Counters) (x : Objects O B T) where
   pub block_there : (p : Ptr BasicBlock) → IsLive (graph_of m v x) (TheBlock p) → IsSome (arena.get x.blocks p)
   block_there p s = there (arena.get x.blocks p) (some_of _ _ (lives_at m v x (TheBlock p) s))
 
-  pub value_there : (d : Value) → ValueStands (graph_of m v x) d → IsSome (definition_at x d)
+  pub value_there : (d : Value) → IsDefinedValue (graph_of m v x) d → IsSome (definition_at x d)
   value_there d s = some_of typed _ (rw (value_seen d) at s)
 
-  pub value_stands : (d : Value) → IsSome (definition_at x d) → ValueStands (graph_of m v x) d
-  value_stands d s = rw (value_seen d) (of_some typed _ s)
+  pub value_is_defined : (d : Value) → IsSome (definition_at x d) → IsDefinedValue (graph_of m v x) d
+  value_is_defined d s = rw (value_seen d) (of_some typed _ s)

@@ -3,7 +3,7 @@ use Rattle.std.proofs.Common.{◌≡◌, ◌≢◌, ◌<◌, ◌≤◌, ◌+◌,
 use Rattle.std.proofs.lemmas.List.{append_assoc}
 use Rattle.irtext_graph.specs.Nested.{climb, Within, Nested}
 use Rattle.irtext_graph.specs.Chained.{Among}
-use Rattle.irtext_graph.specs.Preorder.{flat, past, subtree, beside, behind, onward}
+use Rattle.irtext_graph.specs.Preorder.{flat, past, subtree, beside, after_inside, onward}
 use Rattle.irtext_graph.proofs.Nests.{Tells, seen, some_eq, climb-add}
 
 module _ {O : Type 0} where
@@ -51,11 +51,11 @@ module _ {O : Type 0} where
       ap (λ ys. x ∷ ys) (flat_same (subtree kids n) (subtree kids (suc n)) (kids x)
       (λ i c e. subtree_enough s n c (λ q j f. let l = low q (suc j) (climb_next up j (Some q) c f ∙ s.down x i c e) in omega (arith, l))))
 
-  behind_enough : (eq : O → O → Bool) (kids : O → List O) (up : O → Option O) (depth : ℕ) (o : O) (n : ℕ) (x : Option O) → climb up n x ≡ None → behind eq kids up depth o n x ≡ behind eq kids up depth o (suc n) x
-  behind_enough eq kids up depth o zero None e = refl
-  behind_enough eq kids up depth o zero (Some x) e = absurd (cc)
-  behind_enough eq kids up depth o (suc n) None e = refl
-  behind_enough eq kids up depth o (suc n) (Some x) e = ap (λ ys. cond (eq x o) [] (beside eq kids depth x (up x) ++ ys)) (behind_enough eq kids up depth o n (up x) e)
+  after_enough : (eq : O → O → Bool) (kids : O → List O) (up : O → Option O) (depth : ℕ) (o : O) (n : ℕ) (x : Option O) → climb up n x ≡ None → after_inside eq kids up depth o n x ≡ after_inside eq kids up depth o (suc n) x
+  after_enough eq kids up depth o zero None e = refl
+  after_enough eq kids up depth o zero (Some x) e = absurd (cc)
+  after_enough eq kids up depth o (suc n) None e = refl
+  after_enough eq kids up depth o (suc n) (Some x) e = ap (λ ys. cond (eq x o) [] (beside eq kids depth x (up x) ++ ys)) (after_enough eq kids up depth o n (up x) e)
 
   module _ (eq : O → O → Bool) (t : Tells eq) where
     past_here : (x y : O) (ys : List O) → y ≡ x → past eq x (y ∷ ys) ≡ ys
@@ -103,7 +103,7 @@ module _ {O : Type 0} where
       below x = subtree kids (suc N) x
 
       abbrev rest : O → List O
-      rest x = behind eq kids up (suc N) o (suc N) (Some x)
+      rest x = after_inside eq kids up (suc N) o (suc N) (Some x)
 
       -- an object, and then its children with all inside
       opened : (x : O) → below x ≡ x ∷ flat below (kids x)
@@ -111,13 +111,13 @@ module _ {O : Type 0} where
           (λ i c e. subtree_enough s N c (λ q j f. let k = short (suc j) q x (climb_next up j (Some q) c f ∙ s.down x i c e) in omega (arith, k))))
 
       rest_last : rest o ≡ []
-      rest_last = ap (λ b. cond b [] (beside eq kids (suc N) o (up o) ++ behind eq kids up (suc N) o N (up o))) (t.same o)
+      rest_last = ap (λ b. cond b [] (beside eq kids (suc N) o (up o) ++ after_inside eq kids up (suc N) o N (up o))) (t.same o)
 
       rest_up : (x k : O) → x ≢ o → up x ≡ Some k → rest x ≡ flat below (past eq x (kids k)) ++ rest k
-      rest_up x k n e = go (eq x o) refl ∙ ap (λ u. beside eq kids (suc N) x u ++ behind eq kids up (suc N) o N u) e
-          ∙ ap (λ ys. flat below (past eq x (kids k)) ++ ys) (behind_enough eq kids up (suc N) o N (Some k) (ap (climb up N) (sym e) ∙ all_ends x))
+      rest_up x k n e = go (eq x o) refl ∙ ap (λ u. beside eq kids (suc N) x u ++ after_inside eq kids up (suc N) o N u) e
+          ∙ ap (λ ys. flat below (past eq x (kids k)) ++ ys) (after_enough eq kids up (suc N) o N (Some k) (ap (climb up N) (sym e) ∙ all_ends x))
         where
-          go : (b : Bool) → eq x o ≡ b → cond b [] (beside eq kids (suc N) x (up x) ++ behind eq kids up (suc N) o N (up x)) ≡ beside eq kids (suc N) x (up x) ++ behind eq kids up (suc N) o N (up x)
+          go : (b : Bool) → eq x o ≡ b → cond b [] (beside eq kids (suc N) x (up x) ++ after_inside eq kids up (suc N) o N (up x)) ≡ beside eq kids (suc N) x (up x) ++ after_inside eq kids up (suc N) o N (up x)
           go true f = absurd (n (t.sound x o f))
           go false f = refl
 
@@ -133,10 +133,10 @@ module _ {O : Type 0} where
           go [] f = absurd (let k = ap (λ ys. slice_get ys 0) f in cc)
           go (y ∷ ys) f =
               let same : y ≡ c = some_eq (sym (ap (λ ys. slice_get ys 0) f) ∙ e) in
-              let behind_c : past eq c (kids x) ≡ ys = ap (past eq c) f ∙ past_here c y ys same in
+              let after_c : past eq c (kids x) ≡ ys = ap (past eq c) f ∙ past_here c y ys same in
               ap (λ zs. zs ++ rest x) (opened x) ∙ ap (λ zs. x ∷ flat below zs ++ rest x) f ∙ ap (λ z. x ∷ (below z ++ flat below ys) ++ rest x) same
               ∙ ap (λ zs. x ∷ zs) (append_assoc (below c) (flat below ys) (rest x)
-              ∙ ap (λ zs. below c ++ zs) (ap (λ zs. flat below zs ++ rest x) (sym behind_c) ∙ sym (rest_up c x n (s.down x 0 c e))))
+              ∙ ap (λ zs. below c ++ zs) (ap (λ zs. flat below zs ++ rest x) (sym after_c) ∙ sym (rest_up c x n (s.down x 0 c e))))
 
       -- after all of one child comes the next
       pub from_next : (x k d : O) (i : ℕ) → x ≢ o → d ≢ o → slice_get (kids k) i ≡ Some x → slice_get (kids k) (suc i) ≡ Some d → rest x ≡ below d ++ rest d
@@ -166,14 +166,14 @@ module _ {O : Type 0} where
     beside_same n x None = refl
     beside_same n x (Some k) = flat_same (subtree kids' n) (subtree kids n) (past eq x (kids' k)) (λ i c e. subtree_same n c) ∙ ap (λ ys. flat (subtree kids n) (past eq x ys)) (same_kids k)
 
-    behind_same : (depth : ℕ) (o : O) (n : ℕ) (x : Option O) → behind eq kids' up' depth o n x ≡ behind eq kids up depth o n x
-    behind_same depth o zero x = refl
-    behind_same depth o (suc n) None = refl
-    behind_same depth o (suc n) (Some x) =
-        ap (λ u. cond (eq x o) [] (beside eq kids' depth x u ++ behind eq kids' up' depth o n u)) (same_up x)
-        ∙ ap (λ ys. cond (eq x o) [] (ys ++ behind eq kids' up' depth o n (up x))) (beside_same depth x (up x))
-        ∙ ap (λ ys. cond (eq x o) [] (beside eq kids depth x (up x) ++ ys)) (behind_same depth o n (up x))
+    after_same : (depth : ℕ) (o : O) (n : ℕ) (x : Option O) → after_inside eq kids' up' depth o n x ≡ after_inside eq kids up depth o n x
+    after_same depth o zero x = refl
+    after_same depth o (suc n) None = refl
+    after_same depth o (suc n) (Some x) =
+        ap (λ u. cond (eq x o) [] (beside eq kids' depth x u ++ after_inside eq kids' up' depth o n u)) (same_up x)
+        ∙ ap (λ ys. cond (eq x o) [] (ys ++ after_inside eq kids' up' depth o n (up x))) (beside_same depth x (up x))
+        ∙ ap (λ ys. cond (eq x o) [] (beside eq kids depth x (up x) ++ ys)) (after_same depth o n (up x))
 
     pub onward_same : (depth : ℕ) (o : O) (x : Option O) → onward eq kids' up' depth o x ≡ onward eq kids up depth o x
     onward_same depth o None = refl
-    onward_same depth o (Some x) = ap (λ ys. ys ++ behind eq kids' up' depth o depth (Some x)) (subtree_same depth x) ∙ ap (λ ys. subtree kids depth x ++ ys) (behind_same depth o depth (Some x))
+    onward_same depth o (Some x) = ap (λ ys. ys ++ after_inside eq kids' up' depth o depth (Some x)) (subtree_same depth x) ∙ ap (λ ys. subtree kids depth x ++ ys) (after_same depth o depth (Some x))

@@ -11,7 +11,7 @@ use Rattle.irtext_graph.specs.Used.{AreAlike, CanName, replaced, bare}
 use Rattle.irtext_graph.specs.Uses.{operand_in, successor_in, use_at, head_at, val, def_of, prev_of, next_of, either, renamed, eq_site, eq_defined, AreUsesLinked, AreAllUsed}
 use Rattle.irtext_graph.proofs.Chains.{reframed, none_left}
 use Rattle.irtext_graph.proofs.Linked.{site_tells, defined_tells}
-use Rattle.irtext_graph.proofs.Nests.{told, some_eq}
+use Rattle.irtext_graph.proofs.Nests.{same_or_other, some_eq}
 use Rattle.irtext_graph.proofs.UsesSeen.{head_bare}
 use Rattle.std.proofs.Common.{arith}
 
@@ -87,7 +87,7 @@ module _ {O B T : Type 0} where
 
     pub renamed_linked : AreUsesLinked x → ((w : Site) → w ≢ u → use_at y w ≡ use_at x w) → ((d : Defined) → head_at y d ≡ head_at x d) → AreUsesLinked y
     renamed_linked c others heads = reframed eq_site site_tells eq_defined defined_tells c (record {
-      vals = λ w. elim (told site_tells w u) [ inl s ↦ ap (val y) s ∙ renamed_free ∙ sym free ∙ sym (ap (val x) s) | inr ne ↦ ap def_of (others w ne) ];
+      vals = λ w. elim (same_or_other site_tells w u) [ inl s ↦ ap (val y) s ∙ renamed_free ∙ sym free ∙ sym (ap (val x) s) | inr ne ↦ ap def_of (others w ne) ];
       prevs = λ w d is. ap prev_of (others w (apart w d is));
       nexts = λ w d is. ap next_of (others w (apart w d is));
       same_heads = λ d. inl (heads d);
@@ -100,8 +100,8 @@ module _ {O B T : Type 0} where
   pub record Replacing (x0 x : Objects O B T) (d e : Defined) : Type 0 where
     pub linked : AreUsesLinked x
     pub all_used : AreAllUsed x
-    pub stands : IsSome (head_at x d)
-    pub stands_too : IsSome (head_at x e)
+    pub alive : IsSome (head_at x d)
+    pub alive_too : IsSome (head_at x e)
     pub rest : bare x ≡ bare x0
     pub vals : (u : Site) → (val x u ≡ val x0 u) ⊎ ((val x0 u ≡ Some d) × (val x u ≡ Some e))
 
@@ -110,10 +110,10 @@ module _ {O B T : Type 0} where
   replacing_goes_on x0 x y d e u ne r is linked all_used here others same = record {
     linked = linked;
     all_used = all_used;
-    stands = head_bare x y same d r.stands;
-    stands_too = head_bare x y same e r.stands_too;
+    alive = head_bare x y same d r.alive;
+    alive_too = head_bare x y same e r.alive_too;
     rest = same ∙ r.rest;
-    vals = λ w. elim (told site_tells w u) [
+    vals = λ w. elim (same_or_other site_tells w u) [
       | inl s ↦ inr (was (r.vals u) w s, ap (val y) s ∙ here)
       | inr apart ↦ elim (r.vals w) [ inl k ↦ inl (others w apart ∙ k) | inr k ↦ inr (k.0, others w apart ∙ k.1) ]
     ];

@@ -18,7 +18,7 @@ use Rattle.irtext_graph.proofs.Nests.{renested}
 use Rattle.irtext_graph.proofs.Stores.{held, length_seen}
 use Rattle.irtext_graph.proofs.Views.{up_seen, kids_seen}
 use Rattle.irtext_graph.proofs.PartsSeen.{some_of, of_some}
-use Rattle.irtext_graph.proofs.UsesSeen.{used_seen, head_there, head_stands}
+use Rattle.irtext_graph.proofs.UsesSeen.{used_seen, head_there, head_is_defined}
 use Rattle.irtext_graph.specs.Used.{used_at, IsDefined}
 
 module _ {X Y : Type 0} (see : X → Y) (a b : Arena X) (same : store_of see b ≡ store_of see a) where
@@ -57,11 +57,11 @@ module _ {O B T : Type 0} where
     same_back u h = some_of (λ o. o.def) (use_at x u) (subst (λ o. IsSome o) (same_def u) (of_some (λ o. o.def) (use_at y u) h))
 
     pub same_head_there : (d : Defined) → IsSome (head_at x d) → IsSome (head_at y d)
-    same_head_there d h = head_there 0 no_counters y d (subst (λ g. IsDefined g d) (sym same) (head_stands 0 no_counters x d h))
+    same_head_there d h = head_there 0 no_counters y d (subst (λ g. IsDefined g d) (sym same) (head_is_defined 0 no_counters x d h))
 
     -- what a use names is there, if it was
-    pub same_stands : (u : Site) → ((o : Use Defined) → use_at x u ≡ Some o → IsSome (head_at x o.def)) → (o : Use Defined) → use_at y u ≡ Some o → IsSome (head_at y o.def)
-    same_stands u h o e = go (use_at x u) refl (sym (ap (option_map (λ o. o.def)) e) ∙ same_def u)
+    pub same_is_defined : (u : Site) → ((o : Use Defined) → use_at x u ≡ Some o → IsSome (head_at x o.def)) → (o : Use Defined) → use_at y u ≡ Some o → IsSome (head_at y o.def)
+    same_is_defined u h o e = go (use_at x u) refl (sym (ap (option_map (λ o. o.def)) e) ∙ same_def u)
       where
         go : (s : Option (Use Defined)) → use_at x u ≡ s → Some o.def ≡ option_map (λ o. o.def) s → IsSome (head_at y o.def)
         go None f k = absurd (cc)

@@ -28,7 +28,7 @@ use Rattle.irtext_graph.specs.Uses.{use_at, val, prv, nxt, head_at, preds_in, ne
 use Rattle.irtext_graph.specs.Erasing.{user, owner, IsUsedInside, IsAllUsedInside}
 use Rattle.irtext_graph.proofs.Nests.{seen, some_eq}
 use Rattle.irtext_graph.proofs.Linked.{site_tells}
-use Rattle.irtext_graph.proofs.Arenas.{stands}
+use Rattle.irtext_graph.proofs.Arenas.{in_slot}
 use Rattle.irtext_graph.proofs.Pointers.{ptr_same}
 use Rattle.irtext_graph.proofs.Moves.{lower}
 use Rattle.irtext_graph.proofs.Kept.{datum_back}
@@ -91,7 +91,7 @@ module _ {O B T : Type 0} where
   sites x = from 0 x.operations.slots.items
 
   in_operation : (x : Objects O B T) (p : Ptr Operation) (e : Entry (Nest BasicBlock Region (OperationData O T))) (u : Site) → get x.operations p ≡ Some e → Among u (of_slot p.index (Full p.generation e)) → Among u (sites x)
-  in_operation x p e u at m = in_from u 0 p.index p.index x.operations.slots.items (Full p.generation e) (stands (slice_get x.operations.slots.items p.index) p.generation e at) (omega arith) m
+  in_operation x p e u at m = in_from u 0 p.index p.index x.operations.slots.items (Full p.generation e) (in_slot (slice_get x.operations.slots.items p.index) p.generation e at) (omega arith) m
 
   -- a use that an operation holds in one of its lists is among them
   among_held : {D : Type 0} (x : Objects O B T) (p : Ptr Operation) (s : Entry (Nest BasicBlock Region (OperationData O T))) → get x.operations p ≡ Some s
@@ -204,7 +204,7 @@ module _ {O B T : Type 0} where
 
   -- a definition that is not there has no uses
   pub none_beyond : (x : Objects O B T) (o : Object) (d : Defined) → AreUsesLinked x → (IsSome (head_at x d) → ⊥) → IsUsedInside x o d
-  none_beyond x o d c away = record { uses = λ u e. absurd (let h = c.stands u d e in away (rw h.1 refl)) }
+  none_beyond x o d c away = record { uses = λ u e. absurd (let h = c.alive u d e in away (rw h.1 refl)) }
 
   pub all_results : (x : Objects O B T) (o : Object) (p : Ptr Operation) → ((i : ℕ) → IsUsedInside x o (OfValue (Result p i))) → IsAllUsedInside x o (TheOperation p)
   all_results x o p all = record { all = go }

@@ -28,7 +28,7 @@ use Rattle.irtext_graph.proofs.Chains.{reframed}
 use Rattle.irtext_graph.specs.Nest.{parent_in, children_in, datum_in}
 use Rattle.irtext_graph.specs.Objects.{up, kids, IsForest, SameData, SamePlaces, eq_object, SameDatum}
 use Rattle.irtext_graph.proofs.Same.{ptr_tells, object_tells}
-use Rattle.irtext_graph.proofs.Nests.{told, renested}
+use Rattle.irtext_graph.proofs.Nests.{same_or_other, renested}
 use Rattle.irtext_graph.specs.Uses.{operand_in, successor_in, result_in, argument_in, preds_in, first_of, use_at, head_at, val, def_of, prev_of, next_of, either, AreUsesLinked, eq_site, eq_defined}
 use Rattle.irtext_graph.specs.Erasing.{user, owner}
 use Rattle.irtext_graph.proofs.Kept.{datum_at}
@@ -45,18 +45,18 @@ chained_empty none no_heads = record {
   prev_ok = λ u w d e n. let k = none u in absurd (cc);
   first_ok = λ u d e n. let k = none u in absurd (cc);
   head_ok = λ d u e. let k = no_heads d in absurd (cc);
-  stands = λ u d e. let k = none u in absurd (cc);
+  alive = λ u d e. let k = none u in absurd (cc);
   below = λ u d e. let k = none u in absurd (cc);
 }
 
 -- after an object is inserted, the use list of each definition is unchanged, or nothing used the definition and its list is empty
 pub new_head : {U D X K : Type 0} (used : U → Option D) (a after : Arena X) (p : Ptr K) (e : Entry X) → Inserts a after p e → (f : Option (Entry X) → Option (Option U)) → f None ≡ None → ((u : U) → f (Some e) ≢ Some (Some u))
     → (d : D) (q : Ptr K) → ((u : U) → used u ≡ Some d → (h : Option U) × (f (get a q) ≡ Some h)) → (f (get after q) ≡ f (get a q)) ⊎ (((u : U) → used u ≡ Some d → ⊥) × ((u : U) → f (get after q) ≡ Some (Some u) → ⊥))
-new_head used a after p e i f none empty d q stands = elim (told ptr_tells q p) [
+new_head used a after p e i f none empty d q alive = elim (same_or_other ptr_tells q p) [
   | inr ne ↦ inl (ap f (i.updates.others q ne))
   | inl same ↦ inr (
     λ u is.
-        let h = stands u is in
+        let h = alive u is in
         let n : f (get a q) ≡ None = ap (λ q. f (get a q)) same ∙ ap f (was_none a after p e i) ∙ none in
         let k = h.1 in
         cc,
@@ -250,8 +250,8 @@ module _ {O B T : Type 0} where
 
     block_heads : AreUsesLinked x → (d : Defined) → (head_at with_block d ≡ head_at x d) ⊎ (((u : Site) → val x u ≡ Some d → ⊥) × ((u : Site) → head_at with_block d ≡ Some (Some u) → ⊥))
     block_heads c (OfValue (Result q j)) = inl refl
-    block_heads c (OfValue (Argument q j)) = new_head (val x) x.blocks after p e i (λ s. first_of (argument_in s j)) refl (unused j) (OfValue (Argument q j)) q (λ u. c.stands u (OfValue (Argument q j)))
-    block_heads c (OfBlock q) = new_head (val x) x.blocks after p e i preds_in refl (λ u f. let n = no_preds in cc) (OfBlock q) q (λ u. c.stands u (OfBlock q))
+    block_heads c (OfValue (Argument q j)) = new_head (val x) x.blocks after p e i (λ s. first_of (argument_in s j)) refl (unused j) (OfValue (Argument q j)) q (λ u. c.alive u (OfValue (Argument q j)))
+    block_heads c (OfBlock q) = new_head (val x) x.blocks after p e i preds_in refl (λ u f. let n = no_preds in cc) (OfBlock q) q (λ u. c.alive u (OfBlock q))
 
     pub sound_block : IsSound made x → e.born < made + 1 → HasFew after → IsSound (made + 1) (record x { blocks = after })
     sound_block s young few = record {

@@ -14,7 +14,7 @@ use Rattle.irtext_graph.specs.Arena.{AreOlder, older}
 use Rattle.irtext_graph.specs.Store.{Cell, Store, object_of, cell_of, store_of, mapped, object_in, get, drawn, generation_at, next_index, is_full, count, Updates, Inserts, Edits, before, Returns}
 use Rattle.irtext_graph.proofs.Pointers.{ptr_or}
 use Rattle.irtext_graph.specs.Lending.{with_content_at}
-use Rattle.irtext_graph.proofs.Arenas.{Edited, edited, lent, stands}
+use Rattle.irtext_graph.proofs.Arenas.{Edited, edited, lent, in_slot}
 
 -- what is seen of an option that is mapped is what is seen of the option, if that holds of each value and of none
 pub seen_mapped : {A B V : Type 0} (change : A → B) (f : Option B → V) (g : Option A → V) → f None ≡ g None → ((a : A) → f (Some (change a)) ≡ g (Some a)) → (s : Option A) → f (option_map change s) ≡ g s
@@ -117,8 +117,8 @@ module _ {X Y : Type 0} (see : X → Y) where
       }
 
   -- an object with a view is live
-  pub stands_seen : {K : Type 0} (a : Arena X) (p : Ptr K) → IsSome (option_map (λ o. o.content) (get (store_of see a) p)) → IsSome (arena.get a p)
-  stands_seen a p l = go (arena.get a p) (subst (λ s. IsSome (option_map (λ o. o.content) s)) (get_seen a p) l)
+  pub seen_is_live : {K : Type 0} (a : Arena X) (p : Ptr K) → IsSome (option_map (λ o. o.content) (get (store_of see a) p)) → IsSome (arena.get a p)
+  seen_is_live a p l = go (arena.get a p) (subst (λ s. IsSome (option_map (λ o. o.content) s)) (get_seen a p) l)
     where
       go : (s : Option (Entry X)) → IsSome (option_map (λ o. o.content) (option_map (object_of see) s)) → IsSome s
       go None l = absurd (cc)
@@ -130,7 +130,7 @@ module _ {X Y : Type 0} (see : X → Y) where
       let d = edited a p o w e in
       let cells : map (cell_of see) b.slots.items ≡ map (cell_of see) a.slots.items =
       ap (λ (c : Arena X). map (cell_of see) c.slots.items) (lent a p o w e)
-      ∙ set_same a.slots.items p.index (Full p.generation (arena.filled o w)) (Full p.generation o) (stands (slice_get a.slots.items p.index) p.generation o e)
+      ∙ set_same a.slots.items p.index (Full p.generation (arena.filled o w)) (Full p.generation o) (in_slot (slice_get a.slots.items p.index) p.generation o e)
       (ap (λ y. record { generation = p.generation; object = Some (record { born = o.born; content = y }) }) same) in
       rw (cells, d.free) refl
     where

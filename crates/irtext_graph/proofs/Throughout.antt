@@ -33,9 +33,9 @@ module _ {O B T : Type 0} (m : ℕ) (v : Counters) (x : Objects O B T) where
   found_inside o None f = tt
   found_inside o (Some q) f = within_seen m v x o q (f q refl)
 
-  pub found_stands : (r : Option Object) → ((q : Object) → r ≡ Some q → Lives x q) → IfSome r (λ q. IsLive (graph_of m v x) q)
-  found_stands None f = tt
-  found_stands (Some q) f = lives_seen m v x q (f q refl)
+  pub found_is_live : (r : Option Object) → ((q : Object) → r ≡ Some q → Lives x q) → IfSome r (λ q. IsLive (graph_of m v x) q)
+  found_is_live None f = tt
+  found_is_live (Some q) f = lives_seen m v x q (f q refl)
 
   -- all objects inside an object come from it on
   pub all_come : (o q : Object) → IsForest x → IsInside (graph_of m v x) o q → Among q (all_from (graph_of m v x) o (Some o))

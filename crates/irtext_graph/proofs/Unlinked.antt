@@ -4,7 +4,7 @@ use Rattle.std.specs.List.{remove}
 use Rattle.irtext_graph.specs.declared.object.Object.{Object}
 use Rattle.irtext_graph.specs.declared.objects.Objects.{Objects}
 use Rattle.irtext_graph.specs.Nested.{climb, Within}
-use Rattle.irtext_graph.proofs.Nests.{told}
+use Rattle.irtext_graph.proofs.Nests.{same_or_other}
 use Rattle.irtext_graph.proofs.Inside.{carried, fewer_ways, within_self}
 use Rattle.irtext_graph.proofs.Rank.{no_cycle}
 use Rattle.irtext_graph.proofs.Same.{object_tells}
@@ -20,13 +20,13 @@ map-remove f (x ∷ xs) (suc i) = ap (λ r. f x ∷ r) (map-remove f xs i)
 module _ {O B T : Type 0} where
   module _ (x y z : Objects O B T) (o : Object) (s : IsForest x) (free : up y o ≡ None) (ups : (q : Object) → q ≢ o → up y q ≡ up x q) where
     step : (a b : Object) → up y a ≡ Some b → up x a ≡ Some b
-    step a b e = elim (told object_tells a o) [
+    step a b e = elim (same_or_other object_tells a o) [
       | inl same ↦ let f = ap (up y) same in let g = free in absurd (cc)
       | inr ne ↦ sym (ups a ne) ∙ e
     ]
 
     pub inside_still : (q : Object) → Within (up x) o q → Within (up y) o q
-    inside_still q w = carried (up x) (up y) (λ a. Unit {0}) o (λ a p. elim (told object_tells a o) [ inl same ↦ inl same | inr ne ↦ inr (ups a ne) ]) (λ a b p e. tt) w.0 q tt w.1
+    inside_still q w = carried (up x) (up y) (λ a. Unit {0}) o (λ a p. elim (same_or_other object_tells a o) [ inl same ↦ inl same | inr ne ↦ inr (ups a ne) ]) (λ a b p e. tt) w.0 q tt w.1
 
     pub inside_was : (q : Object) → Within (up y) o q → Within (up x) o q
     inside_was q w = fewer_ways (up x) (up y) step o w.0 q w.1

@@ -35,7 +35,7 @@ use Rattle.irtext_graph.proofs.Listed.{lists_alike}
 use Rattle.irtext_graph.proofs.Kept.{datum_there}
 use Rattle.irtext_graph.proofs.Linked.{used_def}
 use Rattle.irtext_graph.proofs.Nests.{seen}
-use Rattle.irtext_graph.proofs.PartsSeen.{seen_of, value_there, value_stands, block_there}
+use Rattle.irtext_graph.proofs.PartsSeen.{seen_of, value_there, value_is_defined, block_there}
 use Rattle.irtext_graph.proofs.Views.{lives_seen}
 
 -- what a use names, whichever kind of use it is
@@ -86,20 +86,20 @@ module _ {O B T : Type 0} (m : ℕ) (v : Counters) (x : Objects O B T) where
   head_there (OfValue (Argument b i)) s = first_there _ (value_there m v x (Argument b i) s)
   head_there (OfBlock b) s = preds_there _ (block_there m v x b s)
 
-  pub head_stands : (d : Defined) → IsSome (head_at x d) → IsDefined (graph_of m v x) d
-  head_stands (OfValue (Result p i)) s = value_stands m v x (Result p i) (first_back _ s)
-  head_stands (OfValue (Argument b i)) s = value_stands m v x (Argument b i) (first_back _ s)
-  head_stands (OfBlock b) s = lives_seen m v x (TheBlock b) (datum_there (λ d. ABlock d.0 (block_content d.1)) (arena.get x.blocks b) (preds_back _ s))
+  pub head_is_defined : (d : Defined) → IsSome (head_at x d) → IsDefined (graph_of m v x) d
+  head_is_defined (OfValue (Result p i)) s = value_is_defined m v x (Result p i) (first_back _ s)
+  head_is_defined (OfValue (Argument b i)) s = value_is_defined m v x (Argument b i) (first_back _ s)
+  head_is_defined (OfBlock b) s = lives_seen m v x (TheBlock b) (datum_there (λ d. ABlock d.0 (block_content d.1)) (arena.get x.blocks b) (preds_back _ s))
 
   -- a use list holds what names d
   pub lists_seen : AreAllUsed x → (d : Defined) (us : List Site) → Lists (λ u. val x u ≡ Some d) us → Lists (IsUse (graph_of m v x) d) us
   lists_seen all d us l = lists_alike us (λ u e. sym (val_seen all u) ∙ e) (λ u e. val_seen all u ∙ e) l
 
   -- what is used is there
-  pub use_stands : IsSound m x → (u : Site) (d : Defined) → IsUse (graph_of m v x) d u → IsDefined (graph_of m v x) d
-  use_stands s u d e =
-      let k = s.uses.stands u d (val_seen s.all_used u ∙ e) in
-      head_stands d (rw k.1 refl)
+  pub use_is_defined : IsSound m x → (u : Site) (d : Defined) → IsUse (graph_of m v x) d u → IsDefined (graph_of m v x) d
+  use_is_defined s u d e =
+      let k = s.uses.alive u d (val_seen s.all_used u ∙ e) in
+      head_is_defined d (rw k.1 refl)
 
   -- what has a first use is used, and what is used has one
   pub is_used : IsSound m x → (d : Defined) (h : Option Site) → head_at x d ≡ Some h → IsSome h → (u : Site) × IsUse (graph_of m v x) d u
@@ -126,6 +126,6 @@ module _ {O B T : Type 0} where
 
   pub head_bare : (x y : Objects O B T) → bare y ≡ bare x → (d : Defined) → IsSome (head_at x d) → IsSome (head_at y d)
   head_bare x y same d s =
-      let was : IsDefined (bare x) d = rw (defined_bare (all_seen x) d) (head_stands 0 no_counters x d s) in
+      let was : IsDefined (bare x) d = rw (defined_bare (all_seen x) d) (head_is_defined 0 no_counters x d s) in
       let now : IsDefined (bare y) d = subst (λ g. IsDefined g d) (sym same) was in
       head_there 0 no_counters y d (rw (defined_bare (all_seen y) d) at now)

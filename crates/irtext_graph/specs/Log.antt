@@ -25,5 +25,5 @@ module _ {O B T : Type 0} where
     pub below : (k : ℕ) (a : Made) → slice_get log k ≡ Some a → a.born < made
 
   -- whether an object of the log is live
-  abbrev pub stands_in : Objects O B T → Made → Bool
-  stands_in x m = is_some (what x m.object)
+  abbrev pub is_live_in : Objects O B T → Made → Bool
+  is_live_in x m = is_some (what x m.object)

@@ -80,8 +80,8 @@ module _ {O B T : Type 0} where
   value_at g (Argument p i) = slice_get (arguments g p) i
 
   -- the value is defined
-  abbrev pub ValueStands : GraphView O B T → Value → Type 0
-  ValueStands g v = IsSome (value_at g v)
+  abbrev pub IsDefinedValue : GraphView O B T → Value → Type 0
+  IsDefinedValue g v = IsSome (value_at g v)
 
   -- the definition of a value, with its uses, if it is defined
   abbrev pub definition_at : Objects O B T → Value → Option (Definition T)

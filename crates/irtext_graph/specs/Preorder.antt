@@ -26,15 +26,15 @@ module _ {O : Type 0} where
   beside eq kids depth x (Some k) = flat (subtree kids depth) (past eq x (kids k))
 
   -- what comes in o after an object and everything nested in it, n levels up
-  abbrev pub behind : (O → O → Bool) → (O → List O) → (O → Option O) → ℕ → O → ℕ → Option O → List O
-  behind eq kids up depth o zero x = []
-  behind eq kids up depth o (suc n) None = []
-  behind eq kids up depth o (suc n) (Some x) = cond (eq x o) [] (beside eq kids depth x (up x) ++ behind eq kids up depth o n (up x))
+  abbrev pub after_inside : (O → O → Bool) → (O → List O) → (O → Option O) → ℕ → O → ℕ → Option O → List O
+  after_inside eq kids up depth o zero x = []
+  after_inside eq kids up depth o (suc n) None = []
+  after_inside eq kids up depth o (suc n) (Some x) = cond (eq x o) [] (beside eq kids depth x (up x) ++ after_inside eq kids up depth o n (up x))
 
   -- what comes in o from an object on
   abbrev pub onward : (O → O → Bool) → (O → List O) → (O → Option O) → ℕ → O → Option O → List O
   onward eq kids up depth o None = []
-  onward eq kids up depth o (Some x) = subtree kids depth x ++ behind eq kids up depth o depth (Some x)
+  onward eq kids up depth o (Some x) = subtree kids depth x ++ after_inside eq kids up depth o depth (Some x)
 
 module _ {O B T : Type 0} where
   -- the number of slots of all arenas

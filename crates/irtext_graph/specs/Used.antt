@@ -16,7 +16,7 @@ use Rattle.irtext_graph.specs.declared.nest.Nest.{Nest}
 use Rattle.irtext_graph.specs.declared.objects.Objects.{Objects}
 use Rattle.irtext_graph.specs.declared.objects.OperationData.{OperationData}
 use Rattle.irtext_graph.specs.Graph.{GraphView, IsLive, IsNew, seen}
-use Rattle.irtext_graph.specs.Parts.{operands, successors, ValueStands}
+use Rattle.irtext_graph.specs.Parts.{operands, successors, IsDefinedValue}
 use Rattle.irtext_graph.specs.Store.{Store, Cell, mapped}
 use Rattle.irtext_graph.specs.Uses.{eq_defined, operations_seen}
 
@@ -79,7 +79,7 @@ module _ {O B T : Type 0} where
 
   -- the value is defined, or the block is live
   abbrev pub IsDefined : GraphView O B T → Defined → Type 0
-  IsDefined g (OfValue v) = ValueStands g v
+  IsDefined g (OfValue v) = IsDefinedValue g v
   IsDefined g (OfBlock b) = IsLive g (TheBlock b)
 
   -- the graph without the operands and successors of its operations

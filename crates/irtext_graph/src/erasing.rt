@@ -66,7 +66,7 @@ impl<O: Drop, B: Drop, T: Drop> Objects<O, B, T> {
 
     /// Drops the operands and successors of an operation.
     fn drop_uses(&mut self, p: Ptr<Operation>)
-        requires stands { IsSome (get self.old.operations p) }
+        requires alive { IsSome (get self.old.operations p) }
         requires linked { AreUsesLinked self.old }
         requires used { (u : _) → IsSome (use_at self.old u) → IsSome (val self.old u) }
         ensures linked { AreUsesLinked self.new }
@@ -126,7 +126,7 @@ impl<O: Drop, B: Drop, T: Drop> Objects<O, B, T> {
         requires forest { IsForest self.now }
         requires linked { AreUsesLinked self.now }
         requires used { (u : _) → IsSome (use_at self.now u) → IsSome (val self.now u) }
-        requires stands { IsSome (head_at self.now d) }
+        requires alive { IsSome (head_at self.now d) }
         ensures { IsTrue result ↔ IsUsedInside self.now o d }
     {
         let mut at = self.head_of(d);
@@ -155,7 +155,7 @@ impl<O: Drop, B: Drop, T: Drop> Objects<O, B, T> {
         requires forest { IsForest self.now }
         requires linked { AreUsesLinked self.now }
         requires used { (u : _) → IsSome (use_at self.now u) → IsSome (val self.now u) }
-        requires stands { Lives self.now (owner (OfValue v)) }
+        requires alive { Lives self.now (owner (OfValue v)) }
         ensures { IsTrue result ↔ ((i : ℕ) → IsUsedInside self.now o (OfValue (sibling v i))) }
     {
         for i in 0..self.value_count(v) {

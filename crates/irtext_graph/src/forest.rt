@@ -85,7 +85,7 @@ impl<O: Drop, B: Drop, T: Drop> Objects<O, B, T> {
     /// Returns the index of an object in its parent. The recorded index is tried first; then the children are searched from the last one.
     pub(crate) fn index_in(&self, k: Object, c: Object) -> usize
         requires forest { IsForest self.now }
-        requires stands { up self.now c ≡ Some k }
+        requires alive { up self.now c ≡ Some k }
         ensures { slice_get (kids self.now k) result ≡ Some c }
     {
         let mut i = self.child_count(k);
@@ -105,7 +105,7 @@ impl<O: Drop, B: Drop, T: Drop> Objects<O, B, T> {
     /// Removes c, the child of k at an index, from k.
     fn unlist(&mut self, k: Object, i: usize, c: Object)
         requires forest { IsForest self.old }
-        requires stands { up self.old c ≡ Some k }
+        requires alive { up self.old c ≡ Some k }
         requires at { slice_get (kids self.old k) i ≡ Some c }
         ensures forest { IsForest self.new }
         ensures free { up self.new c ≡ None }
@@ -192,7 +192,7 @@ impl<O: Drop, B: Drop, T: Drop> Objects<O, B, T> {
     fn drop_leaf(&mut self, c: Object) -> Object
         requires forest { IsForest self.old }
         requires lives { Lives self.old c }
-        requires stands { IsSome (up self.old c) }
+        requires alive { IsSome (up self.old c) }
         requires leaf { kids self.old c ≡ [] }
         ensures parent { up self.old c ≡ Some result }
         ensures drops { Drops self.old self.new result c }

@@ -124,7 +124,7 @@ impl<O: Drop, B: Drop, T: Drop> Graph<O, B, T> {
     pub fn get_parent(&self, o: Object) -> Option<Object>
         requires { IsLive self.now o }
         ensures parent { result ≡ parent self.now o }
-        ensures stands { IfSome result (λ k. IsLive self.now k) }
+        ensures alive { IfSome result (λ k. IsLive self.now k) }
     {
         self.objects.parent_of(o)
     }
@@ -133,7 +133,7 @@ impl<O: Drop, B: Drop, T: Drop> Graph<O, B, T> {
     pub fn ancestor(&self, o: Object, levels: usize) -> Option<Object>
         requires { IsLive self.now o }
         ensures ancestor { result ≡ ancestor self.now levels o }
-        ensures stands { IfSome result (λ k. IsLive self.now k) }
+        ensures alive { IfSome result (λ k. IsLive self.now k) }
     {
         let mut at = o;
         for _ in 0..levels {
@@ -173,7 +173,7 @@ impl<O: Drop, B: Drop, T: Drop> Graph<O, B, T> {
 
     /// Returns the child of an object at an index.
     pub fn get_child(&self, o: Object, i: usize) -> Object
-        requires stands { IsLive self.now o }
+        requires alive { IsLive self.now o }
         requires within { i < length (children self.now o) }
         ensures child { slice_get (children self.now o) i ≡ Some result }
         ensures fits { Fits o result }
@@ -191,7 +191,7 @@ impl<O: Drop, B: Drop, T: Drop> Graph<O, B, T> {
 
     /// Returns the object after q in the preorder of o and everything nested in it: each object comes before its children.
     pub fn next_inside(&self, o: Object, q: Object) -> Option<Object>
-        requires stands { IsLive self.now q }
+        requires alive { IsLive self.now q }
         requires within { IsInside self.now o q }
         ensures next { all_from self.now o (Some q) ≡ q ∷ all_from self.now o result }
         ensures inside { IfSome result (λ r. IsInside self.now o r) }
@@ -203,7 +203,7 @@ impl<O: Drop, B: Drop, T: Drop> Graph<O, B, T> {
     /// Whether c has no parent, and k is neither c nor nested in it: the condition of `insert_at_back`.
     pub fn can_insert_at_back(&self, k: Object, c: Object) -> bool
         requires holder { IsLive self.now k }
-        requires stands { IsLive self.now c }
+        requires alive { IsLive self.now c }
         ensures { IsTrue result ↔ CanInsert self.now k c }
     {
         self.objects.can_insert(k, c)
@@ -212,7 +212,7 @@ impl<O: Drop, B: Drop, T: Drop> Graph<O, B, T> {
     /// Makes c the last child of k. If an allocation fails, the graph is unchanged.
     pub fn insert_at_back(&mut self, k: Object, c: Object) -> Result<(), AllocError>
         requires holder { IsLive self.old k }
-        requires stands { IsLive self.old c }
+        requires alive { IsLive self.old c }
         requires fits { Fits k c }
         requires can { CanInsert self.old k c }
         ensures ok { OnOk result (Appends self.old self.new k c) }
@@ -267,7 +267,7 @@ impl<O: Drop, B: Drop, T: Drop> Graph<O, B, T> {
     /// uses, and the children after o in its parent. Now and then erased objects are removed from the graph's log of made objects, so
     /// that it has no more of them than of live objects.
     pub fn erase(&mut self, o: Object)
-        requires stands { IsLive self.old o }
+        requires alive { IsLive self.old o }
         requires can { CanErase self.old o }
         ensures erases { Erases self.old self.new o }
         ensures kept { (m : ℕ) → ((q : _) → IsInside self.old o q → IsNew m self.old q)

@@ -121,7 +121,7 @@ impl<K: Kind> Ptr<K> {
     /// Whether the object has no parent, and the holder is neither the object nor nested in it: the condition of `insert_at_back`.
     pub fn can_insert_at_back<H: Holds<K>, C: HasGraph>(self, holder: Ptr<H>, ctx: &C) -> bool
         requires holder { IsLive (C.graph ctx.now) (H.object holder) }
-        requires stands { IsLive (C.graph ctx.now) (K.object self) }
+        requires alive { IsLive (C.graph ctx.now) (K.object self) }
         ensures { IsTrue result ↔ CanInsert (C.graph ctx.now) (H.object holder) (K.object self) }
     {
         ctx.graph()
@@ -135,7 +135,7 @@ impl<K: Kind> Ptr<K> {
         ctx: &mut C,
     ) -> Result<(), AllocError>
         requires holder { IsLive (C.graph ctx.old) (H.object holder) }
-        requires stands { IsLive (C.graph ctx.old) (K.object self) }
+        requires alive { IsLive (C.graph ctx.old) (K.object self) }
         requires can { CanInsert (C.graph ctx.old) (H.object holder) (K.object self) }
         ensures ok { OnOk result (Appends (C.graph ctx.old) (C.graph ctx.new) (H.object holder)
             (K.object self)) }
@@ -179,7 +179,7 @@ impl<K: Kind> Ptr<K> {
 
     /// Erases the object and everything nested in it, and removes it from its parent. It allocates nothing.
     pub fn erase<C: HasGraph>(self, ctx: &mut C)
-        requires stands { IsLive (C.graph ctx.old) (K.object self) }
+        requires alive { IsLive (C.graph ctx.old) (K.object self) }
         requires can { CanErase (C.graph ctx.old) (K.object self) }
         ensures erases { Erases (C.graph ctx.old) (C.graph ctx.new) (K.object self) }
         ensures kept { KeepsOutside (C.graph ctx.old) (C.graph ctx.new) (K.object self) }
@@ -193,7 +193,7 @@ impl<K: Kind> Ptr<K> {
         requires { IsLive (C.graph ctx.now) (K.object self) }
         ensures parent { ancestor (C.graph ctx.now) (to_operation (K.object self))
             (K.object self) ≡ option_map TheOperation result }
-        ensures stands { IfSome result (λ p. IsLive (C.graph ctx.now) (TheOperation p)) }
+        ensures alive { IfSome result (λ p. IsLive (C.graph ctx.now) (TheOperation p)) }
     {
         let o = K::object(self);
         match ctx.graph().ancestor(o, by_kind(o, 3, 2, 1)) {
@@ -208,7 +208,7 @@ impl<K: Kind> Ptr<K> {
         requires { IsLive (C.graph ctx.now) (K.object self) }
         ensures parent { ancestor (C.graph ctx.now) (to_block (K.object self)) (K.object self) ≡ option_map
             TheBlock result }
-        ensures stands { IfSome result (λ p. IsLive (C.graph ctx.now) (TheBlock p)) }
+        ensures alive { IfSome result (λ p. IsLive (C.graph ctx.now) (TheBlock p)) }
     {
         let o = K::object(self);
         match ctx.graph().ancestor(o, by_kind(o, 1, 3, 2)) {
@@ -223,7 +223,7 @@ impl<K: Kind> Ptr<K> {
         requires { IsLive (C.graph ctx.now) (K.object self) }
         ensures parent { ancestor (C.graph ctx.now) (to_region (K.object self)) (K.object self) ≡ option_map
             TheRegion result }
-        ensures stands { IfSome result (λ p. IsLive (C.graph ctx.now) (TheRegion p)) }
+        ensures alive { IfSome result (λ p. IsLive (C.graph ctx.now) (TheRegion p)) }
     {
         let o = K::object(self);
         match ctx.graph().ancestor(o, by_kind(o, 2, 1, 3)) {
@@ -235,7 +235,7 @@ impl<K: Kind> Ptr<K> {
 
     /// Returns the index of the object in its parent.
     pub fn find_index_in_parent<C: HasGraph>(self, ctx: &C) -> usize
-        requires stands { IsLive (C.graph ctx.now) (K.object self) }
+        requires alive { IsLive (C.graph ctx.now) (K.object self) }
         requires inside { IsSome (parent (C.graph ctx.now) (K.object self)) }
         ensures { (k : _) → parent (C.graph ctx.now) (K.object self) ≡ Some k
             → slice_get (children (C.graph ctx.now) k) result ≡ Some (K.object self) }

@@ -1,7 +1,7 @@
 //! Making objects.
 ghost use Rattle.std.specs.Prelude.{◌≡◌, ◌≢◌, ◌<◌, ◌≤◌, ◌+◌, ◌++◌, ◌∷◌, ℕ, Some, None, [], IsSome, IfOk, OnOk, OnErr, length, slice_get};
 ghost use Rattle.irtext_graph.specs.Graph.{MakesRegion, MakesBlock, MakesOperation, KeepsOlder, IsLive};
-ghost use Rattle.irtext_graph.specs.Parts.{ValueStands};
+ghost use Rattle.irtext_graph.specs.Parts.{IsDefinedValue};
 ghost use Rattle.irtext_few.specs.Growing.{listed};
 ghost use Rattle.irtext_graph.specs.Linking.{Defines};
 ghost use Rattle.irtext_graph.specs.Regions.{HasRoom, with_child, AddsRegion};
@@ -272,7 +272,7 @@ impl<O: Drop, B: Drop, T: Drop> Graph<O, B, T> {
         operands: &[Value],
         successors: &[Ptr<BasicBlock>],
     ) -> Result<Ptr<Operation>, AllocError>
-        requires operands { (i : ℕ) (v : Value) → slice_get operands.now i ≡ Some v → ValueStands self.old v }
+        requires operands { (i : ℕ) (v : Value) → slice_get operands.now i ≡ Some v → IsDefinedValue self.old v }
         requires successors { (i : ℕ) (b : Ptr BasicBlock) → slice_get successors.now i ≡ Some b
             → IsLive self.old (TheBlock b) }
         ensures made { IfOk result (λ p. MakesOperation self.old self.new p value types operands.now

@@ -79,7 +79,7 @@ impl<O: Drop, B: Drop, T: Drop> Objects<O, B, T> {
         requires linked { AreUsesLinked self.old }
         requires there { (i : ℕ) → i < count → IsSome (use_at self.old (site_of side p i)) }
         requires free { (i : ℕ) → val self.old (site_of side p i) ≡ None }
-        requires stands { (i : ℕ) (u : Use Defined) → use_at self.old (site_of side p i) ≡ Some u
+        requires alive { (i : ℕ) (u : Use Defined) → use_at self.old (site_of side p i) ≡ Some u
             → IsSome (head_at self.old u.def) }
         ensures linked { AreUsesLinked self.new }
         ensures used { (i : ℕ) → i < count → IsSome (val self.new (site_of side p i)) }

@@ -3,7 +3,7 @@ ghost use Rattle.std.specs.Prelude.{◌≡◌, ◌↔◌, ◌<◌, ℕ, Some, Is
 ghost use Rattle.irtext_graph.specs.declared.object.Object.TheVariants.{TheOperation, TheBlock};
 ghost use Rattle.irtext_graph.specs.Graph.{IsLive};
 ghost use Rattle.std.specs.Borrow.{sem};
-ghost use Rattle.irtext_graph.specs.Parts.{operation_at, block_at, operands, successors, results, arguments, value_at, ValueStands, definition_at};
+ghost use Rattle.irtext_graph.specs.Parts.{operation_at, block_at, operands, successors, results, arguments, value_at, IsDefinedValue, definition_at};
 
 use crate::arena::Ptr;
 use crate::graph::Graph;
@@ -63,7 +63,7 @@ impl<O: Drop, B: Drop, T: Drop> Graph<O, B, T> {
 
     /// Returns the operand of an operation at an index.
     pub fn get_operand(&self, op: Ptr<Operation>, i: usize) -> Value
-        requires stands { IsLive self.now (TheOperation op) }
+        requires alive { IsLive self.now (TheOperation op) }
         requires within { i < length (operands self.now op) }
         ensures { slice_get (operands self.now op) i ≡ Some result }
     {
@@ -72,7 +72,7 @@ impl<O: Drop, B: Drop, T: Drop> Graph<O, B, T> {
 
     /// Returns the successor of an operation at an index.
     pub fn get_successor(&self, op: Ptr<Operation>, i: usize) -> Ptr<BasicBlock>
-        requires stands { IsLive self.now (TheOperation op) }
+        requires alive { IsLive self.now (TheOperation op) }
         requires within { i < length (successors self.now op) }
         ensures { slice_get (successors self.now op) i ≡ Some result }
     {
@@ -89,7 +89,7 @@ impl<O: Drop, B: Drop, T: Drop> Graph<O, B, T> {
 
     /// Whether a value is defined: its operation or block is live, and has a result or an argument with this index.
     pub fn contains_value(&self, v: Value) -> bool
-        ensures { IsTrue result ↔ ValueStands self.now v }
+        ensures { IsTrue result ↔ IsDefinedValue self.now v }
     {
         self.objects.is_defined(v)
     }
@@ -97,7 +97,7 @@ impl<O: Drop, B: Drop, T: Drop> Graph<O, B, T> {
     /// Whether each of these values is defined, so that a new operation can use them.
     pub fn contains_values(&self, values: &[Value]) -> bool
         ensures { IsTrue result ↔ ((i : ℕ) (v : Value) → slice_get values.now i ≡ Some v
-            → ValueStands self.now v) }
+            → IsDefinedValue self.now v) }
     {
         for v in values {
             if !self.contains_value(*v) {
@@ -130,7 +130,7 @@ impl<O: Drop, B: Drop, T: Drop> Graph<O, B, T> {
 
     /// Returns the type of a value.
     pub fn type_of(&self, v: Value) -> &T
-        requires { ValueStands self.now v }
+        requires { IsDefinedValue self.now v }
         ensures { option_map (λ t. t.of_type) (value_at self.now v) ≡ Some result.now }
     {
         &self.objects.definition(v).of_type
@@ -138,7 +138,7 @@ impl<O: Drop, B: Drop, T: Drop> Graph<O, B, T> {
 
     /// Returns the number of a value, which no other value of the graph has or had.
     pub fn number_of(&self, v: Value) -> u64
-        requires { ValueStands self.now v }
+        requires { IsDefinedValue self.now v }
         ensures { option_map (λ t. t.number) (value_at self.now v) ≡ Some result }
     {
         self.objects.definition(v).number

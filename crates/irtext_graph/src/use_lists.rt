@@ -129,7 +129,7 @@ impl<O: Drop, B: Drop, T: Drop> Objects<O, B, T> {
     /// Sets the link to the next use, or the first use of d if there is no use w.
     fn set_next_of(&mut self, w: Option<Site>, d: Defined, n: Option<Site>)
         requires sites { (s : _) → w ≡ Some s → IsSome (use_at self.old s) }
-        requires stands { IsSome (head_at self.old d) }
+        requires alive { IsSome (head_at self.old d) }
         ensures here { (s : _) → w ≡ Some s → nxt self.new s ≡ n }
         ensures others { (s : _) → w ≢ Some s → nxt self.new s ≡ nxt self.old s }
         ensures values { (s : _) → val self.new s ≡ val self.old s }
@@ -153,7 +153,7 @@ impl<O: Drop, B: Drop, T: Drop> Objects<O, B, T> {
         requires linked { AreUsesLinked self.old }
         requires there { IsSome (use_at self.old u) }
         requires free { val self.old u ≡ None }
-        requires stands { (o : _) → use_at self.old u ≡ Some o → IsSome (head_at self.old o.def) }
+        requires alive { (o : _) → use_at self.old u ≡ Some o → IsSome (head_at self.old o.def) }
         ensures linked { AreUsesLinked self.new }
         ensures used { (o : _) → use_at self.old u ≡ Some o → val self.new u ≡ Some o.def }
         ensures kept { (w : _) → w ≢ u → val self.new w ≡ val self.old w }
@@ -201,7 +201,7 @@ impl<O: Drop, B: Drop, T: Drop> Objects<O, B, T> {
         requires all_used { AreAllUsed self.old }
         requires used { IsSome (val self.old u) }
         requires names { CanName u e }
-        requires stands { IsSome (head_at self.old e) }
+        requires alive { IsSome (head_at self.old e) }
         ensures linked { AreUsesLinked self.new }
         ensures all_used { AreAllUsed self.new }
         ensures here { val self.new u ≡ Some e }

@@ -22,7 +22,7 @@ impl<O: Drop, B: Drop, T: Drop> Objects<O, B, T> {
     /// Counts the uses in a use list, up to `usize::MAX`.
     fn count_uses(&self, d: Defined) -> usize
         requires linked { AreUsesLinked self.now }
-        requires stands { IsSome (head_at self.now d) }
+        requires alive { IsSome (head_at self.now d) }
         ensures { Counts (λ u. val self.now u ≡ Some d) result }
     {
         let mut n = 0;
@@ -40,7 +40,7 @@ impl<O: Drop, B: Drop, T: Drop> Objects<O, B, T> {
     /// Returns the uses in a use list, each once.
     fn list_uses(&self, alloc: Global, d: Defined) -> Result<Vec<Site>, AllocError>
         requires linked { AreUsesLinked self.now }
-        requires stands { IsSome (head_at self.now d) }
+        requires alive { IsSome (head_at self.now d) }
         ensures { IfOk result (λ us. Lists (λ u. val self.now u ≡ Some d) us.items) }
     {
         let mut uses = Vec::new(alloc);
@@ -56,8 +56,8 @@ impl<O: Drop, B: Drop, T: Drop> Objects<O, B, T> {
     fn replace_uses(&mut self, d: Defined, e: Defined)
         requires linked { AreUsesLinked self.old }
         requires all_used { AreAllUsed self.old }
-        requires stands { IsSome (head_at self.old d) }
-        requires stands_too { IsSome (head_at self.old e) }
+        requires alive { IsSome (head_at self.old d) }
+        requires alive_too { IsSome (head_at self.old e) }
         requires alike { AreAlike d e }
         requires differ { d ≢ e }
         ensures linked { AreUsesLinked self.new }
@@ -98,8 +98,8 @@ impl<O: Drop, B: Drop, T: Drop> Graph<O, B, T> {
 
     /// Makes each operand or successor that refers to d refer to e. It allocates nothing. Its time grows with the number of uses of d.
     pub fn replace_all_uses(&mut self, d: Defined, e: Defined)
-        requires stands { IsDefined self.old d }
-        requires stands_too { IsDefined self.old e }
+        requires alive { IsDefined self.old d }
+        requires alive_too { IsDefined self.old e }
         requires alike { AreAlike d e }
         ensures replaces { Replaces self.old self.new d e }
         ensures kept { (m : ℕ) → IsUnusedBelow m self.old d → KeepsOlder m self.old self.new }

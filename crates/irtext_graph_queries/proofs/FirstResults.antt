@@ -8,7 +8,7 @@ use Rattle.irtext_graph.specs.declared.object.Site.{Site}
 use Rattle.irtext_graph.specs.declared.object.Value.TheVariants.{Result}
 use Rattle.irtext_graph.specs.Chained.{Lists, Counts}
 use Rattle.irtext_graph.specs.Graph.{GraphView}
-use Rattle.irtext_graph.specs.Parts.{results, ValueStands}
+use Rattle.irtext_graph.specs.Parts.{results, IsDefinedValue}
 use Rattle.irtext_graph.specs.Used.{IsUse}
 use Rattle.irtext_graph.proofs.Listed.{lists_alike}
 use Rattle.irtext_graph_queries.specs.ResultUses.{IsUseOf}
@@ -21,7 +21,7 @@ within_some (x ∷ xs) (suc k) m = let r = within_some xs k m in omega (arith, r
 
 module _ {O B T : Type 0} (g : GraphView O B T) (p : Ptr Operation) where
   -- a result that is there is one of all
-  pub result_within : (k n : ℕ) → n ≡ length (results g p) → ValueStands g (Result p k) → k < n
+  pub result_within : (k n : ℕ) → n ≡ length (results g p) → IsDefinedValue g (Result p k) → k < n
   result_within k n count there = rw count (within_some (results g p) k there)
 
   -- the use names one of the first n results of the operation

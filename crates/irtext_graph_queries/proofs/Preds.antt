@@ -36,13 +36,13 @@ same_block (Some a) (Some b) e = cc
 
 module _ {O B T : Type 0} (g : GraphView O B T) where
   -- the user of a definition is live
-  pub user_stands : (d : Defined) (u : Site) → IsUse g d u → IsLive g (TheOperation (user u))
-  user_stands d (AtOperand p i) e = go (get g.operations p) e
+  pub user_is_live : (d : Defined) (u : Site) → IsUse g d u → IsLive g (TheOperation (user u))
+  user_is_live d (AtOperand p i) e = go (get g.operations p) e
     where
       go : (s : Option (Entry (Node BasicBlock Region (OperationContent O T)))) → option_map OfValue (slice_get (operands_of (option_map (λ e. e.content.content) s)) i) ≡ Some d → IsSome (option_map {U = Content O B T} (λ d. AnOperation d.0 d.1) (content_of s))
       go None e = absurd (cc)
       go (Some o) e = refl
-  user_stands d (AtSuccessor p i) e = go (get g.operations p) e
+  user_is_live d (AtSuccessor p i) e = go (get g.operations p) e
     where
       go : (s : Option (Entry (Node BasicBlock Region (OperationContent O T)))) → option_map OfBlock (slice_get (successors_of (option_map (λ e. e.content.content) s)) i) ≡ Some d → IsSome (option_map {U = Content O B T} (λ d. AnOperation d.0 d.1) (content_of s))
       go None e = absurd (cc)

@@ -41,10 +41,10 @@ module _ {U : Type 0} where
   both_once (x ∷ xs) ys first second apart zero zero u e f = refl
   both_once (x ∷ xs) ys first second apart zero (suc j) u e f = absurd (once_first x xs ys first apart j u e f)
   both_once (x ∷ xs) ys first second apart (suc i) zero u e f = absurd (once_first x xs ys first apart i u f e)
-  both_once (x ∷ xs) ys first second apart (suc i) (suc j) u e f = ap suc (both_once xs ys behind second (λ w m. apart w (inr m)) i j u e f)
+  both_once (x ∷ xs) ys first second apart (suc i) (suc j) u e f = ap suc (both_once xs ys following second (λ w m. apart w (inr m)) i j u e f)
     where
-      behind : IsOnce xs
-      behind i j w e f = let same : suc i ≡ suc j = first (suc i) (suc j) w e f in omega (arith, same)
+      following : IsOnce xs
+      following i j w e f = let same : suc i ≡ suc j = first (suc i) (suc j) w e f in omega (arith, same)
 
   -- a list of what has the one property, before a list of what has the other
   pub lists_both : {P Q : U → Type 0} (xs ys : List U) → ((u : U) → P u → Q u → ⊥) → Lists P xs → Lists Q ys → Lists (λ u. P u ⊎ Q u) (xs ++ ys)

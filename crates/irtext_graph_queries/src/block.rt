@@ -6,7 +6,7 @@ ghost use Rattle.irtext_graph.specs.declared.object.Site.{Site};
 ghost use Rattle.irtext_graph.specs.declared.object.Value.TheVariants.{Argument};
 ghost use Rattle.irtext_graph.specs.Chained.{Counts};
 ghost use Rattle.irtext_graph.specs.Graph.{IsLive};
-ghost use Rattle.irtext_graph.specs.Parts.{arguments, operations_in, ValueStands};
+ghost use Rattle.irtext_graph.specs.Parts.{arguments, operations_in, IsDefinedValue};
 ghost use Rattle.irtext_graph.specs.Used.{IsUse};
 ghost use Rattle.irtext_graph_queries.specs.Lists.{each, ArePreds};
 
@@ -35,7 +35,7 @@ pub trait BlockParts: Sized {
     fn get_argument<C: HasGraph>(self, ctx: &C, index: usize) -> Value
         requires { index < length (arguments (C.graph ctx.now) (pointer self)) }
         ensures value { result ≡ Argument (pointer self) index }
-        ensures stands { ValueStands (C.graph ctx.now) result };
+        ensures alive { IsDefinedValue (C.graph ctx.now) result };
 
     /// Returns the arguments of the block, in order.
     fn arguments<C: HasGraph>(self, ctx: &C) -> Result<Vec<Value>, AllocError>

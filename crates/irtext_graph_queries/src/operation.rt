@@ -6,7 +6,7 @@ ghost use Rattle.irtext_graph.specs.declared.object.Site.{Site};
 ghost use Rattle.irtext_graph.specs.declared.object.Value.TheVariants.{Result};
 ghost use Rattle.irtext_graph.specs.Chained.{Lists, Counts};
 ghost use Rattle.irtext_graph.specs.Graph.{IsLive};
-ghost use Rattle.irtext_graph.specs.Parts.{operands, successors, results, regions, value_at, ValueStands};
+ghost use Rattle.irtext_graph.specs.Parts.{operands, successors, results, regions, value_at, IsDefinedValue};
 ghost use Rattle.irtext_graph.specs.Used.{IsUse};
 ghost use Rattle.irtext_graph_queries.specs.Lists.{each};
 ghost use Rattle.irtext_graph_queries.specs.ResultUses.{IsUseOf};
@@ -33,7 +33,7 @@ pub trait OperationParts: Sized {
 
     /// Returns the operand of the operation at an index, which must be below their number.
     fn get_operand<C: HasGraph>(self, ctx: &C, index: usize) -> Value
-        requires stands { IsLive (C.graph ctx.now) (TheOperation (pointer self)) }
+        requires alive { IsLive (C.graph ctx.now) (TheOperation (pointer self)) }
         requires within { index < length (operands (C.graph ctx.now) (pointer self)) }
         ensures { slice_get (operands (C.graph ctx.now) (pointer self)) index ≡ Some result };
 
@@ -56,7 +56,7 @@ pub trait OperationParts: Sized {
 
     /// Returns the successor of the operation at an index, which must be below their number.
     fn get_successor<C: HasGraph>(self, ctx: &C, index: usize) -> Ptr<BasicBlock>
-        requires stands { IsLive (C.graph ctx.now) (TheOperation (pointer self)) }
+        requires alive { IsLive (C.graph ctx.now) (TheOperation (pointer self)) }
         requires within { index < length (successors (C.graph ctx.now) (pointer self)) }
         ensures { slice_get (successors (C.graph ctx.now) (pointer self)) index ≡ Some result };
 
@@ -74,7 +74,7 @@ pub trait OperationParts: Sized {
     fn get_result<C: HasGraph>(self, ctx: &C, index: usize) -> Value
         requires { index < length (results (C.graph ctx.now) (pointer self)) }
         ensures value { result ≡ Result (pointer self) index }
-        ensures stands { ValueStands (C.graph ctx.now) result };
+        ensures alive { IsDefinedValue (C.graph ctx.now) result };
 
     /// Returns the results of the operation, in order.
     fn results<C: HasGraph>(self, ctx: &C) -> Result<Vec<Value>, AllocError>
@@ -128,7 +128,7 @@ fn count_results<C: HasGraph>(ctx: &C, op: Ptr<Operation>) -> usize
 
 /// Returns the type of the operand of an operation at an index.
 fn type_of_operand<C: HasGraph>(ctx: &C, op: Ptr<Operation>, index: usize) -> &C::T
-    requires stands { IsLive (C.graph ctx.now) (TheOperation op) }
+    requires alive { IsLive (C.graph ctx.now) (TheOperation op) }
     requires within { index < length (operands (C.graph ctx.now) op) }
     ensures { slice_get (map (λ v. option_map (λ t. t.of_type) (value_at (C.graph ctx.now) v))
         (operands (C.graph ctx.now) op)) index

@@ -4,7 +4,7 @@ ghost use Rattle.irtext_graph.specs.declared.object.Defined.TheVariants.{OfValue
 ghost use Rattle.irtext_graph.specs.declared.object.Site.{Site};
 ghost use Rattle.irtext_graph.specs.Chained.{Lists, Counts};
 ghost use Rattle.irtext_graph.specs.Graph.{KeepsOlder};
-ghost use Rattle.irtext_graph.specs.Parts.{value_at, ValueStands};
+ghost use Rattle.irtext_graph.specs.Parts.{value_at, IsDefinedValue};
 ghost use Rattle.irtext_graph.specs.Used.{IsUse, Replaces, IsUnusedBelow, user};
 
 use irtext_graph::arena::Ptr;
@@ -44,28 +44,28 @@ pub trait ValueUses: Sized {
 
     /// Returns the type of the value.
     fn get_type<C: HasGraph>(self, ctx: &C) -> &C::T
-        requires { ValueStands (C.graph ctx.now) (value self) }
+        requires { IsDefinedValue (C.graph ctx.now) (value self) }
         ensures { option_map (λ v. v.of_type) (value_at (C.graph ctx.now) (value self)) ≡ Some result.now };
 
     /// Whether the value is an operand of some operation.
     fn has_use<C: HasGraph>(self, ctx: &C) -> bool
-        requires { ValueStands (C.graph ctx.now) (value self) }
+        requires { IsDefinedValue (C.graph ctx.now) (value self) }
         ensures { IsTrue result ↔ (u : Site) × IsUse (C.graph ctx.now) (OfValue (value self)) u };
 
     /// Returns how many operands are the value, or `usize::MAX` if there are more.
     fn num_uses<C: HasGraph>(self, ctx: &C) -> usize
-        requires { ValueStands (C.graph ctx.now) (value self) }
+        requires { IsDefinedValue (C.graph ctx.now) (value self) }
         ensures { Counts (IsUse (C.graph ctx.now) (OfValue (value self))) result };
 
     /// Returns the operands that are the value, each once, in an unspecified order. Fails only when out of memory.
     fn uses<C: HasGraph>(self, ctx: &C) -> Result<Vec<Site>, AllocError>
-        requires { ValueStands (C.graph ctx.now) (value self) }
+        requires { IsDefinedValue (C.graph ctx.now) (value self) }
         ensures { IfOk result (λ us. Lists (IsUse (C.graph ctx.now) (OfValue (value self))) us.items) };
 
     /// Replaces the value by the other one in each operand that is the value. All else is unchanged. Allocates nothing.
     fn replace_all_uses<C: HasGraph>(self, ctx: &mut C, other: Value)
-        requires stands { ValueStands (C.graph ctx.old) (value self) }
-        requires stands_too { ValueStands (C.graph ctx.old) other }
+        requires alive { IsDefinedValue (C.graph ctx.old) (value self) }
+        requires alive_too { IsDefinedValue (C.graph ctx.old) other }
         ensures replaces { Replaces (C.graph ctx.old) (C.graph ctx.new) (OfValue (value self))
             (OfValue other) }
         ensures kept { (m : ℕ) → IsUnusedBelow m (C.graph ctx.old) (OfValue (value self))

@@ -18,7 +18,7 @@ use Rattle.irtext_graph.specs.Graph.{GraphView, content_of, IsNew, MakesOperatio
 use Rattle.irtext_graph.specs.Store.{get}
 use Rattle.irtext_graph.specs.Used.{IsDefined}
 use Rattle.irtext_graph.proofs.Frames.{new_operation, new_block}
-use Rattle.irtext_graph.proofs.Nests.{told, some_eq}
+use Rattle.irtext_graph.proofs.Nests.{same_or_other, some_eq}
 use Rattle.irtext_graph.proofs.Same.{object_tells}
 use Rattle.irtext_scopes.specs.Scopes.{Scope, value_of}
 use Rattle.irtext_names.specs.Placeholders.{IsBlank}
@@ -56,8 +56,8 @@ module _ {O B T : Type 0} where
 
     waiting_added : {V : Type 0} (of : V → Defined) (m : ℕ) (own own' : List V) (ss : List (Scope V)) → Tied of ss g → ((v : V) → Among v own → Among v own') → ((v : V) → IsBlank k (of v) → (Among v own' → ⊥) → o ≡ owner (of v) → ⊥) → Waiting m own of ss g → Waiting m own' of ss k
     waiting_added of m own own' ss t more apart w = record {
-      late = λ i n h f. let d = (t.held i n h f).stands in sym (same_age m k g (owner (of h)) (s.contents (owner (of h)) (not_new (of h) d))) ∙ w.late i n h f;
-      known = λ v d b new not. elim (told object_tells o (owner (of v))) [
+      late = λ i n h f. let d = (t.held i n h f).alive in sym (same_age m k g (owner (of h)) (s.contents (owner (of h)) (not_new (of h) d))) ∙ w.late i n h f;
+      known = λ v d b new not. elim (same_or_other object_tells o (owner (of v))) [
         | inl e ↦ absurd (apart v b not e)
         | inr ne ↦
             let n = λ (e : Some o ≡ Some (owner (of v))). ne (some_eq e) in
@@ -73,7 +73,7 @@ module _ {O B T : Type 0} where
 
   -- what was made just now is no placeholder of a name
   pub made_none : {V : Type 0} (of : V → Defined) {g k : GraphView (Option O) B T} (ss : List (Scope V)) (v : V) → Tied of ss g → SameBut k g (Some (owner (of v))) → IsNoPlaceholder ss v
-  made_none of {g} ss v t s i n f = none_defined g (of v) (s.gone (owner (of v)) refl) (t.held i n v f).stands
+  made_none of {g} ss v t s i n f = none_defined g (of v) (s.gone (owner (of v)) refl) (t.held i n v f).alive
 
   -- an operation was made, or making it was an error
   pub operation_tried : {E : Type 0} {g k : GraphView (Option O) B T} (vs : List (Scope Value)) (ls : List (Scope (Ptr BasicBlock))) (v : Option O) (ts : List T) (os : List Value) (bs : List (Ptr BasicBlock)) (r : Tried (Ptr Operation) E)

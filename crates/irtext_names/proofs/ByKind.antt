@@ -15,7 +15,7 @@ use Rattle.irtext_scopes.specs.declared.tracker.NameTracker.{NameTracker}
 use Rattle.irtext_scopes.specs.Scopes.{find, innermost, in_innermost, is_open, mentioned}
 use Rattle.irtext_names.specs.Kinds.{NamesOf, NamesOf.{values, labels}, Other, other, defined_as, scopes_of, BlankOf, Makes}
 use Rattle.irtext_names.specs.Linked.{IsInPlace}
-use Rattle.irtext_names.specs.Placeholders.{IsPlaceholder, Defines, StandsAsBefore}
+use Rattle.irtext_names.specs.Placeholders.{IsPlaceholder, Defines, IsUnchanged}
 use Rattle.irtext_names.specs.Tied.{Tied, Waiting, MatchesGraph, ArePending, IsNoPlaceholder, KeepsTies, SettlesTies}
 use Rattle.irtext_names.proofs.Gained.{value_same, value_placeholder, value_new, block_same, block_placeholder, block_new}
 use Rattle.irtext_names.proofs.Linked.InPlace.{in_place_operation, in_place_block}
@@ -76,12 +76,12 @@ module _ {O B T : Type 0} where
 -- ---- what a call leaves of them
 module _ {O B T V : Type 0} (kind : NamesOf V) (old new : NameTracker Value (Ptr BasicBlock)) {g k : GraphView (Option O) B T} (rest : scopes_of (other kind) new ≡ scopes_of (other kind) old) (t : MatchesGraph old.values old.labels g) where
   -- nothing changed
-  pub before_ties : scopes_of kind new ≡ scopes_of kind old → StandsAsBefore g k → MatchesGraph new.values new.labels k
+  pub before_ties : scopes_of kind new ≡ scopes_of kind old → IsUnchanged g k → MatchesGraph new.values new.labels k
   before_ties e s =
       let p = same_ties (defined_as kind) (defined_as (other kind)) (one_of kind) (apart_of kind) (scopes_of kind old) (scopes_of (other kind) old) (ties kind old g t) (ties (other kind) old g t) s in
       both_tied kind new k (rw e p.0) (rw rest p.1)
 
-  pub before_waits : scopes_of kind new ≡ scopes_of kind old → StandsAsBefore g k → (m : ℕ) (own : List (Ptr BasicBlock)) → ArePending m own old.values old.labels g → ArePending m own new.values new.labels k
+  pub before_waits : scopes_of kind new ≡ scopes_of kind old → IsUnchanged g k → (m : ℕ) (own : List (Ptr BasicBlock)) → ArePending m own old.values old.labels g → ArePending m own new.values new.labels k
   before_waits e s m own w =
       let p = same_waits (defined_as kind) (defined_as (other kind)) (one_of kind) (apart_of kind) (scopes_of kind old) (scopes_of (other kind) old) (ties kind old g t) (ties (other kind) old g t) s m (own_of kind own) (own_of (other kind) own) (waits kind old g m own w) (waits (other kind) old g m own w) in
       both_wait kind new k m own (rw e p.0) (rw rest p.1)

@@ -21,7 +21,7 @@ use Rattle.irtext_graph.specs.Store.{Store, Cell, get, object_in, drawn, Inserts
 use Rattle.irtext_graph.specs.Used.{IsDefined}
 use Rattle.irtext_graph.proofs.Closed.{back_to}
 use Rattle.irtext_graph.proofs.Nests.{some_eq}
-use Rattle.irtext_names.specs.Placeholders.{IsPlaceholder, MakesValue, MakesLabel, StandsAsBefore}
+use Rattle.irtext_names.specs.Placeholders.{IsPlaceholder, MakesValue, MakesLabel, IsUnchanged}
 use Rattle.irtext_names.proofs.SameBut.{SameBut}
 
 not_below : (a b : ℕ) → b ≤ a → nat_lt a b ≡ false
@@ -94,7 +94,7 @@ module _ {O B T : Type 0} where
     result_placeholder : IsPlaceholder k (OfValue (Result m.operation 0))
     result_placeholder =
         let here = m.makes.operations.updates.changed in
-        record { stands = rw here refl; blank = rw here refl; free = rw here refl; empty = rw here refl; alone = λ x d e. only x d e }
+        record { alive = rw here refl; blank = rw here refl; free = rw here refl; empty = rw here refl; alone = λ x d e. only x d e }
       where
         only : (x : Defined) → IsDefined k x → owner x ≡ TheOperation m.operation → x ≡ OfValue (Result m.operation 0)
         only (OfValue (Result p zero)) d e = let s : p ≡ m.operation = cc in rw s refl
@@ -122,7 +122,7 @@ module _ {O B T : Type 0} where
     pub block_placeholder : IsPlaceholder k (OfBlock b)
     block_placeholder =
         let here = m.blocks.updates.changed in
-        record { stands = rw here refl; blank = rw here refl; free = rw here refl; empty = rw here refl; alone = λ x d e. only x d e }
+        record { alive = rw here refl; blank = rw here refl; free = rw here refl; empty = rw here refl; alone = λ x d e. only x d e }
       where
         only : (x : Defined) → IsDefined k x → owner x ≡ TheBlock b → x ≡ OfBlock b
         only (OfValue (Result p i)) d e = absurd (cc)
@@ -136,7 +136,7 @@ module _ {O B T : Type 0} where
     block_new n up = ap (λ o. is_older {O = Option O} {B = B} {T = T} n (option_map (λ d. ABlock d.0 d.1) (content_of o))) m.blocks.updates.changed ∙ not_below g.made n up
 
   -- ---- what was made went again
-  pub back_again : (mark : ℕ) (g k h : GraphView (Option O) B T) → AllOlder mark g → KeepsOlder mark g k → RollsBack mark k h → StandsAsBefore g h
+  pub back_again : (mark : ℕ) (g k h : GraphView (Option O) B T) → AllOlder mark g → KeepsOlder mark g k → RollsBack mark k h → IsUnchanged g h
   back_again mark g k h a s r = let b = back_to mark g k s a r in
       record {
         operations = b.0;
@@ -147,5 +147,5 @@ module _ {O B T : Type 0} where
         first_place = r.first_place ∙ s.first_place;
       }
 
-  pub before_same : {g h : GraphView (Option O) B T} → StandsAsBefore g h → SameBut g h None
+  pub before_same : {g h : GraphView (Option O) B T} → IsUnchanged g h → SameBut g h None
   before_same {g} {h} s = same_stores g h None (λ p n. s.operations p) (λ b n. s.blocks b) s.regions (λ q e. cc)

@@ -32,7 +32,7 @@ module _ {O B T : Type 0} where
     there = λ x d n. still_defined s x (other_owner g o p x d n) d;
     were = λ x d. was_defined s x d;
     lost = λ x d e. not_gone s x d (ap (option_map owner) e);
-    placeholders = λ x q n. still_placeholder s x (other_owner g o p x q.stands n) q;
+    placeholders = λ x q n. still_placeholder s x (other_owner g o p x q.alive n) q;
     were_placeholders = λ x q. was_placeholder s x q;
     blanks = λ x d b. still_blank s x (not_gone s x d) b;
     were_blank = λ x d b. was_blank s x (not_gone s x d) b;

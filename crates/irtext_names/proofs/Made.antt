@@ -20,7 +20,7 @@ use Rattle.irtext_scopes.specs.declared.tracker.NameTracker.{NameTracker}
 use Rattle.irtext_scopes.specs.Scopes.{Scope}
 use Rattle.irtext_grammar.specs.Names.Script.{Path, Place, result, User, operand, successor}
 use Rattle.irtext_grammar.specs.Names.History.{State}
-use Rattle.irtext_names.specs.Linked.{Known, StandsAt}
+use Rattle.irtext_names.specs.Linked.{Known, NamesAgree}
 use Rattle.irtext_names.specs.Tied.{MatchesGraph}
 use Rattle.irtext_names.proofs.Added.{made_none}
 use Rattle.irtext_names.proofs.Gained.{operation_added}
@@ -65,9 +65,9 @@ module _ {O B T : Type 0} {g k : GraphView (Option O) B T} (op : Ptr Operation) 
   sited sites at eu ed own among used = (at, subst (λ w. Among (w, at) sites) (sym eu) among, own, subst (λ z. IsUse k z at) (sym ed) used)
 
   -- it uses what is in hand, as its operands and successors, and its results are made
-  pub made_stands : (names : NameTracker Value (Ptr BasicBlock)) (known : Known) (p : Path) (held : List (User × Defined)) (st : State) → AreHeldBy p vs bs held → StandsAt names g known held st
-      → StandsAt names k (with_operation p op vs bs types known) [] st
-  made_stands names known p held st are s = operation_made g k names known held st op x types vs bs (made_results p op 0 types)
+  pub made_agrees : (names : NameTracker Value (Ptr BasicBlock)) (known : Known) (p : Path) (held : List (User × Defined)) (st : State) → AreHeldBy p vs bs held → NamesAgree names g known held st
+      → NamesAgree names k (with_operation p op vs bs types known) [] st
+  made_agrees names known p held st are s = operation_made g k names known held st op x types vs bs (made_results p op 0 types)
       (sites_from (operand p) (AtOperand op) 0 vs ++ sites_from (successor p) (AtSuccessor op) 0 bs) make placed made s
     where
       placed : (u : User) (d : Defined) → Among (u, d) held → (s : Site) × Among (u, s) (sites_from (operand p) (AtOperand op) 0 vs ++ sites_from (successor p) (AtSuccessor op) 0 bs) × (user s ≡ op) × IsUse k d s

@@ -12,7 +12,7 @@ use Rattle.irtext_scopes.specs.declared.scopes.Entry.{Entry}
 use Rattle.irtext_scopes.specs.declared.scopes.Entry.TheVariants as entry
 use Rattle.irtext_scopes.specs.declared.scopes.Entry.TheVariants.{Pending}
 use Rattle.irtext_scopes.specs.Scopes.{Scope, find, innermost, in_innermost, is_open, is_defined, mentioned, placeholder_of, value_of}
-use Rattle.irtext_names.specs.Placeholders.{IsPlaceholder, Uses, Defines, Settles, SettlesIfAny, StandsAsBefore}
+use Rattle.irtext_names.specs.Placeholders.{IsPlaceholder, Uses, Defines, Settles, SettlesIfAny, IsUnchanged}
 use Rattle.irtext_names.specs.Tied.{entry_at, Tied, Waiting, IsNoPlaceholder}
 use Rattle.irtext_names.proofs.Entries.{entry_innermost, waits_with}
 use Rattle.irtext_names.proofs.Gained.{before_same}
@@ -49,7 +49,7 @@ module _ {O B T V : Type 0} (of : V → Defined) {g : GraphView (Option O) B T} 
 
 module _ {O B T V W : Type 0} (of : V → Defined) (at : W → Defined) (same : (a b : V) → of a ≡ of b → a ≡ b) (apart : (a : V) (b : W) → of a ≡ at b → ⊥) {g k : GraphView (Option O) B T} (vs : List (Scope V)) (ws : List (Scope W)) (t : Tied of vs g) (u : Tied at ws g) where
   -- ---- nothing changed
-  module _ (s : StandsAsBefore g k) where
+  module _ (s : IsUnchanged g k) where
     pub same_ties : (Tied of vs k) × (Tied at ws k)
     same_ties = (tied_kept of vs t (loses_none (before_same s)) (λ v d e. cc), tied_kept at ws u (loses_none (before_same s)) (λ v d e. cc))
 
@@ -135,8 +135,8 @@ module _ {O B T V : Type 0} {Makes : GraphView (Option O) B T → GraphView (Opt
   uses_new ss ss' g k e f m = record { known = λ x h. absurd (cc); unknown = λ h. (f, m) }
 
 -- ---- an error that is returned by `?`
-pub handed_on : {T E : Type 0} {e : E} (r : Result T E) → IsErrAnd r (λ y. y ≡ e) → r ≡ Err e
-handed_on r h = let p = err_from_is_err_and r h in p.1 ∙ ap Err p.2
+pub propagated : {T E : Type 0} {e : E} (r : Result T E) → IsErrAnd r (λ y. y ≡ e) → r ≡ Err e
+propagated r h = let p = err_from_is_err_and r h in p.1 ∙ ap Err p.2
 
 pub same_refusal : {A C E : Type 0} (r : Result A E) (s : Result C E) (x y : E) → r ≡ Err x → s ≡ Err x → s ≡ Err y → r ≡ Err y
 same_refusal r s x y a b e = let f = sym b ∙ e in let same : x ≡ y = cc in a ∙ ap (λ z. Err z) same

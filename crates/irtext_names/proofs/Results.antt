@@ -18,7 +18,7 @@ use Rattle.irtext_grammar.specs.Names.TextScopes.{Word, Failure}
 use Rattle.irtext_grammar.specs.Names.History.{act, State, going, failed, next, run, after}
 use Rattle.irtext_grammar.specs.Names.Scopes.{fact_of}
 use Rattle.irtext_names.specs.Kinds.{NamesOf.{values}}
-use Rattle.irtext_names.specs.Linked.{Known, StandsAt, TakesDefinition, FailsBy}
+use Rattle.irtext_names.specs.Linked.{Known, NamesAgree, TakesDefinition, FailsBy}
 use Rattle.irtext_names.specs.Placeholders.{Defines}
 use Rattle.irtext_names.specs.Rows.{AreNamed, definitions_from, AreMadeAs, DefinesRow, FailsRow}
 use Rattle.irtext_names.specs.Tied.{MatchesGraph, IsNoPlaceholder, SettlesTies}
@@ -27,7 +27,7 @@ use Rattle.irtext_names.proofs.Loses.{Loses}
 use Rattle.irtext_names.proofs.Pairs.{lost}
 use Rattle.irtext_names.proofs.Ties.{waited}
 use Rattle.irtext_names.proofs.Linked.Kept.{made_defined}
-use Rattle.irtext_names.proofs.Rows.{run_through, map-through, split, none_behind, rest_fails}
+use Rattle.irtext_names.proofs.Rows.{run_through, map-through, split, none_follows, rest_fails}
 
 -- the definitions of a list's names, of one of them, and of those after it
 definitions_through : (place : ℕ → Place) (i : ℕ) (ws : List (Name ℕ)) (w : Name ℕ) (xs : List (Name ℕ))
@@ -99,14 +99,14 @@ module _ {O B T : Type 0} (value : ℕ → Value) where
       → ((w : Word) (q : Place) → slice_get mid.names n ≡ Some w.name → TakesDefinition (define_value w q) mid new h k q (OfValue (value (length ns)))) → DefinesRow value (ns ++ n ∷ []) old new g k
   define_more ns n old mid new g h k same s takes = record { so = so }
     where
-      so : (ws : List (Name ℕ)) → AreNamed old.names (ns ++ n ∷ []) ws → (place : ℕ → Place) (known : Known) (st : State) → AreMadeAs place value (ns ++ n ∷ []) known → StandsAt old g known [] st
-          → (next : State) × (run (going st) (map act (definitions_from place 0 ws)) ≡ going next) × StandsAt new k known [] next
-      so ws a place known st made stands =
+      so : (ws : List (Name ℕ)) → AreNamed old.names (ns ++ n ∷ []) ws → (place : ℕ → Place) (known : Known) (st : State) → AreMadeAs place value (ns ++ n ∷ []) known → NamesAgree old g known [] st
+          → (next : State) × (run (going st) (map act (definitions_from place 0 ws)) ≡ going next) × NamesAgree new k known [] next
+      so ws a place known st made agreed =
           let t = split old.names ns n [] ws a in
           let w = word_of t.here in
-          let last : ws ≡ t.front ++ t.here ∷ [] = t.whole ∙ ap (λ xs. t.front ++ t.here ∷ xs) (none_behind old.names ns n ws a) in
+          let last : ws ≡ t.front ++ t.here ∷ [] = t.whole ∙ ap (λ xs. t.front ++ t.here ∷ xs) (none_follows old.names ns n ws a) in
           let q = place (length t.front) in
-          let r = s.so t.front t.are place known st (made_front place value ns n [] known made) stands in
+          let r = s.so t.front t.are place known st (made_front place value ns n [] known made) agreed in
           let became : Among (q, value (length ns)) known.values = subst (λ j. Among (place j, value (length ns)) known.values) (sym t.count) (made_here place value ns n [] known made) in
           let z = (takes w q (ap (λ names. slice_get names n) same ∙ t.is)).so known r.0 became r.2 in (
             after r.0 (fact_of (define_value w q)),
@@ -123,18 +123,18 @@ module _ {O B T : Type 0} (value : ℕ → Value) where
       at_front [] x ys = refl
       at_front (y ∷ xs) x ys = at_front xs x ys
 
-      so : (ws : List (Name ℕ)) → AreNamed old.names (ns ++ n ∷ ms) ws → (place : ℕ → Place) (known : Known) (st : State) → AreMadeAs place value (ns ++ n ∷ ms) known → StandsAt old g known [] st
+      so : (ws : List (Name ℕ)) → AreNamed old.names (ns ++ n ∷ ms) ws → (place : ℕ → Place) (known : Known) (st : State) → AreMadeAs place value (ns ++ n ∷ ms) known → NamesAgree old g known [] st
           → (w : Name ℕ) × (slice_get ws (length ns) ≡ Some w) × (run (going st) (map act (definitions_from place 0 ws)) ≡ failed (record { cause = MultipleDefinitions w.text; at = Some w.place }))
-      so ws a place known st made stands =
+      so ws a place known st made agreed =
           let t = split old.names ns n ms ws a in
           let w = word_of t.here in
           let q = place (length t.front) in
           let x : Failure = record { cause = MultipleDefinitions t.here.text; at = Some t.here.place } in
-          let r = s.so t.front t.are place known st (made_front place value ns n ms known made) stands in
+          let r = s.so t.front t.are place known st (made_front place value ns n ms known made) agreed in
           let z : next (going r.0) (act (define_value w q)) ≡ failed x = (fails w q (ap (λ names. slice_get names n) same ∙ t.is)).so known [] r.0 r.2 in (
             t.here,
-            ap (λ xs. slice_get xs (length ns)) t.whole ∙ (ap (λ j. slice_get (t.front ++ t.here ∷ t.behind) j) (sym t.count) ∙ at_front t.front t.here t.behind),
-            ap (λ xs. run (going st) (map act (definitions_from place 0 xs))) t.whole ∙ (run_definitions place st t.front t.here t.behind
-                ∙ (ap (λ o. run (next o (act (define_value w q))) (map act (definitions_from place (suc (length t.front)) t.behind))) r.1
-                ∙ (ap (λ o. run o (map act (definitions_from place (suc (length t.front)) t.behind))) z ∙ rest_fails x (map act (definitions_from place (suc (length t.front)) t.behind))))),
+            ap (λ xs. slice_get xs (length ns)) t.whole ∙ (ap (λ j. slice_get (t.front ++ t.here ∷ t.following) j) (sym t.count) ∙ at_front t.front t.here t.following),
+            ap (λ xs. run (going st) (map act (definitions_from place 0 xs))) t.whole ∙ (run_definitions place st t.front t.here t.following
+                ∙ (ap (λ o. run (next o (act (define_value w q))) (map act (definitions_from place (suc (length t.front)) t.following))) r.1
+                ∙ (ap (λ o. run o (map act (definitions_from place (suc (length t.front)) t.following))) z ∙ rest_fails x (map act (definitions_from place (suc (length t.front)) t.following))))),
           )

@@ -17,7 +17,7 @@ use Rattle.irtext_grammar.specs.Names.Script.{User}
 use Rattle.irtext_grammar.specs.Names.TextScopes.{Act, Word, Failure}
 use Rattle.irtext_grammar.specs.Names.History.{act, Event, Outcome, going, failed, next, run, after}
 use Rattle.irtext_grammar.specs.Names.Scopes.{fact_of}
-use Rattle.irtext_names.specs.Linked.{StandsAt, TakesUse}
+use Rattle.irtext_names.specs.Linked.{NamesAgree, TakesUse}
 use Rattle.irtext_names.specs.Placeholders.{Uses}
 use Rattle.irtext_names.specs.Rows.{AreNamed, uses_from, in_hand_from, TakesUses, UsesRow}
 
@@ -50,28 +50,28 @@ in_hand_more of user i (y ∷ xs) x = ap (λ acts. (user i, of y) ∷ acts) (in_
 pub record Split (table : List Text) (ns : List ℕ) (n : ℕ) (ws : List (Name ℕ)) : Type 0 where
   pub front : List (Name ℕ)
   pub here : Name ℕ
-  pub behind : List (Name ℕ)
-  pub whole : ws ≡ front ++ here ∷ behind
+  pub following : List (Name ℕ)
+  pub whole : ws ≡ front ++ here ∷ following
   pub are : AreNamed table ns front
   pub is : slice_get table n ≡ Some here.text
   pub count : length front ≡ length ns
 
 pub split : (table : List Text) (ns : List ℕ) (n : ℕ) (ms : List ℕ) (ws : List (Name ℕ)) → AreNamed table (ns ++ n ∷ ms) ws → Split table ns n ws
 split table [] n ms [] a = absurd a
-split table [] n ms (w ∷ ws) a = record { front = []; here = w; behind = ws; whole = refl; are = tt; is = a.0; count = refl }
+split table [] n ms (w ∷ ws) a = record { front = []; here = w; following = ws; whole = refl; are = tt; is = a.0; count = refl }
 split table (m ∷ ns) n ms [] a = absurd a
 split table (m ∷ ns) n ms (w ∷ ws) a =
     let s = split table ns n ms ws a.1 in
-    record { front = w ∷ s.front; here = s.here; behind = s.behind; whole = ap (λ xs. w ∷ xs) s.whole; are = (a.0, s.are); is = s.is; count = ap suc s.count }
+    record { front = w ∷ s.front; here = s.here; following = s.following; whole = ap (λ xs. w ∷ xs) s.whole; are = (a.0, s.are); is = s.is; count = ap suc s.count }
 
 -- after the last name of a list there is none
-pub none_behind : (table : List Text) (ns : List ℕ) (n : ℕ) (ws : List (Name ℕ)) (a : AreNamed table (ns ++ n ∷ []) ws) → (split table ns n [] ws a).behind ≡ []
+pub none_follows : (table : List Text) (ns : List ℕ) (n : ℕ) (ws : List (Name ℕ)) (a : AreNamed table (ns ++ n ∷ []) ws) → (split table ns n [] ws a).following ≡ []
 unfolding split
-none_behind table [] n [] a = absurd a
-none_behind table [] n (w ∷ []) a = refl
-none_behind table [] n (w ∷ x ∷ ws) a = absurd a.1
-none_behind table (m ∷ ns) n [] a = absurd a
-none_behind table (m ∷ ns) n (w ∷ ws) a = none_behind table ns n ws a.1
+none_follows table [] n [] a = absurd a
+none_follows table [] n (w ∷ []) a = refl
+none_follows table [] n (w ∷ x ∷ ws) a = absurd a.1
+none_follows table (m ∷ ns) n [] a = absurd a
+none_follows table (m ∷ ns) n (w ∷ ws) a = none_follows table ns n ws a.1
 
 among_last : {X : Type 0} (x y : X) (xs : List X) → Among x (xs ++ y ∷ []) → Among x xs ⊎ (x ≡ y)
 among_last x y [] (inl e) = inr e
@@ -88,12 +88,12 @@ module _ {O B T : Type 0} where
   one_more : (acts : List Act) (a : Act) (old mid new : NameTracker Value (Ptr BasicBlock)) (g h k : GraphView (Option O) B T) (more : List (User × Defined)) (u : User) (d : Defined)
       → TakesUses acts old mid g h more → TakesUse a mid new h k u d → TakesUses (acts ++ a ∷ []) old new g k (more ++ (u, d) ∷ [])
   one_more acts a old mid new g h k more u d s t = record {
-    so = λ known held st stands.
-        let r = s.so known held st stands in
+    so = λ known held st agreed.
+        let r = s.so known held st agreed in
         let q = t.so known (held ++ more) r.0 r.2 in (
           after r.0 (fact_of a),
           ap (run (going st)) (map-through act acts a []) ∙ (run_through (going st) (map act acts) (act a) [] ∙ (ap (λ o. next o (act a)) r.1 ∙ q.0)),
-          subst (λ xs. StandsAt new k known xs (after r.0 (fact_of a))) (append_assoc held more ((u, d) ∷ [])) q.1,
+          subst (λ xs. NamesAgree new k known xs (after r.0 (fact_of a))) (append_assoc held more ((u, d) ∷ [])) q.1,
         );
   }
 
@@ -123,7 +123,7 @@ module _ {O B T : Type 0} where
     no_uses names g = record { count = refl; there = record { still = λ d e. e; each = λ x a. absurd a }; follows = none }
       where
         none : (ws : List (Name ℕ)) → AreNamed names.names [] ws → (user : ℕ → User) (i : ℕ) → TakesUses (uses_from uses user i ws) names names g g []
-        none [] a user i = record { so = λ known held st s. (st, refl, subst (λ xs. StandsAt names g known xs st) (sym (append-nil held)) s) }
+        none [] a user i = record { so = λ known held st s. (st, refl, subst (λ xs. NamesAgree names g known xs st) (sym (append-nil held)) s) }
         none (w ∷ ws) a user i = absurd a
 
     -- one more, which is used after those of a list
@@ -144,7 +144,7 @@ module _ {O B T : Type 0} where
         follows ws a user i =
             let t = split old.names ns n [] ws a in
             let w = word_of t.here in
-            let last : ws ≡ t.front ++ t.here ∷ [] = t.whole ∙ ap (λ ys. t.front ++ t.here ∷ ys) (none_behind old.names ns n ws a) in
+            let last : ws ≡ t.front ++ t.here ∷ [] = t.whole ∙ ap (λ ys. t.front ++ t.here ∷ ys) (none_follows old.names ns n ws a) in
             let u = user (i + length t.front) in
             let place : i + length xs ≡ i + length t.front = ap (λ j. i + j) (s.count ∙ sym t.count) in
             let one = one_more (uses_from uses user i t.front) (uses w u) old mid new g h k (in_hand_from of user i xs) u (of x) (s.follows t.front t.are user i) (takes w u (ap (λ names. slice_get names n) same ∙ t.is)) in

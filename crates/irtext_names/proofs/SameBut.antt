@@ -69,8 +69,8 @@ module _ {O B T : Type 0} where
   none_defined g (OfBlock b) e d = let k = subst IsSome e d in cc
 
   -- what is defined belongs to an object that is there
-  pub defined_stands : (g : GraphView O B T) (x : Defined) → IsDefined g x → IsLive g (owner x)
-  defined_stands g x d = go (content g (owner x)) refl
+  pub defined_is_live : (g : GraphView O B T) (x : Defined) → IsDefined g x → IsLive g (owner x)
+  defined_is_live g x d = go (content g (owner x)) refl
     where
       go : (c : Option (Content O B T)) → content g (owner x) ≡ c → IsSome c
       go None e = absurd (none_defined g x e d)
@@ -122,7 +122,7 @@ module _ {O B T : Type 0} where
 
     pub still_placeholder : (x : Defined) → (o ≡ Some (owner x) → ⊥) → IsPlaceholder g x → IsPlaceholder k x
     still_placeholder x n p = record {
-      stands = still_defined x n p.stands;
+      alive = still_defined x n p.alive;
       blank = still_blank x n p.blank;
       free = s.parents (owner x) n ∙ p.free;
       empty = s.lists (owner x) n ∙ p.empty;
@@ -131,9 +131,9 @@ module _ {O B T : Type 0} where
 
     pub was_placeholder : (x : Defined) → IsPlaceholder k x → IsPlaceholder g x
     was_placeholder x p =
-        let n : o ≡ Some (owner x) → ⊥ = not_gone x p.stands in
+        let n : o ≡ Some (owner x) → ⊥ = not_gone x p.alive in
         record {
-          stands = was_defined x p.stands;
+          alive = was_defined x p.alive;
           blank = was_blank x n p.blank;
           free = sym (s.parents (owner x) n) ∙ p.free;
           empty = sym (s.lists (owner x) n) ∙ p.empty;

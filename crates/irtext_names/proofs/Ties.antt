@@ -6,7 +6,7 @@ use Rattle.irtext_graph.specs.Erasing.{owner}
 use Rattle.irtext_graph.specs.Graph.{GraphView, IsNew}
 use Rattle.irtext_graph.specs.Used.{IsDefined}
 use Rattle.irtext_graph.proofs.Linked.{defined_tells}
-use Rattle.irtext_graph.proofs.Nests.{told, some_eq}
+use Rattle.irtext_graph.proofs.Nests.{same_or_other, some_eq}
 use Rattle.irtext_scopes.specs.declared.scopes.Entry.{Entry}
 use Rattle.irtext_scopes.specs.declared.scopes.Entry.TheVariants.{Pending}
 use Rattle.irtext_scopes.specs.Scopes.{Scope, find, innermost, in_innermost, is_open, mentioned, defined, placeholder_of, value_of}
@@ -20,13 +20,13 @@ module _ {O B T V : Type 0} (of : V → Defined) where
   pub tied_kept : {g k : GraphView (Option O) B T} {o : Option Defined} (ss : List (Scope V)) → Tied of ss g → Loses g k o → ((v : V) → IsDefined g (of v) → o ≡ Some (of v) → ⊥) → Tied of ss k
   tied_kept ss t l apart = record {
     there = λ i n e f. let d = t.there i n e f in l.there (of (value_of e)) d (apart (value_of e) d);
-    held = λ i n h f. let p = t.held i n h f in l.placeholders (of h) p (apart h p.stands);
+    held = λ i n h f. let p = t.held i n h f in l.placeholders (of h) p (apart h p.alive);
     alone = t.alone;
   }
 
   pub waiting_kept : {g k : GraphView (Option O) B T} {o : Option Defined} (m : ℕ) (own : List V) (ss : List (Scope V)) → Tied of ss g → Waiting m own of ss g → Loses g k o → ((v : V) → IsDefined g (of v) → o ≡ Some (of v) → ⊥) → Waiting m own of ss k
   waiting_kept m own ss t w l apart = record {
-    late = λ i n h f. let p = t.held i n h f in l.ages m (of h) (l.there (of h) p.stands (apart h p.stands)) ∙ w.late i n h f;
+    late = λ i n h f. let p = t.held i n h f in l.ages m (of h) (l.there (of h) p.alive (apart h p.alive)) ∙ w.late i n h f;
     known = λ v d b new not. w.known v (l.were (of v) d) (l.were_blank (of v) d b) (sym (l.ages m (of v) d) ∙ new) not;
   }
 
@@ -40,7 +40,7 @@ module _ {O B T V : Type 0} (of : V → Defined) where
 
   pub waiting_gained : {g k : GraphView (Option O) B T} {d : Defined} (m : ℕ) (own : List V) (ss : List (Scope V)) → Tied of ss g → Waiting m own of ss g → Loses k g (Some d) → ((v : V) → Some d ≡ Some (of v) → ⊥) → Waiting m own of ss k
   waiting_gained m own ss t w l apart = record {
-    late = λ i n h f. let p = t.held i n h f in sym (l.ages m (of h) p.stands) ∙ w.late i n h f;
+    late = λ i n h f. let p = t.held i n h f in sym (l.ages m (of h) p.alive) ∙ w.late i n h f;
     known = λ v d b new not. let was = l.there (of v) d (apart v) in w.known v was (l.blanks (of v) was b) (l.ages m (of v) was ∙ new) not;
   }
 
@@ -53,7 +53,7 @@ module _ {O B T V : Type 0} (of : V → Defined) where
     tied_made t p = record {
       there = λ i m e f. elim (entry_mentioned i m n (Pending h) e ss f) [
         | inl old ↦ l.were (of (value_of e)) (t.there i m e old)
-        | inr (a, b, c) ↦ rw c p.stands
+        | inr (a, b, c) ↦ rw c p.alive
       ];
       held = λ i m w f. elim (entry_mentioned i m n (Pending h) (Pending w) ss f) [
         | inl old ↦ l.were_placeholders (of w) (t.held i m w old)
@@ -65,7 +65,7 @@ module _ {O B T V : Type 0} (of : V → Defined) where
           | inr (a, b, c) ↦ let same : w ≡ h = cc in absurd (not_there (value_of e) (s ∙ same) (t.there i m e old))
         ]
         | inr (a, b, c) ↦ elim (entry_mentioned j q n (Pending h) (Pending w) ss f') [
-          | inl old' ↦ absurd (not_there w (sym s ∙ ap value_of c) (t.held j q w old').stands)
+          | inl old' ↦ absurd (not_there w (sym s ∙ ap value_of c) (t.held j q w old').alive)
           | inr (a', b', c') ↦ (a ∙ sym a', b ∙ sym b')
         ]
       ];
@@ -74,10 +74,10 @@ module _ {O B T V : Type 0} (of : V → Defined) where
     pub waiting_made : (m : ℕ) (own : List V) → Tied of ss g → Waiting m own of ss g → IsPlaceholder k (of h) → IsNew m k (owner (of h)) → Waiting m own of (in_innermost (mentioned n (Pending h)) ss) k
     waiting_made m own t w p late = record {
       late = λ i q x f. elim (entry_mentioned i q n (Pending h) (Pending x) ss f) [
-        | inl old ↦ let s = t.held i q x old in sym (l.ages m (of x) s.stands) ∙ w.late i q x old
+        | inl old ↦ let s = t.held i q x old in sym (l.ages m (of x) s.alive) ∙ w.late i q x old
         | inr (a, b, c) ↦ let s : x ≡ h = cc in rw s late
       ];
-      known = λ v d b is not. elim (told defined_tells (of v) (of h)) [
+      known = λ v d b is not. elim (same_or_other defined_tells (of v) (of h)) [
         | inl e ↦ (0, n, rw (same v h e) (entry_here n (Pending h) ss scope new))
         | inr ne ↦
             let was = l.there (of v) d (λ e. ne (sym (some_eq e))) in
@@ -122,7 +122,7 @@ module _ {O B T V : Type 0} (of : V → Defined) where
     waiting_defined m own t w = record {
       late = λ i q h f. elim (entry_defined i q n v (Pending h) ss f) [
         | inl (a, b, c) ↦ absurd (cc)
-        | inr (old, ne) ↦ let p = t.held i q h old in l.ages m (of h) (l.there (of h) p.stands (not_lost t i q (Pending h) old ne)) ∙ w.late i q h old
+        | inr (old, ne) ↦ let p = t.held i q h old in l.ages m (of h) (l.there (of h) p.alive (not_lost t i q (Pending h) old ne)) ∙ w.late i q h old
       ];
       known = λ x d b new not.
           let r = w.known x (l.were (of x) d) (l.were_blank (of x) d b) (sym (l.ages m (of x) d) ∙ new) not in

@@ -112,7 +112,7 @@ module _ {O B T : Type 0} where
   -- the names, the graph and the uses in hand agree with the state of the machine: no name has two numbers, each open scope has the names
   -- of the facts so far, what they define is live, each use refers to what its name refers to, and each use that is bound for good refers
   -- to its definition
-  pub record StandsAt (names : NameTracker Value (Ptr BasicBlock)) (g : GraphView (Option O) B T) (known : Known) (held : List (User × Defined))
+  pub record NamesAgree (names : NameTracker Value (Ptr BasicBlock)) (g : GraphView (Option O) B T) (known : Known) (held : List (User × Defined))
       (st : State) : Type 0 where
     pub distinct : AreDistinct names.names
     pub tied : MatchesGraph names.values names.labels g
@@ -125,20 +125,20 @@ module _ {O B T : Type 0} where
   -- if the old names and graph agree with a state of the machine, the act takes it to a state that the new ones agree with, with a use of
   -- d more in hand
   pub record TakesUse (a : Act) (old new : NameTracker Value (Ptr BasicBlock)) (g k : GraphView (Option O) B T) (u : User) (d : Defined) : Type 0 where
-    pub so : (known : Known) (held : List (User × Defined)) (st : State) → StandsAt old g known held st
-        → (step st (act a) ≡ going (after st (fact_of a))) × StandsAt new k known (held ++ (u, d) ∷ []) (after st (fact_of a))
+    pub so : (known : Known) (held : List (User × Defined)) (st : State) → NamesAgree old g known held st
+        → (step st (act a) ≡ going (after st (fact_of a))) × NamesAgree new k known (held ++ (u, d) ∷ []) (after st (fact_of a))
 
   -- if the old names and graph agree with a state of the machine, nothing is in hand, and d was created for the place, the act takes the
   -- machine to a state that the new ones agree with
   pub record TakesDefinition (a : Act) (old new : NameTracker Value (Ptr BasicBlock)) (g k : GraphView (Option O) B T) (p : Place) (d : Defined) : Type 0 where
-    pub so : (known : Known) (st : State) → Became known p d → StandsAt old g known [] st
-        → (step st (act a) ≡ going (after st (fact_of a))) × StandsAt new k known [] (after st (fact_of a))
+    pub so : (known : Known) (st : State) → Became known p d → NamesAgree old g known [] st
+        → (step st (act a) ≡ going (after st (fact_of a))) × NamesAgree new k known [] (after st (fact_of a))
 
   -- if the old names and the graph agree with a state of the machine, and nothing is in hand, the event takes it to a state that the new
   -- ones agree with
   pub record Takes (event : Event) (next : State → State) (old new : NameTracker Value (Ptr BasicBlock)) (g : GraphView (Option O) B T) : Type 0 where
-    pub so : (known : Known) (st : State) → StandsAt old g known [] st → (step st event ≡ going (next st)) × StandsAt new g known [] (next st)
+    pub so : (known : Known) (st : State) → NamesAgree old g known [] st → (step st event ≡ going (next st)) × NamesAgree new g known [] (next st)
 
   -- if these names and this graph agree with a state of the machine, whatever is in hand, the event fails there with this failure
   pub record FailsBy (event : Event) (names : NameTracker Value (Ptr BasicBlock)) (g : GraphView (Option O) B T) (failure : Failure) : Type 0 where
-    pub so : (known : Known) (held : List (User × Defined)) (st : State) → StandsAt names g known held st → step st event ≡ failed failure
+    pub so : (known : Known) (held : List (User × Defined)) (st : State) → NamesAgree names g known held st → step st event ≡ failed failure

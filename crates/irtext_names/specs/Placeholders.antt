@@ -33,7 +33,7 @@ module _ {O B T : Type 0} where
 
   -- d is blank, and its object defines nothing else, is detached and has no children
   pub record IsPlaceholder (g : GraphView (Option O) B T) (d : Defined) : Type 0 where
-    pub stands : IsDefined g d
+    pub alive : IsDefined g d
     pub blank : IsBlank g d
     pub free : parent g (owner d) ≡ None
     pub empty : children g (owner d) ≡ []
@@ -62,7 +62,7 @@ module _ {O B T : Type 0} where
   SettlesIfAny old new (Some d) e = Settles old new d e
 
   -- each object is unchanged, whatever was created in between and removed again
-  pub record StandsAsBefore (old new : GraphView (Option O) B T) : Type 0 where
+  pub record IsUnchanged (old new : GraphView (Option O) B T) : Type 0 where
     pub operations : (p : Ptr Operation) → get new.operations p ≡ get old.operations p
     pub blocks : (p : Ptr BasicBlock) → get new.blocks p ≡ get old.blocks p
     pub regions : (p : Ptr Region) → get new.regions p ≡ get old.regions p

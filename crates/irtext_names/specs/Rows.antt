@@ -20,7 +20,7 @@ use Rattle.irtext_grammar.specs.Names.Acts.{word_of}
 use Rattle.irtext_grammar.specs.Names.Script.{Path, Place, result, User, operand, successor, define_value, MultipleDefinitions}
 use Rattle.irtext_grammar.specs.Names.TextScopes.{Act, Word}
 use Rattle.irtext_grammar.specs.Names.History.{act, State, going, failed, run}
-use Rattle.irtext_names.specs.Linked.{Known, StandsAt}
+use Rattle.irtext_names.specs.Linked.{Known, NamesAgree}
 use Rattle.irtext_names.specs.Tied.{IsNoPlaceholder}
 
 -- the names of a text have these numbers in the parser's table
@@ -49,8 +49,8 @@ module _ {O B T : Type 0} where
   -- if the old names and graph agree with a state of the machine, these acts take it to a state that the new ones agree with, with these
   -- uses more in hand
   pub record TakesUses (acts : List Act) (old new : NameTracker Value (Ptr BasicBlock)) (g k : GraphView (Option O) B T) (more : List (User × Defined)) : Type 0 where
-    pub so : (known : Known) (held : List (User × Defined)) (st : State) → StandsAt old g known held st
-        → (next : State) × (run (going st) (map act acts) ≡ going next) × StandsAt new k known (held ++ more) next
+    pub so : (known : Known) (held : List (User × Defined)) (st : State) → NamesAgree old g known held st
+        → (next : State) × (run (going st) (map act acts) ≡ going next) × NamesAgree new k known (held ++ more) next
 
   -- what was live is live, and so are these
   pub record AreThere {X : Type 0} (of : X → Defined) (g k : GraphView (Option O) B T) (more : List X) : Type 0 where
@@ -90,12 +90,12 @@ module _ {O B T : Type 0} where
   -- if the old names and graph agree with a state of the machine, nothing is in hand, and these values were created for the places, the
   -- definitions of names with these numbers take the machine to a state that the new ones agree with
   pub record DefinesRow (value : ℕ → Value) (numbers : List ℕ) (old new : NameTracker Value (Ptr BasicBlock)) (g k : GraphView (Option O) B T) : Type 0 where
-    pub so : (ws : List (Name ℕ)) → AreNamed old.names numbers ws → (place : ℕ → Place) (known : Known) (st : State) → AreMadeAs place value numbers known → StandsAt old g known [] st
-        → (next : State) × (run (going st) (map act (definitions_from place 0 ws)) ≡ going next) × StandsAt new k known [] next
+    pub so : (ws : List (Name ℕ)) → AreNamed old.names numbers ws → (place : ℕ → Place) (known : Known) (st : State) → AreMadeAs place value numbers known → NamesAgree old g known [] st
+        → (next : State) × (run (going st) (map act (definitions_from place 0 ws)) ≡ going next) × NamesAgree new k known [] next
 
   -- in such a state, the definitions of names with these numbers fail at the name with this index, which its scope defines already
   pub record FailsRow (value : ℕ → Value) (numbers : List ℕ) (index : ℕ) (names : NameTracker Value (Ptr BasicBlock)) (g : GraphView (Option O) B T) : Type 0 where
-    pub so : (ws : List (Name ℕ)) → AreNamed names.names numbers ws → (place : ℕ → Place) (known : Known) (st : State) → AreMadeAs place value numbers known → StandsAt names g known [] st
+    pub so : (ws : List (Name ℕ)) → AreNamed names.names numbers ws → (place : ℕ → Place) (known : Known) (st : State) → AreMadeAs place value numbers known → NamesAgree names g known [] st
         → (w : Name ℕ) × (slice_get ws index ≡ Some w) × (run (going st) (map act (definitions_from place 0 ws)) ≡ failed (record { cause = MultipleDefinitions w.text; at = Some w.place }))
 
 -- ---- an operation that is created

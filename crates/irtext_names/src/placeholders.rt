@@ -28,7 +28,7 @@ pub(crate) fn settle<O: Drop, B: Drop, T: Drop>(
     e: Defined,
 )
     requires placeholder { IsPlaceholder graph.old d }
-    requires stands { IsDefined graph.old e }
+    requires alive { IsDefined graph.old e }
     requires alike { AreAlike d e }
     requires differ { d ≢ e }
     ensures settles { Settles graph.old graph.new d e }

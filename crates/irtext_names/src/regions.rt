@@ -10,7 +10,7 @@ ghost use Rattle.irtext_graph.specs.declared.object.BasicBlock.{BasicBlock};
 ghost use Rattle.irtext_scopes.specs.Scopes.{is_open, outer};
 ghost use Rattle.irtext_scopes.specs.Tracker.{entered, left, unresolved};
 ghost use Rattle.irtext_scopes.specs.declared.tracker.EnterFault.{EnterFault};
-ghost use Rattle.irtext_names.specs.Linked.{StandsAt, Takes, FailsBy, nothing_made};
+ghost use Rattle.irtext_names.specs.Linked.{NamesAgree, Takes, FailsBy, nothing_made};
 ghost use Rattle.irtext_names.specs.Tied.{MatchesGraph, ArePending, NoneIsLeft, StaysPending};
 
 use irtext_graph::arena::Ptr;
@@ -30,7 +30,7 @@ pub fn no_names<O: Drop, B: Drop, T: Drop>(
     ensures labels { result.labels ≡ [] }
     ensures tied { MatchesGraph result.values result.labels graph.now }
     ensures waiting { ArePending graph.now.made [] result.values result.labels graph.now }
-    ensures stands { StandsAt result graph.now nothing_made [] start }
+    ensures agreed { NamesAgree result graph.now nothing_made [] start }
 {
     let _made = graph.made();
     NameTracker::new(alloc)

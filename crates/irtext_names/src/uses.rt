@@ -6,7 +6,7 @@ ghost use Rattle.irtext_grammar.specs.Names.TextScopes.{Word};
 ghost use Rattle.irtext_scopes.specs.Scopes.{is_open};
 ghost use Rattle.irtext_names.specs.Kinds.{Makes, scopes_of, other, defined_as, use_of};
 ghost use Rattle.irtext_names.specs.Linked.{TakesUse};
-ghost use Rattle.irtext_names.specs.Placeholders.{Uses, StandsAsBefore};
+ghost use Rattle.irtext_names.specs.Placeholders.{Uses, IsUnchanged};
 ghost use Rattle.irtext_names.specs.Tied.{MatchesGraph, KeepsTies};
 ghost use Rattle.irtext_names.specs.Rows.{AreKnown, UsesRow};
 
@@ -34,7 +34,7 @@ pub fn use_name<K: Referent<B>, O: Drop, B: Drop, T: Drop>(
         → TakesUse (use_of K.kind w u) names.old names.new graph.old graph.new u
         (defined_as K.kind v)) }
     ensures scopes { OnErr result (scopes_of K.kind names.new ≡ scopes_of K.kind names.old) }
-    ensures objects { OnErr result (StandsAsBefore graph.old graph.new) }
+    ensures objects { OnErr result (IsUnchanged graph.old graph.new) }
     ensures rest { (names.new.names ≡ names.old.names)
         × (scopes_of (other K.kind) names.new ≡ scopes_of (other K.kind) names.old) }
     ensures ties { KeepsTies names.old names.new graph.old graph.new }

@@ -22,12 +22,12 @@ use Rattle.irtext_parse_pieces.specs.declared.pieces.ReadPiece.{ReadPiece}
 use Rattle.irtext_grammar.specs.Grammar.Tree.{in_order}
 use Rattle.irtext_parse_nested.specs.declared.operation_parts.Gathered.{Gathered}
 use Rattle.irtext_parse_nested.specs.Beginning.{types_made, CreatesOf}
-use Rattle.irtext_parse_nested.specs.Gathered.{KeepsScopes, IsNothing, Gathers, AllStand}
+use Rattle.irtext_parse_nested.specs.Gathered.{KeepsScopes, IsNothing, Gathers, AllUsesLive}
 use Rattle.irtext_parse_nested.specs.Items.{Names, KeepsLive}
 use Rattle.irtext_parse_nested.proofs.Gathers.{gathers_none}
-use Rattle.irtext_parse_nested.proofs.Lasting.{lasts_then, block_stands}
+use Rattle.irtext_parse_nested.proofs.Lasting.{lasts_then, block_is_live}
 use Rattle.irtext_parse_nested.proofs.Steady.{steady_itself}
-use Rattle.irtext_parse_nested.proofs.UsedStands.{used_lasts, made_lasts, made_new}
+use Rattle.irtext_parse_nested.proofs.UsedLive.{used_lasts, made_lasts, made_new}
 
 -- what holds of a result, and of the state that the call left
 pub if_ok_both : {X E : Type 0} {P R : X → Type 0} {Q : Type 0} (r : Result X E) → ((x : X) → P x → Q → R x) → IfOk r P → OnOk r Q → IfOk r R
@@ -88,7 +88,7 @@ module _ {T A : Type 0} {id : OpId} {pieces : List (ReadPiece T A)} {loc : Locat
   -- the block is still live
   pub block_there : (o : Option (Ptr BasicBlock)) → IfSome o (λ k. IsThere old (TheBlock k)) → IfSome o (λ k. IsLive made.graph (TheBlock k))
   block_there None there = tt
-  block_there (Some k) there = block_stands made k (lasts_here.blocks k there.0 there.1).0
+  block_there (Some k) there = block_is_live made k (lasts_here.blocks k there.0 there.1).0
 
   block_newer : (n : ℕ) → n ≤ old.graph.made → (o : Option (Ptr BasicBlock)) → IfSome o (λ b. IsNew n old.graph (TheBlock b)) → IfSome o (λ b. IsNew n made.graph (TheBlock b))
   block_newer n le None new = tt
@@ -101,8 +101,8 @@ module _ {T A : Type 0} {id : OpId} {pieces : List (ReadPiece T A)} {loc : Locat
 
 -- ---- nothing was gathered
 -- what was gathered is live
-pub nothing_stands : {O B T A : Type 0} (g : GraphView (Option O) B (Option T)) (x : Gathered T A) → IsNothing x → AllStand g x
-nothing_stands g x n = record {
+pub nothing_used_is_live : {O B T A : Type 0} (g : GraphView (Option O) B (Option T)) (x : Gathered T A) → IsNothing x → AllUsesLive g x
+nothing_used_is_live g x n = record {
   operands = λ e a. absurd (subst (Among e) n.operands.0 a);
   listed_operands = λ v a. absurd (subst (Among v) n.operands.1 a);
   successors = λ e a. absurd (subst (Among e) n.successors.0 a);

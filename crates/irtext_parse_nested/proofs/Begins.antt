@@ -29,11 +29,11 @@ use Rattle.irtext_grammar.specs.Names.Script.{Path, User, operand, successor}
 use Rattle.irtext_grammar.specs.Names.TextScopes.{Act, Failure, act_failures}
 use Rattle.irtext_grammar.proofs.Lists.InOrder.{firsts}
 use Rattle.irtext_grammar.proofs.Lists.Numbering.{own, numbered_in, own_numbered, in_order_length}
-use Rattle.irtext_names.specs.Linked.{Known, StandsAt}
+use Rattle.irtext_names.specs.Linked.{Known, NamesAgree}
 use Rattle.irtext_names.specs.Placeholders.{IsBlank, IsPlaceholder}
 use Rattle.irtext_names.specs.Tied.{MatchesGraph, ArePending}
 use Rattle.irtext_names.proofs.SameBut.{same_defined, data_in, data_is}
-use Rattle.irtext_names.proofs.Linked.Placed.{appended_ties, appended_stands}
+use Rattle.irtext_names.proofs.Linked.Placed.{appended_ties, appended_agrees}
 use Rattle.irtext_names.specs.Rows.{AreHeldBy}
 use Rattle.irtext_names.proofs.Rows.{rest_fails}
 use Rattle.irtext_parse_nested.specs.declared.uses.Placed.{Placed}
@@ -47,10 +47,10 @@ got_front [] ys (suc i) x e = absurd (cc)
 got_front (y ∷ xs) ys zero x e = e
 got_front (y ∷ xs) ys (suc i) x e = got_front xs ys i x e
 
-got_behind : {X : Type 0} (xs ys : List X) (n j : ℕ) → n ≡ length xs → slice_get (xs ++ ys) (n + j) ≡ slice_get ys j
-got_behind [] ys n j e = let m : n + j ≡ j = omega (arith, e) in ap (slice_get ys) m
-got_behind (x ∷ xs) ys zero j e = absurd (omega (arith, e))
-got_behind (x ∷ xs) ys (suc n) j e = let m : suc n + j ≡ suc (n + j) = omega arith in ap (slice_get (x ∷ (xs ++ ys))) m ∙ got_behind xs ys n j (omega (arith, e))
+got_after : {X : Type 0} (xs ys : List X) (n j : ℕ) → n ≡ length xs → slice_get (xs ++ ys) (n + j) ≡ slice_get ys j
+got_after [] ys n j e = let m : n + j ≡ j = omega (arith, e) in ap (slice_get ys) m
+got_after (x ∷ xs) ys zero j e = absurd (omega (arith, e))
+got_after (x ∷ xs) ys (suc n) j e = let m : suc n + j ≡ suc (n + j) = omega arith in ap (slice_get (x ∷ (xs ++ ys))) m ∙ got_after xs ys n j (omega (arith, e))
 
 -- ---- each use in hand is at its place in the lists
 module _ {X : Type 0} (of : X → Defined) (user : ℕ → User) (single : List (ℕ × X)) (list : List X) (places : are_places (firsts single) ≡ true) where
@@ -65,7 +65,7 @@ module _ {X : Type 0} (of : X → Defined) (user : ℕ → User) (single : List 
       let r = numbered_in of user 0 (in_order single) (user i) (of x) ((own_numbered single places of user).into (user i, of x) (among_owned single i x a)) in
       let m : 0 + r.0 ≡ r.0 = omega arith in
       (r.0, r.1, eu ∙ (r.3 ∙ ap user m), ed ∙ r.4, got_front (in_order single) list r.0 r.1 r.2)
-  hand_place k e u d (inr (j, x, eu, ed, f)) = (k + j, x, eu, ed, got_behind (in_order single) list k j (e ∙ sym (in_order_length single places)) ∙ f)
+  hand_place k e u d (inr (j, x, eu, ed, f)) = (k + j, x, eu, ed, got_after (in_order single) list k j (e ∙ sym (in_order_length single places)) ∙ f)
 
 -- all uses in hand are those of the operation with these operands and successors
 pub hands_held : (p : Path) (k l : ℕ) (vs : Placed Value) (bs : Placed (Ptr BasicBlock)) (held : List (User × Defined)) → k ≡ length vs.single.items → l ≡ length bs.single.items
@@ -146,8 +146,8 @@ module _ {O B T : Type 0} {g h : GraphView (Option O) B T} (b : Ptr BasicBlock) 
   pub operation_placed_ties : (vs : List (Scope Value)) (ls : List (Scope (Ptr BasicBlock))) → MatchesGraph vs ls g → MatchesGraph vs ls h
   operation_placed_ties vs ls t = appended_ties a vs ls (λ i n v f. value_apart v (t.value_ties.held i n v f)) (λ i n c f. block_apart c (t.label_ties.held i n c f)) t
 
-  pub operation_placed : (names : Names) (known : Known) (held : List (User × Defined)) (st : State) → StandsAt names g known held st → StandsAt names h known held st
-  operation_placed names known held st s = appended_stands a names known held st (operation_placed_ties names.values names.labels s.tied) s
+  pub operation_placed : (names : Names) (known : Known) (held : List (User × Defined)) (st : State) → NamesAgree names g known held st → NamesAgree names h known held st
+  operation_placed names known held st s = appended_agrees a names known held st (operation_placed_ties names.values names.labels s.tied) s
 
   was_there : (d : Defined) → IsDefined h d → IsDefined g d
   was_there d e = same_defined h g d (sym (ap (option_map without_uses) (a.objects.contents (owner d)))) e

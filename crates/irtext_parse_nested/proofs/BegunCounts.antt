@@ -17,7 +17,7 @@ use Rattle.irtext_parse_pieces.specs.Pieces.{IsPiece}
 use Rattle.irtext_parse_nested.specs.Beginning.{ArePartsOf}
 use Rattle.irtext_parse_nested.specs.OpenOperation.{ReadNeither}
 use Rattle.irtext_parse_nested.specs.Gathered.{operand_place, successor_place, operand_list, successor_list, type_list}
-use Rattle.irtext_parse_nested.proofs.BegunParts.{single_operand, named_operands, single_successor, named_successors, views_both, views_pieces, behind_neither, operand_places_are, successor_places_are, later_untyped, listed_later, two_lists, only_regions, alike}
+use Rattle.irtext_parse_nested.proofs.BegunParts.{single_operand, named_operands, single_successor, named_successors, views_both, views_pieces, after_neither, operand_places_are, successor_places_are, later_untyped, listed_later, two_lists, only_regions, alike}
 use Rattle.irtext_parse_nested.proofs.StepParts.{AreOfSteps, picked, operand_of, successor_of}
 
 -- parts of steps that parse no name show none
@@ -96,9 +96,9 @@ module _ {T A : Type 0} (place : ReadPiece T A → List ℕ) (list : ReadPiece T
         → length (in_order (views single (parts_of (body_of (Some f) (map (λ p. tree.piece p) ps ++ later)))) ++ views named (parts_of (body_of (Some f) (map (λ p. tree.piece p) ps ++ later))))
         ≡ length (flat_map place rs) + length (flat_map list rs)
     names_counted (format.custom ds) a of n are zero_if later l =
-        let behind = behind_neither (format.custom ds) a in
-        let singles = front_alone single later (later_quiet single (λ q d e w. (kind.quiet q d e w).0) (region_steps (map step_of ds)) later behind l) in
-        let others = front_alone named later (later_quiet named (λ q d e w. (kind.quiet q d e w).1) (region_steps (map step_of ds)) later behind l) in
+        let following = after_neither (format.custom ds) a in
+        let singles = front_alone single later (later_quiet single (λ q d e w. (kind.quiet q d e w).0) (region_steps (map step_of ds)) later following l) in
+        let others = front_alone named later (later_quiet named (λ q d e w. (kind.quiet q d e w).1) (region_steps (map step_of ds)) later following l) in
         let all = ap₂ (λ x y. length (in_order x ++ y)) singles others in
         let m = length-append (in_order (flat_map single ps)) (flat_map named ps) in
         let k = single_length are.0 in

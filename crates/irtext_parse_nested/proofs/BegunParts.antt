@@ -22,7 +22,7 @@ use Rattle.irtext_parse_pieces.specs.declared.pieces.ReadPiece.{ReadPiece}
 use Rattle.irtext_parse_pieces.specs.declared.pieces.ReadPiece.TheVariants as read
 use Rattle.irtext_parse_pieces.specs.Entries.{IsEntry}
 use Rattle.irtext_parse_pieces.specs.Fronts.{IsPart}
-use Rattle.irtext_parse_pieces.specs.Named.{StandsFor, Each}
+use Rattle.irtext_parse_pieces.specs.Named.{Represents, Each}
 use Rattle.irtext_parse_pieces.specs.Pieces.{IsPiece, seen_attribute}
 use Rattle.irtext_parse_nested.specs.Beginning.{types_made, IsPartOf, ArePartsOf}
 use Rattle.irtext_parse_nested.specs.OpenOperation.{HasNoType, ReadsNeither, ReadNeither}
@@ -34,12 +34,12 @@ use Rattle.irtext_parse_nested.proofs.StepParts.{AreOfSteps, directive_of_step, 
 
 -- ---- steps
 -- the steps from the first region on follow those before it
-pub steps_behind : (ss : List Step) → region_steps ss ≡ drop (length (front_steps ss)) ss
-steps_behind [] = refl
-steps_behind (flat d ∷ ss) = steps_behind ss
-steps_behind (types ∷ ss) = steps_behind ss
-steps_behind (one i ∷ ss) = refl
-steps_behind (all ∷ ss) = refl
+pub steps_after : (ss : List Step) → region_steps ss ≡ drop (length (front_steps ss)) ss
+steps_after [] = refl
+steps_after (flat d ∷ ss) = steps_after ss
+steps_after (types ∷ ss) = steps_after ss
+steps_after (one i ∷ ss) = refl
+steps_after (all ∷ ss) = refl
 
 all_neither : (ds : List Directive) → list_all (λ d. not (is_early d)) ds ≡ true → ReadNeither (map step_of ds)
 all_neither [] e = tt
@@ -59,9 +59,9 @@ custom_neither (format.regions ∷ ds) e = (tt, all_neither ds (and_left _ (c7 d
 custom_neither (d ∷ ds) e = custom_neither ds e
 
 -- from the first region on no step of an accepted format parses a name or a type
-pub behind_neither : (f : Format) → Accepted f → ReadNeither (region_steps (steps_of f))
-behind_neither format.canonical a = (tt, tt)
-behind_neither (format.custom ds) a = custom_neither ds (accepted_places ds a).behind
+pub after_neither : (f : Format) → Accepted f → ReadNeither (region_steps (steps_of f))
+after_neither format.canonical a = (tt, tt)
+after_neither (format.custom ds) a = custom_neither ds (accepted_places ds a).following
 
 -- ---- what pieces show
 -- the place and the name of an operand or of a successor with a directive of its own, and the names of a list
@@ -163,7 +163,7 @@ entries_alike text [] (d ∷ ds) e = absurd e
 entries_alike text (x ∷ es) [] e = absurd e
 entries_alike text (x ∷ es) (d ∷ ds) e = ap₂ ◌∷◌ (λ i. (e.0.0.named i, e.0.1 i)) (entries_alike text es ds e.1)
 
-numbers_known : (names : List Text) (text : Text) (ns : List ReadName) (ms : List (Name ℕ)) → Each (StandsFor names text) ns ms → AreKnown (length names) (map (λ n. n.name) ns)
+numbers_known : (names : List Text) (text : Text) (ns : List ReadName) (ms : List (Name ℕ)) → Each (Represents names text) ns ms → AreKnown (length names) (map (λ n. n.name) ns)
 numbers_known names text [] [] e = tt
 numbers_known names text [] (m ∷ ms) e = absurd e
 numbers_known names text (n ∷ ns) [] e = absurd e
@@ -221,8 +221,8 @@ module _ {T A : Type 0} (names : List Text) (text : Text) where
   -- the names of a list are as many as were parsed
   names_alike : (r : ReadPiece T A) (p : Piece ℕ T A) (e : IsPiece names text r p)
       → (length (operand_list r) ≡ length (named_operands (form r p e))) × (length (successor_list r) ≡ length (named_successors (form r p e)))
-  names_alike (read.Operands ns) p e = (each_length (StandsFor names text) ns e.0 e.2, refl)
-  names_alike (read.Successors ns) p e = (refl, each_length (StandsFor names text) ns e.0 e.2)
+  names_alike (read.Operands ns) p e = (each_length (Represents names text) ns e.0 e.2, refl)
+  names_alike (read.Successors ns) p e = (refl, each_length (Represents names text) ns e.0 e.2)
   names_alike r p e = (refl, refl)
 
   others_alike : (r : ReadPiece T A) (p : Piece ℕ T A) (e : IsPiece names text r p) → (length (operand_list r) ≡ length (named_operands (form r p e)))
@@ -261,9 +261,9 @@ abbrev Turns : {T A : Type 0} → (ReadPiece T A → List (Unit {0})) → (List 
 Turns {T} {A} found Lack Once r = ((found r ≡ []) × ((rs : List (ReadPiece T A)) → Lack rs → Lack (r ∷ rs)) × ((rs : List (ReadPiece T A)) → Once rs → Once (r ∷ rs)))
     ⊎ ((found r ≡ tt ∷ []) × ((rs : List (ReadPiece T A)) → Lack rs → Once (r ∷ rs)))
 
-module _ {T A : Type 0} (found : ReadPiece T A → List (Unit {0})) (Lack Once : List (ReadPiece T A) → Type 0) (turns : (r : ReadPiece T A) → Turns found Lack Once r) (lacks : Lack []) (once : Once []) where
+module _ {T A : Type 0} (found : ReadPiece T A → List (Unit {0})) (Lack Once : List (ReadPiece T A) → Type 0) (turns : (r : ReadPiece T A) → Turns found Lack Once r) (unmet : Lack []) (once : Once []) where
   lacking : (rs : List (ReadPiece T A)) → flat_map found rs ≡ [] → Lack rs
-  lacking [] e = lacks
+  lacking [] e = unmet
   lacking (r ∷ rs) e = go (turns r) (none_shown (found r) (flat_map found rs) e) (λ k. lacking rs k)
     where
       go : Turns found Lack Once r → (found r ≡ []) × (flat_map found rs ≡ []) → (flat_map found rs ≡ [] → Lack rs) → Lack (r ∷ rs)
@@ -355,15 +355,15 @@ module _ {T A : Type 0} where
   all_first : (p : Part ℕ T A) (ps : List (Part ℕ T A)) → All HasNoType (p ∷ ps) → HasNoType p
   all_first p ps h = h 0 p (omega arith)
 
-  all_behind : (p : Part ℕ T A) (ps : List (Part ℕ T A)) → All HasNoType (p ∷ ps) → All HasNoType ps
-  all_behind p ps h = λ i d l. h (suc i) d (omega (arith, l))
+  all_after : (p : Part ℕ T A) (ps : List (Part ℕ T A)) → All HasNoType (p ∷ ps) → All HasNoType ps
+  all_after p ps h = λ i d l. h (suc i) d (omega (arith, l))
 
   -- nothing is shown of these
   pub none_later : {X : Type 0} (G : Piece ℕ T A → List X) → ((q : Piece ℕ T A) → HasNoType (tree.piece q) → G q ≡ []) → (later : List (Part ℕ T A)) → All HasNoType later → views G later ≡ []
   none_later G quiet [] h = refl
-  none_later G quiet (tree.piece q ∷ ps) h = ap₂ ◌++◌ (quiet q (all_first (tree.piece q) ps h)) (none_later G quiet ps (all_behind (tree.piece q) ps h))
-  none_later G quiet (tree.region i ∷ ps) h = none_later G quiet ps (all_behind (tree.region i) ps h)
-  none_later G quiet (tree.regions ∷ ps) h = none_later G quiet ps (all_behind tree.regions ps h)
+  none_later G quiet (tree.piece q ∷ ps) h = ap₂ ◌++◌ (quiet q (all_first (tree.piece q) ps h)) (none_later G quiet ps (all_after (tree.piece q) ps h))
+  none_later G quiet (tree.region i ∷ ps) h = none_later G quiet ps (all_after (tree.region i) ps h)
+  none_later G quiet (tree.regions ∷ ps) h = none_later G quiet ps (all_after tree.regions ps h)
 
   typed_quiet : (q : Piece ℕ T A) → HasNoType (tree.piece q) → typed_shown q ≡ []
   typed_quiet (tree.result_type i t) h = absurd h
@@ -478,7 +478,7 @@ module _ {T A : Type 0} (table : List Text) (text : Text) (inside : Bool) (rs : 
     found_by ss a = seen_alike table text found (λ p. picked of (directive_of_piece p)) seen rs ps each ∙ shown_by_steps (picked of) inside ss ps a
 
     found_in : (ds : List Directive) → Accepted (format.custom ds) → AreOfSteps inside (front_steps (map step_of ds)) ps → flat_map found rs ≡ filter_map of ds
-    found_in ds a o = found_by (front_steps (map step_of ds)) o ∙ shown_in_front of late ds (accepted_places ds a).behind
+    found_in ds a o = found_by (front_steps (map step_of ds)) o ∙ shown_in_front of late ds (accepted_places ds a).following
 
   -- the places are those from 0 on, as many as the format says
   abbrev PlacesOf : List ℕ → ℕ → Type 0

@@ -24,8 +24,8 @@ with_entries own es = record { place = own.place; id = own.id; operands = own.op
 module _ {T A : Type 0} (formats : Id → Option Format) (o : OpenOperation T A) (own : OwnSoFar T A) (h : HasBegun formats o own) where
   -- ---- one more step was parsed
   module _ (s : Step) (ss : List Step) (steps : o.steps ≡ s ∷ ss) (part : Part ℕ T A) (is : IsPartOf s part) where
-    behind : (later : List (Part ℕ T A)) → ArePartsOf ss later → ArePartsOf o.steps (part ∷ later)
-    behind later a = subst (λ zs. ArePartsOf zs (part ∷ later)) (sym steps) (is, a)
+    following : (later : List (Part ℕ T A)) → ArePartsOf ss later → ArePartsOf o.steps (part ∷ later)
+    following later a = subst (λ zs. ArePartsOf zs (part ∷ later)) (sym steps) (is, a)
 
     moved : (later : List (Part ℕ T A)) → (o.parts ++ part ∷ []) ++ later ≡ o.parts ++ part ∷ later
     moved later = append_assoc o.parts (part ∷ []) later
@@ -36,8 +36,8 @@ module _ {T A : Type 0} (formats : Id → Option Format) (o : OpenOperation T A)
       place = h.place;
       id = h.id;
       entries = ap (λ es. put_all es (views stored (part ∷ []))) h.entries ∙ (sym (put_both (views stored o.parts) [] (views stored (part ∷ []))) ∙ ap (put_all []) (sym (views_both stored o.parts (part ∷ []))));
-      operands = λ later a. ap (λ ps. length (operand_names (unmarked o.place o.names o.id (body_of (formats o.id) ps)))) (moved later) ∙ h.operands (part ∷ later) (behind later a);
-      successors = λ later a. ap (λ ps. length (successor_labels (unmarked o.place o.names o.id (body_of (formats o.id) ps)))) (moved later) ∙ h.successors (part ∷ later) (behind later a);
-      types = λ later a. ap (λ ps. result_types (body_of (formats o.id) ps)) (moved later) ∙ h.types (part ∷ later) (behind later a);
-      stores = λ later a. ap (λ ps. views stored (parts_of (body_of (formats o.id) ps))) (moved later) ∙ (h.stores (part ∷ later) (behind later a) ∙ ap (views stored) (sym (moved later)));
+      operands = λ later a. ap (λ ps. length (operand_names (unmarked o.place o.names o.id (body_of (formats o.id) ps)))) (moved later) ∙ h.operands (part ∷ later) (following later a);
+      successors = λ later a. ap (λ ps. length (successor_labels (unmarked o.place o.names o.id (body_of (formats o.id) ps)))) (moved later) ∙ h.successors (part ∷ later) (following later a);
+      types = λ later a. ap (λ ps. result_types (body_of (formats o.id) ps)) (moved later) ∙ h.types (part ∷ later) (following later a);
+      stores = λ later a. ap (λ ps. views stored (parts_of (body_of (formats o.id) ps))) (moved later) ∙ (h.stores (part ∷ later) (following later a) ∙ ap (views stored) (sym (moved later)));
     }

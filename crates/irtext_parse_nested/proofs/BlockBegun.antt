@@ -18,7 +18,7 @@ use Rattle.irtext_graph.specs.Graph.{content, content_of, IsLive, IsNew}
 use Rattle.irtext_graph.specs.Objects.{is_older}
 use Rattle.irtext_graph.specs.Parts.{results}
 use Rattle.irtext_graph.specs.Store.{get}
-use Rattle.irtext_graph.proofs.Nests.{told}
+use Rattle.irtext_graph.proofs.Nests.{same_or_other}
 use Rattle.irtext_graph.proofs.Same.{ptr_tells}
 use Rattle.irtext_grammar.specs.Grammar.Tree.{Name, Attribute, Head}
 use Rattle.irtext_grammar.specs.Graphs.Build.{put_all, read_names, plain_entry}
@@ -41,10 +41,10 @@ use Rattle.irtext_parse_nested.specs.Located.{IsLocated, IsLocatedAt}
 use Rattle.irtext_parse_nested.specs.Placing.{PlacesBlock}
 use Rattle.irtext_parse_nested.proofs.BlockKept.{block_new}
 use Rattle.irtext_parse_nested.proofs.Lasting.{lasts_then}
-use Rattle.irtext_parse_nested.proofs.Faults.{stands_there, named_each}
+use Rattle.irtext_parse_nested.proofs.Faults.{place_is_there, named_each}
 use Rattle.irtext_parse_nested.proofs.Headers.{keys_each, arguments_named, arguments_typed}
 use Rattle.irtext_parse_nested.proofs.Lasting.{loses_lasts}
-use Rattle.irtext_parse_nested.proofs.Sparing.{loses_spares, stands_region}
+use Rattle.irtext_parse_nested.proofs.Sparing.{loses_spares, live_region_view}
 
 some_mapped : {X Y : Type 0} (f : X → Y) (o : Option X) → IsSome o → IsSome (option_map f o)
 some_mapped f None h = absurd (cc)
@@ -53,7 +53,7 @@ some_mapped f (Some x) h = refl
 -- ---- what the block has of its header
 -- a place that the stream gave is located
 pub located : {A : Type 0} (source : Source) (text : Text) (place : Place) (left : ℕ) (loc : Location A) → Leaves text place left → IsLocatedAt source text place loc → IsLocated source text left loc
-located source text place left loc l h = let s = stands_there {at = h.at} l h.stands in h.is ∙ ap (SrcPos source) (λ i. record { line = s.0 i; column = s.1 i })
+located source text place left loc l h = let s = place_is_there {at = h.at} l h.positioned in h.is ∙ ap (SrcPos source) (λ i. record { line = s.0 i; column = s.1 i })
 
 entries_same : {A : Type 0} (text : Text) (rs : List (Key × AttrObj A)) (es : List (Name ℕ × Attribute A)) → Each (IsEntry text) rs es → map entry_read rs ≡ map plain_entry es
 entries_same text [] [] i = refl
@@ -78,7 +78,7 @@ module _ {T A : Type 0} (old mid : ContextView T A) (r : Ptr Region) (b : Ptr Ba
 
   still_new : (m : ℕ) (q : Object) → m ≤ old.graph.made → IsNew m old.graph q → IsNew m mid.graph q
   still_new m (TheOperation q) le n = ap (is_older m) (content_same (TheOperation q) (λ e. cc)) ∙ n
-  still_new m (TheBlock d) le n = elim (told ptr_tells d b) [
+  still_new m (TheBlock d) le n = elim (same_or_other ptr_tells d b) [
     | inl e ↦ subst (λ z. IsNew m mid.graph (TheBlock z)) (sym e) (placed_new m le)
     | inr ne ↦ ap (is_older m) (content_same (TheBlock d) (λ e. let same : d ≡ b = cc in ne same)) ∙ n
   ]
@@ -105,8 +105,8 @@ module _ {T A : Type 0} (old mid : ContextView T A) (r : Ptr Region) (b : Ptr Ba
 
   -- ---- and then nothing but placeholders is lost
   module _ (new : ContextView T A) (loses : LosesPlaceholders mid.graph new.graph) where
-    behind : ModifiesOnly [] mid new
-    behind = loses_spares mid new loses
+    following : ModifiesOnly [] mid new
+    following = loses_spares mid new loses
 
     pub begun_new : (m : ℕ) → m ≤ old.graph.made → IsNew m new.graph (TheBlock b)
     begun_new m le = loses.newer m (TheBlock b) (placed_new m le)
@@ -115,19 +115,19 @@ module _ {T A : Type 0} (old mid : ContextView T A) (r : Ptr Region) (b : Ptr Ba
     begun_lasts same = lasts_then _ _ _ placed_lasts (loses_lasts mid new loses same)
 
     pub begun_spares : ModifiesOnly (TheBlock b ∷ TheRegion r ∷ []) old new
-    begun_spares = spares_then old mid new (TheBlock b ∷ TheRegion r ∷ []) placed_spares (spares_fewer mid new (TheBlock b ∷ TheRegion r ∷ []) behind)
+    begun_spares = spares_then old mid new (TheBlock b ∷ TheRegion r ∷ []) placed_spares (spares_fewer mid new (TheBlock b ∷ TheRegion r ∷ []) following)
 
     pub begun_gains : IsLive old.graph (TheRegion r) → RegionGains old new r b
-    begun_gains stands =
+    begun_gains alive =
         let gains = block_came_last (λ n l. Unit {0}) old p.between mid r b held types p.makes p.appends in
-        let there : IsSome (region mid r) = subst IsSome (sym gains.gains) (some_mapped (with_last_block b) (region old r) (stands_region old r stands)) in
-        record { gains = behind.spared (TheRegion r) there (λ i. i) ∙ gains.gains }
+        let there : IsSome (region mid r) = subst IsSome (sym gains.gains) (some_mapped (with_last_block b) (region old r) (live_region_view old r alive)) in
+        record { gains = following.spared (TheRegion r) there (λ i. i) ∙ gains.gains }
 
     pub begun_came : (IsLocation : ℕ → Location A → Type 0) (h : Head ℕ T A) → HasHead IsLocation (made_block held types) h → BlockCame old new IsLocation b h
     begun_came IsLocation h has =
         let came = block_came IsLocation old p.between mid r b held types p.makes p.appends h has in
         let there : IsThere mid (TheBlock b) = (subst IsSome (sym came.is) refl, came.inside) in
-        let e = behind.spared (TheBlock b) there (λ i. i) in
+        let e = following.spared (TheBlock b) there (λ i. i) in
         record {
           is_new = came.is_new;
           view = came.view;

@@ -64,10 +64,10 @@ put_all_both es [] fs = refl
 put_all_both es (d ∷ ds) fs = put_all_both (put d es) ds fs
 
 -- the dictionary, and after it the names
-pub names_behind : {A : Type 0} (names : List Text) (read : List ReadName) (nothing dictionary all : List (Text × AttrObj A)) (ds : List (Text × Attribute A)) → nothing ≡ [] → entries_of dictionary ≡ put_all (entries_of nothing) ds
+pub names_after : {A : Type 0} (names : List Text) (read : List ReadName) (nothing dictionary all : List (Text × AttrObj A)) (ds : List (Text × Attribute A)) → nothing ≡ [] → entries_of dictionary ≡ put_all (entries_of nothing) ds
     → ((ws : List (Name ℕ)) → AreNamed names (numbers_of read) ws → entries_of all ≡ put_all (entries_of dictionary) (read_names (map (λ w. w.text) ws)))
     → (ws : List (Name ℕ)) → AreNamed names (numbers_of read) ws → entries_of all ≡ put_all [] (ds ++ read_names (map (λ w. w.text) ws))
-names_behind names read nothing dictionary all ds none first then ws named =
+names_after names read nothing dictionary all ds none first then ws named =
     then ws named
     ∙ (ap (λ es. put_all es (read_names (map (λ w. w.text) ws))) (first ∙ ap (λ es. put_all (entries_of es) ds) none)
     ∙ sym (put_all_both [] ds (read_names (map (λ w. w.text) ws))))

@@ -45,7 +45,7 @@ use Rattle.irtext_parse_nested.proofs.BlockTurn.{made, same_head, names_refused,
 use Rattle.irtext_parse_nested.proofs.Faults.{named_each}
 use Rattle.irtext_parse_nested.proofs.HeadNamed.{inside_stays, block_stays}
 use Rattle.irtext_parse_nested.proofs.Headers.{arguments_named}
-use Rattle.irtext_parse_nested.proofs.Lasting.{stands_block}
+use Rattle.irtext_parse_nested.proofs.Lasting.{live_block_view}
 
 -- ---- other names that were parsed
 -- they match the graph
@@ -136,5 +136,5 @@ module _ {T A U : Type 0} (types_at : Text → Outcome T) (attr : Text → Outco
     opened_begins same new after arguments are loses stream named =
         block_begun types_at attr before names old v read h reads distinct m r b makes same new after (record { block = b; first = true }) refl refl stream
         (subst (λ ns. NamesHead b read.label ns read.mark names m after new.state) are named)
-        (stands_block new.state.ctx.now b (block_stays m.ctx.now.graph new.state.ctx.now.graph loses b opened_inside opened_there))
+        (live_block_view new.state.ctx.now b (block_stays m.ctx.now.graph new.state.ctx.now.graph loses b opened_inside opened_there))
         (inside_stays m.ctx.now.graph new.state.ctx.now.graph loses b opened_inside)

@@ -18,7 +18,7 @@ use Rattle.irtext_scopes.specs.declared.tracker.NameTracker.{NameTracker}
 use Rattle.irtext_scopes.specs.Scopes.{Scope}
 use Rattle.irtext_grammar.specs.Names.Script.{Path, Place, User, argument, block_at}
 use Rattle.irtext_grammar.specs.Names.History.{State}
-use Rattle.irtext_names.specs.Linked.{Known, StandsAt}
+use Rattle.irtext_names.specs.Linked.{Known, NamesAgree}
 use Rattle.irtext_names.specs.Tied.{MatchesGraph, ArePending, IsNoPlaceholder}
 use Rattle.irtext_names.proofs.Added.{made_none, added_ties, block_waits}
 use Rattle.irtext_names.proofs.Gained.{block_added}
@@ -63,8 +63,8 @@ module _ {O B T : Type 0} {g m k : GraphView (Option O) B T} (r : Ptr Region) (b
   )
 
   -- names and graph agree with the state of the machine
-  pub placed_stands : (names : NameTracker Value (Ptr BasicBlock)) (known : Known) (p : Path) (held : List (User × Defined)) (st : State) → StandsAt names g known held st → StandsAt names k (with_block p b types known) held st
-  placed_stands names known p held st s = block_placed r b a names (with_block p b types known) held st (block_none names.values names.labels s.tied)
+  pub placed_agrees : (names : NameTracker Value (Ptr BasicBlock)) (known : Known) (p : Path) (held : List (User × Defined)) (st : State) → NamesAgree names g known held st → NamesAgree names k (with_block p b types known) held st
+  placed_agrees names known p held st s = block_placed r b a names (with_block p b types known) held st (block_none names.values names.labels s.tied)
       (block_made g m names known held st b x types (arguments_made p b 0 types) ((block_at p, b) ∷ []) make arguments blocks s)
     where
       arguments : (q : Place) (v : Value) → Among (q, v) (arguments_made p b 0 types) → (owner (OfValue v) ≡ TheBlock b) × IsDefined m (OfValue v)

@@ -155,14 +155,14 @@ module _ {T A U : Type 0} (types_at : Text → Outcome T) (attr : Text → Outco
     -- the block was begun
     pub block_begun : (new : StateStream T A U) (after : Names) (begun : BegunBlock) → begun.block ≡ b → begun.first ≡ true → new.stream ≡ v → NamesHead b read.label (map (λ a. a.0) read.arguments) read.mark names m after new.state
         → IsSome (block new.state.ctx.now b) → IsSome (parent new.state.ctx.now.graph (TheBlock b)) → BeginsBlock types_at attr begun before old after new
-    block_begun new after begun is first stream named stands inside =
+    block_begun new after begun is first stream named alive inside =
         let a = subst (λ w. Answered (head_at types_at attr old.stream.rest) old.stream head w) (sym stream) there in
         record {
           head = head;
           taken = a.taken;
           read = a.is;
           moves = record { taken = a.taken; takes = a.takes };
-          block = record { is_first = first; stands = subst (λ d. IsSome (block new.state.ctx.now d)) (sym is) stands; inside = subst (λ d. IsSome (parent new.state.ctx.now.graph (TheBlock d))) (sym is) inside };
+          block = record { is_first = first; alive = subst (λ d. IsSome (block new.state.ctx.now d)) (sym is) alive; inside = subst (λ d. IsSome (parent new.state.ctx.now.graph (TheBlock d))) (sym is) inside };
           acts = subst (λ d. ActsWith ((head.label.place, TheBlock d) ∷ []) (heads_of types_at attr head old) before old.state [] after new.state []) (sym is)
               (head_acts before names (whole old.stream) old.state.src old.state m read head reads distinct is_head r b made same after new.state named);
         }

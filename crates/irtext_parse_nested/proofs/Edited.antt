@@ -19,15 +19,15 @@ use Rattle.irtext_graph.specs.Graph.{GraphView, content, content_of, parent, par
 use Rattle.irtext_graph.specs.Objects.{is_older}
 use Rattle.irtext_graph.specs.Parts.{operation_at, operands_of, successors_of, results, results_of}
 use Rattle.irtext_graph.specs.Store.{get, object_of}
-use Rattle.irtext_graph.proofs.Nests.{told}
+use Rattle.irtext_graph.proofs.Nests.{same_or_other}
 use Rattle.irtext_graph.proofs.Same.{ptr_tells}
 use Rattle.irtext_parse_state.specs.States.{marks_of}
 use Rattle.irtext_parse_state.specs.declared.parsable.state.State as code
 use Rattle.irtext_grammar.specs.Names.History.{Outcome}
 use Rattle.irtext_grammar.specs.Names.Script.{Path}
 use Rattle.irtext_names.specs.Tied.{MatchesGraph}
-use Rattle.irtext_parse_nested.specs.Items.{Made, Names, Pledge, StandsAs, KeepsLive, IsSound}
-use Rattle.irtext_parse_nested.proofs.NamesLeft.{LeavesNames, sound_left, stands_left}
+use Rattle.irtext_parse_nested.specs.Items.{Made, Names, Pledge, MachineAgrees, KeepsLive, IsSound}
+use Rattle.irtext_parse_nested.proofs.NamesLeft.{LeavesNames, sound_left, agrees_left}
 
 module _ {O B T : Type 0} (g k : GraphView (Option O) B T) (op : Ptr Operation) (change : O → O) (edits : graphs.EditsOperation g k op (option_map change)) where
   abbrev Stored : Type 0
@@ -43,7 +43,7 @@ module _ {O B T : Type 0} (g k : GraphView (Option O) B T) (op : Ptr Operation) 
 
   -- what does not look at an operation's data sees what it saw
   seen_same : {X : Type 0} (f : Stored → X) → ((e : Stored) → f (written e) ≡ f e) → (p : Ptr Operation) → f (get k.operations p) ≡ f (get g.operations p)
-  seen_same f same p = elim (told ptr_tells p op) [
+  seen_same f same p = elim (same_or_other ptr_tells p op) [
     | inl e ↦ ap (λ q. f (get k.operations q)) e ∙ (ap f edits.operations.updates.changed ∙ (same (get g.operations op) ∙ ap (λ q. f (get g.operations q)) (sym e)))
     | inr n ↦ ap f (edits.operations.updates.others p n)
   ]
@@ -101,20 +101,20 @@ module _ {O B T : Type 0} (g k : GraphView (Option O) B T) (op : Ptr Operation) 
       go (Some z) f = (change z, refl)
 
   blank_operation : (p : Ptr Operation) → data_seen (get g.operations p) ≡ Some None → data_seen (get k.operations p) ≡ Some None
-  blank_operation p h = elim (told ptr_tells p op) [
+  blank_operation p h = elim (same_or_other ptr_tells p op) [
     | inl e ↦ ap (λ q. data_seen (get k.operations q)) e ∙ (ap data_seen edits.operations.updates.changed ∙ blank_written (get g.operations op) (ap (λ q. data_seen (get g.operations q)) (sym e) ∙ h))
     | inr n ↦ ap data_seen (edits.operations.updates.others p n) ∙ h
   ]
 
   was_blank_operation : (p : Ptr Operation) → data_seen (get k.operations p) ≡ Some None → data_seen (get g.operations p) ≡ Some None
-  was_blank_operation p h = elim (told ptr_tells p op) [
+  was_blank_operation p h = elim (same_or_other ptr_tells p op) [
     | inl e ↦ ap (λ q. data_seen (get g.operations q)) e ∙ written_blank (get g.operations op) (ap data_seen (sym edits.operations.updates.changed) ∙ (ap (λ q. data_seen (get k.operations q)) (sym e) ∙ h))
     | inr n ↦ ap data_seen (sym (edits.operations.updates.others p n)) ∙ h
   ]
 
   -- an operation that has data has data
   has_operation : (p : Ptr Operation) (x : O) → data_seen (get g.operations p) ≡ Some (Some x) → (y : O) × (data_seen (get k.operations p) ≡ Some (Some y))
-  has_operation p x h = elim (told ptr_tells p op) [
+  has_operation p x h = elim (same_or_other ptr_tells p op) [
     | inl e ↦ let r = has_written (get g.operations op) x (ap (λ q. data_seen (get g.operations q)) (sym e) ∙ h) in (r.0, ap (λ q. data_seen (get k.operations q)) e ∙ (ap data_seen edits.operations.updates.changed ∙ r.1))
     | inr n ↦ (x, ap data_seen (edits.operations.updates.others p n) ∙ h)
   ]
@@ -160,7 +160,7 @@ module _ {T A : Type 0} (old new : ContextView T A) (op : Ptr Operation) (change
 
   -- what is seen of an operation is there still
   still_seen : (p : Ptr Operation) → IsSome (operation old p) → IsSome (operation new p)
-  still_seen p h = elim (told ptr_tells p op) [
+  still_seen p h = elim (same_or_other ptr_tells p op) [
     | inl e ↦ subst (λ q. IsSome (operation new q)) (sym e) (subst (λ x. IsSome (option_and_then operation_of x)) (sym edits.graph.operations.updates.changed) (go (get old.graph.operations op) (subst (λ q. IsSome (operation old q)) e h)))
     | inr n ↦ subst (λ x. IsSome (option_and_then operation_of x)) (sym (edits.graph.operations.updates.others p n)) h
   ]
@@ -194,5 +194,5 @@ module _ {T A : Type 0} (old new : ContextView T A) (op : Ptr Operation) (change
     edited_sound m h = sound_left old new (edited_leaves old.graph new.graph op change edits.graph) names s z e f m h
 
     -- names, graph and marks agree with the state of the machine
-    pub edited_stands : {path : ℕ → Path} {items : Made} {pledges : List Pledge} {o : Outcome} → marks_of z ≡ marks_of s → MatchesGraph names.values names.labels old.graph → StandsAs path items pledges names s o → StandsAs path items pledges names z o
-    edited_stands same tied h = stands_left old new (edited_leaves old.graph new.graph op change edits.graph) names s z e f same tied h
+    pub edited_agrees : {path : ℕ → Path} {items : Made} {pledges : List Pledge} {o : Outcome} → marks_of z ≡ marks_of s → MatchesGraph names.values names.labels old.graph → MachineAgrees path items pledges names s o → MachineAgrees path items pledges names z o
+    edited_agrees same tied h = agrees_left old new (edited_leaves old.graph new.graph op change edits.graph) names s z e f same tied h

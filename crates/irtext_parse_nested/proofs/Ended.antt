@@ -56,7 +56,7 @@ within_honest h = record { within = λ text cause upto e. (subst (Of text) e (h.
 -- the error of a required parser is committed
 pub must_commit : {X Y A : Type 0} {see : Y → X} {f : Text → Outcome X} {old new : StreamView} {fault : ParseFault A} → old.failed ≡ false → MustRead {Y = Y} itself replaced see f old (Err fault) new → fault.committed ≡ true
 must_commit {X} {f = f} {old = old} {new = new} {fault = fault} fine h = elim h.answers [
-  | inl starved ↦ starved.committed
+  | inl ran_out ↦ ran_out.committed
   | inr refused ↦ go (f old.rest) (subst (λ b. Refuses itself replaced (demanded (unless_failed b (f old.rest))) old fault new) fine refused)
 ]
   where
@@ -91,14 +91,14 @@ module _ {T A U X : Type 0} (types_at : Text → Outcome T) (attr : Text → Out
   pub end_marked : (fault : ParseFault A) (read : Option ReadMark) → MustMean {A = A} itself replaced (IsMarkIf (whole s)) end_at s (Ok read) v → UnlessMemory (RefusesMark (whole v) read marks) fault
       → UnlessMemory (RefusesEnd types_at attr o b before old) fault
   end_marked fault read h u = elim u [
-    | inl starved ↦ inl starved
+    | inl ran_out ↦ inl ran_out
     | inr r ↦ let a = there read h in inr (same_mark (h.meant read) a.taken v.rest a.is (fails_then closes (mark_fails names (whole old.stream) mid mid fault read (h.meant read) marks (means read h) (subst (λ t. RefusesMark t read marks fault) (must_whole alone {A = A} h.read ∙ ap whole same) r) were)))
   ]
 
   -- none can be parsed
   pub end_unread : (fault : ParseFault A) (m : StateStream T A U) → m.state ≡ mid → s.failed ≡ false → MustMean {A = A} {Y = Option ReadMark} itself replaced (IsMarkIf (whole s)) end_at s (Err fault) v → UnlessMemory (RefusesEnd types_at attr o b before old) fault
   end_unread fault m e fine h = elim (must_demand alone end_at (within_honest honest_end) fine h.read) [
-    | inl starved ↦ inl starved
+    | inl ran_out ↦ inl ran_out
     | inr d ↦ inr (no_mark names m (subst (λ z. Acts (closes_at o old.state) before old.state (pledge_of b o.place ∷ []) names z []) (sym e) closes) (rw (← same) d))
   ]
 

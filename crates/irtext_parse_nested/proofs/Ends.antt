@@ -20,7 +20,7 @@ use Rattle.irtext_grammar.specs.Names.Scopes.{fact_of, nothing}
 use Rattle.irtext_grammar.specs.Names.Script as script
 use Rattle.irtext_grammar.specs.Names.Script.{Path, Place, result, claim, define_value}
 use Rattle.irtext_grammar.specs.Names.TextScopes.{Act, Failure, act_failures}
-use Rattle.irtext_names.specs.Linked.{Known, StandsAt}
+use Rattle.irtext_names.specs.Linked.{Known, NamesAgree}
 use Rattle.irtext_names.proofs.Linked.Moving.{onto_nothing}
 use Rattle.irtext_names.proofs.Linked.Outside.{value_definition_outside}
 use Rattle.irtext_parse_spec.specs.Promises.Section.{indices_of}
@@ -30,13 +30,13 @@ use Rattle.irtext_parse_spec.specs.Resume.{OpenOperation}
 use Rattle.irtext_names.specs.Rows.{AreNamed}
 use Rattle.irtext_names.proofs.Rows.{rest_fails}
 use Rattle.irtext_parse_pieces.specs.declared.names.ReadName.{ReadName}
-use Rattle.irtext_parse_pieces.specs.Named.{StandsFor}
+use Rattle.irtext_parse_pieces.specs.Named.{Represents}
 use Rattle.irtext_parse_nested.specs.declared.frame.BegunOperation.{BegunOperation}
 use Rattle.irtext_parse_nested.specs.OpenOperation.{IsBegun, pledge_of}
 use Rattle.irtext_parse_nested.specs.Definitions.{definitions_from, AreMadeAs, DefinesRow, FailsRow, IsFaultOf}
 use Rattle.irtext_parse_nested.specs.Ends.{RefusesResults, uncounted, no_scope, defined_twice}
-use Rattle.irtext_parse_nested.specs.Items.{Made, Names, Pledge, StandsAs, Acts, ActFails, doing}
-use Rattle.irtext_parse_nested.proofs.Faults.{stands_there, named_each, each_length, each_there, some_same, name_failure}
+use Rattle.irtext_parse_nested.specs.Items.{Made, Names, Pledge, MachineAgrees, Acts, ActFails, doing}
+use Rattle.irtext_parse_nested.proofs.Faults.{place_is_there, named_each, each_length, each_there, some_same, name_failure}
 
 -- ---- the machine
 -- an empty fact leaves the state of the machine unchanged
@@ -100,7 +100,7 @@ module _ {T A U : Type 0} (names : Names) (text : Text) (s : code.State T A U) (
   types_are = ap (λ ps. length (result_types (body_of (format_of s.ctx.now.dialects o.id) ps))) (sym (append-nil o.parts)) ∙ is.typed [] (λ k d l. absurd (omega (arith, l)))
 
   names_are : length b.names ≡ length o.names
-  names_are = each_length (StandsFor names.names text) b.names o.names is.names_are
+  names_are = each_length (Represents names.names text) b.names o.names is.names_are
 
   are_named : AreNamed names.names (map (λ n. n.name) b.names) o.names
   are_named = named_each names.names text b.names o.names is.names_are
@@ -112,7 +112,7 @@ module _ {T A U : Type 0} (names : Names) (text : Text) (s : code.State T A U) (
   counted : length b.names ≡ b.results → (types == length o.names) ≡ true
   counted e = let n = types_are in let m = names_are in eq-eqb types (length o.names) (n ∙ (sym e ∙ m))
 
-  made : (path : ℕ → Path) (items : Made) (more : List Pledge) {x : Outcome} (h : StandsAs path items (more ++ pledge_of b o.place ∷ []) names s x) → length b.names ≡ b.results → AreMadeAs (result (path o.place)) (Result b.op) (map (λ n. n.name) b.names) h.known
+  made : (path : ℕ → Path) (items : Made) (more : List Pledge) {x : Outcome} (h : MachineAgrees path items (more ++ pledge_of b o.place ∷ []) names s x) → length b.names ≡ b.results → AreMadeAs (result (path o.place)) (Result b.op) (map (λ n. n.name) b.names) h.known
   made path items more h e = λ i l. h.results (pledge_of b o.place) (among_right (pledge_of b o.place) more (pledge_of b o.place ∷ []) (inl refl)) i (subst (λ n. i < n) (length-map b.names (λ n. n.name) ∙ e) l)
 
   -- the results are defined
@@ -120,15 +120,15 @@ module _ {T A U : Type 0} (names : Names) (text : Text) (s : code.State T A U) (
       → Acts closes names s (pledge_of b o.place ∷ []) new z []
   closes_acts new z e d same = record { so = so }
     where
-      so : (path : ℕ → Path) (items : Made) (more : List Pledge) (x : Outcome) → StandsAs path items (more ++ pledge_of b o.place ∷ []) names s x → StandsAs path items (more ++ []) new z (closes path x)
+      so : (path : ℕ → Path) (items : Made) (more : List Pledge) (x : Outcome) → MachineAgrees path items (more ++ pledge_of b o.place ∷ []) names s x → MachineAgrees path items (more ++ []) new z (closes path x)
       so path items more x h =
-          let r = d.so o.names are_named (result (path o.place)) h.known h.state (made path items more h e) h.stands in
+          let r = d.so o.names are_named (result (path o.place)) h.known h.state (made path items more h e) h.agreed in
           record {
             known = h.known;
             of_items = h.of_items;
             state = r.0;
             going = ap (closes path) h.going ∙ (ends_counted (path o.place) o.place types o.names h.state (counted e) ∙ r.1);
-            stands = r.2;
+            agreed = r.2;
             marks = definitions_unmarked (result (path o.place)) 0 o.names h.state r.0 r.1 ∙ (h.marks ∙ ap indices_of (sym same));
             results = λ w a. h.results w (among_front w (pledge_of b o.place) more a);
           }
@@ -138,7 +138,7 @@ module _ {T A U : Type 0} (names : Names) (text : Text) (s : code.State T A U) (
       → AtOffset b.at.offset text (λ passed rest. IsAt fault.pos.line fault.pos.column passed) → ActFails text closes names s (pledge_of b o.place ∷ []) fault
   count_fails fault ne because flag at = record {
     failure = count_failure o.place types o.names;
-    is = record { cause = because ∙ (λ i. causes.ResultCount (sym types_are i) (names_are i)); place = stands_there is.place at; committed = flag };
+    is = record { cause = because ∙ (λ i. causes.ResultCount (sym types_are i) (names_are i)); place = place_is_there is.place at; committed = flag };
     so = so;
   }
     where
@@ -146,21 +146,21 @@ module _ {T A U : Type 0} (names : Names) (text : Text) (s : code.State T A U) (
       go false e = refl
       go true e = absurd (ne (names_are ∙ (sym (eqb-true types (length o.names) e) ∙ types_are)))
 
-      so : (path : ℕ → Path) (items : Made) (more : List Pledge) (x : Outcome) → StandsAs path items (more ++ pledge_of b o.place ∷ []) names s x → closes path x ≡ failed (count_failure o.place types o.names)
+      so : (path : ℕ → Path) (items : Made) (more : List Pledge) (x : Outcome) → MachineAgrees path items (more ++ pledge_of b o.place ∷ []) names s x → closes path x ≡ failed (count_failure o.place types o.names)
       so path items more x h = ap (closes path) h.going ∙ ends_uncounted (path o.place) o.place types o.names h.state (go (types == length o.names) refl)
 
   -- no scope of values is open
   pub outside_fails : (fault : ParseFault A) (first : ReadName) → slice_get b.names 0 ≡ Some first → length b.names ≡ b.results → is_open names.values ≡ false → IsFaultOf names.names text causes.NoActiveScope first fault
       → ActFails text closes names s (pledge_of b o.place ∷ []) fault
   outside_fails fault first f e shut at =
-      let t = each_there (StandsFor names.names text) b.names o.names 0 first is.names_are f in
+      let t = each_there (Represents names.names text) b.names o.names 0 first is.names_are f in
       record {
         failure = record { cause = script.NoActiveScope t.0.text; at = Some t.0.place };
         is = name_failure causes.NoActiveScope script.NoActiveScope (λ t c e. e) t.2 at;
-        so = λ path items more x h. ap (closes path) h.going ∙ (ends_counted (path o.place) o.place types o.names h.state (counted e) ∙ go (path o.place) h.known h.state t.0 o.names t.1 h.stands);
+        so = λ path items more x h. ap (closes path) h.going ∙ (ends_counted (path o.place) o.place types o.names h.state (counted e) ∙ go (path o.place) h.known h.state t.0 o.names t.1 h.agreed);
       }
     where
-      go : (p : Path) (known : Known) (st : State) (w : Name ℕ) (ws : List (Name ℕ)) → slice_get ws 0 ≡ Some w → StandsAt names s.ctx.now.graph known [] st
+      go : (p : Path) (known : Known) (st : State) (w : Name ℕ) (ws : List (Name ℕ)) → slice_get ws 0 ≡ Some w → NamesAgree names s.ctx.now.graph known [] st
           → run (going st) (map act (definitions_from (result p) 0 ws)) ≡ failed (record { cause = script.NoActiveScope w.text; at = Some w.place })
       go p known st w [] i h = absurd (cc)
       go p known st w (v ∷ ws) i h =
@@ -172,12 +172,12 @@ module _ {T A U : Type 0} (names : Names) (text : Text) (s : code.State T A U) (
   pub twice_fails : (fault : ParseFault A) (index : ℕ) (read : ReadName) → slice_get b.names index ≡ Some read → length b.names ≡ b.results → FailsRow (Result b.op) (map (λ n. n.name) b.names) index names s.ctx.now.graph
       → IsFaultOf names.names text causes.MultipleDefinitions read fault → ActFails text closes names s (pledge_of b o.place ∷ []) fault
   twice_fails fault index read f e d at =
-      let t = each_there (StandsFor names.names text) b.names o.names index read is.names_are f in
+      let t = each_there (Represents names.names text) b.names o.names index read is.names_are f in
       record {
         failure = record { cause = script.MultipleDefinitions t.0.text; at = Some t.0.place };
         is = name_failure causes.MultipleDefinitions script.MultipleDefinitions (λ t c e. e) t.2 at;
         so = λ path items more x h.
-            let r = d.so o.names are_named (result (path o.place)) h.known h.state (made path items more h e) h.stands in
+            let r = d.so o.names are_named (result (path o.place)) h.known h.state (made path items more h e) h.agreed in
             ap (closes path) h.going ∙ (ends_counted (path o.place) o.place types o.names h.state (counted e)
             ∙ (r.2 ∙ ap (λ w. failed (record { cause = script.MultipleDefinitions w.text; at = Some w.place })) (some_same (sym r.1 ∙ t.1))));
       }

@@ -23,7 +23,7 @@ use Rattle.irtext_grammar.specs.Names.Script.{NotIsolated}
 use Rattle.irtext_names.specs.Linked.{Takes, FailsBy}
 use Rattle.irtext_names.specs.Tied.{MatchesGraph}
 use Rattle.irtext_parse_spec.specs.Promises.Root.{UnlessMemory}
-use Rattle.irtext_parse_spec.specs.Promises.Section.{IsStarved}
+use Rattle.irtext_parse_spec.specs.Promises.Section.{IsOutOfMemory}
 use Rattle.irtext_parse_spec.specs.Readers.Streams.{itself, replaced}
 use Rattle.irtext_parse_spec.proofs.Readers.Answered.{answered}
 use Rattle.irtext_parse_pieces.specs.Named.{Leaves}
@@ -32,8 +32,8 @@ use Rattle.irtext_parse_nested.specs.Read.{enters_of, Demands, BeginsRegion, Ref
 use Rattle.irtext_parse_nested.specs.declared.frame.BegunRegion.{BegunRegion}
 use Rattle.irtext_parse_nested.proofs.Ended.{within_honest}
 use Rattle.irtext_parse_nested.proofs.Faults.{must_demand}
-use Rattle.irtext_parse_nested.proofs.NamesLeft.{LeavesNames, stands_left}
-use Rattle.irtext_parse_nested.proofs.Standing.{stands_on, stands_fails}
+use Rattle.irtext_parse_nested.proofs.NamesLeft.{LeavesNames, agrees_left}
+use Rattle.irtext_parse_nested.proofs.Agreement.{agrees_next, agrees_fails}
 
 -- the first brace, with white space after it
 abbrev brace_at : Reader (Unit {0})
@@ -45,7 +45,7 @@ marks_same false st = refl
 
 -- what holds of a region that is an error as it is entered
 abbrev pub IsUnentered : {A T U : Type 0} → Bool → Names → StateStream T A U → ParseFault A → Type 0
-IsUnentered iso names old f = IsStarved f ⊎ ((fault_of f.cause ≡ fault.NotIsolated) × (f.committed ≡ true) × IsAt f.pos.line f.pos.column []
+IsUnentered iso names old f = IsOutOfMemory f ⊎ ((fault_of f.cause ≡ fault.NotIsolated) × (f.committed ≡ true) × IsAt f.pos.line f.pos.column []
     × FailsBy (enter iso) names old.state.ctx.now.graph (record { cause = NotIsolated; at = None }))
 
 module _ {T A U : Type 0} (types_at : Reader T) (attr : Reader (AttrView A)) (iso : Bool) (before : Names) (old : StateStream T A U) where
@@ -54,7 +54,7 @@ module _ {T A U : Type 0} (types_at : Reader T) (attr : Reader (AttrView A)) (is
   unentered f (inr (cause, committed, at, fails)) = inr (not_isolated (record {
     failure = record { cause = NotIsolated; at = None };
     is = record { cause = cause; place = at; committed = committed };
-    so = λ path items more o h. stands_fails before old.state (enter iso) (record { cause = NotIsolated; at = None }) fails h;
+    so = λ path items more o h. agrees_fails before old.state (enter iso) (record { cause = NotIsolated; at = None }) fails h;
   }))
 
   -- the scopes of a region were entered, and it was created by an edit that leaves what names refer to
@@ -62,8 +62,8 @@ module _ {T A U : Type 0} (types_at : Reader T) (attr : Reader (AttrView A)) (is
       (tied : MatchesGraph names.values names.labels old.state.ctx.now.graph) (marks : marks_of mid.state ≡ marks_of old.state) (same : mid.stream ≡ old.stream) where
     pub acts_entered : Acts (enters_of types_at attr iso old) before old.state [] names mid.state []
     acts_entered = record {
-      so = λ path items more o h. stands_left old.state.ctx.now mid.state.ctx.now leaves names old.state mid.state refl refl marks tied
-          (stands_on before names old.state old.state (enter iso) (history.entered iso) takes (marks_same iso) refl refl h);
+      so = λ path items more o h. agrees_left old.state.ctx.now mid.state.ctx.now leaves names old.state mid.state refl refl marks tied
+          (agrees_next before names old.state old.state (enter iso) (history.entered iso) takes (marks_same iso) refl refl h);
     }
 
     -- no brace follows
@@ -82,6 +82,6 @@ module _ {T A U : Type 0} (types_at : Reader T) (attr : Reader (AttrView A)) (is
           taken = a.taken;
           read = a.is;
           moves = record { taken = a.taken; takes = a.takes };
-          region = record { is_isolated = isolated; placed = placed; stands = rw (state, region) live };
+          region = record { is_isolated = isolated; placed = placed; alive = rw (state, region) live };
           acts = subst (λ z. Acts (enters_of types_at attr iso old) before old.state [] names z []) (sym state) acts_entered;
         }

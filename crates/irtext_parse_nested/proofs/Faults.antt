@@ -12,13 +12,13 @@ use Rattle.irtext_stream.specs.declared.position.Place.{Place}
 use Rattle.irtext_stream.specs.declared.position.SourcePosition.{SourcePosition}
 use Rattle.irtext_tokens.specs.MustRead.{MustRead}
 use Rattle.irtext_tokens.proofs.Steps.{Lens}
-use Rattle.irtext_grammar.specs.Contexts.Held.{whole, StandsAt}
+use Rattle.irtext_grammar.specs.Contexts.Held.{whole, IsPosition}
 use Rattle.irtext_grammar.specs.Grammar.Tree.{Name}
 use Rattle.irtext_grammar.specs.Names.Script.{Cause}
 use Rattle.irtext_parse_spec.specs.Promises.Root.{IsCause, UnlessMemory}
 use Rattle.irtext_names.specs.Rows.{AreNamed}
 use Rattle.irtext_parse_pieces.specs.declared.names.ReadName.{ReadName}
-use Rattle.irtext_parse_pieces.specs.Named.{Leaves, StandsFor, Each}
+use Rattle.irtext_parse_pieces.specs.Named.{Leaves, Represents, Each}
 use Rattle.irtext_parse_nested.specs.Definitions.{IsFaultOf}
 use Rattle.irtext_parse_nested.specs.Items.{IsFailure, IsTextFault}
 use Rattle.irtext_parse_nested.specs.Read.{Demands}
@@ -31,10 +31,10 @@ take_front front stop =
     ap (λ n. take n (front ++ stop)) e ∙ take-append_seam front stop
 
 -- a place of the text is where its characters say
-pub stands_there : {text : Text} {place : Place} {left : ℕ} {at : SourcePosition} → Leaves text place left → AtOffset place.offset text (λ passed rest. IsAt at.line at.column passed) → StandsAt text left at
-stands_there {text} {place} {left} {at} l h =
+pub place_is_there : {text : Text} {place : Place} {left : ℕ} {at : SourcePosition} → Leaves text place left → AtOffset place.offset text (λ passed rest. IsAt at.line at.column passed) → IsPosition text left at
+place_is_there {text} {place} {left} {at} l h =
     let e : take (length text - left) text ≡ l.passed = ap (λ n. take (length text - n) text) l.counts ∙ (ap (λ t. take (length t - length l.rest) t) (sym l.same) ∙ take_front l.passed l.rest) in
-    subst (IsAt at.line at.column) (sym e) (h l.passed l.rest l.same l.stands)
+    subst (IsAt at.line at.column) (sym e) (h l.passed l.rest l.same l.positioned)
 
 -- ---- required parsers
 -- each fault of a parser is in its text
@@ -55,7 +55,7 @@ module _ {X : Type 0} where
   pub must_demand : {S Y A : Type 0} (l : Lens S) {see : Y → X} (f : Text → Outcome X) {old new : S} {fault : ParseFault A} → StaysWithin f → (l.view old).failed ≡ false → MustRead l.view l.at see f old (Err fault) new
       → UnlessMemory (Demands (whole (l.view old)) (f (l.view old).rest) (l.view old).rest) fault
   must_demand l f {old} {new} {fault} within fine h = elim h.answers [
-    | inl starved ↦ inl (record { because = starved.because; flag = starved.committed })
+    | inl ran_out ↦ inl (record { because = ran_out.because; flag = ran_out.committed })
     | inr refused ↦ inr (go (f (l.view old).rest) refl (subst (λ b. Refuses l.view l.at (demanded (unless_failed b (f (l.view old).rest))) old fault new) fine refused))
   ]
     where
@@ -69,7 +69,7 @@ pub some_same : {X : Type 0} {x y : X} → Some x ≡ Some y → x ≡ y
 some_same e = cc
 
 -- names that represent those of a text have their names
-pub named_each : (names : List Text) (text : Text) (ns : List ReadName) (ws : List (Name ℕ)) → Each (StandsFor names text) ns ws → AreNamed names (map (λ n. n.name) ns) ws
+pub named_each : (names : List Text) (text : Text) (ns : List ReadName) (ws : List (Name ℕ)) → Each (Represents names text) ns ws → AreNamed names (map (λ n. n.name) ns) ws
 named_each names text [] [] e = tt
 named_each names text [] (w ∷ ws) e = absurd e
 named_each names text (n ∷ ns) [] e = absurd e
@@ -92,7 +92,7 @@ each_there R (w ∷ ys) (z ∷ xs) (suc i) y e f = each_there R ys xs i y e.1 f
 
 -- a fault that speaks of a name is the failure that does
 pub name_failure : {A : Type 0} {names : List Text} {text : Text} {read : ReadName} {w : Name ℕ} {fault : ParseFault A} (says : Text → Fault) (cause : Text → Cause Text) → ((t : Text) (c : Fault) → c ≡ says t → IsCause (cause t) c)
-    → StandsFor names text read w → IsFaultOf names text says read fault → IsFailure text (record { cause = cause w.text; at = Some w.place }) fault
+    → Represents names text read w → IsFaultOf names text says read fault → IsFailure text (record { cause = cause w.text; at = Some w.place }) fault
 name_failure {names = names} {read = read} {w = w} {fault = fault} says cause on s f =
     let same : f.name ≡ w.text = some_same (sym f.named ∙ s.named) in
-    record { cause = on w.text (fault_of fault.cause) (f.because ∙ ap says same); place = stands_there s.place f.place; committed = f.flag }
+    record { cause = on w.text (fault_of fault.cause) (f.because ∙ ap says same); place = place_is_there s.place f.place; committed = f.flag }

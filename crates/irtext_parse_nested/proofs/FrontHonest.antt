@@ -14,10 +14,10 @@ use Rattle.irtext_tokens.specs.AttrTexts.{attr_at}
 use Rattle.irtext_tokens.specs.Infix.{◌▷◌}
 use Rattle.irtext_tokens.specs.Tokens.{identifier_at, id_at, space_at, word}
 use Rattle.irtext_tokens.proofs.Honest.{Honest, ◌then◌, ◌kept◌, ◌so◌, seen, honest_either, honest_word, honest_space, honest_id, honest_name, honest_spaced, honest_separated, honest_attr}
-use Rattle.irtext_parse_spec.specs.Readers.Parts.{behind}
+use Rattle.irtext_parse_spec.specs.Readers.Parts.{after_lead}
 use Rattle.irtext_parse_spec.specs.Readers.Marker.{marker, starts_with}
 use Rattle.irtext_grammar.specs.Spelling.AttrText.{attr_tree}
-use Rattle.irtext_parse_spec.specs.Readers.Operations.{registered_behind}
+use Rattle.irtext_parse_spec.specs.Readers.Operations.{registered_after}
 use Rattle.irtext_parse_spec.proofs.Readers.Honest.{honest_nothing}
 use Rattle.irtext_grammar.specs.Contexts.Formats.{op_id}
 use Rattle.irtext_grammar.specs.Grammar.Tree as tree
@@ -96,7 +96,7 @@ lead_honest = ◌then◌ honest_space (◌kept◌ (record { of = λ text. named_
 
 -- a fault of an id after a lead is after the lead, or at its end, or where the lead begins
 module _ (dialects : List (Text × Table)) where
-  registered_within : (text lead : Text) (o : Outcome Id) → IsFront lead text → ((c : Fault) (u : Text) → o ≡ Bad c u → IsFront u text) → (cause : Fault) (upto : Text) → registered_behind dialects lead o ≡ Bad cause upto → IsFront upto text
+  registered_within : (text lead : Text) (o : Outcome Id) → IsFront lead text → ((c : Fault) (u : Text) → o ≡ Bad c u → IsFront u text) → (cause : Fault) (upto : Text) → registered_after dialects lead o ≡ Bad cause upto → IsFront upto text
   registered_within text lead (Read id taken rest) f h cause upto e = go (is_some (dialect_of dialects id.dialect)) (is_some (registered dialects (op_id id))) e
     where
       go : (a b : Bool) → cond a (cond b (Read id taken rest) (Bad (UnregisteredOp id) [])) (Bad (UnregisteredDialect id.dialect) lead) ≡ Bad cause upto → IsFront upto text
@@ -106,11 +106,11 @@ module _ (dialects : List (Text × Table)) where
   registered_within text lead (Missing c) f h cause upto e = absurd (cc)
   registered_within text lead (Bad c u) f h cause upto e = h cause upto e
 
-  behind_within : (lead rest : Text) (o : Outcome Id) → ((c : Fault) (u : Text) → o ≡ Bad c u → IsFront u rest) → (c : Fault) (u : Text) → behind lead o ≡ Bad c u → IsFront u (lead ++ rest)
-  behind_within [] rest o h c u e = h c u e
-  behind_within (x ∷ lead) rest (Read id taken left) h c u e = absurd (cc)
-  behind_within (x ∷ lead) rest (Missing d) h c u e = let same : x ∷ lead ≡ u = cc e in subst (λ z. IsFront z (x ∷ lead ++ rest)) same (rest, refl)
-  behind_within (x ∷ lead) rest (Bad d w) h c u e =
+  after_within : (lead rest : Text) (o : Outcome Id) → ((c : Fault) (u : Text) → o ≡ Bad c u → IsFront u rest) → (c : Fault) (u : Text) → after_lead lead o ≡ Bad c u → IsFront u (lead ++ rest)
+  after_within [] rest o h c u e = h c u e
+  after_within (x ∷ lead) rest (Read id taken left) h c u e = absurd (cc)
+  after_within (x ∷ lead) rest (Missing d) h c u e = let same : x ∷ lead ≡ u = cc e in subst (λ z. IsFront z (x ∷ lead ++ rest)) same (rest, refl)
+  after_within (x ∷ lead) rest (Bad d w) h c u e =
       let same : x ∷ lead ++ w ≡ u = cc e in
       let f = h d w refl in
       subst (λ z. IsFront z (x ∷ lead ++ rest)) same (f.0, append_assoc (x ∷ lead) w f.0 ∙ ap (λ z. x ∷ lead ++ z) f.1)
@@ -126,6 +126,6 @@ module _ (dialects : List (Text × Table)) where
       go : (text : Text) (o : Outcome (List (Name ℕ))) → Of text o → (cause : Fault) (upto : Text) → led_by dialects o ≡ Bad cause upto → IsFront upto text
       go text (Read ns lead rest) h cause upto e =
           subst (λ z. IsFront upto z) h.says
-          (registered_within (lead ++ rest) lead (behind lead (id_at rest)) (rest, refl) (behind_within lead rest (id_at rest) (λ c u f. (within_honest honest_id).within rest c u f)) cause upto (mapped_bad (λ id. (ns, id)) (registered_behind dialects lead (behind lead (id_at rest))) cause upto e))
+          (registered_within (lead ++ rest) lead (after_lead lead (id_at rest)) (rest, refl) (after_within lead rest (id_at rest) (λ c u f. (within_honest honest_id).within rest c u f)) cause upto (mapped_bad (λ id. (ns, id)) (registered_after dialects lead (after_lead lead (id_at rest))) cause upto e))
       go text (Missing c) h cause upto e = absurd (cc)
       go text (Bad c u) h cause upto e = let same : u ≡ upto = cc e in subst (λ z. IsFront z text) same h.says.1

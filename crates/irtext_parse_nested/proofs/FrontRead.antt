@@ -30,65 +30,65 @@ use Rattle.irtext_parse_pieces.specs.declared.names.ReadName.{ReadName}
 use Rattle.irtext_parse_pieces.specs.declared.pieces.ReadPiece.{ReadPiece}
 use Rattle.irtext_parse_pieces.specs.Fronts.{IsPart, MustFront, front_of}
 use Rattle.irtext_parse_pieces.specs.Ids.{IsLed, IsKnown}
-use Rattle.irtext_parse_pieces.specs.Named.{StandsFor, Each, MayMean}
-use Rattle.irtext_parse_pieces.proofs.Meanings.{stands_on, may_whole}
-use Rattle.irtext_parse_nested.specs.Beginning.{FrontStands, LacksFront, lacks_lead, lacks_piece}
+use Rattle.irtext_parse_pieces.specs.Named.{Represents, Each, MayMean}
+use Rattle.irtext_parse_pieces.proofs.Meanings.{still_represents, may_whole}
+use Rattle.irtext_parse_nested.specs.Beginning.{FrontComes, MissesFront, misses_lead, misses_piece}
 use Rattle.irtext_parse_nested.specs.Read.{Demands}
 use Rattle.irtext_parse_nested.proofs.Ended.{must_commit}
 use Rattle.irtext_parse_nested.proofs.Faults.{text_fault, must_demand}
 use Rattle.irtext_parse_nested.proofs.FrontHonest.{front_within, led_within}
 
-or_committed : (wanted : Bool) → (wanted || true) ≡ true
+or_committed : (is_required : Bool) → (is_required || true) ≡ true
 or_committed true = refl
 or_committed false = refl
 
 -- names represent the same when more names are added
-pub each_on : (names more : List Text) (text : Text) → KeepsNames names more → (ns : List ReadName) (ws : List (Name ℕ)) → Each (StandsFor names text) ns ws → Each (StandsFor more text) ns ws
+pub each_on : (names more : List Text) (text : Text) → KeepsNames names more → (ns : List ReadName) (ws : List (Name ℕ)) → Each (Represents names text) ns ws → Each (Represents more text) ns ws
 each_on names more text keeps [] [] e = tt
 each_on names more text keeps [] (w ∷ ws) e = absurd e
 each_on names more text keeps (n ∷ ns) [] e = absurd e
-each_on names more text keeps (n ∷ ns) (w ∷ ws) e = (stands_on names more n w keeps refl e.0, each_on names more text keeps ns ws e.1)
+each_on names more text keeps (n ∷ ns) (w ∷ ws) e = (still_represents names more n w keeps refl e.0, each_on names more text keeps ns ws e.1)
 
 -- a fault that is committed where this is wanted, and else is the same
-record SameFault {A : Type 0} (wanted : Bool) (fault last : ParseFault A) : Type 0 where
+record SameFault {A : Type 0} (is_required : Bool) (fault last : ParseFault A) : Type 0 where
   cause : last.cause ≡ fault.cause
   pos : last.pos ≡ fault.pos
-  flag : last.committed ≡ (wanted || fault.committed)
+  flag : last.committed ≡ (is_required || fault.committed)
 
-same_fault : {A : Type 0} (wanted : Bool) (fault last : ParseFault A) (old new : StreamView) → cond wanted (base.Demands itself replaced fault old last new) ((last ≡ fault) × (new ≡ old)) → SameFault wanted fault last
+same_fault : {A : Type 0} (is_required : Bool) (fault last : ParseFault A) (old new : StreamView) → cond is_required (base.Demands itself replaced fault old last new) ((last ≡ fault) × (new ≡ old)) → SameFault is_required fault last
 same_fault true fault last old new d = record { cause = d.cause; pos = d.place; flag = d.committed }
 same_fault false fault last old new d = record { cause = ap (λ f. f.cause) d.0; pos = ap (λ f. f.pos) d.0; flag = ap (λ f. f.committed) d.0 }
 
 module _ {T A : Type 0} (types_at : Text → Outcome T) (reading : Text → Outcome A) (dialects : List (Text × Table)) (old : StreamView) (fine : old.failed ≡ false) where
   -- ---- there is no lead
-  module _ {X : Type 0} {names : List Text} (wanted : Bool) {fault : ParseFault A} {mid : StreamView}
+  module _ {X : Type 0} {names : List Text} (is_required : Bool) {fault : ParseFault A} {mid : StreamView}
       (h : MayMean {X = List (Name ℕ) × Id} {Y = List ReadName × OpId × X} itself replaced (IsLed names (whole old)) (led_at dialects) old (Err fault) mid) (last : ParseFault A) (new : StreamView)
-      (c : cond wanted (base.Demands itself replaced fault mid last new) ((last ≡ fault) × (new ≡ mid))) where
-    same : SameFault wanted fault last
-    same = same_fault wanted fault last mid new c
+      (c : cond is_required (base.Demands itself replaced fault mid last new) ((last ≡ fault) × (new ≡ mid))) where
+    same : SameFault is_required fault last
+    same = same_fault is_required fault last mid new c
 
-    pub lead_lacks : UnlessMemory (LacksFront types_at (attr_at reading) dialects true wanted old) last
-    lead_lacks = elim h.read.answers [
-      | inl starved ↦ inl (record { because = ap fault_of same.cause ∙ starved.because; flag = same.flag ∙ (ap (λ b. wanted || b) starved.committed ∙ or_committed wanted) })
+    pub lead_misses : UnlessMemory (MissesFront types_at (attr_at reading) dialects true is_required old) last
+    lead_misses = elim h.read.answers [
+      | inl ran_out ↦ inl (record { because = ap fault_of same.cause ∙ ran_out.because; flag = same.flag ∙ (ap (λ b. is_required || b) ran_out.committed ∙ or_committed is_required) })
       | inr refused ↦ inr (go (led_at dialects old.rest) refl (subst (λ b. Refuses itself replaced (unless_failed b (led_at dialects old.rest)) old fault mid) fine refused))
     ]
       where
         placed : (upto : Text) → IsAt fault.pos.line fault.pos.column (old.passed ++ upto) → IsAt last.pos.line last.pos.column (old.passed ++ upto)
         placed upto p = subst (λ p. IsAt p.line p.column (old.passed ++ upto)) (sym same.pos) p
 
-        go : (o : Outcome (List (Name ℕ) × Id)) → led_at dialects old.rest ≡ o → Refuses itself replaced o old fault mid → LacksFront types_at (attr_at reading) dialects true wanted old last
+        go : (o : Outcome (List (Name ℕ) × Id)) → led_at dialects old.rest ≡ o → Refuses itself replaced o old fault mid → MissesFront types_at (attr_at reading) dialects true is_required old last
         go (Read x taken rest) is r = absurd r
-        go (Missing cause) is r = lacks_lead
+        go (Missing cause) is r = misses_lead
             (record { cause = cause; upto = []; bad = ap demanded is; fault_is = text_fault old cause [] old.rest last refl (ap fault_of same.cause ∙ r.because) (placed [] (subst (IsAt fault.pos.line fault.pos.column) (sym (append-nil old.passed)) r.place)) })
-            (same.flag ∙ ap (λ b. wanted || b) (r.committed ∙ sym (ap is_committed is)))
+            (same.flag ∙ ap (λ b. is_required || b) (r.committed ∙ sym (ap is_committed is)))
         go (Bad cause upto) is r =
             let front = (led_within dialects).within old.rest cause upto is in
-            lacks_lead (record { cause = cause; upto = upto; bad = ap demanded is; fault_is = text_fault old cause upto front.0 last front.1 (ap fault_of same.cause ∙ r.because) (placed upto r.place) })
-            (same.flag ∙ ap (λ b. wanted || b) (r.committed ∙ sym (ap is_committed is)))
+            misses_lead (record { cause = cause; upto = upto; bad = ap demanded is; fault_is = text_fault old cause upto front.0 last front.1 (ap fault_of same.cause ∙ r.because) (placed upto r.place) })
+            (same.flag ∙ ap (λ b. is_required || b) (r.committed ∙ sym (ap is_committed is)))
 
     -- where the fault is not committed, nothing was parsed
     pub lead_unread : last.committed ≡ false → new ≡ old
-    lead_unread flag = go wanted c
+    lead_unread flag = go is_required c
       where
         uncommitted : (o : Outcome (List (Name ℕ) × Id)) → Refuses itself replaced o old fault mid → fault.committed ≡ false → mid ≡ old
         uncommitted (Read x taken rest) r e = absurd r
@@ -97,7 +97,7 @@ module _ {T A : Type 0} (types_at : Text → Outcome T) (reading : Text → Outc
 
         still : fault.committed ≡ false → mid ≡ old
         still e = elim h.read.answers [
-          | inl starved ↦ absurd (true≢false (sym starved.committed ∙ e))
+          | inl ran_out ↦ absurd (true≢false (sym ran_out.committed ∙ e))
           | inr refused ↦ uncommitted (unless_failed old.failed (led_at dialects old.rest)) refused e
         ]
 
@@ -133,14 +133,14 @@ module _ {T A : Type 0} (types_at : Text → Outcome T) (reading : Text → Outc
     isolated_is = ap (λ o. elim o [ Some k ↦ k.isolated | None ↦ false ]) known.known
 
     -- a piece is missing
-    pub piece_lacks : (wanted : Bool) (more : List Text) {fault : ParseFault A} {new : StreamView} → Sincere types_at → Sincere reading → MustFront {T = T} itself replaced more types_at (attr_at reading) true (steps_of (format_of info.format)) mid (Err fault) new
-        → UnlessMemory (LacksFront types_at (attr_at reading) dialects true wanted old) fault
-    piece_lacks wanted more {fault} {new} sincere_types sincere f =
+    pub piece_misses : (is_required : Bool) (more : List Text) {fault : ParseFault A} {new : StreamView} → Sincere types_at → Sincere reading → MustFront {T = T} itself replaced more types_at (attr_at reading) true (steps_of (format_of info.format)) mid (Err fault) new
+        → UnlessMemory (MissesFront types_at (attr_at reading) dialects true is_required old) fault
+    piece_misses is_required more {fault} {new} sincere_types sincere f =
         let within = front_within types_at reading sincere_types sincere (front_steps (steps_of (format_of info.format))) [] in
         let c = must_commit still_fine f.read in
         elim (must_demand alone (front_of types_at (attr_at reading) true (steps_of (format_of info.format)) []) within still_fine f.read) [
           | inl s ↦ inl s
-          | inr d ↦ inr (lacks_piece (h.meant op).0 (id_of op.1) led_is.taken mid.rest led_here
+          | inr d ↦ inr (misses_piece (h.meant op).0 (id_of op.1) led_is.taken mid.rest led_here
               (subst (λ t. Demands t (front_at types_at (attr_at reading) true (front_steps (steps_in dialects (id_of op.1))) [] mid.rest) mid.rest fault) same_text
               (subst (λ ss. Demands (whole mid) (front_at types_at (attr_at reading) true (front_steps ss) [] mid.rest) mid.rest fault) (sym steps_are) d)) c)
         ]
@@ -149,9 +149,9 @@ module _ {T A : Type 0} (types_at : Text → Outcome T) (reading : Text → Outc
     piece_commits more f = must_commit still_fine f.read
 
     -- all of it is in the text
-    pub front_stands : (more : List Text) → KeepsNames names more → (pieces : List (ReadPiece T A)) (new : StreamView) → MustFront {A = A} itself replaced more types_at (attr_at reading) true (steps_of (format_of info.format)) mid (Ok pieces) new
-        → length pieces ≡ length (front_steps (steps_of (format_of info.format))) → FrontStands types_at (attr_at reading) dialects true more old op.0 op.1 pieces new
-    front_stands more keeps pieces new f count =
+    pub front_comes : (more : List Text) → KeepsNames names more → (pieces : List (ReadPiece T A)) (new : StreamView) → MustFront {A = A} itself replaced more types_at (attr_at reading) true (steps_of (format_of info.format)) mid (Ok pieces) new
+        → length pieces ≡ length (front_steps (steps_of (format_of info.format))) → FrontComes types_at (attr_at reading) dialects true more old op.0 op.1 pieces new
+    front_comes more keeps pieces new f count =
         let there : Answered (front_of types_at (attr_at reading) true (steps_of (format_of info.format)) [] mid.rest) mid (f.meant pieces) new = answered {A = A} f.read in
         record {
           results = (h.meant op).0;

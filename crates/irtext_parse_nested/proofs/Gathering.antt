@@ -11,9 +11,9 @@ use Rattle.irtext_parse_nested.specs.declared.operation_parts.NotGathered.{NotGa
 use Rattle.irtext_parse_nested.specs.Items.{Names}
 use Rattle.irtext_parse_nested.specs.Gathered.{KeepsScopes, CanGather, Gathers, RefusesGathering}
 use Rattle.irtext_parse_nested.proofs.Steady.{steady_itself, steady_both}
-use Rattle.irtext_parse_nested.proofs.Gathers.{can_first, can_behind, gathers_then, fails_at_then}
+use Rattle.irtext_parse_nested.proofs.Gathers.{can_first, can_after, gathers_then, fails_at_then}
 use Rattle.irtext_parse_nested.proofs.Pieces.{gather_refused_first, gather_refused_from}
-use Rattle.irtext_parse_nested.proofs.Words.{can_behind_words, gathers_words, words_refused, gathers_last}
+use Rattle.irtext_parse_nested.proofs.Words.{can_after_words, gathers_words, words_refused, gathers_last}
 
 -- the graph of a context
 abbrev Objects : (T A : Type 0) → Type 0
@@ -34,7 +34,7 @@ module _ {T A : Type 0} where
   module _ {all : List (ReadPiece T A)} {old now : Names} {g h : Objects T A} {x y : Gathered T A} (n : ℕ) where
     module _ (p : ReadPiece T A) (ps : List (ReadPiece T A)) (s : Gathering all (only_words n ++ p ∷ ps) old g x now h y) where
       can_here : CanGather now y.operands.list.items y.successors.list.items (p ∷ ps)
-      can_here = can_behind_words now y.operands.list.items y.successors.list.items (p ∷ ps) n s.can
+      can_here = can_after_words now y.operands.list.items y.successors.list.items (p ∷ ps) n s.can
 
       -- the next piece can be gathered
       pub gathering_can : CanGather now y.operands.list.items y.successors.list.items (p ∷ [])
@@ -44,7 +44,7 @@ module _ {T A : Type 0} where
       pub gathering_more : {new : Names} {k : Objects T A} {z : Gathered T A} → KeepsScopes now new h k → Gathers (p ∷ []) now h y new k z → Gathering all ps old g x new k z
       gathering_more {new = new} {k = k} {z = z} keeps t = record {
         steady = steady_both s.steady keeps;
-        can = can_behind now new y.operands.list.items z.operands.list.items y.successors.list.items z.successors.list.items p ps keeps.names t.operands_unlisted t.successors_unlisted can_here;
+        can = can_after now new y.operands.list.items z.operands.list.items y.successors.list.items z.successors.list.items p ps keeps.names t.operands_unlisted t.successors_unlisted can_here;
         gathers = λ names j w r. s.gathers names j w (gathers_words now h y n (p ∷ ps) (gathers_then p ps keeps.names t r));
         fails = λ r f. s.fails r (words_refused now h y n (p ∷ ps) r (gather_refused_from ps (p ∷ ps) now new h k keeps.names (λ is cause e. fails_at_then p ps keeps.names t e) r f));
       }

@@ -15,7 +15,7 @@ use Rattle.irtext_grammar.specs.Names.Acts.{piece_acts}
 use Rattle.irtext_grammar.specs.Names.History.{Event, Outcome, act, going, run, next}
 use Rattle.irtext_grammar.specs.Names.Script.{Path, User, operand, successor, Cause}
 use Rattle.irtext_grammar.specs.Names.TextScopes.{Act, Failure}
-use Rattle.irtext_names.specs.Linked.{StandsAt}
+use Rattle.irtext_names.specs.Linked.{NamesAgree}
 use Rattle.irtext_names.proofs.Linked.Moving.{among_split}
 use Rattle.irtext_names.specs.Rows.{TakesUses}
 use Rattle.irtext_names.proofs.Rows.{rest_fails}
@@ -69,7 +69,7 @@ run_both o (e ∷ es) fs = run_both (next o e) es fs
 
 module _ {O B T : Type 0} where
   pub takes_none : (names : Names) (g : GraphView (Option O) B T) → TakesUses [] names names g g []
-  takes_none names g = record { so = λ known held st s. (st, refl, subst (λ xs. StandsAt names g known xs st) (sym (append-nil held)) s) }
+  takes_none names g = record { so = λ known held st s. (st, refl, subst (λ xs. NamesAgree names g known xs st) (sym (append-nil held)) s) }
 
   pub takes_both : {fs gs : List Act} {old mid new : Names} {g h k : GraphView (Option O) B T} {more rest : List (User × Defined)}
       → TakesUses fs old mid g h more → TakesUses gs mid new h k rest → TakesUses (fs ++ gs) old new g k (more ++ rest)
@@ -79,7 +79,7 @@ module _ {O B T : Type 0} where
         let y = t.so known (held ++ more) x.0 x.2 in (
           y.0,
           ap (run (going st)) (map_both act fs gs) ∙ (run_both (going st) (map act fs) (map act gs) ∙ (ap (λ o. run o (map act gs)) x.1 ∙ y.1)),
-          subst (λ xs. StandsAt new k known xs y.0) (append_assoc held more rest) y.2,
+          subst (λ xs. NamesAgree new k known xs y.0) (append_assoc held more rest) y.2,
         );
   }
 
@@ -134,25 +134,25 @@ module _ {T A : Type 0} where
   labels_first bs (read.Successors ns) ps o = (o.0, tt)
   labels_first bs _ ps o = tt
 
-  once_behind : (vs ws : List Value) (p : ReadPiece T A) (ps : List (ReadPiece T A)) → (LackOperands (p ∷ []) → ws ≡ vs) → OperandsOnce vs (p ∷ ps) → OperandsOnce ws ps
-  once_behind vs ws (read.Operands ns) ps same o = once_of_none ws ps o.1
-  once_behind vs ws _ ps same o = subst (λ z. OperandsOnce z ps) (sym (same tt)) o
+  once_after : (vs ws : List Value) (p : ReadPiece T A) (ps : List (ReadPiece T A)) → (LackOperands (p ∷ []) → ws ≡ vs) → OperandsOnce vs (p ∷ ps) → OperandsOnce ws ps
+  once_after vs ws (read.Operands ns) ps same o = once_of_none ws ps o.1
+  once_after vs ws _ ps same o = subst (λ z. OperandsOnce z ps) (sym (same tt)) o
 
-  labels_behind : (bs cs : List (Ptr BasicBlock)) (p : ReadPiece T A) (ps : List (ReadPiece T A)) → (LackSuccessors (p ∷ []) → cs ≡ bs) → SuccessorsOnce bs (p ∷ ps) → SuccessorsOnce cs ps
-  labels_behind bs cs (read.Successors ns) ps same o = labels_of_none cs ps o.1
-  labels_behind bs cs _ ps same o = subst (λ z. SuccessorsOnce z ps) (sym (same tt)) o
+  labels_after : (bs cs : List (Ptr BasicBlock)) (p : ReadPiece T A) (ps : List (ReadPiece T A)) → (LackSuccessors (p ∷ []) → cs ≡ bs) → SuccessorsOnce bs (p ∷ ps) → SuccessorsOnce cs ps
+  labels_after bs cs (read.Successors ns) ps same o = labels_of_none cs ps o.1
+  labels_after bs cs _ ps same o = subst (λ z. SuccessorsOnce z ps) (sym (same tt)) o
 
   -- the first piece can be gathered
   pub can_first : (names : Names) (vs : List Value) (bs : List (Ptr BasicBlock)) (p : ReadPiece T A) (ps : List (ReadPiece T A)) → CanGather names vs bs (p ∷ ps) → CanGather names vs bs (p ∷ [])
   can_first names vs bs p ps c = record { names_are = (c.names_are.0, tt); operands_once = once_first vs p ps c.operands_once; successors_once = labels_first bs p ps c.successors_once }
 
   -- and then the others
-  pub can_behind : (old new : Names) (vs ws : List Value) (bs cs : List (Ptr BasicBlock)) (p : ReadPiece T A) (ps : List (ReadPiece T A)) → new.names ≡ old.names
+  pub can_after : (old new : Names) (vs ws : List Value) (bs cs : List (Ptr BasicBlock)) (p : ReadPiece T A) (ps : List (ReadPiece T A)) → new.names ≡ old.names
       → (LackOperands (p ∷ []) → ws ≡ vs) → (LackSuccessors (p ∷ []) → cs ≡ bs) → CanGather old vs bs (p ∷ ps) → CanGather new ws cs ps
-  can_behind old new vs ws bs cs p ps names so to c = record {
+  can_after old new vs ws bs cs p ps names so to c = record {
     names_are = subst (λ z. CanUseAll z ps) (sym (ap length names)) c.names_are.1;
-    operands_once = once_behind vs ws p ps so c.operands_once;
-    successors_once = labels_behind bs cs p ps to c.successors_once;
+    operands_once = once_after vs ws p ps so c.operands_once;
+    successors_once = labels_after bs cs p ps to c.successors_once;
   }
 
   first_views : (p : Path) (k l : ℕ) (part : Part ℕ T A) (parts : List (Part ℕ T A)) → views (piece_acts p k l) (part ∷ parts) ≡ views (piece_acts p k l) (part ∷ []) ++ views (piece_acts p k l) parts

@@ -30,7 +30,7 @@ use Rattle.irtext_grammar.specs.Names.Scopes.{fact_of, is_among}
 use Rattle.irtext_grammar.specs.Names.Script as script
 use Rattle.irtext_grammar.specs.Names.Script.{Path, Place, argument, result, block_at, define_label}
 use Rattle.irtext_grammar.specs.Names.TextScopes.{Act, Failure}
-use Rattle.irtext_names.specs.Linked.{Known, StandsAt}
+use Rattle.irtext_names.specs.Linked.{Known, NamesAgree}
 use Rattle.irtext_names.proofs.Linked.Interned.{interned}
 use Rattle.irtext_parse_spec.specs.Promises.Section.{indices_of}
 use Rattle.irtext_names.specs.Rows.{AreNamed}
@@ -40,15 +40,15 @@ use Rattle.irtext_parse_pieces.specs.declared.marks.ReadMark.{ReadMark}
 use Rattle.irtext_parse_pieces.specs.declared.names.ReadName.{ReadName}
 use Rattle.irtext_parse_pieces.specs.Headers.{IsHead}
 use Rattle.irtext_parse_pieces.specs.Marks.{IsMarkIf}
-use Rattle.irtext_parse_pieces.specs.Named.{StandsFor, Each, NamesRead}
+use Rattle.irtext_parse_pieces.specs.Named.{Represents, Each, NamesRead}
 use Rattle.irtext_parse_nested.specs.Blocks.{entries_in, RefusesKeys, MakesHead, RefusesArguments, DefinesArguments, NamesHead, RefusesHead, same_argument, same_mark, same_label}
 use Rattle.irtext_parse_nested.specs.Definitions.{IsFaultOf}
 use Rattle.irtext_parse_nested.specs.Ends.{numbers_of, NotesMark, RefusesMark}
-use Rattle.irtext_parse_nested.specs.Items.{Made, Names, Pledge, StandsAs, ActsWith, ActFails, doing}
+use Rattle.irtext_parse_nested.specs.Items.{Made, Names, Pledge, MachineAgrees, ActsWith, ActFails, doing}
 use Rattle.irtext_parse_nested.specs.Placing.{RefusesLabel}
-use Rattle.irtext_parse_nested.proofs.BlockPlaced.{arguments_made, with_block, placed_stands}
+use Rattle.irtext_parse_nested.proofs.BlockPlaced.{arguments_made, with_block, placed_agrees}
 use Rattle.irtext_parse_nested.proofs.Ends.{definitions_unmarked}
-use Rattle.irtext_parse_nested.proofs.Faults.{stands_there, named_each, each_there, some_same, name_failure}
+use Rattle.irtext_parse_nested.proofs.Faults.{place_is_there, named_each, each_there, some_same, name_failure}
 use Rattle.irtext_parse_nested.proofs.Headers.{run_both, keys_pass, keys_fail, keys_each, arguments_are, arguments_named, made_in, MarkOn, mark_on, mark_taken}
 use Rattle.irtext_parse_nested.proofs.Marking.{noted_before}
 use Rattle.irtext_parse_nested.proofs.OfItems.{of_block}
@@ -59,16 +59,16 @@ among_both x [] ys a = inr a
 among_both x (y ∷ xs) ys (inl e) = inl (inl e)
 among_both x (y ∷ xs) ys (inr a) = elim (among_both x xs ys a) [ inl i ↦ inl (inr i) | inr j ↦ inr j ]
 
-arguments_behind : {X : Type 0} (p : Path) (b : Ptr BasicBlock) (xs : List X) (known : List (Place × Value)) (q : Place) (v : Value) → Among (q, v) (known ++ arguments_made p b 0 xs) → Among (q, v) known ⊎ ((i : ℕ) × (q ≡ argument p i) × (v ≡ Argument b i))
-arguments_behind p b xs known q v a = elim (among_both (q, v) known (arguments_made p b 0 xs) a) [ inl i ↦ inl i | inr j ↦ inr (go 0 xs j) ]
+arguments_after : {X : Type 0} (p : Path) (b : Ptr BasicBlock) (xs : List X) (known : List (Place × Value)) (q : Place) (v : Value) → Among (q, v) (known ++ arguments_made p b 0 xs) → Among (q, v) known ⊎ ((i : ℕ) × (q ≡ argument p i) × (v ≡ Argument b i))
+arguments_after p b xs known q v a = elim (among_both (q, v) known (arguments_made p b 0 xs) a) [ inl i ↦ inl i | inr j ↦ inr (go 0 xs j) ]
   where
     go : {X : Type 0} (k : ℕ) (xs : List X) → Among (q, v) (arguments_made p b k xs) → (i : ℕ) × (q ≡ argument p i) × (v ≡ Argument b i)
     go k [] a = absurd a
     go k (x ∷ xs) (inl e) = (k, ap (λ z. z.0) e, ap (λ z. z.1) e)
     go k (x ∷ xs) (inr a) = go (suc k) xs a
 
-block_behind : (p : Path) (b : Ptr BasicBlock) (known : List (Place × Ptr BasicBlock)) (q : Place) (d : Ptr BasicBlock) → Among (q, d) (known ++ (block_at p, b) ∷ []) → Among (q, d) known ⊎ ((q ≡ block_at p) × (d ≡ b))
-block_behind p b known q d a = elim (among_both (q, d) known ((block_at p, b) ∷ []) a) [
+block_after : (p : Path) (b : Ptr BasicBlock) (known : List (Place × Ptr BasicBlock)) (q : Place) (d : Ptr BasicBlock) → Among (q, d) (known ++ (block_at p, b) ∷ []) → Among (q, d) known ⊎ ((q ≡ block_at p) × (d ≡ b))
+block_after p b known q d a = elim (among_both (q, d) known ((block_at p, b) ∷ []) a) [
   | inl i ↦ inl i
   | inr j ↦ elim j [ inl e ↦ inr (ap (λ z. z.0) e, ap (λ z. z.1) e) | inr k ↦ absurd k ]
 ]
@@ -95,7 +95,7 @@ module _ {T A U : Type 0} (before names : Names) (text : Text) (source : Source)
     abbrev words : List (Name ℕ)
     words = map (λ a. a.0) head.arguments
 
-    words_are : Each (StandsFor names.names text) arguments words
+    words_are : Each (Represents names.names text) arguments words
     words_are = arguments_named names.names text read.arguments head.arguments is.arguments
 
     words_named : AreNamed names.names (numbers_of arguments) words
@@ -112,7 +112,7 @@ module _ {T A U : Type 0} (before names : Names) (text : Text) (source : Source)
         let x : Failure = record { cause = script.ReservedKey k.name.text; at = Some k.name.place } in
         record {
           failure = x;
-          is = record { cause = r.says.because ∙ ap causes.ReservedKey k.is.named; place = stands_there k.is.place r.says.place; committed = r.says.flag };
+          is = record { cause = r.says.because ∙ ap causes.ReservedKey k.is.named; place = place_is_there k.is.place r.says.place; committed = r.says.flag };
           so = λ path items more o h. let p = path head.label.place in
               ap (heads path) h.going ∙ (run_both (going h.state) keys (rest p) ∙ (ap (λ z. run z (map act (rest p))) (k.fails h.state) ∙ rest_fails x (map act (rest p))));
         }
@@ -126,21 +126,21 @@ module _ {T A U : Type 0} (before names : Names) (text : Text) (source : Source)
 
       -- the state of the machine after the keys, with the block made
       pub record Placed (path : ℕ → Path) (items : Made) (pledges : List Pledge) (o : Outcome) : Type 0 where
-        pub was : StandsAs path items pledges before s o
+        pub was : MachineAgrees path items pledges before s o
         pub made : Known
         pub is_made : made ≡ with_block (path head.label.place) b types was.known
-        pub stands : StandsAt names m.ctx.now.graph made [] was.state
+        pub agreed : NamesAgree names m.ctx.now.graph made [] was.state
         pub goes : heads path o ≡ run (going was.state) (map act (rest (path head.label.place)))
 
-      placed : (path : ℕ → Path) (items : Made) (pledges : List Pledge) (o : Outcome) → StandsAs path items pledges before s o → Placed path items pledges o
+      placed : (path : ℕ → Path) (items : Made) (pledges : List Pledge) (o : Outcome) → MachineAgrees path items pledges before s o → Placed path items pledges o
       placed path items pledges o h =
           let p = path head.label.place in
-          let read_on = interned s.ctx.now.graph before names reads.kept distinct (reads.values, reads.labels) h.known [] h.state h.stands in
+          let read_on = interned s.ctx.now.graph before names reads.kept distinct (reads.values, reads.labels) h.known [] h.state h.agreed in
           record {
             was = h;
             made = with_block p b types h.known;
             is_made = refl;
-            stands = placed_stands r b makes.held types makes.places.makes.graph makes.places.appends names h.known p [] h.state read_on;
+            agreed = placed_agrees r b makes.held types makes.places.makes.graph makes.places.appends names h.known p [] h.state read_on;
             goes = ap (heads path) h.going ∙ (run_both (going h.state) keys (rest p)
                 ∙ ap (λ z. run z (map act (rest p))) (keys_pass block_may_hold text (entries_in read.attributes) (entries_if head.attributes) (keys_each text read.attributes head.attributes is.attributes) makes.allowed h.state));
           }
@@ -149,23 +149,23 @@ module _ {T A U : Type 0} (before names : Names) (text : Text) (source : Source)
       pub record Defined (path : ℕ → Path) (items : Made) (pledges : List Pledge) (o : Outcome) (mid : Names) (g : GraphView (Option (OperationData A)) (BlockData A) (Option T)) : Type 0 where
         pub front : Placed path items pledges o
         pub state : State
-        pub stands : StandsAt mid g front.made [] state
+        pub agreed : NamesAgree mid g front.made [] state
         pub marks : state.marks ≡ indices_of (marks_of m)
         pub goes : heads path o ≡ run (going state) (map act (mark_acts head.mark ++ define_label (word_of head.label) (block_at (path head.label.place)) ∷ []))
 
       module _ (mid : Names) (g : GraphView (Option (OperationData A)) (BlockData A) (Option T)) (defines : DefinesArguments b arguments names m mid g) where
-        defined : (path : ℕ → Path) (items : Made) (pledges : List Pledge) (o : Outcome) → StandsAs path items pledges before s o → Defined path items pledges o mid g
+        defined : (path : ℕ → Path) (items : Made) (pledges : List Pledge) (o : Outcome) → MachineAgrees path items pledges before s o → Defined path items pledges o mid g
         unfolding placed
         defined path items pledges o h =
             let p = path head.label.place in
             let f = placed path items pledges o h in
             let made = with_block p b types h.known in
-            let d = defines.row.so words words_named (argument p) made h.state (made_in p b types (numbers_of arguments) h.known as_many) f.stands in
+            let d = defines.row.so words words_named (argument p) made h.state (made_in p b types (numbers_of arguments) h.known as_many) f.agreed in
             let last = mark_acts head.mark ++ define_label (word_of head.label) (block_at p) ∷ [] in
             record {
               front = f;
               state = d.0;
-              stands = d.2;
+              agreed = d.2;
               marks = definitions_unmarked (argument p) 0 words h.state d.0 d.1 ∙ (h.marks ∙ ap indices_of (sym same));
               goes = f.goes ∙ (run_both (going h.state) (argument_definitions p 0 head.arguments) last
                   ∙ ap (λ z. run z (map act last)) (ap (λ acts. run (going h.state) (map act acts)) (arguments_are p 0 head.arguments) ∙ d.1));
@@ -174,7 +174,7 @@ module _ {T A U : Type 0} (before names : Names) (text : Text) (source : Source)
         -- after the mark
         marked : (path : ℕ → Path) (items : Made) (pledges : List Pledge) (o : Outcome) {X : Type 0} (x : X) (old later : List (ℕ × X)) → NotesMark read.mark x old later → indices_of (marks_of m) ≡ indices_of old → (d : Defined path items pledges o mid g)
             → MarkOn mid g d.front.made text d.state head.mark (indices_of later)
-        marked path items pledges o x old later notes are d = mark_on mid g d.front.made text x read.mark head.mark old later d.state is.mark notes (d.marks ∙ are) d.stands
+        marked path items pledges o x old later notes are d = mark_on mid g d.front.made text x read.mark head.mark old later d.state is.mark notes (d.marks ∙ are) d.agreed
 
         -- the mark's index is recorded already
         pub mark_refused : (fault : ParseFault A) → RefusesMark text read.mark (marks_of m) fault → ActFails text heads before s [] fault
@@ -183,7 +183,7 @@ module _ {T A U : Type 0} (before names : Names) (text : Text) (source : Source)
             let x : Failure = record { cause = script.DuplicateIndex k.0.index; at = Some k.0.place } in
             record {
               failure = x;
-              is = record { cause = q.because ∙ ap causes.DuplicateIndex k.2.indexed; place = stands_there k.2.place q.place; committed = q.flag };
+              is = record { cause = q.because ∙ ap causes.DuplicateIndex k.2.indexed; place = place_is_there k.2.place q.place; committed = q.flag };
               so = λ path items more o h.
                   let d = defined path items (more ++ []) o h in
                   let label = define_label (word_of head.label) (block_at (path head.label.place)) ∷ [] in
@@ -204,14 +204,14 @@ module _ {T A U : Type 0} (before names : Names) (text : Text) (source : Source)
                   let p = block_at (path head.label.place) in
                   let label = define_label (word_of head.label) p ∷ [] in
                   d.goes ∙ (run_both (going d.state) (mark_acts head.mark) label ∙ (ap (λ z. run z (map act label)) k.goes
-                  ∙ (q.fails (word_of head.label) p (ap (λ ns. slice_get ns read.label.name) defines.same ∙ is.label.named)).so d.front.made [] k.state k.stands));
+                  ∙ (q.fails (word_of head.label) p (ap (λ ns. slice_get ns read.label.name) defines.same ∙ is.label.named)).so d.front.made [] k.state k.agreed));
             }
 
       -- an argument is defined already
       pub argument_refused : (fault : ParseFault A) → RefusesArguments b arguments names m.ctx.now.graph text fault → ActFails text heads before s [] fault
       unfolding placed
       argument_refused fault q =
-          let t = each_there (StandsFor names.names text) arguments words q.index q.read words_are q.is in
+          let t = each_there (Represents names.names text) arguments words q.index q.read words_are q.is in
           let x : Failure = record { cause = script.MultipleDefinitions t.0.text; at = Some t.0.place } in
           record {
             failure = x;
@@ -220,7 +220,7 @@ module _ {T A U : Type 0} (before names : Names) (text : Text) (source : Source)
                 let p = path head.label.place in
                 let f = placed path items (more ++ []) o h in
                 let made = with_block p b types h.known in
-                let e = q.fails.so words words_named (argument p) made h.state (made_in p b types (numbers_of arguments) h.known as_many) f.stands in
+                let e = q.fails.so words words_named (argument p) made h.state (made_in p b types (numbers_of arguments) h.known as_many) f.agreed in
                 let last = mark_acts head.mark ++ define_label (word_of head.label) (block_at p) ∷ [] in
                 f.goes ∙ (run_both (going h.state) (argument_definitions p 0 head.arguments) last
                 ∙ (ap (λ z. run z (map act last)) (ap (λ acts. run (going h.state) (map act acts)) (arguments_are p 0 head.arguments) ∙ (e.2 ∙ ap (λ w. failed (record { cause = script.MultipleDefinitions w.text; at = Some w.place })) (some_same (sym e.1 ∙ t.1))))
@@ -245,13 +245,13 @@ module _ {T A U : Type 0} (before names : Names) (text : Text) (source : Source)
             let label = define_label w (block_at p) ∷ [] in
             let made = with_block p b types h.known in
             let l = (n.labels w (block_at p) (ap (λ ns. slice_get ns read.label.name) n.defines.same ∙ is.label.named)).so made k.state
-            (among_right (block_at p, b) h.known.blocks ((block_at p, b) ∷ []) (inl refl)) k.stands in
+            (among_right (block_at p, b) h.known.blocks ((block_at p, b) ∷ []) (inl refl)) k.agreed in
             record {
               known = made;
-              of_items = of_block path items head.label.place b h.known made h.of_items (arguments_behind p b types h.known.values) (block_behind p b h.known.blocks) refl;
+              of_items = of_block path items head.label.place b h.known made h.of_items (arguments_after p b types h.known.values) (block_after p b h.known.blocks) refl;
               state = after k.state (fact_of (define_label w (block_at p)));
               going = d.goes ∙ (run_both (going d.state) (mark_acts head.mark) label ∙ (ap (λ y. run y (map act label)) k.goes ∙ l.0));
-              stands = l.1;
+              agreed = l.1;
               marks = append-nil k.state.marks ∙ k.marks;
               results = λ q a i j. among_left (result (path q.place) i, Result q.op i) h.known.values (arguments_made p b 0 types) (h.results q a i j);
             };

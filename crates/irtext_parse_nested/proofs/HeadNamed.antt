@@ -78,7 +78,7 @@ module _ {T A U : Type 0} (b : Ptr BasicBlock) (label : ReadName) (arguments : L
   -- its mark's index is recorded already
   pub mark_stops : (read : Text) (fault : ParseFault A) → read ≡ text → UnlessMemory (RefusesMark read mark (marks_of m)) fault → UnlessMemory (RefusesHead b label arguments mark old s text) fault
   mark_stops read fault e u = elim u [
-    | inl starved ↦ inl starved
+    | inl ran_out ↦ inl ran_out
     | inr r ↦ inr (same_mark mid m.ctx.now.graph defines (subst (λ ms. RefusesMark text mark ms fault) first (subst (λ t. RefusesMark t mark (marks_of m) fault) e r)))
   ]
 
@@ -89,7 +89,7 @@ module _ {T A U : Type 0} (b : Ptr BasicBlock) (label : ReadName) (arguments : L
     -- its label is defined already
     pub label_stops : (read : Text) (fault : ParseFault A) → read ≡ text → UnlessMemory (RefusesLabel mid n.ctx.now.graph read label) fault → UnlessMemory (RefusesHead b label arguments mark old s text) fault
     label_stops read fault e u = elim u [
-      | inl starved ↦ inl starved
+      | inl ran_out ↦ inl ran_out
       | inr r ↦ inr (same_label mid m.ctx.now.graph (marks_of n) defines noted (subst (λ c. RefusesLabel mid c.graph text label fault) same (subst (λ t. RefusesLabel mid n.ctx.now.graph t label fault) e r)))
     ]
 

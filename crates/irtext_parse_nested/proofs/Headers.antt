@@ -23,7 +23,7 @@ use Rattle.irtext_grammar.specs.Names.Scopes.{fact_of, is_among}
 use Rattle.irtext_grammar.specs.Names.Script as script
 use Rattle.irtext_grammar.specs.Names.Script.{Path, argument, claim, define_value, mark}
 use Rattle.irtext_grammar.specs.Names.TextScopes.{Act, Failure}
-use Rattle.irtext_names.specs.Linked.{Known, StandsAt}
+use Rattle.irtext_names.specs.Linked.{Known, NamesAgree}
 use Rattle.irtext_parse_spec.specs.Promises.Section.{indices_of}
 use Rattle.irtext_names.proofs.Rows.{rest_fails, map-through}
 use Rattle.irtext_parse_pieces.specs.declared.entries.Key.{Key}
@@ -32,7 +32,7 @@ use Rattle.irtext_parse_pieces.specs.declared.names.ReadName.{ReadName}
 use Rattle.irtext_parse_pieces.specs.Arguments.{IsArgument}
 use Rattle.irtext_parse_pieces.specs.Entries.{IsKey, IsEntry, AreEntries}
 use Rattle.irtext_parse_pieces.specs.Marks.{IsMarkIf}
-use Rattle.irtext_parse_pieces.specs.Named.{StandsFor, Each, Optional}
+use Rattle.irtext_parse_pieces.specs.Named.{Represents, Each, Optional}
 use Rattle.irtext_parse_nested.specs.Blocks.{entries_in}
 use Rattle.irtext_parse_nested.specs.Gathered.{AreAllowed, IsFirstForbidden}
 use Rattle.irtext_parse_nested.specs.Definitions.{definitions_from, AreMadeAs}
@@ -40,7 +40,7 @@ use Rattle.irtext_parse_nested.specs.Ends.{NotesMark}
 use Rattle.irtext_parse_nested.specs.Items.{Names}
 use Rattle.irtext_parse_nested.proofs.BlockPlaced.{arguments_made, with_block}
 use Rattle.irtext_parse_nested.proofs.Ends.{after_nothing}
-use Rattle.irtext_parse_nested.proofs.Marking.{mark_stands, not_noted}
+use Rattle.irtext_parse_nested.proofs.Marking.{mark_agrees, not_noted}
 
 -- ---- the machine over acts in a row
 pub run_both : (o : Outcome) (xs ys : List Act) → run o (map act (xs ++ ys)) ≡ run (run o (map act xs)) (map act ys)
@@ -100,7 +100,7 @@ module _ {T : Type 0} where
   arguments_are p i [] = refl
   arguments_are p i (h ∷ hs) = ap (λ acts. define_value (word_of h.0) (argument p i) ∷ acts) (arguments_are p (suc i) hs)
 
-  pub arguments_named : (names : List Text) (text : Text) (rs : List (ReadName × T)) (hs : List (Name ℕ × T)) → Each (IsArgument names text) rs hs → Each (StandsFor names text) (map (λ a. a.0) rs) (map (λ a. a.0) hs)
+  pub arguments_named : (names : List Text) (text : Text) (rs : List (ReadName × T)) (hs : List (Name ℕ × T)) → Each (IsArgument names text) rs hs → Each (Represents names text) (map (λ a. a.0) rs) (map (λ a. a.0) hs)
   arguments_named names text [] [] i = tt
   arguments_named names text [] (h ∷ hs) i = absurd i
   arguments_named names text (r ∷ rs) [] i = absurd i
@@ -130,11 +130,11 @@ module _ {O B T : Type 0} (names : Names) (g : GraphView (Option O) B T) (made :
   pub record MarkOn (st : State) (m : Option (Mark ℕ)) (later : List ℕ) : Type 0 where
     pub state : State
     pub goes : run (going st) (map act (mark_acts m)) ≡ going state
-    pub stands : StandsAt names g made [] state
+    pub agreed : NamesAgree names g made [] state
     pub marks : state.marks ≡ later
 
-  pub mark_on : {X : Type 0} (x : X) (read : Option ReadMark) (m : Option (Mark ℕ)) (old new : List (ℕ × X)) (st : State) → IsMarkIf text read m → NotesMark read x old new → st.marks ≡ indices_of old → StandsAt names g made [] st → MarkOn st m (indices_of new)
-  mark_on x None None old new st i n e s = record { state = st; goes = refl; stands = s; marks = e ∙ ap indices_of (sym n) }
+  pub mark_on : {X : Type 0} (x : X) (read : Option ReadMark) (m : Option (Mark ℕ)) (old new : List (ℕ × X)) (st : State) → IsMarkIf text read m → NotesMark read x old new → st.marks ≡ indices_of old → NamesAgree names g made [] st → MarkOn st m (indices_of new)
+  mark_on x None None old new st i n e s = record { state = st; goes = refl; agreed = s; marks = e ∙ ap indices_of (sym n) }
   mark_on x None (Some m) old new st i n e s = absurd i
   mark_on x (Some r) None old new st i n e s = absurd i
   mark_on x (Some r) (Some m) old new st i n e s =
@@ -144,7 +144,7 @@ module _ {O B T : Type 0} (names : Names) (g : GraphView (Option O) B T) (made :
       record {
         state = after st (fact_of (mark m.index m.place));
         goes = ap (λ b. outcome (cond b (f ∷ []) []) (after st (fact_of (mark m.index m.place)))) fresh;
-        stands = mark_stands names g made [] st m.index m.place s;
+        agreed = mark_agrees names g made [] st m.index m.place s;
         marks = ap (λ ms. ms ++ m.index ∷ []) e ∙ (sym (map-through (λ z. z.0) old (m.index, x) []) ∙ ap indices_of (sym k.1));
       }
 

@@ -90,15 +90,15 @@ module _ {T A : Type 0} where
       go (Some e) s = data_in (view_of e.content.content.results e.content.children) e.content.content.data_of s
 
   -- a block with a view is live, and conversely
-  pub block_stands : (c : ContextView T A) (b : Ptr BasicBlock) → IsSome (block c b) → IsLive c.graph (TheBlock b)
-  block_stands c b h = go (get c.graph.blocks b) h
+  pub block_is_live : (c : ContextView T A) (b : Ptr BasicBlock) → IsSome (block c b) → IsLive c.graph (TheBlock b)
+  block_is_live c b h = go (get c.graph.blocks b) h
     where
       go : (e : Option (Entry (Node Region Operation (BlockContent (BlockData A) (Option T))))) → IsSome (option_map block_of e) → IsSome (option_map a_block (content_of e))
       go None s = absurd (cc)
       go (Some e) s = refl
 
-  pub stands_block : (c : ContextView T A) (b : Ptr BasicBlock) → IsLive c.graph (TheBlock b) → IsSome (block c b)
-  stands_block c b h = go (get c.graph.blocks b) h
+  pub live_block_view : (c : ContextView T A) (b : Ptr BasicBlock) → IsLive c.graph (TheBlock b) → IsSome (block c b)
+  live_block_view c b h = go (get c.graph.blocks b) h
     where
       go : (e : Option (Entry (Node Region Operation (BlockContent (BlockData A) (Option T))))) → IsSome (option_map a_block (content_of e)) → IsSome (option_map block_of e)
       go None s = absurd (cc)
@@ -118,7 +118,7 @@ module _ {T A : Type 0} where
     where
       stays : (b : Ptr BasicBlock) (o : Option Object) → parent old.graph (TheBlock b) ≡ o → IsSome (block old b) → IsSome o → IsSome (block new b) × (parent new.graph (TheBlock b) ≡ parent old.graph (TheBlock b))
       stays b None e h s = absurd (cc)
-      stays b (Some o) e h s = let r = l.blocks b o e in (stands_block new b (r.1 (block_stands old b h)), r.0 ∙ sym e)
+      stays b (Some o) e h s = let r = l.blocks b o e in (live_block_view new b (r.1 (block_is_live old b h)), r.0 ∙ sym e)
 
   -- the results of an operation that has data wait for no name
   pub results_ready : (c : ContextView T A) (p : Ptr Operation) (count : ℕ) (vs : List (Scope Value)) (ls : List (Scope (Ptr BasicBlock))) → IsSome (operation c p) → length (results c.graph p) ≡ count → MatchesGraph vs ls c.graph

@@ -57,16 +57,16 @@ use Rattle.irtext_parse_nested.specs.Beginning.{HasBegun, SaysGather}
 use Rattle.irtext_parse_nested.specs.OpenOperation.{IsBegun, HasNoType, ReadNeither}
 use Rattle.irtext_parse_nested.specs.Ends.{WritesAttributes}
 use Rattle.irtext_parse_nested.specs.Gathered.{stored_of}
-use Rattle.irtext_parse_nested.specs.Items.{Names, Pledge, Made, StandsAs, Acts, IsSound, KeepsLive, doing}
+use Rattle.irtext_parse_nested.specs.Items.{Names, Pledge, Made, MachineAgrees, Acts, IsSound, KeepsLive, doing}
 use Rattle.irtext_parse_nested.specs.Later.{IsFlatNext, RefusesStored, StoresPiece, NotStored, GoesOn}
 use Rattle.irtext_parse_nested.specs.Located.{IsLocated}
 use Rattle.irtext_parse_nested.specs.Read.{Demands, ReadsPiece, RefusesPiece}
 use Rattle.irtext_parse_nested.proofs.Begins.{note_piece, marks_stay}
 use Rattle.irtext_parse_nested.proofs.BegunParts.{stored_alike, later_one, all_more}
 use Rattle.irtext_parse_nested.proofs.BegunSteps.{begun_step}
-use Rattle.irtext_parse_nested.proofs.Edited.{edited_lasts, edited_sound, edited_stands}
+use Rattle.irtext_parse_nested.proofs.Edited.{edited_lasts, edited_sound, edited_agrees}
 use Rattle.irtext_parse_nested.proofs.Ended.{must_commit}
-use Rattle.irtext_parse_nested.proofs.Faults.{StaysWithin, must_demand, stands_there}
+use Rattle.irtext_parse_nested.proofs.Faults.{StaysWithin, must_demand, place_is_there}
 use Rattle.irtext_parse_nested.proofs.FrontRead.{each_on}
 use Rattle.irtext_parse_nested.proofs.LaterPieces.{part_of, flat_next, first_left, spaced_of, late_within, late_takes, late_fails, never_outside}
 
@@ -119,21 +119,21 @@ module _ {T A U : Type 0} (types_at : Reader T) (attr : Reader (AttrView A)) (ol
         piece_acts_done : Acts (λ path. (doing {T = T} {A = A} dialects path).late o.place o.id meant) before old.state [] middle new.state []
         piece_acts_done = record { so = so }
           where
-            so : (path : ℕ → Path) (items : Made) (more : List Pledge) (x : Machine) → StandsAs path items (more ++ []) before old.state x
-                → StandsAs path items (more ++ []) middle new.state ((doing {T = T} {A = A} dialects path).late o.place o.id meant x)
+            so : (path : ℕ → Path) (items : Made) (more : List Pledge) (x : Machine) → MachineAgrees path items (more ++ []) before old.state x
+                → MachineAgrees path items (more ++ []) middle new.state ((doing {T = T} {A = A} dialects path).late o.place o.id meant x)
             so path items more x h =
                 let p = path o.place in
                 let k = single_operands (format_of dialects o.id) in
                 let l = single_successors (format_of dialects o.id) in
-                let s = interned old.state.ctx.now.graph before middle read.kept distinct (read.values, read.labels) h.known [] h.state h.stands in
+                let s = interned old.state.ctx.now.graph before middle read.kept distinct (read.values, read.labels) h.known [] h.state h.agreed in
                 let r = (late_takes middle old.state.ctx.now.graph (whole old.stream) step neither.0 piece meant is_piece of_step stores.may p k l).so h.known [] h.state s in
-                edited_stands old.state.ctx.now new.state.ctx.now b.op (with_attributes stores.left) stores.edits middle old.state new.state refl refl marks (tied_on before middle old read tied)
+                edited_agrees old.state.ctx.now new.state.ctx.now b.op (with_attributes stores.left) stores.edits middle old.state new.state refl refl marks (tied_on before middle old read tied)
                 (record {
                   known = h.known;
                   of_items = h.of_items;
                   state = r.0;
                   going = ap (λ z. run z (map act (piece_acts p k l meant))) h.going ∙ r.1;
-                  stands = r.2;
+                  agreed = r.2;
                   marks = marks_stay (piece_acts p k l meant) h.state r.0 (note_piece p k l meant) r.1 ∙ h.marks;
                   results = h.results;
                 })
@@ -169,8 +169,8 @@ module _ {T A U : Type 0} (types_at : Reader T) (attr : Reader (AttrView A)) (ol
               coming = tt;
               is_isolated = is.is_isolated ∙ ap (λ d. isolated d o.id) (sym lasts.dialects);
               late = neither.1;
-              stands = lasts.operations b.op is.stands;
-              counts = lasts.results b.op is.stands ∙ is.counts;
+              alive = lasts.operations b.op is.alive;
+              counts = lasts.results b.op is.alive ∙ is.counts;
               typed = typed_on;
             }
 
@@ -217,9 +217,9 @@ module _ {T A U : Type 0} (types_at : Reader T) (attr : Reader (AttrView A)) (ol
             subst (λ i. (space_at ▷ piece_at types_at attr i step) old.stream.rest ≡ Read q a.taken mid.rest) is.inside a.is,
             record {
               failure = record { cause = ReservedKey f.0.text; at = Some f.0.place };
-              is = record { cause = s.0 ∙ ap causes.ReservedKey f.1.named; place = stands_there f.1.place s.2; committed = s.1 };
+              is = record { cause = s.0 ∙ ap causes.ReservedKey f.1.named; place = place_is_there f.1.place s.2; committed = s.1 };
               so = λ path items more x h.
-                  let st = interned old.state.ctx.now.graph before middle read.kept distinct (read.values, read.labels) h.known [] h.state h.stands in
+                  let st = interned old.state.ctx.now.graph before middle read.kept distinct (read.values, read.labels) h.known [] h.state h.agreed in
                   ap (λ z. run z (map act (piece_acts (path o.place) k l q))) h.going ∙ (f.2 (path o.place) k l).so h.known [] h.state st;
             },
           ))

@@ -28,7 +28,7 @@ use Rattle.irtext_parse_nested.specs.Leaving.{IsUnresolved}
 use Rattle.irtext_parse_nested.specs.Read.{EndsRegion, RefusesRegionEnd}
 use Rattle.irtext_parse_nested.proofs.Ended.{within_honest}
 use Rattle.irtext_parse_nested.proofs.Faults.{must_demand, name_failure}
-use Rattle.irtext_parse_nested.proofs.Standing.{stands_on, stands_fails}
+use Rattle.irtext_parse_nested.proofs.Agreement.{agrees_next, agrees_fails}
 
 -- the other brace
 abbrev end_at : Reader (Unit {0})
@@ -55,7 +55,7 @@ module _ {T A U : Type 0} (types_at : Reader T) (attr : Reader (AttrView A)) (be
           read = a.is;
           moves = record { taken = a.taken; takes = a.takes };
           acts = record {
-            so = λ path items more o k. stands_on before names old.state new.state (leave region.isolated place) (history.left region.isolated) (takes place) (marks_left region.isolated)
+            so = λ path items more o k. agrees_next before names old.state new.state (leave region.isolated place) (history.left region.isolated) (takes place) (marks_left region.isolated)
                 (ap (λ z. z.ctx.now.graph) state) (ap marks_of state) k;
           };
         }
@@ -73,6 +73,6 @@ module _ {T A U : Type 0} (types_at : Reader T) (attr : Reader (AttrView A)) (be
             failure = record { cause = UnresolvedReference r.0; at = Some place };
             is = name_failure {w = record { place = place; text = r.0 }} Unresolved UnresolvedReference (λ t c e. e) (record { named = r.1; place = placed })
                 (subst (λ t. IsFaultOf before.names t Unresolved (record { name = u.name; at = region.at }) f) (must_whole alone {A = A} h) u.said);
-            so = λ path items more o k. stands_fails before old.state (leave region.isolated place) (record { cause = UnresolvedReference r.0; at = Some place }) r.2 k;
+            so = λ path items more o k. agrees_fails before old.state (leave region.isolated place) (record { cause = UnresolvedReference r.0; at = Some place }) r.2 k;
           },
         ))

@@ -1,5 +1,5 @@
 -- Lemmas on the parsing of nested text: what is unchanged by acts and edits, pieces that are gathered, and the turns of the loop.
-pub mod Standing
+pub mod Agreement
 pub mod Apart
 pub mod RegionAdded
 pub mod Losing
@@ -39,7 +39,7 @@ pub mod HeadNamed
 pub mod BlockOpened
 pub mod BegunParts
 pub mod BegunCounts
-pub mod UsedStands
+pub mod UsedLive
 pub mod OperationMade
 pub mod OperationBegun
 pub mod FrontHonest

@@ -15,7 +15,7 @@ use Rattle.irtext_graph.specs.Graph.{GraphView, content, parent, IsLive, IsNew}
 use Rattle.irtext_graph.specs.Objects.{is_older}
 use Rattle.irtext_graph.specs.Parts.{operation_at, results}
 use Rattle.irtext_graph.specs.Used.{IsDefined}
-use Rattle.irtext_graph.proofs.Nests.{told, some_eq}
+use Rattle.irtext_graph.proofs.Nests.{same_or_other, some_eq}
 use Rattle.irtext_graph.proofs.Same.{object_tells}
 use Rattle.irtext_parse_spec.specs.Unchanged.{UsesAsMany}
 use Rattle.irtext_parse_spec.proofs.Edits.{replaced_as_many, erased_as_many, as_many_then}
@@ -37,8 +37,8 @@ mapped_some f None h = absurd (cc)
 mapped_some f (Some x) h = refl
 
 module _ {O B T : Type 0} where
-  stands_same : (g k : GraphView O B T) (q : Object) → option_map without_uses (content k q) ≡ option_map without_uses (content g q) → IsLive g q → IsLive k q
-  stands_same g k q e s = mapped_some without_uses (content k q) (subst IsSome (sym e) (some_mapped without_uses (content g q) s))
+  same_is_live : (g k : GraphView O B T) (q : Object) → option_map without_uses (content k q) ≡ option_map without_uses (content g q) → IsLive g q → IsLive k q
+  same_is_live g k q e s = mapped_some without_uses (content k q) (subst IsSome (sym e) (some_mapped without_uses (content g q) s))
 
 -- ---- operations without data
 module _ {O B T : Type 0} (g k : GraphView (Option O) B T) where
@@ -65,8 +65,8 @@ module _ {O B T : Type 0} where
   -- what is alike is no placeholder still
   still_placed : (g h : GraphView (Option O) B T) (q : Object) → StaysAlike g h q → IsPlaced g q → IsPlaced h q
   still_placed g h (TheOperation p) a (x, e) = (x, data_is h p ∙ (ap data_in a.contents ∙ (sym (data_is g p) ∙ e)))
-  still_placed g h (TheBlock b) a s = (stands_same g h (TheBlock b) a.contents s.0, subst IsSome (sym a.parents) s.1)
-  still_placed g h (TheRegion r) a t = stands_same g h (TheRegion r) a.contents t
+  still_placed g h (TheBlock b) a s = (same_is_live g h (TheBlock b) a.contents s.0, subst IsSome (sym a.parents) s.1)
+  still_placed g h (TheRegion r) a t = same_is_live g h (TheRegion r) a.contents t
 
   pub loses_more : {g h k : GraphView (Option O) B T} → LosesPlaceholders g h → LosesPlaceholders h k → LosesPlaceholders g k
   loses_more {g} {h} {k} l m = record {
@@ -97,8 +97,8 @@ module _ {O B T : Type 0} where
         go (Some y) i o = blank y (p y i) (some_eq o)
 
     -- a block with a parent is not the placeholder
-    stands_in : (b : Ptr BasicBlock) (o : Object) → parent g (TheBlock b) ≡ Some o → option_map owner d ≡ Some (TheBlock b) → ⊥
-    stands_in b o e f = go d refl f
+    is_live_in : (b : Ptr BasicBlock) (o : Object) → parent g (TheBlock b) ≡ Some o → option_map owner d ≡ Some (TheBlock b) → ⊥
+    is_live_in b o e f = go d refl f
       where
         go : (y : Option Defined) → d ≡ y → option_map owner y ≡ Some (TheBlock b) → ⊥
         go None i h = cc
@@ -123,7 +123,7 @@ module _ {O B T : Type 0} where
       where
         placed_block : (b : Ptr BasicBlock) (o : Option Object) → parent g (TheBlock b) ≡ o → IsSome o → option_map owner d ≡ Some (TheBlock b) → ⊥
         placed_block b None e h = absurd (cc)
-        placed_block b (Some o) e h = stands_in b o e
+        placed_block b (Some o) e h = is_live_in b o e
     placed_apart (TheRegion r) t = no_region r
 
     many_placed : (q : Object) → (option_map owner d ≡ Some q → ⊥) → HasAsMany g k q
@@ -142,12 +142,12 @@ module _ {O B T : Type 0} where
 
         same_placed : (q : Object) → (option_map owner d ≡ Some q → ⊥) → IsPlaced k q → IsPlaced g q
         same_placed (TheOperation p) n (x, h) = (x, data_is g p ∙ (ap data_in (sym (s.contents (TheOperation p) n)) ∙ (sym (data_is k p) ∙ h)))
-        same_placed (TheBlock b) n h = (stands_same k g (TheBlock b) (sym (s.contents (TheBlock b) n)) h.0, subst IsSome (s.parents (TheBlock b) n) h.1)
-        same_placed (TheRegion r) n h = stands_same k g (TheRegion r) (sym (s.contents (TheRegion r) n)) h
+        same_placed (TheBlock b) n h = (same_is_live k g (TheBlock b) (sym (s.contents (TheBlock b) n)) h.0, subst IsSome (s.parents (TheBlock b) n) h.1)
+        same_placed (TheRegion r) n h = same_is_live k g (TheRegion r) (sym (s.contents (TheRegion r) n)) h
 
         go : (y : Option Defined) → d ≡ y → IsPlaced g q
         go None i = same_placed q (λ e. let f = ap (option_map owner) (sym i) ∙ e in cc) p
-        go (Some y) i = elim (told object_tells (owner y) q) [
+        go (Some y) i = elim (same_or_other object_tells (owner y) q) [
           | inl e ↦ absurd (gone q (s.gone q (ap (option_map owner) i ∙ ap Some e)) p)
           | inr ne ↦ same_placed q (λ e. ne (some_eq (ap (option_map owner) (sym i) ∙ e))) p
         ]
@@ -158,7 +158,7 @@ module _ {O B T : Type 0} where
       where
         go : (y : Option Defined) → d ≡ y → (option_map without_uses (content k (TheOperation p)) ≡ option_map without_uses (content g (TheOperation p))) ⊎ HasResult g k p
         go None i = inl (s.contents (TheOperation p) (λ e. let f = ap (option_map owner) (sym i) ∙ e in cc))
-        go (Some y) i = elim (told object_tells (owner y) (TheOperation p)) [
+        go (Some y) i = elim (same_or_other object_tells (owner y) (TheOperation p)) [
           | inl e ↦ inr (λ b. let f = sym b ∙ (data_is k p ∙ ap (λ c. data_in (option_map without_uses c)) (s.gone (TheOperation p) (ap (option_map owner) i ∙ ap Some e))) in absurd (cc))
           | inr ne ↦ inl (s.contents (TheOperation p) (λ e. ne (some_eq (ap (option_map owner) (sym i) ∙ e))))
         ]
@@ -172,7 +172,7 @@ module _ {O B T : Type 0} where
 
         go : (y : Option Defined) → d ≡ y → IsNew m k q
         go None i = other (λ e. let f = ap (option_map owner) (sym i) ∙ e in cc)
-        go (Some y) i = elim (told object_tells (owner y) q) [
+        go (Some y) i = elim (same_or_other object_tells (owner y) q) [
           | inl e ↦ ap (is_older m) (s.gone q (ap (option_map owner) i ∙ ap Some e))
           | inr ne ↦ other (λ e. ne (some_eq (ap (option_map owner) (sym i) ∙ e)))
         ]
@@ -181,8 +181,8 @@ module _ {O B T : Type 0} where
     same_loses = record {
       operations = λ q x e. data_is k q ∙ (ap data_in (s.contents (TheOperation q) (has_data q x e)) ∙ (sym (data_is g q) ∙ e));
       results = λ q x e. ap length (results_are k q ∙ (ap results_in (s.contents (TheOperation q) (has_data q x e)) ∙ sym (results_are g q)));
-      blocks = λ b o e. (s.parents (TheBlock b) (stands_in b o e) ∙ e, stands_same g k (TheBlock b) (s.contents (TheBlock b) (stands_in b o e)));
-      regions = λ r. stands_same g k (TheRegion r) (s.contents (TheRegion r) (no_region r));
+      blocks = λ b o e. (s.parents (TheBlock b) (is_live_in b o e) ∙ e, same_is_live g k (TheBlock b) (s.contents (TheBlock b) (is_live_in b o e)));
+      regions = λ r. same_is_live g k (TheRegion r) (s.contents (TheRegion r) (no_region r));
       newer = still_new;
       made = same;
       alike = λ q p. let apart = placed_apart q p in record { contents = s.contents q apart; as_many = many_placed q apart; parents = s.parents q apart; lists = s.lists q apart };

@@ -20,15 +20,15 @@ use Rattle.irtext_grammar.specs.Names.Scopes.{fact_of, is_among}
 use Rattle.irtext_grammar.specs.Names.Script as script
 use Rattle.irtext_grammar.specs.Names.Script.{Path, User, mark}
 use Rattle.irtext_grammar.specs.Names.TextScopes.{Failure}
-use Rattle.irtext_names.specs.Linked.{Known, StandsAt}
+use Rattle.irtext_names.specs.Linked.{Known, NamesAgree}
 use Rattle.irtext_names.proofs.Linked.Moving.{onto_nothing}
 use Rattle.irtext_parse_spec.specs.Promises.Section.{indices_of}
 use Rattle.irtext_names.proofs.Rows.{map-through}
 use Rattle.irtext_parse_pieces.specs.declared.marks.ReadMark.{ReadMark}
 use Rattle.irtext_parse_pieces.specs.Marks.{IsMarkIf}
 use Rattle.irtext_parse_nested.specs.Ends.{NotesMark, GainsMarks, RefusesMark}
-use Rattle.irtext_parse_nested.specs.Items.{Made, Names, Pledge, StandsAs, Acts, ActFails}
-use Rattle.irtext_parse_nested.proofs.Faults.{stands_there}
+use Rattle.irtext_parse_nested.specs.Items.{Made, Names, Pledge, MachineAgrees, Acts, ActFails}
+use Rattle.irtext_parse_nested.proofs.Faults.{place_is_there}
 
 -- ---- results
 -- what holds if a result is a value, and so on
@@ -121,8 +121,8 @@ gains_mark (Some r) x e n f = ((r.index, x) ∷ [], f ∙ (n.1 ∙ ap (λ ms. ms
 
 module _ {O B T : Type 0} where
   -- a mark leaves the scopes unchanged
-  pub mark_stands : (names : NameTracker Value (Ptr BasicBlock)) (g : GraphView (Option O) B T) (known : Known) (held : List (User × Defined)) (st : State) (i p : ℕ) → StandsAt names g known held st → StandsAt names g known held (after st (fact_of (mark i p)))
-  mark_stands names g known held st i p s = record {
+  pub mark_agrees : (names : NameTracker Value (Ptr BasicBlock)) (g : GraphView (Option O) B T) (known : Known) (held : List (User × Defined)) (st : State) (i p : ℕ) → NamesAgree names g known held st → NamesAgree names g known held (after st (fact_of (mark i p)))
+  mark_agrees names g known held st i p s = record {
     distinct = s.distinct;
     tied = s.tied;
     value_links = rw (onto_nothing st.values) s.value_links;
@@ -138,7 +138,7 @@ module _ {T A U : Type 0} (names : Names) (text : Text) (s z : code.State T A U)
   marking m path o = run o (map act (mark_acts m))
 
   one_mark : (i p : ℕ) {X : Type 0} (item : X) (old new : List (ℕ × X)) → lookup (same_index i) old ≡ None → new ≡ old ++ (i, item) ∷ [] → indices_of (marks_of s) ≡ indices_of old → indices_of (marks_of z) ≡ indices_of new
-      → z.ctx.now.graph ≡ s.ctx.now.graph → (path : ℕ → Path) (items : Made) (pledges : List Pledge) (o : Outcome) → StandsAs path items pledges names s o → StandsAs path items pledges names z (next o (act (mark i p)))
+      → z.ctx.now.graph ≡ s.ctx.now.graph → (path : ℕ → Path) (items : Made) (pledges : List Pledge) (o : Outcome) → MachineAgrees path items pledges names s o → MachineAgrees path items pledges names z (next o (act (mark i p)))
   one_mark i p item old new free is was are same path items pledges o h =
       let fresh : is_among i h.state.marks ≡ false = ap (is_among i) (h.marks ∙ was) ∙ not_noted i old free in
       let x : Failure = record { cause = script.DuplicateIndex i; at = Some p } in
@@ -147,7 +147,7 @@ module _ {T A U : Type 0} (names : Names) (text : Text) (s z : code.State T A U)
         of_items = h.of_items;
         state = after h.state (fact_of (mark i p));
         going = ap (λ o. next o (act (mark i p))) h.going ∙ ap (λ b. outcome (cond b (x ∷ []) []) (after h.state (fact_of (mark i p)))) fresh;
-        stands = subst (λ g. StandsAt names g h.known [] (after h.state (fact_of (mark i p)))) (sym same) (mark_stands names s.ctx.now.graph h.known [] h.state i p h.stands);
+        agreed = subst (λ g. NamesAgree names g h.known [] (after h.state (fact_of (mark i p)))) (sym same) (mark_agrees names s.ctx.now.graph h.known [] h.state i p h.agreed);
         marks = ap (λ ms. ms ++ i ∷ []) (h.marks ∙ was) ∙ (sym (map-through (λ m. m.0) old (i, item) []) ∙ (sym (ap indices_of is) ∙ sym are));
         results = h.results;
       }
@@ -161,7 +161,7 @@ module _ {T A U : Type 0} (names : Names) (text : Text) (s z : code.State T A U)
       of_items = h.of_items;
       state = h.state;
       going = h.going;
-      stands = subst (λ c. StandsAt names c.graph h.known [] h.state) (sym same) h.stands;
+      agreed = subst (λ c. NamesAgree names c.graph h.known [] h.state) (sym same) h.agreed;
       marks = h.marks ∙ (was ∙ (sym (ap indices_of n) ∙ sym are));
       results = h.results;
     };
@@ -183,7 +183,7 @@ module _ {T A U : Type 0} (names : Names) (text : Text) (s z : code.State T A U)
           let x : Failure = record { cause = script.DuplicateIndex m.index; at = Some m.place } in
           record {
             failure = x;
-            is = record { cause = r.because ∙ ap causes.DuplicateIndex k.indexed; place = stands_there k.place r.place; committed = r.flag };
+            is = record { cause = r.because ∙ ap causes.DuplicateIndex k.indexed; place = place_is_there k.place r.place; committed = r.flag };
             so = λ path items more o h. ap (λ o. next o (act (mark m.index m.place))) h.going
                 ∙ ap (λ b. outcome (cond b (x ∷ []) []) (after h.state (fact_of (mark m.index m.place)))) (ap (is_among m.index) (h.marks ∙ was) ∙ noted_before m.index old (λ e. r.noted (subst (λ j. lookup (same_index j) old ≡ None) (sym k.indexed) e)));
           }

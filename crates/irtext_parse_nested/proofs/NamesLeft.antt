@@ -31,9 +31,9 @@ use Rattle.irtext_names.specs.Tied.{MatchesGraph, ArePending}
 use Rattle.irtext_names.proofs.Loses.{Loses}
 use Rattle.irtext_names.proofs.Ties.{tied_kept, waiting_kept}
 use Rattle.irtext_parse_nested.specs.Definitions.{BlanksHaveResults}
-use Rattle.irtext_parse_nested.specs.Items.{Made, Names, Pledge, StandsAs, IsSound, BlanksDefine}
+use Rattle.irtext_parse_nested.specs.Items.{Made, Names, Pledge, MachineAgrees, IsSound, BlanksDefine}
 use Rattle.irtext_parse_nested.proofs.Blanks.{blanks_on}
-use Rattle.irtext_parse_nested.proofs.Standing.{stands_edited}
+use Rattle.irtext_parse_nested.proofs.Agreement.{agrees_edited}
 
 module _ {O B T : Type 0} where
   -- the data of an operation, and whether it has any
@@ -125,14 +125,14 @@ module _ {O B T : Type 0} {g k : GraphView (Option O) B T} (leaves : LeavesNames
     were = was_there;
     lost = λ d i e. cc;
     placeholders = λ d p n. record {
-      stands = still_there d p.stands;
+      alive = still_there d p.alive;
       blank = blank_still d p.blank;
       free = parent_same d ∙ p.free;
       empty = children_same d p.blank ∙ p.empty;
       alone = λ y i e. p.alone y (was_there y i) e;
     };
     were_placeholders = λ d p. record {
-      stands = was_there d p.stands;
+      alive = was_there d p.alive;
       blank = blank_was d p.blank;
       free = sym (parent_same d) ∙ p.free;
       empty = sym (children_same d (blank_was d p.blank)) ∙ p.empty;
@@ -174,9 +174,9 @@ module _ {T A U : Type 0} (old new : ContextView T A) (leaves : LeavesNames old.
       }
 
   -- names, graph and marks agree with the state of the machine
-  pub stands_left : {path : ℕ → Path} {items : Made} {pledges : List Pledge} {o : Outcome} → marks_of z ≡ marks_of s → MatchesGraph names.values names.labels old.graph
-      → StandsAs path items pledges names s o → StandsAs path items pledges names z o
-  stands_left same tied h = stands_edited names s z
+  pub agrees_left : {path : ℕ → Path} {items : Made} {pledges : List Pledge} {o : Outcome} → marks_of z ≡ marks_of s → MatchesGraph names.values names.labels old.graph
+      → MachineAgrees path items pledges names s o → MachineAgrees path items pledges names z o
+  agrees_left same tied h = agrees_edited names s z
       (λ d i. subst (λ c. IsDefined c.graph d) (sym f) (still_there leaves d (subst (λ c. IsDefined c.graph d) e i)))
       (λ u d i. subst (λ c. IsInPlace c.graph d u) (sym f) (in_place_still leaves u d (subst (λ c. IsInPlace c.graph d u) e i)))
       (subst (λ c. MatchesGraph names.values names.labels c.graph) (sym f) (ties_left leaves names.values names.labels tied)) same h

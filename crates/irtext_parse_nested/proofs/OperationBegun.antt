@@ -35,41 +35,41 @@ use Rattle.irtext_grammar.specs.Names.Acts.{result_types, piece_acts}
 use Rattle.irtext_grammar.specs.Names.History.{State, Outcome as Machine, act, going, run}
 use Rattle.irtext_grammar.specs.Names.Script as script
 use Rattle.irtext_grammar.specs.Names.Script.{Path, Place as Spot, result}
-use Rattle.irtext_names.specs.Linked.{Known, StandsAt}
+use Rattle.irtext_names.specs.Linked.{Known, NamesAgree}
 use Rattle.irtext_names.proofs.Linked.Interned.{interned}
 use Rattle.irtext_scopes.specs.Names.{AreDistinct}
 use Rattle.irtext_parse_state.specs.States.{LocatesAt, marks_of}
 use Rattle.irtext_parse_state.specs.declared.parsable.state.StateStream.{StateStream}
-use Rattle.irtext_parse_spec.specs.Promises.Root.{UnlessMemory, position_behind}
+use Rattle.irtext_parse_spec.specs.Promises.Root.{UnlessMemory, position_after}
 use Rattle.irtext_parse_spec.specs.Promises.Section.{Moves, indices_of}
 use Rattle.irtext_parse_spec.specs.Heads.{steps_of, front_steps, region_steps}
 use Rattle.irtext_parse_spec.specs.Naming.{body_of, unmarked, single_operands, single_successors}
 use Rattle.irtext_parse_spec.specs.Reached.{steps_in}
 use Rattle.irtext_parse_spec.specs.Resume.{begun, front_at}
 use Rattle.irtext_names.specs.Rows.{made_results, with_operation}
-use Rattle.irtext_names.proofs.Made.{made_stands}
+use Rattle.irtext_names.proofs.Made.{made_agrees}
 use Rattle.irtext_parse_spec.specs.Unchanged.{OwnSoFar, IsThere}
 use Rattle.irtext_parse_spec.proofs.Edits.{made_own}
 use Rattle.irtext_parse_pieces.specs.declared.names.ReadName.{ReadName}
 use Rattle.irtext_parse_pieces.specs.declared.pieces.ReadPiece.{ReadPiece}
 use Rattle.irtext_parse_pieces.specs.Fronts.{IsPart}
-use Rattle.irtext_parse_pieces.specs.Named.{Leaves, StandsFor, Each, NamesRead}
+use Rattle.irtext_parse_pieces.specs.Named.{Leaves, Represents, Each, NamesRead}
 use Rattle.irtext_parse_pieces.specs.Pieces.{IsPiece}
 use Rattle.irtext_parse_nested.specs.declared.beginning.ReadFront.{ReadFront}
 use Rattle.irtext_parse_nested.specs.declared.frame.BegunOperation.{BegunOperation}
 use Rattle.irtext_parse_nested.specs.declared.operation_parts.NotGathered.{NotGathered}
 use Rattle.irtext_parse_nested.specs.declared.operation_parts.NotGathered.TheVariants as refusal
-use Rattle.irtext_parse_nested.specs.Beginning.{FrontStands, LacksFront, lacks_lead, lacks_piece, SaysGather, NotGatheredAs, starved, refused, types_made, PlacedIn, MakesOf, ArePartsOf, HasBegun, ComesInto}
+use Rattle.irtext_parse_nested.specs.Beginning.{FrontComes, MissesFront, misses_lead, misses_piece, SaysGather, NotGatheredAs, ran_out, refused, types_made, PlacedIn, MakesOf, ArePartsOf, HasBegun, ComesInto}
 use Rattle.irtext_parse_nested.specs.OpenOperation.{HasNoType, ReadNeither, IsBegun, pledge_of}
 use Rattle.irtext_parse_pieces.specs.Coming.{IsStep}
 use Rattle.irtext_parse_nested.specs.Gathered.{FailsUses, operand_place, operand_list, successor_place, successor_list, placed_type, type_list, stored_of, last_list, CanGather, RefusesGathering, FailsAt}
-use Rattle.irtext_parse_nested.specs.Items.{Names, Pledge, Made, AreMadeAt, StandsAs, IsFailure, ActsWith, ActFails}
+use Rattle.irtext_parse_nested.specs.Items.{Names, Pledge, Made, AreMadeAt, MachineAgrees, IsFailure, ActsWith, ActFails}
 use Rattle.irtext_parse_nested.specs.Located.{IsLocated}
 use Rattle.irtext_parse_nested.specs.Read.{ReadsFront, begun_by, uses_of, BeginsOperation, RefusesOperation, no_lead, no_front, no_uses}
 use Rattle.irtext_parse_nested.proofs.Begins.{hands_held, note_parts, marks_stay, operation_placed}
-use Rattle.irtext_parse_nested.proofs.BegunParts.{steps_behind, behind_neither, pieces_of, later_untyped, stored_is, types_are, stores_are, operand_places_are, successor_places_are, can_gather}
+use Rattle.irtext_parse_nested.proofs.BegunParts.{steps_after, after_neither, pieces_of, later_untyped, stored_is, types_are, stores_are, operand_places_are, successor_places_are, can_gather}
 use Rattle.irtext_parse_nested.proofs.BegunCounts.{operands_counted, successors_counted}
-use Rattle.irtext_parse_nested.proofs.Faults.{stands_there, name_failure}
+use Rattle.irtext_parse_nested.proofs.Faults.{place_is_there, name_failure}
 use Rattle.irtext_parse_nested.proofs.Lasting.{data_there}
 use Rattle.irtext_parse_nested.proofs.OfItems.{of_operation}
 use Rattle.irtext_parse_nested.proofs.OperationMade.{begun_lasts, made_is, begun_is, begun_counts, begun_came, inside_made}
@@ -81,7 +81,7 @@ pub located_here : {A : Type 0} (v : StreamView) (src : _) (loc : Location A) �
 located_here v src loc h =
     let n : length (v.passed ++ v.rest) - length v.rest ≡ length v.passed = omega (arith, length-append v.passed v.rest) in
     let t : take (length (v.passed ++ v.rest) - length v.rest) (v.passed ++ v.rest) ≡ v.passed = ap (λ n. take n (v.passed ++ v.rest)) n ∙ take-append_seam v.passed v.rest in
-    h.is ∙ ap (SrcPos src) ((λ i. record { line = h.stands.0 i; column = h.stands.1 i }) ∙ ap position_behind (sym t))
+    h.is ∙ ap (SrcPos src) ((λ i. record { line = h.positioned.0 i; column = h.positioned.1 i }) ∙ ap position_after (sym t))
 
 -- a result is among those that were made
 made_result_there : {X : Type 0} (p : Path) (op : Ptr Operation) (k i : ℕ) (xs : List X) → i < length xs → Among {U = Spot × Value} (result p (k + i), Result op (k + i)) (made_results p op k xs)
@@ -117,7 +117,7 @@ module _ {T A U : Type 0} (types_at : Text → Outcome T) (attr : Text → Outco
   dialects = old.state.ctx.now.dialects
 
   -- ---- the pieces of a front
-  module _ {table : List Text} {rs : List ReadName} {id : OpId} {pieces : List (ReadPiece T A)} {mid : StreamView} (f : FrontStands types_at attr old.state.ctx.now.dialects true table old.stream rs id pieces mid) where
+  module _ {table : List Text} {rs : List ReadName} {id : OpId} {pieces : List (ReadPiece T A)} {mid : StreamView} (f : FrontComes types_at attr old.state.ctx.now.dialects true table old.stream rs id pieces mid) where
     steps_are : steps_in dialects (id_of id) ≡ steps_of f.format
     steps_are = ap (λ o. elim o [ Some f ↦ steps_of f | None ↦ [] ]) f.known
 
@@ -187,7 +187,7 @@ module _ {T A U : Type 0} (types_at : Text → Outcome T) (attr : Text → Outco
     }
 
     neither : ReadNeither (region_steps (steps_in dialects (id_of id)))
-    neither = subst (λ ss. ReadNeither (region_steps ss)) (sym steps_are) (behind_neither f.format f.accepted)
+    neither = subst (λ ss. ReadNeither (region_steps ss)) (sym steps_are) (after_neither f.format f.accepted)
 
     -- whatever parts follow, the body names this many
     operands_so : (names : List (Name ℕ)) (later : List (Part ℕ T A)) → ArePartsOf (region_steps (steps_in dialects (id_of id))) later
@@ -222,7 +222,7 @@ module _ {T A U : Type 0} (types_at : Text → Outcome T) (attr : Text → Outco
 
   -- ---- it was made
   module _ {middle names : Names} {block : Option (Ptr BasicBlock)} {front : ReadFront T A} {at : Place} {loc : Location A} {b : BegunOperation} {mid : StreamView}
-      (f : FrontStands types_at attr old.state.ctx.now.dialects true middle.names old.stream front.names front.id front.pieces mid) (new : StateStream T A U) (m : MakesOf block front at loc middle old.state.ctx.now names new.state.ctx.now b)
+      (f : FrontComes types_at attr old.state.ctx.now.dialects true middle.names old.stream front.names front.id front.pieces mid) (new : StateStream T A U) (m : MakesOf block front at loc middle old.state.ctx.now names new.state.ctx.now b)
       (all_older : AllOlder old.state.ctx.now.graph.made old.state.ctx.now.graph) (place : IfSome block (λ k. IsThere old.state.ctx.now (TheBlock k))) where
     abbrev old_ctx : ContextView T A
     old_ctx = old.state.ctx.now
@@ -279,17 +279,17 @@ module _ {T A U : Type 0} (types_at : Text → Outcome T) (attr : Text → Outco
     front_is_begun counted comes iso rest e left = record {
       inside = m.inside_is;
       place = subst (λ p. Leaves (whole old.stream) p (length old.stream.rest)) (sym m.at_is) left;
-      names_are = subst (λ ns. Each (StandsFor ns (whole old.stream)) b.names f.results) (sym m.creates.steady.names) (subst (λ ns. Each (StandsFor middle.names (whole old.stream)) ns f.results) (sym m.names_are) f.named);
+      names_are = subst (λ ns. Each (Represents ns (whole old.stream)) b.names f.results) (sym m.creates.steady.names) (subst (λ ns. Each (Represents middle.names (whole old.stream)) ns f.results) (sym m.names_are) f.named);
       id = ap id_of m.id_is;
       known = subst (λ d. IsSome (format_of d (id_of front.id))) (sym same_dialects) (subst IsSome (sym f.known) refl);
-      steps = steps_behind (steps_in dialects (id_of front.id)) ∙ (ap (λ n. drop n (steps_in dialects (id_of front.id))) (sym f.counts ∙ sym m.step_is) ∙ ap (λ d. drop b.step (steps_in d (id_of front.id))) (sym same_dialects));
+      steps = steps_after (steps_in dialects (id_of front.id)) ∙ (ap (λ n. drop n (steps_in dialects (id_of front.id))) (sym f.counts ∙ sym m.step_is) ∙ ap (λ d. drop b.step (steps_in d (id_of front.id))) (sym same_dialects));
       counted = m.steps_are ∙ (counted ∙ ap (λ d. length (steps_in d (id_of front.id))) (sym same_dialects));
       coming = subst (λ k. IfSome k (λ x. IsStep x (slice_get (steps_in new_ctx.dialects (id_of front.id)) b.step))) (sym m.coming_is)
           (subst (λ n. IsStep front.coming (slice_get (steps_in new_ctx.dialects (id_of front.id)) n)) (sym m.step_is)
           (subst (λ d. IsStep front.coming (slice_get (steps_in d (id_of front.id)) (length front.pieces))) (sym same_dialects) comes));
       is_isolated = m.isolated_is ∙ (iso ∙ ap (λ d. isolated d (id_of front.id)) (sym same_dialects));
       late = neither f;
-      stands = subst IsSome (sym (begun_is m all_older)) refl;
+      alive = subst IsSome (sym (begun_is m all_older)) refl;
       counts = begun_counts m all_older;
       typed = λ later h. ap (λ d. length (result_types (body_of (format_of d (id_of front.id)) (f.parts ++ later)))) same_dialects
           ∙ (ap length (typed_so f later h) ∙ (ap length (sym types_same) ∙ sym m.creates.counts));
@@ -309,8 +309,8 @@ module _ {T A U : Type 0} (types_at : Text → Outcome T) (attr : Text → Outco
       count_successors : single_labels ≡ length m.creates.gathered.successors.single.items
       count_successors = ap single_successors f.known ∙ (successors_placed.1 ∙ (ap length (sym successor_firsts) ∙ length_names (λ e. e.0) m.creates.gathered.successors.single.items))
 
-      placed_on : (o : Option (Ptr BasicBlock)) → IfSome o (λ k. IsThere old_ctx (TheBlock k)) → PlacedIn o m.made new_ctx b.op → (kn : Known) (st : State) → StandsAt names m.made.graph kn [] st → StandsAt names new_ctx.graph kn [] st
-      placed_on None there p kn st s = subst (λ c. StandsAt names c.graph kn [] st) (sym p) s
+      placed_on : (o : Option (Ptr BasicBlock)) → IfSome o (λ k. IsThere old_ctx (TheBlock k)) → PlacedIn o m.made new_ctx b.op → (kn : Known) (st : State) → NamesAgree names m.made.graph kn [] st → NamesAgree names new_ctx.graph kn [] st
+      placed_on None there p kn st s = subst (λ c. NamesAgree names c.graph kn [] st) (sym p) s
       placed_on (Some k) there p kn st s =
           let x = data_there m.made b.op (subst IsSome (sym (made_is m all_older)) refl) in
           operation_placed k b.op p.0 x.0 x.1 (inside_made m all_older k there) names kn [] st s
@@ -319,24 +319,24 @@ module _ {T A U : Type 0} (types_at : Text → Outcome T) (attr : Text → Outco
       unfolding front_reads
       front_acts rest e = record { so = so }
         where
-          so : (path : ℕ → Path) (items : Made) (more : List Pledge) (o : Machine) → StandsAs path items (more ++ []) before old.state o
-              → StandsAs path ((length old.stream.rest, TheOperation b.op) ∷ items) (more ++ pledge_of b (length old.stream.rest) ∷ []) names new.state (uses_of types_at attr true old rest (front_reads f rest e) path o)
+          so : (path : ℕ → Path) (items : Made) (more : List Pledge) (o : Machine) → MachineAgrees path items (more ++ []) before old.state o
+              → MachineAgrees path ((length old.stream.rest, TheOperation b.op) ∷ items) (more ++ pledge_of b (length old.stream.rest) ∷ []) names new.state (uses_of types_at attr true old rest (front_reads f rest e) path o)
           so path items more o h =
               let p = path (length old.stream.rest) in
               let acts = views (piece_acts p singles single_labels) f.parts in
-              let s = interned old_ctx.graph before middle read.kept distinct (read.values, read.labels) h.known [] h.state h.stands in
+              let s = interned old_ctx.graph before middle read.kept distinct (read.values, read.labels) h.known [] h.state h.agreed in
               let t = m.creates.gathers.uses (whole old.stream) f.parts f.are p singles single_labels in
               let r = t.takes.so h.known [] h.state s in
               let hands = hands_held p singles single_labels m.creates.gathered.operands m.creates.gathered.successors t.more count_operands count_successors
               (ap are_places operand_firsts ∙ operands_placed.0) (ap are_places successor_firsts ∙ successors_placed.0) t.held in
-              let made = made_stands b.op (record { id = front.id; attributes = m.creates.gathered.attributes; loc = loc }) (known (types_made m.creates.gathered.types.items m.creates.gathered.listed)) vs bs m.creates.makes.graph names h.known p t.more r.0 hands r.2 in
+              let made = made_agrees b.op (record { id = front.id; attributes = m.creates.gathered.attributes; loc = loc }) (known (types_made m.creates.gathered.types.items m.creates.gathered.listed)) vs bs m.creates.makes.graph names h.known p t.more r.0 hands r.2 in
               let kn = with_operation p b.op vs bs (known (types_made m.creates.gathered.types.items m.creates.gathered.listed)) h.known in
               record {
                 known = kn;
                 of_items = of_operation path items (length old.stream.rest) b.op vs bs (known (types_made m.creates.gathered.types.items m.creates.gathered.listed)) h.known h.of_items;
                 state = r.0;
                 going = ap (λ z. run z (map act acts)) h.going ∙ r.1;
-                stands = placed_on block place m.placed kn r.0 made;
+                agreed = placed_on block place m.placed kn r.0 made;
                 marks = marks_stay acts h.state r.0 (note_parts p singles single_labels f.parts) r.1 ∙ (h.marks ∙ ap indices_of (sym same_marks));
                 results = λ w a. last_pledge w (pledge_of b (length old.stream.rest)) more a (AreMadeAt path kn)
                     (λ u c i l. among_left (result (path u.place) i, Result u.op i) h.known.values (made_results p b.op 0 (known (types_made m.creates.gathered.types.items m.creates.gathered.listed))) (h.results u c i l))
@@ -359,20 +359,20 @@ module _ {T A U : Type 0} (types_at : Text → Outcome T) (attr : Text → Outco
   -- ---- it is an error
   -- if the pieces could not be gathered, the error is committed
   pub ungathered_commits : (pieces : List (ReadPiece T A)) (names : Names) (text : Text) (fault : ParseFault A) → NotGatheredAs pieces names old.state.ctx.now.graph text fault → fault.committed ≡ true
-  ungathered_commits pieces names text fault (starved s) = s.flag
+  ungathered_commits pieces names text fault (ran_out s) = s.flag
   ungathered_commits pieces names text fault (refused refusal.Memory r s) = s.flag
   ungathered_commits pieces names text fault (refused (refusal.ReservedKey key) r s) = s.1
   ungathered_commits pieces names text fault (refused (refusal.NoActiveScope name) r (inl s)) = s.flag
   ungathered_commits pieces names text fault (refused (refusal.NoActiveScope name) r (inr s)) = s.flag
 
   -- nothing was parsed
-  pub front_lacks : (before : Names) (wanted : Bool) (fault : ParseFault A) → UnlessMemory (LacksFront types_at attr old.state.ctx.now.dialects true wanted old.stream) fault → UnlessMemory (RefusesOperation types_at attr true wanted before old) fault
-  front_lacks before wanted fault (inl s) = inl s
-  front_lacks before wanted fault (inr (lacks_lead d c)) = inr (no_lead d c)
-  front_lacks before wanted fault (inr (lacks_piece names id lead middle e d c)) = inr (no_front names id lead middle e d c)
+  pub front_misses : (before : Names) (is_required : Bool) (fault : ParseFault A) → UnlessMemory (MissesFront types_at attr old.state.ctx.now.dialects true is_required old.stream) fault → UnlessMemory (RefusesOperation types_at attr true is_required before old) fault
+  front_misses before is_required fault (inl s) = inl s
+  front_misses before is_required fault (inr (misses_lead d c)) = inr (no_lead d c)
+  front_misses before is_required fault (inr (misses_piece names id lead middle e d c)) = inr (no_front names id lead middle e d c)
 
   -- what was parsed fails
-  module _ {before middle : Names} {rs : List ReadName} {id : OpId} {pieces : List (ReadPiece T A)} {mid : StreamView} (f : FrontStands types_at attr old.state.ctx.now.dialects true middle.names old.stream rs id pieces mid)
+  module _ {before middle : Names} {rs : List ReadName} {id : OpId} {pieces : List (ReadPiece T A)} {mid : StreamView} (f : FrontComes types_at attr old.state.ctx.now.dialects true middle.names old.stream rs id pieces mid)
       (read : NamesRead before middle) (distinct : AreDistinct middle.names) where
     module _ {Is : Text → Name ℕ → Type 0} {cause : Text → script.Cause Text} (fails : FailsAt pieces middle old.state.ctx.now.graph Is cause) where
       failing : (n : Name ℕ) × Is (whole old.stream) n × ((p : Path) (k l : ℕ) → FailsUses (views (piece_acts p k l) f.parts) middle old.state.ctx.now.graph (record { cause = cause n.text; at = Some n.place }))
@@ -386,7 +386,7 @@ module _ {T A U : Type 0} (types_at : Text → Outcome T) (attr : Text → Outco
         is = is;
         so = λ path items more o h.
             let p = path (length old.stream.rest) in
-            let s = interned old.state.ctx.now.graph before middle read.kept distinct (read.values, read.labels) h.known [] h.state h.stands in
+            let s = interned old.state.ctx.now.graph before middle read.kept distinct (read.values, read.labels) h.known [] h.state h.agreed in
             ap (λ z. run z (map act (views (piece_acts p (single_operands (format_of dialects (id_of id))) (single_successors (format_of dialects (id_of id)))) f.parts))) h.going
             ∙ (failing.2 p (single_operands (format_of dialects (id_of id))) (single_successors (format_of dialects (id_of id)))).so h.known [] h.state s;
       }
@@ -396,10 +396,10 @@ module _ {T A U : Type 0} (types_at : Text → Outcome T) (attr : Text → Outco
     why_fails fault refusal.Memory r s = inl s
     why_fails fault (refusal.ReservedKey key) r s =
         let n = failing r in
-        inr (uses_fail r fault (record { cause = s.0 ∙ ap causes.ReservedKey n.1.named; place = stands_there n.1.place s.2; committed = s.1 }))
+        inr (uses_fail r fault (record { cause = s.0 ∙ ap causes.ReservedKey n.1.named; place = place_is_there n.1.place s.2; committed = s.1 }))
     why_fails fault (refusal.NoActiveScope name) r (inl s) = inl s
     why_fails fault (refusal.NoActiveScope name) r (inr s) = inr (uses_fail r fault (name_failure causes.NoActiveScope script.NoActiveScope (λ t c e. e) (failing r).1 s))
 
-    pub front_fails : (wanted : Bool) (fault : ParseFault A) → NotGatheredAs pieces middle old.state.ctx.now.graph (whole old.stream) fault → UnlessMemory (RefusesOperation types_at attr true wanted before old) fault
-    front_fails wanted fault (starved s) = inl s
-    front_fails wanted fault (refused why r s) = elim (why_fails fault why r s) [ inl z ↦ inl z | inr z ↦ inr (no_uses mid.rest (front_reads f mid.rest refl) z) ]
+    pub front_fails : (is_required : Bool) (fault : ParseFault A) → NotGatheredAs pieces middle old.state.ctx.now.graph (whole old.stream) fault → UnlessMemory (RefusesOperation types_at attr true is_required before old) fault
+    front_fails is_required fault (ran_out s) = inl s
+    front_fails is_required fault (refused why r s) = elim (why_fails fault why r s) [ inl z ↦ inl z | inr z ↦ inr (no_uses mid.rest (front_reads f mid.rest refl) z) ]

@@ -24,12 +24,12 @@ use Rattle.irtext_parse_spec.specs.Resume.{OpenOperation}
 use Rattle.irtext_parse_pieces.specs.declared.marks.ReadMark.{ReadMark}
 use Rattle.irtext_parse_pieces.specs.declared.names.ReadName.{ReadName}
 use Rattle.irtext_parse_pieces.specs.Marks.{IsMarkIf}
-use Rattle.irtext_parse_pieces.specs.Named.{StandsFor, Each}
+use Rattle.irtext_parse_pieces.specs.Named.{Represents, Each}
 use Rattle.irtext_parse_nested.specs.declared.frame.BegunOperation.{BegunOperation}
 use Rattle.irtext_parse_nested.specs.OpenOperation.{pledge_of}
 use Rattle.irtext_parse_nested.specs.Ends.{closes_at, NotesMark, noted_as, WritesAttributes, GivesNames, BecomesNamed}
 use Rattle.irtext_parse_nested.specs.Items.{Names, Acts, KeepsLive, IsSound}
-use Rattle.irtext_parse_nested.proofs.Edited.{edited_lasts, edited_sound, edited_stands}
+use Rattle.irtext_parse_nested.proofs.Edited.{edited_lasts, edited_sound, edited_agrees}
 use Rattle.irtext_parse_nested.proofs.Faults.{named_each}
 use Rattle.irtext_parse_nested.proofs.Lasting.{lasts_then}
 
@@ -50,7 +50,7 @@ module _ {T A : Type 0} where
         stays : (was : OperationView T A) → operation old op ≡ Some was → operation mid op ≡ Some was
         stays was e = (spares.spared (TheOperation op) (subst IsSome (sym e) refl) (λ i. i)).0 ∙ e
 
-        so : (own : OwnSoFar T A) (view : OperationView T A) → operation old op ≡ Some view → HasOwn IsLocation view own → HasUses old op own → (ns : List (Name ℕ)) → Each (StandsFor names text) read ns
+        so : (own : OwnSoFar T A) (view : OperationView T A) → operation old op ≡ Some view → HasOwn IsLocation view own → HasUses old op own → (ns : List (Name ℕ)) → Each (Represents names text) read ns
             → OwnBecame old new IsLocation op (record own { entries = put_all own.entries (read_names (map (λ n. n.text) ns)) })
         so own view is has uses ns each =
             let many = (spares.spared (TheOperation op) (subst IsSome (sym is) refl) (λ i. i)).1 in
@@ -69,7 +69,7 @@ module _ {T A : Type 0} where
 pub close_acts : {T A U : Type 0} (names new : Names) (s m z : code.State T A U) (b : BegunOperation) (o : OpenOperation T A) → Acts (closes_at o s) names s (pledge_of b o.place ∷ []) new m []
     → WritesAttributes m.ctx.now z.ctx.now b.op → marks_of z ≡ marks_of m → MatchesGraph new.values new.labels m.ctx.now.graph → Acts (closes_at o s) names s (pledge_of b o.place ∷ []) new z []
 close_acts names new s m z b o acts w same tied = record {
-  so = λ path items more x h. edited_stands m.ctx.now z.ctx.now b.op (with_attributes w.left) w.edits new m z refl refl same tied (acts.so path items more x h);
+  so = λ path items more x h. edited_agrees m.ctx.now z.ctx.now b.op (with_attributes w.left) w.edits new m z refl refl same tied (acts.so path items more x h);
 }
 
 pub close_sound : {T A U : Type 0} (names : Names) (m z : code.State T A U) (op : Ptr Operation) → WritesAttributes m.ctx.now z.ctx.now op → (n : ℕ) → IsSound n names m → IsSound n names z

@@ -12,7 +12,7 @@ use Rattle.irtext_graph.specs.Back.{AllOlder}
 use Rattle.irtext_graph.specs.Graph.{IsNew, content_of, parent, numbered}
 use Rattle.irtext_graph.specs.Parts.{operation_at, results, results_of}
 use Rattle.irtext_graph.specs.Erasing.{without_uses}
-use Rattle.irtext_graph.proofs.Nests.{told}
+use Rattle.irtext_graph.proofs.Nests.{same_or_other}
 use Rattle.irtext_graph.proofs.Same.{ptr_tells}
 use Rattle.irtext_context.specs.declared.base.block.BlockData.{BlockData}
 use Rattle.irtext_graph.specs.declared.arena.Ptr.{Ptr}
@@ -37,7 +37,7 @@ use Rattle.irtext_parse_nested.proofs.Losing.{blanks_by}
 use Rattle.irtext_parse_nested.proofs.Steady.{seen_operation}
 use Rattle.irtext_parse_nested.proofs.Begins.{operation_placed_ties, operation_placed_waits}
 use Rattle.irtext_parse_nested.proofs.Lasting.{lasts_then, lasts_itself, data_there}
-use Rattle.irtext_parse_nested.proofs.UsedStands.{used_spares, used_lasts, made_new, made_lasts, placed_lasts}
+use Rattle.irtext_parse_nested.proofs.UsedLive.{used_spares, used_lasts, made_new, made_lasts, placed_lasts}
 use Rattle.irtext_stream.specs.declared.position.Place.{Place}
 
 count_numbered : {T : Type 0} (n : ℕ) (ts : List T) → length (numbered n ts) ≡ length ts
@@ -127,7 +127,7 @@ module _ {T A : Type 0} {blk : Option (Ptr BasicBlock)} {front : ReadFront T A} 
 
   -- it has data, and each other operation was there
   blanks_made : (n : ℕ) → BlanksHaveResults n m.creates.used.graph → BlanksHaveResults n m.made.graph
-  blanks_made = blanks_by m.creates.used.graph m.made.graph (λ p. elim (told ptr_tells p b.op) [
+  blanks_made = blanks_by m.creates.used.graph m.made.graph (λ p. elim (same_or_other ptr_tells p b.op) [
     | inl same ↦ inr (λ e. let x = data_there m.made b.op (subst IsSome (sym made_is) refl) in let f = sym x.1 ∙ (ap (λ q. option_map (λ c. c.data_of) (operation_at m.made.graph q)) (sym same) ∙ e) in absurd (cc))
     | inr apart ↦ inl (ap (λ e. option_map without_uses (seen_operation (OperationData A) (BlockData A) (Option T) (content_of e))) (m.creates.makes.graph.operations.updates.others p apart))
   ])

@@ -25,7 +25,7 @@ use Rattle.irtext_grammar.specs.Names.History.{State, act, going, after, outcome
 use Rattle.irtext_grammar.specs.Names.Scopes.{fact_of, nothing}
 use Rattle.irtext_grammar.specs.Names.Script.{Path, User, operand, successor, use_value, use_label, claim, Cause, ReservedKey, NoActiveScope}
 use Rattle.irtext_grammar.specs.Names.TextScopes.{Act, Failure, Word}
-use Rattle.irtext_names.specs.Linked.{StandsAt, FailsBy}
+use Rattle.irtext_names.specs.Linked.{NamesAgree, FailsBy}
 use Rattle.irtext_names.proofs.Linked.Outside.{value_use_outside, label_use_outside}
 use Rattle.irtext_scopes.specs.Scopes.{is_open}
 use Rattle.irtext_names.proofs.Linked.Moving.{among_split}
@@ -37,21 +37,21 @@ use Rattle.irtext_parse_pieces.specs.declared.pieces.ReadPiece.{ReadPiece}
 use Rattle.irtext_parse_pieces.specs.declared.pieces.ReadPiece.TheVariants as read
 use Rattle.irtext_parse_pieces.specs.Entries.{IsEntry, IsKey}
 use Rattle.irtext_parse_pieces.specs.Fronts.{IsPart}
-use Rattle.irtext_parse_pieces.specs.Named.{Each, StandsFor}
+use Rattle.irtext_parse_pieces.specs.Named.{Each, Represents}
 use Rattle.irtext_parse_pieces.specs.Pieces.{IsPiece}
 use Rattle.irtext_parse_nested.specs.declared.operation_parts.Gathered.{Gathered}
 use Rattle.irtext_parse_nested.specs.declared.operation_parts.NotGathered.{NotGathered}
 use Rattle.irtext_parse_nested.specs.declared.operation_parts.NotGathered.TheVariants as refusal
 use Rattle.irtext_parse_nested.specs.declared.uses.Placed.{Placed}
 use Rattle.irtext_parse_nested.specs.Items.{Names}
-use Rattle.irtext_parse_nested.specs.Gathered.{entry_read, operand_place, successor_place, operand_list, successor_list, placed_type, type_list, stored_of, last_list, IsInHand, LackOperands, LackSuccessors, Grows, FailsUses, TakesParts, TakesName, AllStand, MayAllHold, IsFirstReserved, RefusesEntries, GathersAlone, RefusesAlone, RefusesGathering, Gathers, FailsAt, GatherFails, GatherOutside}
+use Rattle.irtext_parse_nested.specs.Gathered.{entry_read, operand_place, successor_place, operand_list, successor_list, placed_type, type_list, stored_of, last_list, IsInHand, LackOperands, LackSuccessors, Grows, FailsUses, TakesParts, TakesName, AllUsesLive, MayAllHold, IsFirstReserved, RefusesEntries, GathersAlone, RefusesAlone, RefusesGathering, Gathers, FailsAt, GatherFails, GatherOutside}
 use Rattle.irtext_parse_nested.proofs.Ends.{after_nothing}
 use Rattle.irtext_parse_nested.proofs.Steady.{length_names}
 use Rattle.irtext_parse_nested.proofs.Gathers.{grows_itself, map_both, takes_none, takes_both, fails_then, fails_first, fails_at_first}
 
 -- ---- names
 -- names that were parsed have their texts under their numbers
-pub named_row : (table : List Text) (text : Text) (ns : List ReadName) (ms : List (Name ℕ)) → Each (StandsFor table text) ns ms → AreNamed table (map (λ n. n.name) ns) ms
+pub named_row : (table : List Text) (text : Text) (ns : List ReadName) (ms : List (Name ℕ)) → Each (Represents table text) ns ms → AreNamed table (map (λ n. n.name) ns) ms
 named_row table text [] [] e = tt
 named_row table text [] (m ∷ ms) e = absurd e
 named_row table text (n ∷ ns) [] e = absurd e
@@ -89,16 +89,16 @@ abbrev AllLive : {O B T X : Type 0} → (X → Defined) → GraphView (Option O)
 AllLive {X = X} of g x = ((e : ℕ × X) → Among e x.single.items → IsDefined g (of e.1)) × ((v : X) → Among v x.list.items → IsDefined g (of v))
 
 -- What pieces did to the operands, or to the successors: which places and how many listed ones they added.
-record Half {O B T X : Type 0} (of : X → Defined) (g h : GraphView (Option O) B (Option T)) (Lacks : Type 0) (places : List ℕ) (listed : ℕ) (x y : Placed X) : Type 0 where
-  unlisted : Lacks → y.list.items ≡ x.list.items
+record Half {O B T X : Type 0} (of : X → Defined) (g h : GraphView (Option O) B (Option T)) (Missed : Type 0) (places : List ℕ) (listed : ℕ) (x y : Placed X) : Type 0 where
+  unlisted : Missed → y.list.items ≡ x.list.items
   grow : Grows x y
   places_are : map (λ e. e.0) y.single.items ≡ map (λ e. e.0) x.single.items ++ places
   count : length y.list.items ≡ length x.list.items + listed
   there : AllLive of g x → AllLive of h y
 
-module _ {O B T X : Type 0} (of : X → Defined) (g h : GraphView (Option O) B (Option T)) (still : (d : Defined) → IsDefined g d → IsDefined h d) (Lacks : Type 0) (x y : Placed X) where
+module _ {O B T X : Type 0} (of : X → Defined) (g h : GraphView (Option O) B (Option T)) (still : (d : Defined) → IsDefined g d → IsDefined h d) (Missed : Type 0) (x y : Placed X) where
   -- they are the same
-  half_same : (places : List ℕ) (listed : ℕ) → places ≡ [] → listed ≡ 0 → y ≡ x → Half of g h Lacks places listed x y
+  half_same : (places : List ℕ) (listed : ℕ) → places ≡ [] → listed ≡ 0 → y ≡ x → Half of g h Missed places listed x y
   half_same places listed none unlisted same = record {
     unlisted = λ l. ap (λ z. z.list.items) same;
     grow = subst (Grows x) (sym same) (grows_itself x);
@@ -108,7 +108,7 @@ module _ {O B T X : Type 0} (of : X → Defined) (g h : GraphView (Option O) B (
   }
 
   -- one was added that has a place of its own
-  half_single : (i : ℕ) (v : X) → IsDefined h (of v) → y.single.items ≡ x.single.items ++ (i, v) ∷ [] → y.list.items ≡ x.list.items → Half of g h Lacks (i ∷ []) 0 x y
+  half_single : (i : ℕ) (v : X) → IsDefined h (of v) → y.single.items ≡ x.single.items ++ (i, v) ∷ [] → y.list.items ≡ x.list.items → Half of g h Missed (i ∷ []) 0 x y
   half_single i v new single list = record {
     unlisted = λ l. list;
     grow = record { single = λ e a. subst (Among e) (sym single) (among_left e x.single.items ((i, v) ∷ []) a); list = λ j w e. ap (λ ws. slice_get ws j) list ∙ e };
@@ -153,7 +153,7 @@ row_count ns more e = e ∙ (length_names (λ n. n.name) ns ∙ ap length (sym (
 
 -- a name that was used
 name_takes : {O B T X : Type 0} (of : X → Defined) (uses : Word → User → Act) (old new : Names) (g h : GraphView (Option O) B T) (text : Text) (n : ReadName) (m : Name ℕ) (v : X) (u : User)
-    → TakesName of uses n.name old new g h v → StandsFor old.names text n m → TakesUses (uses (word_of m) u ∷ []) old new g h ((u, of v) ∷ [])
+    → TakesName of uses n.name old new g h v → Represents old.names text n m → TakesUses (uses (word_of m) u ∷ []) old new g h ((u, of v) ∷ [])
 name_takes of uses old new g h text n m v u t is = record {
   so = λ known held st s. let r = (t.follows (word_of m) u is.named).so known held st s in (after st (fact_of (uses (word_of m) u)), r.0, r.1);
 }
@@ -217,7 +217,7 @@ module _ {O B T A : Type 0} (names : Names) (g : GraphView (Option O) B (Option 
 
   -- a list without names
   none_used : (make : List (Name ℕ) → Piece ℕ T A) → ((p : Path) (k l : ℕ) → piece_acts p k l (make []) ≡ []) → (text : Text) (q : Piece ℕ T A)
-      → (ms : List (Name ℕ)) × (q ≡ make ms) × Each (StandsFor names.names text) [] ms → (p : Path) (k l : ℕ) → TakesUses (piece_acts p k l q) names names g g []
+      → (ms : List (Name ℕ)) × (q ≡ make ms) × Each (Represents names.names text) [] ms → (p : Path) (k l : ℕ) → TakesUses (piece_acts p k l q) names names g g []
   none_used make none text q ([], is, each) p k l = silent q (make []) is p k l (none p k l)
   none_used make none text q (m ∷ ms, is, each) p k l = absurd each
 
@@ -282,7 +282,7 @@ module _ {O B T : Type 0} (names : Names) (g : GraphView (Option O) B T) where
   -- what holds changes nothing
   holds_passes : (b : Bool) (f : Failure) → b ≡ true → TakesUses (claim b f ∷ []) names names g g []
   holds_passes b f e = record {
-    so = λ known held st s. (st, ap (λ z. outcome (cond z [] (f ∷ [])) (after st nothing)) e ∙ ap going (after_nothing st), subst (λ xs. StandsAt names g known xs st) (sym (append-nil held)) s);
+    so = λ known held st s. (st, ap (λ z. outcome (cond z [] (f ∷ [])) (after st nothing)) e ∙ ap going (after_nothing st), subst (λ xs. NamesAgree names g known xs st) (sym (append-nil held)) s);
   }
 
   fails_not : (b : Bool) (f : Failure) → b ≡ false → FailsUses (claim b f ∷ []) names g f
@@ -340,25 +340,25 @@ module _ {O B T : Type 0} (names : Names) (g : GraphView (Option O) B (Option T)
   act_fails a f h = record { so = λ known held st s. h.so known held st s }
 
   -- a list fails at its first name
-  values_fail : (text : Text) (n : ReadName) (ns : List ReadName) (ms : List (Name ℕ)) → is_open names.values ≡ false → Each (StandsFor names.names text) (n ∷ ns) ms
-      → (m : Name ℕ) × StandsFor names.names text n m × ((p : Path) (k : ℕ) → FailsUses (value_uses p k ms) names g (record { cause = NoActiveScope m.text; at = Some m.place }))
+  values_fail : (text : Text) (n : ReadName) (ns : List ReadName) (ms : List (Name ℕ)) → is_open names.values ≡ false → Each (Represents names.names text) (n ∷ ns) ms
+      → (m : Name ℕ) × Represents names.names text n m × ((p : Path) (k : ℕ) → FailsUses (value_uses p k ms) names g (record { cause = NoActiveScope m.text; at = Some m.place }))
   values_fail text n ns [] shut e = absurd e
   values_fail text n ns (m ∷ ms) shut e = (m, e.0, λ p k. fails_first (value_uses p (suc k) ms) (act_fails (use_value (word_of m) (operand p k)) _ (value_use_outside names g (word_of m) (operand p k) shut)))
 
-  labels_fail : (text : Text) (n : ReadName) (ns : List ReadName) (ms : List (Name ℕ)) → is_open names.labels ≡ false → Each (StandsFor names.names text) (n ∷ ns) ms
-      → (m : Name ℕ) × StandsFor names.names text n m × ((p : Path) (k : ℕ) → FailsUses (label_uses p k ms) names g (record { cause = NoActiveScope m.text; at = Some m.place }))
+  labels_fail : (text : Text) (n : ReadName) (ns : List ReadName) (ms : List (Name ℕ)) → is_open names.labels ≡ false → Each (Represents names.names text) (n ∷ ns) ms
+      → (m : Name ℕ) × Represents names.names text n m × ((p : Path) (k : ℕ) → FailsUses (label_uses p k ms) names g (record { cause = NoActiveScope m.text; at = Some m.place }))
   labels_fail text n ns [] shut e = absurd e
   labels_fail text n ns (m ∷ ms) shut e = (m, e.0, λ p k. fails_first (label_uses p (suc k) ms) (act_fails (use_label (word_of m) (successor p k)) _ (label_use_outside names g (word_of m) (successor p k) shut)))
 
 module _ {O B T A : Type 0} (names : Names) (g : GraphView (Option O) B (Option T)) where
   -- the acts of the only part fail at this name
   name_fails : (piece : ReadPiece T A) (read : ReadName)
-      → ((text : Text) (q : Piece ℕ T A) → IsPiece names.names text piece q → (n : Name ℕ) × StandsFor names.names text read n × (z : Piece ℕ T A) × (q ≡ z) × ((p : Path) (k l : ℕ) → FailsUses (piece_acts p k l z) names g (record { cause = NoActiveScope n.text; at = Some n.place })))
+      → ((text : Text) (q : Piece ℕ T A) → IsPiece names.names text piece q → (n : Name ℕ) × Represents names.names text read n × (z : Piece ℕ T A) × (q ≡ z) × ((p : Path) (k l : ℕ) → FailsUses (piece_acts p k l z) names g (record { cause = NoActiveScope n.text; at = Some n.place })))
       → GatherOutside {T = T} (piece ∷ []) names g read
   name_fails piece read so = record { so = fails }
     where
       fails : (text : Text) (parts : List (Part ℕ T A)) → Each (IsPart names.names text) (piece ∷ []) parts
-          → (n : Name ℕ) × StandsFor names.names text read n × ((p : Path) (k l : ℕ) → FailsUses (views (piece_acts p k l) parts) names g (record { cause = NoActiveScope n.text; at = Some n.place }))
+          → (n : Name ℕ) × Represents names.names text read n × ((p : Path) (k l : ℕ) → FailsUses (views (piece_acts p k l) parts) names g (record { cause = NoActiveScope n.text; at = Some n.place }))
       fails text [] e = absurd e
       fails text (part ∷ z ∷ parts) e = absurd e.1
       fails text (part ∷ []) e =
@@ -380,12 +380,12 @@ module _ {O B T A : Type 0} (names : Names) (g : GraphView (Option O) B (Option 
   pub operands_outside : (ns : List ReadName) (n : ReadName) → slice_get ns 0 ≡ Some n → is_open names.values ≡ false → GatherOutside {T = T} {A = A} (read.Operands ns ∷ []) names g n
   operands_outside [] n e shut = absurd (cc)
   operands_outside (m ∷ ns) n e shut = name_fails (read.Operands (m ∷ ns)) n (λ text q is. let f = values_fail names g text m ns is.0 shut is.2 in let same : m ≡ n = cc in
-      (f.0, subst (λ r. StandsFor names.names text r f.0) same f.1, tree.operands is.0, is.1, λ p k l. f.2 p k))
+      (f.0, subst (λ r. Represents names.names text r f.0) same f.1, tree.operands is.0, is.1, λ p k l. f.2 p k))
 
   pub successors_outside : (ns : List ReadName) (n : ReadName) → slice_get ns 0 ≡ Some n → is_open names.labels ≡ false → GatherOutside {T = T} {A = A} (read.Successors ns ∷ []) names g n
   successors_outside [] n e shut = absurd (cc)
   successors_outside (m ∷ ns) n e shut = name_fails (read.Successors (m ∷ ns)) n (λ text q is. let f = labels_fail names g text m ns is.0 shut is.2 in let same : m ≡ n = cc in
-      (f.0, subst (λ r. StandsFor names.names text r f.0) same f.1, tree.successors is.0, is.1, λ p k l. f.2 p l))
+      (f.0, subst (λ r. Represents names.names text r f.0) same f.1, tree.successors is.0, is.1, λ p k l. f.2 p l))
 
 -- ---- lists that are none or some
 pub none_of_length : (ns : List ReadName) → length ns ≡ 0 → ns ≡ []
@@ -435,8 +435,8 @@ module _ {O B T A : Type 0} where
       → (r : NotGathered) → RefusesGathering ps mid h r → RefusesGathering qs names g r
   gather_refused_from ps qs names mid g h same from refusal.Memory r = tt
   gather_refused_from ps qs names mid g h same from (refusal.ReservedKey key) r = from (λ text n. IsKey text key n) ReservedKey r
-  gather_refused_from ps qs names mid g h same from (refusal.NoActiveScope read) r = from (λ text n. StandsFor names.names text read n) NoActiveScope
-      (subst (λ table. FailsAt ps mid h (λ text n. StandsFor table text read n) NoActiveScope) same r)
+  gather_refused_from ps qs names mid g h same from (refusal.NoActiveScope read) r = from (λ text n. Represents names.names text read n) NoActiveScope
+      (subst (λ table. FailsAt ps mid h (λ text n. Represents table text read n) NoActiveScope) same r)
 
 -- ---- pieces by their kind
 module _ {T A : Type 0} (names : Names) (g : GraphView (Option (OperationData A)) (BlockData A) (Option T)) (x y : Gathered T A) where

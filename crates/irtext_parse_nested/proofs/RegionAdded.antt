@@ -12,7 +12,7 @@ use Rattle.irtext_graph.specs.Graph.{GraphView, content, content_of, parent, par
 use Rattle.irtext_graph.specs.Parts.{operation_at}
 use Rattle.irtext_graph.specs.Regions.{with_child, AddsRegion}
 use Rattle.irtext_graph.specs.Store.{get, object_of}
-use Rattle.irtext_graph.proofs.Nests.{told}
+use Rattle.irtext_graph.proofs.Nests.{same_or_other}
 use Rattle.irtext_graph.proofs.Same.{ptr_tells}
 use Rattle.irtext_parse_nested.proofs.NamesLeft.{data_at, LeavesNames, operations_leave}
 
@@ -22,7 +22,7 @@ module _ {O B T : Type 0} (g k : GraphView (Option O) B T) (op : Ptr Operation) 
 
   -- what does not look at an operation's regions sees what it saw
   seen_same : {X : Type 0} (f : Stored → X) → ((e : Stored) → f (option_map (object_of (with_child r)) e) ≡ f e) → (p : Ptr Operation) → f (get k.operations p) ≡ f (get g.operations p)
-  seen_same f same p = elim (told ptr_tells p op) [
+  seen_same f same p = elim (same_or_other ptr_tells p op) [
     | inl e ↦ ap (λ q. f (get k.operations q)) e ∙ (ap f adds.operations.updates.changed ∙ (same (get g.operations op) ∙ ap (λ q. f (get g.operations q)) (sym e)))
     | inr n ↦ ap f (adds.operations.updates.others p n)
   ]
@@ -52,7 +52,7 @@ module _ {O B T : Type 0} (g k : GraphView (Option O) B T) (op : Ptr Operation) 
   module _ (x : O) (has : option_map (λ c. c.data_of) (operation_at g op) ≡ Some (Some x)) where
     -- what is blank holds what it held
     children_same : (p : Ptr Operation) → data_at g p ≡ Some None → children k (TheOperation p) ≡ children g (TheOperation p)
-    children_same p b = elim (told ptr_tells p op) [
+    children_same p b = elim (same_or_other ptr_tells p op) [
       | inl e ↦ let none = ap (data_at g) (sym e) ∙ b in let z = sym has ∙ none in absurd (cc)
       | inr n ↦ ap (λ e. map TheRegion (children_of e)) (adds.operations.updates.others p n)
     ]

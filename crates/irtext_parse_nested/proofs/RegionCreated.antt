@@ -14,7 +14,7 @@ use Rattle.irtext_graph.specs.Graph.{content, content_of, parent_of, IsLive, IsN
 use Rattle.irtext_graph.specs.Objects.{is_older}
 use Rattle.irtext_graph.specs.Parts.{operation_at, results_of}
 use Rattle.irtext_graph.specs.Store.{get}
-use Rattle.irtext_graph.proofs.Nests.{told}
+use Rattle.irtext_graph.proofs.Nests.{same_or_other}
 use Rattle.irtext_graph.proofs.Same.{ptr_tells}
 use Rattle.irtext_parse_nested.specs.Items.{KeepsLive}
 use Rattle.irtext_parse_nested.proofs.Lasting.{not_below, data_there, there_data}
@@ -32,7 +32,7 @@ module _ {T A : Type 0} where
 
 module _ {T A : Type 0} {old new : ContextView T A} {r : Ptr Region} (creates : CreatesRegion old new r) where
   region_is : (q : Ptr Region) → (content new.graph (TheRegion q) ≡ content old.graph (TheRegion q)) ⊎ (content new.graph (TheRegion q) ≡ Some (ARegion old.graph.made (record {})))
-  region_is q = elim (told ptr_tells q r) [
+  region_is q = elim (same_or_other ptr_tells q r) [
     | inl e ↦ inr (ap (λ z. content new.graph (TheRegion z)) e ∙ creates.itself)
     | inr n ↦ inl (creates.others q n)
   ]

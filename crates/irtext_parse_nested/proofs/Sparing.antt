@@ -17,7 +17,7 @@ use Rattle.irtext_parse_spec.specs.Unchanged.{IsThere, ModifiesOnly}
 use Rattle.irtext_parse_spec.proofs.Edits as edits
 use Rattle.irtext_parse_spec.proofs.Edits.{alike_as}
 use Rattle.irtext_parse_nested.specs.Definitions.{IsPlaced, HasAsMany, LosesPlaceholders}
-use Rattle.irtext_parse_nested.proofs.Lasting.{data_there, there_data, block_stands, stands_block}
+use Rattle.irtext_parse_nested.proofs.Lasting.{data_there, there_data, block_is_live, live_block_view}
 
 module _ {T A : Type 0} where
   -- a region, as what an object is
@@ -25,15 +25,15 @@ module _ {T A : Type 0} where
   a_region d = ARegion d.0 d.1
 
   -- a live region has a view, and conversely
-  pub stands_region : (c : ContextView T A) (r : Ptr Region) → IsLive c.graph (TheRegion r) → IsSome (region c r)
-  stands_region c r h = go (get c.graph.regions r) h
+  pub live_region_view : (c : ContextView T A) (r : Ptr Region) → IsLive c.graph (TheRegion r) → IsSome (region c r)
+  live_region_view c r h = go (get c.graph.regions r) h
     where
       go : (e : Option (Entry (Node Operation BasicBlock RegionContent))) → IsSome (option_map a_region (content_of e)) → IsSome (option_map region_of e)
       go None s = absurd (cc)
       go (Some e) s = refl
 
-  pub region_stands : (c : ContextView T A) (r : Ptr Region) → IsSome (region c r) → IsLive c.graph (TheRegion r)
-  region_stands c r h = go (get c.graph.regions r) h
+  pub region_is_live : (c : ContextView T A) (r : Ptr Region) → IsSome (region c r) → IsLive c.graph (TheRegion r)
+  region_is_live c r h = go (get c.graph.regions r) h
     where
       go : (e : Option (Entry (Node Operation BasicBlock RegionContent))) → IsSome (option_map region_of e) → IsSome (option_map a_region (content_of e))
       go None s = absurd (cc)
@@ -42,13 +42,13 @@ module _ {T A : Type 0} where
   -- an object that is present is no placeholder, and one that is no placeholder is present
   there_placed : (c : ContextView T A) (q : Object) → IsThere c q → IsPlaced c.graph q
   there_placed c (TheOperation p) h = data_there c p h
-  there_placed c (TheBlock b) h = (block_stands c b h.0, h.1)
-  there_placed c (TheRegion r) h = region_stands c r h
+  there_placed c (TheBlock b) h = (block_is_live c b h.0, h.1)
+  there_placed c (TheRegion r) h = region_is_live c r h
 
   placed_there : (c : ContextView T A) (q : Object) → IsPlaced c.graph q → IsThere c q
   placed_there c (TheOperation p) h = there_data c p h.0 h.1
-  placed_there c (TheBlock b) h = (stands_block c b h.0, h.1)
-  placed_there c (TheRegion r) h = stands_region c r h
+  placed_there c (TheBlock b) h = (live_block_view c b h.0, h.1)
+  placed_there c (TheRegion r) h = live_region_view c r h
 
 -- the same, as the theory of structure says it
 many_as : {O B T : Type 0} (g k : GraphView (Option O) B T) (q : Object) → HasAsMany g k q → edits.HasAsMany g k q

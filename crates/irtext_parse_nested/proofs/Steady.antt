@@ -11,7 +11,7 @@ use Rattle.irtext_graph.specs.declared.object.Value.TheVariants.{Result as Value
 use Rattle.irtext_graph.specs.Content.{Content, Content.{AnOperation, ARegion}, OperationContent, RegionContent}
 use Rattle.irtext_graph.specs.Erasing.{without_uses}
 use Rattle.irtext_graph.specs.Store.{get}
-use Rattle.irtext_graph.proofs.Nests.{told}
+use Rattle.irtext_graph.proofs.Nests.{same_or_other}
 use Rattle.irtext_graph.proofs.Same.{ptr_tells}
 use Rattle.irtext_graph.specs.Graph.{GraphView, content, parent_of, content_of}
 use Rattle.irtext_graph.specs.Used.{IsDefined}
@@ -22,7 +22,7 @@ use Rattle.irtext_grammar.specs.Names.Script.{User}
 use Rattle.irtext_grammar.specs.Names.TextScopes.{Word}
 use Rattle.irtext_names.specs.Kinds.{NamesOf, NamesOf.{values, labels}, other, defined_as, scopes_of, use_of, BlankOf, Makes}
 use Rattle.irtext_names.specs.Linked.{TakesUse}
-use Rattle.irtext_names.specs.Placeholders.{Uses, MakesValue, MakesLabel, StandsAsBefore}
+use Rattle.irtext_names.specs.Placeholders.{Uses, MakesValue, MakesLabel, IsUnchanged}
 use Rattle.irtext_names.specs.Tied.{MatchesGraph, KeepsTies}
 use Rattle.irtext_names.proofs.Lists.{older_itself}
 use Rattle.irtext_names.proofs.ByKind.{made_there}
@@ -77,7 +77,7 @@ module _ {O B T : Type 0} where
     regions = λ r e. s.regions r (t.regions r e);
   }
 
-  as_before : (g h : GraphView (Option O) B T) → StandsAsBefore g h → BringsNone g h
+  as_before : (g h : GraphView (Option O) B T) → IsUnchanged g h → BringsNone g h
   as_before g h s = record {
     operations = λ p x e. ap (λ z. option_map (λ c. c.data_of) (option_map (λ e. e.content.content) z)) (sym (s.operations p)) ∙ e;
     blocks = λ b o e. ap (λ z. option_map TheRegion (parent_of z)) (sym (s.blocks b)) ∙ e;
@@ -87,7 +87,7 @@ module _ {O B T : Type 0} where
   label_brings : (value : B) (g h : GraphView (Option O) B T) (b : Ptr BasicBlock) → MakesLabel value g h b → BringsNone g h
   label_brings value g h b m = record {
     operations = λ p x e. ap (λ s. option_map (λ c. c.data_of) (option_map (λ e. e.content.content) (get s p))) (sym m.operations) ∙ e;
-    blocks = λ c o e. elim (told ptr_tells c b) [
+    blocks = λ c o e. elim (same_or_other ptr_tells c b) [
       | inl same ↦ let none = ap (λ z. option_map TheRegion (parent_of z)) (ap (get h.blocks) same ∙ m.blocks.updates.changed) in let bad = sym none ∙ e in absurd (cc)
       | inr n ↦ ap (λ z. option_map TheRegion (parent_of z)) (sym (m.blocks.updates.others c n)) ∙ e
     ];
@@ -97,7 +97,7 @@ module _ {O B T : Type 0} where
 module _ {O B T : Type 0} where
   value_brings : (g h : GraphView (Option O) B (Option T)) (v : Value) → MakesValue g h v → BringsNone g h
   value_brings g h v m = record {
-    operations = λ p x e. elim (told ptr_tells p m.operation) [
+    operations = λ p x e. elim (same_or_other ptr_tells p m.operation) [
       | inl same ↦ let none = ap (λ z. option_map (λ c. c.data_of) (option_map (λ e. e.content.content) z)) (ap (get h.operations) same ∙ m.makes.operations.updates.changed) in let bad = sym none ∙ e in absurd (cc)
       | inr n ↦ ap (λ z. option_map (λ c. c.data_of) (option_map (λ e. e.content.content) z)) (sym (m.makes.operations.updates.others p n)) ∙ e
     ];
@@ -122,7 +122,7 @@ module _ {O B T : Type 0} where
 module _ {O B T : Type 0} where
   -- the placeholder of a value has a result, and that of a label adds no operation
   placeholder_blanks : {V : Type 0} (kind : NamesOf V) (blank : BlankOf B kind) (g h : GraphView (Option O) B (Option T)) (v : V) → Makes kind blank g h v → IsDefined h (defined_as kind v) → (m : ℕ) → BlanksHaveResults m g → BlanksHaveResults m h
-  placeholder_blanks values blank g h v m there = blanks_by g h (λ p. elim (told ptr_tells p m.operation) [
+  placeholder_blanks values blank g h v m there = blanks_by g h (λ p. elim (same_or_other ptr_tells p m.operation) [
     | inl same ↦ inr (λ b. (0, subst (λ q. IsDefined h (OfValue (ValueResult q 0))) (sym same) (subst (λ w. IsDefined h (OfValue w)) m.value there)))
     | inr apart ↦ inl (same_place g h p (m.makes.operations.updates.others p apart))
   ])
@@ -160,12 +160,12 @@ module _ {O B T : Type 0} where
 
 module _ {O B T V E : Type 0} (kind : NamesOf V) (blank : BlankOf B kind) (old new : Names) (g h : GraphView (Option O) B (Option T)) (n : ℕ) where
   -- what a use did: nothing, or it made a placeholder, or it failed
-  use_did : (r : Result V E) → IfOk r (λ v. Uses (Makes kind blank) (scopes_of kind old) (scopes_of kind new) g h n v) → OnErr r (StandsAsBefore g h)
-      → (h ≡ g) ⊎ ((v : V) × (r ≡ Ok v) × Makes kind blank g h v) ⊎ StandsAsBefore g h
+  use_did : (r : Result V E) → IfOk r (λ v. Uses (Makes kind blank) (scopes_of kind old) (scopes_of kind new) g h n v) → OnErr r (IsUnchanged g h)
+      → (h ≡ g) ⊎ ((v : V) × (r ≡ Ok v) × Makes kind blank g h v) ⊎ IsUnchanged g h
   use_did (Err x) u e = inr (inr e)
   use_did (Ok v) u e = go (find n (innermost (scopes_of kind old))) refl
     where
-      go : (o : Option (Entry V)) → find n (innermost (scopes_of kind old)) ≡ o → (h ≡ g) ⊎ ((w : V) × (◌≡◌ {A = Result V E} (Ok v) (Ok w)) × Makes kind blank g h w) ⊎ StandsAsBefore g h
+      go : (o : Option (Entry V)) → find n (innermost (scopes_of kind old)) ≡ o → (h ≡ g) ⊎ ((w : V) × (◌≡◌ {A = Result V E} (Ok v) (Ok w)) × Makes kind blank g h w) ⊎ IsUnchanged g h
       go (Some x) f = inl (u.known x f).2
       go None f = inr (inl (v, refl, (u.unknown f).1))
 
@@ -177,7 +177,7 @@ module _ {O B T V E : Type 0} (kind : NamesOf V) (blank : BlankOf B kind) (old n
 
   -- it brings nothing but a placeholder, and each operation without data has a result if that was so before
   pub use_steady : (r : Result V E) → IfOk r (λ v. Uses (Makes kind blank) (scopes_of kind old) (scopes_of kind new) g h n v) → IfOk r (λ v. IsDefined h (defined_as kind v))
-      → OnErr r (scopes_of kind new ≡ scopes_of kind old) → OnErr r (StandsAsBefore g h) → (new.names ≡ old.names) × (scopes_of (other kind) new ≡ scopes_of (other kind) old) → KeepsTies old new g h → KeepsScopes old new g h
+      → OnErr r (scopes_of kind new ≡ scopes_of kind old) → OnErr r (IsUnchanged g h) → (new.names ≡ old.names) × (scopes_of (other kind) new ≡ scopes_of (other kind) old) → KeepsTies old new g h → KeepsScopes old new g h
   use_steady r uses there scopes objects rest ties = steady_by kind old new g h (depth_used (Makes kind blank) (scopes_of kind old) (scopes_of kind new) g h n r uses scopes) rest ties brings blanks
     where
       brings : BringsNone g h

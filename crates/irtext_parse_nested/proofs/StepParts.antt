@@ -154,15 +154,15 @@ module _ {X : Type 0} (of : Directive → Option X) (late : OnlyEarly of) where
   found_first d ds None e = ap (λ o. cons_option o (filter_map of ds)) e
   found_first d ds (Some x) e = ap (λ o. cons_option o (filter_map of ds)) e
 
-  behind_none : (ds : List Directive) → list_all (λ d. not (is_early d)) ds ≡ true → filter_map of ds ≡ []
-  behind_none [] e = refl
-  behind_none (d ∷ ds) e = found_first d ds None (late d (and_left (not (is_early d)) (list_all (λ d. not (is_early d)) ds) e))
-      ∙ behind_none ds (and_right (not (is_early d)) (list_all (λ d. not (is_early d)) ds) e)
+  after_none : (ds : List Directive) → list_all (λ d. not (is_early d)) ds ≡ true → filter_map of ds ≡ []
+  after_none [] e = refl
+  after_none (d ∷ ds) e = found_first d ds None (late d (and_left (not (is_early d)) (list_all (λ d. not (is_early d)) ds) e))
+      ∙ after_none ds (and_right (not (is_early d)) (list_all (λ d. not (is_early d)) ds) e)
 
   pub shown_in_front : (ds : List Directive) → c7 ds ≡ true → flat_map (λ s. picked of (directive_of_step s)) (front_steps (map step_of ds)) ≡ filter_map of ds
   shown_in_front [] e = refl
-  shown_in_front (format.region i ∷ ds) e = sym (found_first (format.region i) ds None (late (format.region i) refl) ∙ behind_none ds (and_left _ (c7 ds) e))
-  shown_in_front (format.regions ∷ ds) e = sym (found_first format.regions ds None (late format.regions refl) ∙ behind_none ds (and_left _ (c7 ds) e))
+  shown_in_front (format.region i ∷ ds) e = sym (found_first (format.region i) ds None (late (format.region i) refl) ∙ after_none ds (and_left _ (c7 ds) e))
+  shown_in_front (format.regions ∷ ds) e = sym (found_first format.regions ds None (late format.regions refl) ∙ after_none ds (and_left _ (c7 ds) e))
   shown_in_front (d ∷ ds) e = ap (λ z. option_to_list (of d) ++ z) (shown_in_front ds e) ∙ sym (found_first d ds (of d) refl)
 
 pub flagged : (test : Directive → Bool) (ds : List Directive) → length (filter_map (flag test) ds) ≡ count test ds
@@ -184,7 +184,7 @@ passed false x n e = absurd (cc e)
 pub record Places (ds : List Directive) : Type 0 where
   pub operands : c2 ds ≡ true
   pub successors : c3 ds ≡ true
-  pub behind : c7 ds ≡ true
+  pub following : c7 ds ≡ true
 
 pub accepted_places : (ds : List Directive) → Accepted (format.custom ds) → Places ds
 accepted_places ds a =
@@ -195,4 +195,4 @@ accepted_places ds a =
     let five = passed (c5 ds) _ 4 four.1 in
     let six = passed (c6 ds) _ 5 five.1 in
     let seven = passed (c7 ds) _ 6 six.1 in
-    record { operands = two.0; successors = three.0; behind = seven.0 }
+    record { operands = two.0; successors = three.0; following = seven.0 }

@@ -2,7 +2,7 @@
 use Rattle.std.proofs.Common.{◌≡◌, ◌∙◌, inl, inr, Bool, true, false, not, ◌&&◌, ◌||◌, List, [], ◌∷◌, Result, Ok, Err, IfErr, OnOk, refl, sym, ap, subst}
 use Rattle.std.specs.Result.{IsErrAnd}
 use Rattle.std.specs.Str.{bytes_eq}
-use Rattle.irtext_tokens.proofs.Exits.{handed_on}
+use Rattle.irtext_tokens.proofs.Exits.{propagated}
 use Rattle.indexmap.specs.IndexMap.{insert_entry}
 use Rattle.irtext_base.specs.Text.{Text}
 use Rattle.irtext_base.specs.Format.{same_text, given_names_key}
@@ -67,4 +67,4 @@ module _ {A : Type 0} where
 
 -- what holds of an error that is returned by `?` holds of the result
 pub exit_from : {X E : Type 0} {e : E} (r : Result X E) → IsErrAnd r (λ y. y ≡ e) → (P Q : E → Type 0) → ((x : E) → P x → Q x) → P e → IfErr r Q
-exit_from {e} r h P Q f p = subst (λ z. IfErr z Q) (sym (handed_on r h)) (f e p)
+exit_from {e} r h P Q f p = subst (λ z. IfErr z Q) (sym (propagated r h)) (f e p)

@@ -16,9 +16,9 @@ use Rattle.irtext_parse_nested.proofs.Pieces.{word_one, gather_refused_from}
 
 module _ {T A : Type 0} (names : Names) (vs : List Value) (bs : List (Ptr BasicBlock)) (ps : List (ReadPiece T A)) where
   -- the pieces after words can be gathered
-  pub can_behind_words : (n : ℕ) → CanGather names vs bs (only_words n ++ ps) → CanGather names vs bs ps
-  can_behind_words zero c = c
-  can_behind_words (suc n) c = can_behind_words n (record { names_are = c.names_are.1; operands_once = c.operands_once; successors_once = c.successors_once })
+  pub can_after_words : (n : ℕ) → CanGather names vs bs (only_words n ++ ps) → CanGather names vs bs ps
+  can_after_words zero c = c
+  can_after_words (suc n) c = can_after_words n (record { names_are = c.names_are.1; operands_once = c.operands_once; successors_once = c.successors_once })
 
 module _ {O B T A : Type 0} (names : Names) (g : GraphView (Option O) B (Option T)) (x : Gathered T A) where
   -- where it was gathered, all was

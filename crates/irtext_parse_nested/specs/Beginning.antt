@@ -28,7 +28,7 @@ use Rattle.irtext_grammar.specs.Grammar.Tree.{Name, Part, parts_of, views, in_or
 use Rattle.irtext_grammar.specs.Graphs.Build.{put_all, stored}
 use Rattle.irtext_grammar.specs.Names.Acts.{result_types}
 use Rattle.irtext_parse_spec.specs.Promises.Root.{UnlessMemory}
-use Rattle.irtext_parse_spec.specs.Promises.Section.{Moves, IsStarved}
+use Rattle.irtext_parse_spec.specs.Promises.Section.{Moves, IsOutOfMemory}
 use Rattle.irtext_parse_spec.specs.Promises.Supported.{is_committed}
 use Rattle.irtext_parse_spec.specs.Exact.{IsOfStep}
 use Rattle.irtext_parse_spec.specs.Heads.{Step, one, all, front_steps, led_at}
@@ -40,7 +40,7 @@ use Rattle.irtext_parse_spec.specs.Unchanged.{OwnSoFar, ModifiesOnly}
 use Rattle.irtext_parse_pieces.specs.declared.names.ReadName.{ReadName}
 use Rattle.irtext_parse_pieces.specs.declared.pieces.ReadPiece.{ReadPiece}
 use Rattle.irtext_parse_pieces.specs.Fronts.{IsPart}
-use Rattle.irtext_parse_pieces.specs.Named.{StandsFor, Each}
+use Rattle.irtext_parse_pieces.specs.Named.{Represents, Each}
 use Rattle.irtext_parse_nested.specs.declared.beginning.ReadFront.{ReadFront}
 use Rattle.irtext_parse_nested.specs.declared.frame.BegunOperation.{BegunOperation}
 use Rattle.irtext_parse_nested.specs.declared.operation_parts.Gathered.{Gathered}
@@ -54,13 +54,13 @@ use Rattle.irtext_parse_nested.specs.Read.{Demands}
 -- ---- what was parsed
 -- why no front was parsed: because of the lead, with a committed fault if a front is required or something of the lead is there; or
 -- because of a piece
-pub data LacksFront {T A : Type 0} (types_at : Reader T) (attr : Reader (AttrView A)) (dialects : List (Text × Table)) (inside wanted : Bool) (old : StreamView) (fault : ParseFault A) : Type 0 where
-  lacks_lead : Demands (whole old) (led_at dialects old.rest) old.rest fault → fault.committed ≡ (wanted || is_committed (led_at dialects old.rest)) → LacksFront types_at attr dialects inside wanted old fault
-  lacks_piece : (names : List (Name ℕ)) (id : Id) (lead middle : Text) → led_at dialects old.rest ≡ Read (names, id) lead middle
-      → Demands (whole old) (front_at types_at attr inside (front_steps (steps_in dialects id)) [] middle) middle fault → fault.committed ≡ true → LacksFront types_at attr dialects inside wanted old fault
+pub data MissesFront {T A : Type 0} (types_at : Reader T) (attr : Reader (AttrView A)) (dialects : List (Text × Table)) (inside is_required : Bool) (old : StreamView) (fault : ParseFault A) : Type 0 where
+  misses_lead : Demands (whole old) (led_at dialects old.rest) old.rest fault → fault.committed ≡ (is_required || is_committed (led_at dialects old.rest)) → MissesFront types_at attr dialects inside is_required old fault
+  misses_piece : (names : List (Name ℕ)) (id : Id) (lead middle : Text) → led_at dialects old.rest ≡ Read (names, id) lead middle
+      → Demands (whole old) (front_at types_at attr inside (front_steps (steps_in dialects id)) [] middle) middle fault → fault.committed ≡ true → MissesFront types_at attr dialects inside is_required old fault
 
 -- The names of results, the id of a registered operation, and the pieces before its first region come next in the text, and were parsed.
-pub record FrontStands {T A : Type 0} (types_at : Reader T) (attr : Reader (AttrView A)) (dialects : List (Text × Table)) (inside : Bool) (names : List Text) (old : StreamView)
+pub record FrontComes {T A : Type 0} (types_at : Reader T) (attr : Reader (AttrView A)) (dialects : List (Text × Table)) (inside : Bool) (names : List Text) (old : StreamView)
     (read : List ReadName) (id : OpId) (pieces : List (ReadPiece T A)) (new : StreamView) : Type 0 where
   pub results : List (Name ℕ)
   pub lead : Text
@@ -70,7 +70,7 @@ pub record FrontStands {T A : Type 0} (types_at : Reader T) (attr : Reader (Attr
   pub taken : Text
   pub front : front_at types_at attr inside (front_steps (steps_in dialects (id_of id))) [] middle ≡ Read parts taken new.rest
   pub moves : Moves old new
-  pub named : Each (StandsFor names (whole old)) read results
+  pub named : Each (Represents names (whole old)) read results
   pub are : Each (IsPart names (whole old)) pieces parts
   pub counts : length pieces ≡ length (front_steps (steps_in dialects (id_of id)))
   pub format : Format
@@ -86,7 +86,7 @@ IsKnownIn count _ = ⊤
 module _ {A : Type 0} where
   -- the fault is that of the error: an allocation failed; or the key is reserved, or no scope is open for the name, at its place
   abbrev pub SaysGather : List Text → Text → NotGathered → ParseFault A → Type 0
-  SaysGather names text refusal.Memory fault = IsStarved fault
+  SaysGather names text refusal.Memory fault = IsOutOfMemory fault
   SaysGather names text (refusal.ReservedKey key) fault = (fault_of fault.cause ≡ causes.ReservedKey key.name) × (fault.committed ≡ true)
       × AtOffset key.at.offset text (λ passed rest. IsAt fault.pos.line fault.pos.column passed)
   SaysGather names text (refusal.NoActiveScope read) fault = UnlessMemory (IsFaultOf names text causes.NoActiveScope read) fault
@@ -94,7 +94,7 @@ module _ {A : Type 0} where
 -- An allocation failed; or whenever names and graph agree with a state of the machine, the acts of the pieces fail, and the fault is for
 -- that failure.
 pub data NotGatheredAs {T A O B : Type 0} (pieces : List (ReadPiece T A)) (names : Names) (g : GraphView (Option O) B (Option T)) (text : Text) (fault : ParseFault A) : Type 0 where
-  starved : IsStarved fault → NotGatheredAs pieces names g text fault
+  ran_out : IsOutOfMemory fault → NotGatheredAs pieces names g text fault
   refused : (why : NotGathered) → RefusesGathering pieces names g why → SaysGather names.names text why fault → NotGatheredAs pieces names g text fault
 
 -- ---- what is created

@@ -26,7 +26,7 @@ use Rattle.irtext_grammar.specs.Graphs.Build.{put_all, read_names}
 use Rattle.irtext_parse_spec.specs.Grows.{OwnBecame}
 use Rattle.irtext_parse_spec.specs.Unchanged.{OwnSoFar, HasOwn, HasUses}
 use Rattle.irtext_names.specs.Rows.{AreNamed}
-use Rattle.irtext_parse_pieces.specs.Named.{StandsFor, Each}
+use Rattle.irtext_parse_pieces.specs.Named.{Represents, Each}
 use Rattle.irtext_context.specs.Context.{ContextView, OperationView, operation, EditsOperation, with_attributes}
 use Rattle.irtext_graph.specs.declared.arena.Ptr.{Ptr}
 use Rattle.irtext_graph.specs.declared.object.Operation.{Operation}
@@ -97,5 +97,5 @@ module _ {T A : Type 0} where
 
   -- whatever parts of its own the operation had, it now has these names as given names too
   pub record BecomesNamed (IsLocation : ℕ → Location A → Type 0) (names : List Text) (text : Text) (read : List ReadName) (old new : ContextView T A) (op : Ptr Operation) : Type 0 where
-    pub so : (own : OwnSoFar T A) (view : OperationView T A) → operation old op ≡ Some view → HasOwn IsLocation view own → HasUses old op own → (ns : List (Name ℕ)) → Each (StandsFor names text) read ns
+    pub so : (own : OwnSoFar T A) (view : OperationView T A) → operation old op ≡ Some view → HasOwn IsLocation view own → HasUses old op own → (ns : List (Name ℕ)) → Each (Represents names text) read ns
         → OwnBecame old new IsLocation op (record own { entries = put_all own.entries (read_names (map (λ n. n.text) ns)) })

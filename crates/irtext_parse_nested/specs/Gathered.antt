@@ -29,7 +29,7 @@ use Rattle.irtext_grammar.specs.Names.Acts.{Rule, piece_acts, may_hold, block_ma
 use Rattle.irtext_grammar.specs.Names.History.{State, act, going, failed, run}
 use Rattle.irtext_grammar.specs.Names.Script.{Path, User, operand, successor, Cause, ReservedKey, NoActiveScope}
 use Rattle.irtext_grammar.specs.Names.TextScopes.{Act, Word, Failure}
-use Rattle.irtext_names.specs.Linked.{Known, StandsAt, TakesUse}
+use Rattle.irtext_names.specs.Linked.{Known, NamesAgree, TakesUse}
 use Rattle.irtext_names.specs.Tied.{MatchesGraph, ArePending}
 use Rattle.irtext_names.specs.Rows.{AreKnown, TakesUses}
 use Rattle.irtext_parse_pieces.specs.declared.entries.Key.{Key}
@@ -38,7 +38,7 @@ use Rattle.irtext_parse_pieces.specs.declared.pieces.ReadPiece.{ReadPiece}
 use Rattle.irtext_parse_pieces.specs.declared.pieces.ReadPiece.TheVariants as read
 use Rattle.irtext_parse_pieces.specs.Entries.{IsKey}
 use Rattle.irtext_parse_pieces.specs.Fronts.{IsPart}
-use Rattle.irtext_parse_pieces.specs.Named.{StandsFor, Each}
+use Rattle.irtext_parse_pieces.specs.Named.{Represents, Each}
 use Rattle.irtext_parse_nested.specs.declared.dictionary.Holder.{Holder}
 use Rattle.irtext_parse_nested.specs.declared.dictionary.Holder.TheVariants as holder
 use Rattle.irtext_parse_nested.specs.declared.operation_parts.Gathered.{Gathered}
@@ -235,7 +235,7 @@ module _ {O B T : Type 0} where
 
   -- whenever names and graph agree with a state of the machine, whatever is in hand, the acts fail so
   pub record FailsUses (acts : List Act) (names : Names) (g : GraphView (Option O) B T) (failure : Failure) : Type 0 where
-    pub so : (known : Known) (held : List (User × Defined)) (st : State) → StandsAt names g known held st → run (going st) (map act acts) ≡ failed failure
+    pub so : (known : Known) (held : List (User × Defined)) (st : State) → NamesAgree names g known held st → run (going st) (map act acts) ≡ failed failure
 
   -- the acts take the machine to a state that the new names and graph agree with, and what they use is in hand for the operation at a path
   pub record TakesParts (p : Path) (k l : ℕ) (acts : List Act) (old : Names) (g : GraphView (Option O) B T) (new : Names) (h : GraphView (Option O) B T)
@@ -246,7 +246,7 @@ module _ {O B T : Type 0} where
 
 module _ {O B T A : Type 0} where
   -- everything that was used so far is live
-  pub record AllStand (g : GraphView (Option O) B (Option T)) (x : Gathered T A) : Type 0 where
+  pub record AllUsesLive (g : GraphView (Option O) B (Option T)) (x : Gathered T A) : Type 0 where
     pub operands : (e : ℕ × Value) → Among e x.operands.single.items → IsDefined g (OfValue e.1)
     pub listed_operands : (v : Value) → Among v x.operands.list.items → IsDefined g (OfValue v)
     pub successors : (e : ℕ × Ptr BasicBlock) → Among e x.successors.single.items → IsDefined g (OfBlock e.1)
@@ -268,7 +268,7 @@ module _ {O B T A : Type 0} where
     pub types : y.types.items ≡ x.types.items ++ flat_map placed_type ps
     pub listed : y.listed ≡ last_list x.listed (flat_map type_list ps)
     pub attributes : entries_of y.attributes ≡ put_all (entries_of x.attributes) (flat_map stored_of ps)
-    pub there : AllStand g x → AllStand h y
+    pub there : AllUsesLive g x → AllUsesLive h y
 
   -- whenever names and graph agree with a state of the machine, the acts of the pieces fail at a name of the text, for this cause
   pub record FailsAt (ps : List (ReadPiece T A)) (names : Names) (g : GraphView (Option O) B (Option T)) (Is : Text → Name ℕ → Type 0) (cause : Text → Cause Text) : Type 0 where
@@ -281,7 +281,7 @@ module _ {O B T A : Type 0} where
 
   -- they fail at this name, for which no scope of its kind is open
   abbrev pub GatherOutside : List (ReadPiece T A) → Names → GraphView (Option O) B (Option T) → ReadName → Type 0
-  GatherOutside ps names g read = FailsAt ps names g (λ text n. StandsFor names.names text read n) NoActiveScope
+  GatherOutside ps names g read = FailsAt ps names g (λ text n. Represents names.names text read n) NoActiveScope
 
   -- why the pieces were not gathered: an allocation failed, or their acts fail
   abbrev pub RefusesGathering : List (ReadPiece T A) → Names → GraphView (Option O) B (Option T) → NotGathered → Type 0

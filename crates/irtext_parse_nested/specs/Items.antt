@@ -24,11 +24,11 @@ use Rattle.irtext_scopes.specs.declared.tracker.NameTracker.{NameTracker}
 use Rattle.irtext_parse_state.specs.States.{marks_of}
 use Rattle.irtext_parse_state.specs.declared.parsable.state.State as code
 use Rattle.irtext_grammar.specs.Contexts.Formats.{format_of}
-use Rattle.irtext_grammar.specs.Contexts.Held.{StandsAt as IsPosition}
+use Rattle.irtext_grammar.specs.Contexts.Held.{IsPosition}
 use Rattle.irtext_grammar.specs.Names.History.{State, Outcome, going, failed}
 use Rattle.irtext_grammar.specs.Names.Script.{Path, result}
 use Rattle.irtext_grammar.specs.Names.TextScopes.{Failure}
-use Rattle.irtext_names.specs.Linked.{Known, StandsAt}
+use Rattle.irtext_names.specs.Linked.{Known, NamesAgree}
 use Rattle.irtext_names.specs.OfItems.{AreOf}
 use Rattle.irtext_names.specs.Tied.{MatchesGraph, ArePending}
 use Rattle.irtext_parse_spec.specs.Promises.Section.{indices_of}
@@ -60,12 +60,12 @@ Made = List (ℕ × Object)
 
 -- The names, the graph and the marks agree with the state of the machine, nothing is in hand, these items were made, and these operations
 -- are open.
-pub record StandsAs {T A U : Type 0} (path : ℕ → Path) (items : Made) (pledges : List Pledge) (names : Names) (s : code.State T A U) (o : Outcome) : Type 0 where
+pub record MachineAgrees {T A U : Type 0} (path : ℕ → Path) (items : Made) (pledges : List Pledge) (names : Names) (s : code.State T A U) (o : Outcome) : Type 0 where
   pub known : Known
   pub of_items : AreOf path items known
   pub state : State
   pub going : o ≡ going state
-  pub stands : StandsAt names s.ctx.now.graph known [] state
+  pub agreed : NamesAgree names s.ctx.now.graph known [] state
   pub marks : state.marks ≡ indices_of (marks_of s)
   pub results : (w : Pledge) → Among w pledges → AreMadeAt path known w
 
@@ -89,7 +89,7 @@ module _ {T A U : Type 0} where
   -- whenever the old names and state agree with a state of the machine, with these operations open besides others, the act takes it to a
   -- state that the new ones agree with, and these items were made too
   pub record ActsWith (made : Made) (act : (ℕ → Path) → Outcome → Outcome) (old : Names) (s : code.State T A U) (pledges : List Pledge) (new : Names) (z : code.State T A U) (pledges' : List Pledge) : Type 0 where
-    pub so : (path : ℕ → Path) (items : Made) (more : List Pledge) (o : Outcome) → StandsAs path items (more ++ pledges) old s o → StandsAs path (made ++ items) (more ++ pledges') new z (act path o)
+    pub so : (path : ℕ → Path) (items : Made) (more : List Pledge) (o : Outcome) → MachineAgrees path items (more ++ pledges) old s o → MachineAgrees path (made ++ items) (more ++ pledges') new z (act path o)
 
   -- the same, and no item was made
   abbrev pub Acts : ((ℕ → Path) → Outcome → Outcome) → Names → code.State T A U → List Pledge → Names → code.State T A U → List Pledge → Type 0
@@ -99,7 +99,7 @@ module _ {T A U : Type 0} where
   pub record ActFails (text : Text) (act : (ℕ → Path) → Outcome → Outcome) (old : Names) (s : code.State T A U) (pledges : List Pledge) (fault : ParseFault A) : Type 0 where
     pub failure : Failure
     pub is : IsFailure text failure fault
-    pub so : (path : ℕ → Path) (items : Made) (more : List Pledge) (o : Outcome) → StandsAs path items (more ++ pledges) old s o → act path o ≡ failed failure
+    pub so : (path : ℕ → Path) (items : Made) (more : List Pledge) (o : Outcome) → MachineAgrees path items (more ++ pledges) old s o → act path o ≡ failed failure
 
   -- Of what was created since m, the names wait with placeholders alone, and no older name waits; and each operation without data has a
   -- result.

@@ -16,7 +16,7 @@ use Rattle.irtext_parse_spec.specs.Heads.{Step, flat, types}
 use Rattle.irtext_parse_spec.specs.Naming.{body_of}
 use Rattle.irtext_parse_spec.specs.Reached.{steps_in}
 use Rattle.irtext_parse_spec.specs.Resume.{OpenOperation}
-use Rattle.irtext_parse_pieces.specs.Named.{Leaves, StandsFor, Each}
+use Rattle.irtext_parse_pieces.specs.Named.{Leaves, Represents, Each}
 use Rattle.irtext_parse_nested.specs.declared.frame.BegunOperation.{BegunOperation}
 use Rattle.irtext_parse_nested.specs.declared.frame.BegunRegion.{BegunRegion}
 use Rattle.irtext_parse_nested.specs.declared.frame.BegunBlock.{BegunBlock}
@@ -51,7 +51,7 @@ module _ {T A : Type 0} (names : List Text) (text : Text) (ctx : ContextView T A
   pub record IsBegun (b : BegunOperation) (o : OpenOperation T A) : Type 0 where
     pub inside : b.inside ≡ o.inside
     pub place : Leaves text b.at o.place
-    pub names_are : Each (StandsFor names text) b.names o.names
+    pub names_are : Each (Represents names text) b.names o.names
     pub id : id_of b.id ≡ o.id
     pub known : IsSome (format_of ctx.dialects o.id)
     pub steps : o.steps ≡ drop b.step (steps_in ctx.dialects o.id)
@@ -59,7 +59,7 @@ module _ {T A : Type 0} (names : List Text) (text : Text) (ctx : ContextView T A
     pub coming : IfSome b.coming (λ next. IsStep next (slice_get (steps_in ctx.dialects o.id) b.step))
     pub is_isolated : b.isolated ≡ isolated ctx.dialects o.id
     pub late : ReadNeither o.steps
-    pub stands : IsSome (operation ctx b.op)
+    pub alive : IsSome (operation ctx b.op)
     pub counts : length (results ctx.graph b.op) ≡ b.results
     pub typed : (later : List (Part ℕ T A)) → All HasNoType later → length (result_types (body_of (format_of ctx.dialects o.id) (o.parts ++ later))) ≡ b.results
 
@@ -67,10 +67,10 @@ module _ {T A : Type 0} (names : List Text) (text : Text) (ctx : ContextView T A
   pub record IsRegion (r : BegunRegion) (iso : Bool) (place : ℕ) : Type 0 where
     pub is_isolated : r.isolated ≡ iso
     pub placed : Leaves text r.at place
-    pub stands : IsLive ctx.graph (TheRegion r.region)
+    pub alive : IsLive ctx.graph (TheRegion r.region)
 
   -- The begun block is live, and is in a region.
   pub record IsBlock (b : BegunBlock) (first : Bool) : Type 0 where
     pub is_first : b.first ≡ first
-    pub stands : IsSome (block ctx b.block)
+    pub alive : IsSome (block ctx b.block)
     pub inside : IsSome (parent ctx.graph (TheBlock b.block))

@@ -63,12 +63,12 @@ module _ {T A U : Type 0} (types_at : Reader T) (attr : Reader (AttrView A)) whe
 
   -- no operation was begun: because of its lead, with a committed fault if an operation is required; because of a piece before its first
   -- region; or because of what these do
-  pub data RefusesOperation (inside wanted : Bool) (before : Names) (old : StateStream T A U) (fault : ParseFault A) : Type 0 where
+  pub data RefusesOperation (inside is_required : Bool) (before : Names) (old : StateStream T A U) (fault : ParseFault A) : Type 0 where
     no_lead : Demands (whole old.stream) (led_at old.state.ctx.now.dialects old.stream.rest) old.stream.rest fault
-        → fault.committed ≡ (wanted || is_committed (led_at old.state.ctx.now.dialects old.stream.rest)) → RefusesOperation inside wanted before old fault
+        → fault.committed ≡ (is_required || is_committed (led_at old.state.ctx.now.dialects old.stream.rest)) → RefusesOperation inside is_required before old fault
     no_front : (names : List (Name ℕ)) (id : Id) (lead middle : Text) → led_at old.state.ctx.now.dialects old.stream.rest ≡ Read (names, id) lead middle
-        → Demands (whole old.stream) (front_at types_at attr inside (front_steps (steps_in old.state.ctx.now.dialects id)) [] middle) middle fault → fault.committed ≡ true → RefusesOperation inside wanted before old fault
-    no_uses : (rest : Text) (r : ReadsFront inside old rest) → ActFails (whole old.stream) (uses_of inside old rest r) before old.state [] fault → RefusesOperation inside wanted before old fault
+        → Demands (whole old.stream) (front_at types_at attr inside (front_steps (steps_in old.state.ctx.now.dialects id)) [] middle) middle fault → fault.committed ≡ true → RefusesOperation inside is_required before old fault
+    no_uses : (rest : Text) (r : ReadsFront inside old rest) → ActFails (whole old.stream) (uses_of inside old rest r) before old.state [] fault → RefusesOperation inside is_required before old fault
 
   -- ---- a piece after a region
 

@@ -19,7 +19,7 @@ ghost use Rattle.irtext_parse_spec.specs.Promises.Root.{UnlessMemory};
 ghost use Rattle.irtext_parse_spec.specs.Unchanged.{OwnSoFar, IsThere};
 ghost use Rattle.irtext_parse_pieces.specs.Fronts.{IsPart};
 ghost use Rattle.irtext_parse_pieces.specs.Named.{Each, NamesRead};
-ghost use Rattle.irtext_parse_nested.specs.Beginning.{FrontStands, LacksFront, IsKnownIn, SaysGather, NotGatheredAs, PlacedIn, CreatesOf, MakesOf, HasBegun, ComesInto};
+ghost use Rattle.irtext_parse_nested.specs.Beginning.{FrontComes, MissesFront, IsKnownIn, SaysGather, NotGatheredAs, PlacedIn, CreatesOf, MakesOf, HasBegun, ComesInto};
 ghost use Rattle.irtext_parse_pieces.specs.Coming.{IsStep};
 ghost use Rattle.irtext_parse_nested.specs.Gathered.{CanGather};
 ghost use Rattle.irtext_parse_nested.specs.Items.{IsSound, KeepsLive};
@@ -72,12 +72,16 @@ pub struct ReadFront<T, A> {
     pub pieces: Pieces<T, A>,
 }
 
-/// Returns the error, committed if `wanted` is set.
-fn commit_if<A>(stream: &mut TextStream, wanted: bool, fault: ParseFault<A>) -> ParseFault<A>
-    ensures { cond wanted (Demands itself replaced fault stream.old result stream.new)
+/// Returns the error, committed if `is_required` is set.
+fn commit_if<A>(stream: &mut TextStream, is_required: bool, fault: ParseFault<A>) -> ParseFault<A>
+    ensures { cond is_required (Demands itself replaced fault stream.old result stream.new)
         ((result ≡ fault) × (stream.new ≡ stream.old)) }
 {
-    if wanted { commit(stream, fault) } else { fault }
+    if is_required {
+        commit(stream, fault)
+    } else {
+        fault
+    }
 }
 
 /// Returns the key of a symbol's name that is stored for an operation; shares its text.
@@ -90,20 +94,20 @@ pub(crate) fn kept_key(info: &OpInfo) -> Option<Identifier>
     }
 }
 
-/// Parses what precedes an operation's first region. An error is committed, unless no operation comes next and `wanted` is not set.
+/// Parses what precedes an operation's first region. An error is committed, unless no operation comes next and `is_required` is not set.
 #[inline(always)]
 fn front_read<T: IrText<A>, A: AttrText<A>>(
     stream: &mut TextStream,
     ctx: &Context<T, A>,
     names: &mut Names,
     keys: &mut Keys,
-    wanted: bool,
+    is_required: bool,
 ) -> ParseResult<ReadFront<T, A>, A>
     requires fine { stream.old.failed ≡ false }
-    ensures stands { IfOk result (λ front. FrontStands T.IrText.reading (attr_at A.IrText.reading)
+    ensures alive { IfOk result (λ front. FrontComes T.IrText.reading (attr_at A.IrText.reading)
         ctx.now.dialects true names.new.names stream.old front.names front.id front.pieces stream.new) }
-    ensures lacks { IfErr result (UnlessMemory
-        (LacksFront T.IrText.reading (attr_at A.IrText.reading) ctx.now.dialects true wanted stream.old)) }
+    ensures unmet { IfErr result (UnlessMemory
+        (MissesFront T.IrText.reading (attr_at A.IrText.reading) ctx.now.dialects true is_required stream.old)) }
     ensures key { IfOk result (λ front. IfSome front.key (λ key. key ≡ sym_name_key)) }
     ensures counted { IfOk result (λ front. front.steps
         ≡ length (steps_in ctx.now.dialects (id_of front.id))) }
@@ -116,7 +120,7 @@ fn front_read<T: IrText<A>, A: AttrText<A>>(
 {
     let (results, id, info) = match results_and_id_parse(stream, ctx, names) {
         Ok(led) => led,
-        Err(fault) => return Err(commit_if(stream, wanted, fault)),
+        Err(fault) => return Err(commit_if(stream, is_required, fault)),
     };
     let pieces = front_parse(stream, names, &info.format, true, keys)?;
     names.keeps_names();

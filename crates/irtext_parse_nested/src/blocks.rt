@@ -290,7 +290,7 @@ fn head_named<T: IrText<A>, A: AttrText<A>, U>(
 /// with its label, its attributes, its location and the types of its arguments. Then its arguments are defined, its mark is recorded, and
 /// its label is defined. Fails with `ReservedKey` at a key of its dictionary, with `MultipleDefinitions` at a name, and with
 /// `DuplicateIndex` at its mark. Every error is committed.
-#[tactic(auto, using(irtext_tokens::proofs::Exits::handed_on))]
+#[tactic(auto, using(irtext_tokens::proofs::Exits::propagated))]
 pub fn block_begin<T: IrText<A>, A: AttrText<A>, U>(
     s: &mut StateStream<'_, T, A, U>,
     names: &mut Names,

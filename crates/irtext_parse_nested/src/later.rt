@@ -51,7 +51,7 @@ use irtext_tokens::irfmt::parsers::skip_white_space;
 use std::alloc::Global;
 
 /// Returns the index after that of a step of a format.
-fn step_behind(format: &OpFormat, index: usize) -> usize
+fn step_after(format: &OpFormat, index: usize) -> usize
     requires { index < length (steps_of (format_of format.now)) }
     ensures { result ≡ index + 1 }
 {
@@ -130,7 +130,7 @@ fn piece_read<T: IrText<A>, A: AttrText<A>>(
         (space_at ▷ piece_at T.IrText.reading (attr_at A.IrText.reading) begun.old.inside step) stream.old
         result stream.new }
     ensures names { NamesRead names.old names.new }
-    ensures behind { begun.new ≡ record begun.old { coming = None; step = begun.old.step + 1 } }
+    ensures following { begun.new ≡ record begun.old { coming = None; step = begun.old.step + 1 } }
 {
     skip_white_space(stream);
     let Some(info) = ctx.op_info(&begun.id) else {
@@ -140,7 +140,7 @@ fn piece_read<T: IrText<A>, A: AttrText<A>>(
         unreachable!()
     };
     begun.coming = None;
-    begun.step = step_behind(&info.format, begun.step);
+    begun.step = step_after(&info.format, begun.step);
     let mut keys = Keys::none(stream.allocator());
     step_parse(stream, names, step, begun.inside, &mut keys)
 }
@@ -152,7 +152,7 @@ fn piece_kept<T: IrText<A>, A: AttrText<A>>(
     op: Ptr<Operation>,
     piece: ReadPiece<T, A>,
 ) -> Result<(), NotGathered>
-    requires stands { IsSome (operation ctx.old op) }
+    requires alive { IsSome (operation ctx.old op) }
     ensures writes { WritesAttributes ctx.old ctx.new op }
     ensures stores { OnOk result (StoresPiece piece ctx.old ctx.new op) }
     ensures refused { IfErr result (RefusesStored piece) }
@@ -168,7 +168,7 @@ fn piece_done<T: IrText<A>, A: AttrText<A>, U>(
     op: Ptr<Operation>,
     piece: ReadPiece<T, A>,
 ) -> ParseResult<(), A>
-    requires stands { IsSome (operation s.old.state.ctx.now op) }
+    requires alive { IsSome (operation s.old.state.ctx.now op) }
     ensures lent { s.new.state.ctx.ghost_name ≡ s.old.state.ctx.ghost_name }
     ensures rest { KeepsRest s.old.state s.new.state }
     ensures marks { marks_of s.new.state ≡ marks_of s.old.state }
@@ -194,7 +194,7 @@ pub fn operation_piece<T: IrText<A>, A: AttrText<A>, U>(
 ) -> ParseResult<(), A>
     requires fine { s.old.stream.failed ≡ false }
     requires tied { MatchesGraph names.old.values names.old.labels s.old.state.ctx.now.graph }
-    requires stands { IsSome (operation s.old.state.ctx.now begun.old.op) }
+    requires alive { IsSome (operation s.old.state.ctx.now begun.old.op) }
     requires step { IsFlatNext (slice_get (steps_in s.old.state.ctx.now.dialects (id_of begun.old.id))
         begun.old.step) }
     ensures lent { s.new.state.ctx.ghost_name ≡ s.old.state.ctx.ghost_name }

@@ -4,7 +4,7 @@ ghost use Rattle.std.specs.Map.{keys_of};
 ghost use Rattle.irtext_context.specs.Context.{KeepsOlder, MakesOperation};
 ghost use Rattle.irtext_grammar.specs.Grammar.Tree.{at_place, in_order};
 ghost use Rattle.irtext_parse_nested.specs.Beginning.{types_made};
-ghost use Rattle.irtext_parse_nested.specs.Gathered.{AllStand};
+ghost use Rattle.irtext_parse_nested.specs.Gathered.{AllUsesLive};
 
 use crate::operation_parts::Gathered;
 use crate::uses::Placed;
@@ -114,7 +114,7 @@ pub(crate) fn make_gathered<T: IrText<A>, A: AttrText<A>>(
     loc: Location<A>,
     gathered: Gathered<T, A>,
 ) -> Result<(Ptr<Operation>, usize), AllocError>
-    requires { AllStand ctx.old.graph gathered }
+    requires { AllUsesLive ctx.old.graph gathered }
     ensures makes { IfOk result (λ made. MakesOperation ctx.old ctx.new made.0
         (record { id = id.now; attributes = gathered.attributes; loc = loc })
         (types_made gathered.types.items gathered.listed)

@@ -1,6 +1,6 @@
 //! Allocations that failed, as errors of a parse.
 ghost use Rattle.std.specs.Prelude.{◌≡◌, Ok, IfOk, IfErr, OnOk};
-ghost use Rattle.irtext_parse_spec.specs.Promises.Section.{IsStarved};
+ghost use Rattle.irtext_parse_spec.specs.Promises.Section.{IsOutOfMemory};
 
 use irtext_base::parsable::{ParseResult, TextStream};
 use irtext_tokens::irfmt::faults::out_of_memory;
@@ -14,7 +14,7 @@ pub(crate) fn or_memory<X, A>(
 ) -> ParseResult<X, A>
     ensures value { IfOk result (λ x. made ≡ Ok x) }
     ensures stream { OnOk result (stream.new ≡ stream.old) }
-    ensures starved { IfErr result IsStarved }
+    ensures ran_out { IfErr result IsOutOfMemory }
 {
     match made {
         Ok(value) => Ok(value),

@@ -124,7 +124,7 @@ fn results_defined<T: IrText<A>, A: AttrText<A>, U>(
     names: &mut Names,
     begun: &BegunOperation,
 ) -> ParseResult<(), A>
-    requires stands { IsSome (operation s.old.state.ctx.now begun.now.op) }
+    requires alive { IsSome (operation s.old.state.ctx.now begun.now.op) }
     requires counts { length (results s.old.state.ctx.now.graph begun.now.op) ≡ begun.now.results }
     requires known { AreKnown (length names.old.names) (numbers_of begun.now.names) }
     requires tied { MatchesGraph names.old.values names.old.labels s.old.state.ctx.now.graph }
@@ -164,7 +164,7 @@ fn given_kept<T: IrText<A>, A: AttrText<A>>(
     names: &Names,
     begun: &BegunOperation,
 ) -> Result<(), AllocError>
-    requires stands { IsSome (operation ctx.old begun.now.op) }
+    requires alive { IsSome (operation ctx.old begun.now.op) }
     requires known { AreKnown (length names.now.names) (numbers_of begun.now.names) }
     ensures writes { WritesAttributes ctx.old ctx.new begun.now.op }
     ensures gives { OnOk result (GivesNames names.now.names begun.now.names ctx.old ctx.new begun.now.op) }
@@ -180,7 +180,7 @@ fn close<T: IrText<A>, A: AttrText<A>, U>(
     names: &mut Names,
     begun: &BegunOperation,
 ) -> ParseResult<(), A>
-    requires stands { IsSome (operation s.old.state.ctx.now begun.now.op) }
+    requires alive { IsSome (operation s.old.state.ctx.now begun.now.op) }
     requires counts { length (results s.old.state.ctx.now.graph begun.now.op) ≡ begun.now.results }
     requires known { AreKnown (length names.old.names) (numbers_of begun.now.names) }
     requires tied { MatchesGraph names.old.values names.old.labels s.old.state.ctx.now.graph }
@@ -262,13 +262,13 @@ pub(crate) fn note_mark<T: IrText<A>, A: AttrText<A>, U>(
 /// results and stored as its given names. Then its mark is parsed, if one comes next, and recorded. Every error is committed:
 /// `ResultCount` at the beginning of the operation; `NoActiveScope` or `MultipleDefinitions` at a name; `DuplicateIndex` at the mark; and
 /// `Memory` if an allocation fails.
-#[tactic(auto, using(irtext_tokens::proofs::Exits::handed_on))]
+#[tactic(auto, using(irtext_tokens::proofs::Exits::propagated))]
 pub fn operation_end<T: IrText<A>, A: AttrText<A>, U>(
     s: &mut StateStream<'_, T, A, U>,
     names: &mut Names,
     begun: &BegunOperation,
 ) -> ParseResult<(), A>
-    requires stands { IsSome (operation s.old.state.ctx.now begun.now.op) }
+    requires alive { IsSome (operation s.old.state.ctx.now begun.now.op) }
     requires counts { length (results s.old.state.ctx.now.graph begun.now.op) ≡ begun.now.results }
     requires known { AreKnown (length names.old.names) (map (λ n. n.name) begun.now.names) }
     requires fine { s.old.stream.failed ≡ false }

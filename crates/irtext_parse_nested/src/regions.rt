@@ -22,7 +22,7 @@ ghost use Rattle.irtext_names.specs.Linked.{Takes, FailsBy};
 ghost use Rattle.irtext_names.specs.Tied.{MatchesGraph, StaysPending};
 ghost use Rattle.irtext_parse_spec.specs.Readers.Streams.{itself, replaced, KeepsRest};
 ghost use Rattle.irtext_parse_spec.specs.Promises.Root.{UnlessMemory};
-ghost use Rattle.irtext_parse_spec.specs.Promises.Section.{IsStarved};
+ghost use Rattle.irtext_parse_spec.specs.Promises.Section.{IsOutOfMemory};
 ghost use Rattle.irtext_parse_spec.specs.Grows.{RegionCame, OperationGains};
 ghost use Rattle.irtext_parse_spec.specs.Unchanged.{ModifiesOnly};
 ghost use Rattle.irtext_parse_nested.specs.OpenOperation.{IsRegion};
@@ -101,7 +101,7 @@ pub fn enter_here<T: IrText<A>, A: AttrText<A>, U>(
     ensures takes { OnOk result (Takes (enter isolated) (history.entered isolated) names.old names.new
         s.old.state.ctx.now.graph) }
     ensures open { OnOk result (is_open names.new.values ≡ true) }
-    ensures refused { IfErr result (λ f. IsStarved f ⊎ ((fault_of f.cause ≡ fault.NotIsolated)
+    ensures refused { IfErr result (λ f. IsOutOfMemory f ⊎ ((fault_of f.cause ≡ fault.NotIsolated)
         × (f.committed ≡ true) × IsAt f.pos.line f.pos.column []
         × FailsBy (enter isolated) names.old s.old.state.ctx.now.graph
         (record { cause = NotIsolated; at = None }))) }
@@ -118,7 +118,7 @@ fn add<T: IrText<A>, A: AttrText<A>, U>(
     s: &mut StateStream<'_, T, A, U>,
     op: Ptr<Operation>,
 ) -> Result<Ptr<Region>, AllocError>
-    requires stands { IsSome (operation s.old.state.ctx.now op) }
+    requires alive { IsSome (operation s.old.state.ctx.now op) }
     ensures lent { s.new.state.ctx.ghost_name ≡ s.old.state.ctx.ghost_name }
     ensures rest { KeepsRest s.old.state s.new.state }
     ensures marks { marks_of s.new.state ≡ marks_of s.old.state }
@@ -150,7 +150,7 @@ pub fn region_begin<T: IrText<A>, A: AttrText<A>, U>(
     op: Ptr<Operation>,
     isolated: bool,
 ) -> ParseResult<BegunRegion, A>
-    requires stands { IsSome (operation s.old.state.ctx.now op) }
+    requires alive { IsSome (operation s.old.state.ctx.now op) }
     requires fine { s.old.stream.failed ≡ false }
     requires tied { MatchesGraph names.old.values names.old.labels s.old.state.ctx.now.graph }
     ensures lent { s.new.state.ctx.ghost_name ≡ s.old.state.ctx.ghost_name }

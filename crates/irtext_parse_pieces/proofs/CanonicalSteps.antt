@@ -12,8 +12,8 @@ use Rattle.irtext_tokens.specs.Infix.{Reader, ◌▷◌}
 use Rattle.irtext_tokens.specs.MustRead.{MustRead}
 use Rattle.irtext_base.proofs.Compose.{refuses_mapped_demanded}
 use Rattle.irtext_tokens.proofs.Steps.{Lens, Passed, starts, more, last, refuses, seen_alone, spaced, spaced_whole, ends, fine_there}
-use Rattle.irtext_base.specs.Stream.{behind}
-use Rattle.irtext_stream.specs.Classes.{behind_space}
+use Rattle.irtext_base.specs.Stream.{after_taken}
+use Rattle.irtext_stream.specs.Classes.{after_spaces}
 use Rattle.irtext_grammar.specs.Grammar.Tree as tree
 use Rattle.irtext_grammar.specs.Grammar.Tree.{Piece, Part}
 use Rattle.irtext_parse_spec.specs.Heads.{Step, piece_at}
@@ -173,7 +173,7 @@ followed_read t (Missing cause) = refl
 followed_read t (Bad cause upto) = refl
 
 -- a fixed text was passed, with the white space before it
-pub spaced_word : {S A : Type 0} (l : Lens S) (w rest : Text) {old new : S} → (l.view old).failed ≡ false → after is_whitespace (l.view old).rest ≡ w ++ rest → new ≡ l.at old (behind (behind_space (l.view old)) w rest)
+pub spaced_word : {S A : Type 0} (l : Lens S) (w rest : Text) {old new : S} → (l.view old).failed ≡ false → after is_whitespace (l.view old).rest ≡ w ++ rest → new ≡ l.at old (after_taken (after_spaces (l.view old)) w rest)
     → MustRead {A = A} l.view l.at (λ (u : Unit {0}). u) (space_at ▷ text_at w) old (Ok tt) new
 spaced_word {A = A} l w rest {old = old} {new = new} fine e n =
     let p = spaced_whole l (λ u t. Read u [] t) w rest old new fine e n in
@@ -222,27 +222,27 @@ module _ {S T A X Y : Type 0} (l : Lens S) (types : Text → Outcome T) (attr : 
     unopened names w = word_refused l types attr inside enclosed_pieces opens (step ∷ word_step closes ∷ []) names (steps_begin l types attr inside names enclosed old fine) w
 
     module _ (opened : (l.view old).failed ≡ false → MustRead {A = A} {Y = Unit {0}} l.view l.at (λ u. u) (space_at ▷ text_at opens) old (Ok tt) mid) where
-      behind_opening : (names : List Text) → Through l types attr inside names enclosed (step ∷ word_step closes ∷ []) old mid (read.Word ∷ [])
-      behind_opening names = word_more l types attr inside opens (step ∷ word_step closes ∷ []) (steps_begin l types attr inside names enclosed old fine) opened
+      after_opening : (names : List Text) → Through l types attr inside names enclosed (step ∷ word_step closes ∷ []) old mid (read.Word ∷ [])
+      after_opening names = word_more l types attr inside opens (step ∷ word_step closes ∷ []) (steps_begin l types attr inside names enclosed old fine) opened
 
       module _ {spaced last : S} (skipped : Takes l.view l.at (front is_whitespace (l.view mid).rest) (after is_whitespace (l.view mid).rest) mid spaced) (names : List Text) where
         item_read : {r : Result Y (ParseFault A)} → MustMean l.view l.at (Means names (whole (l.view spaced))) f spaced r last → MustSteps l.view l.at names types attr inside (step ∷ []) (λ y. wrap y ∷ []) mid r last
         item_read m =
             step_read l types attr inside f h step is (Means names (whole (l.view mid))) wrap names (on names (whole (l.view mid)))
-            (spaced_mean l (fine_there l (behind_opening names).passed) skipped (λ e y x k. subst (λ t. Means names t y x) e k) m)
+            (spaced_mean l (fine_there l (after_opening names).passed) skipped (λ e y x k. subst (λ t. Means names t y x) e k) m)
 
         -- the piece is refused
         pub unfilled : {fault : ParseFault A} → MustMean l.view l.at (Means names (whole (l.view spaced))) f spaced (Err fault) last → MustSteps l.view l.at names types attr inside enclosed enclosed_pieces old (Err fault) last
-        unfilled m = steps_refused l types attr inside (λ y. wrap y ∷ []) enclosed_pieces (step ∷ []) (word_step closes ∷ []) names names (behind_opening names) (item_read m)
+        unfilled m = steps_refused l types attr inside (λ y. wrap y ∷ []) enclosed_pieces (step ∷ []) (word_step closes ∷ []) names names (after_opening names) (item_read m)
 
         module _ {y : Y} (filled : MustMean {A = A} l.view l.at (Means names (whole (l.view spaced))) f spaced (Ok y) last) where
-          behind_item : Through l types attr inside names enclosed (word_step closes ∷ []) old last (read.Word ∷ wrap y ∷ [])
-          behind_item = steps_more l types attr inside (λ y. wrap y ∷ []) (step ∷ []) (word_step closes ∷ []) names (behind_opening names) (λ i text k. k) (item_read filled)
+          after_item : Through l types attr inside names enclosed (word_step closes ∷ []) old last (read.Word ∷ wrap y ∷ [])
+          after_item = steps_more l types attr inside (λ y. wrap y ∷ []) (step ∷ []) (word_step closes ∷ []) names (after_opening names) (λ i text k. k) (item_read filled)
 
           -- the last of the texts is refused
           pub unclosed : {new : S} {fault : ParseFault A} → ((l.view last).failed ≡ false → MustRead {Y = Unit {0}} l.view l.at (λ u. u) (space_at ▷ text_at closes) last (Err fault) new) → MustSteps l.view l.at names types attr inside enclosed enclosed_pieces old (Err fault) new
-          unclosed w = word_refused l types attr inside enclosed_pieces closes [] names behind_item w
+          unclosed w = word_refused l types attr inside enclosed_pieces closes [] names after_item w
 
           -- all was read
           pub closed : {new : S} → ((l.view last).failed ≡ false → MustRead {A = A} {Y = Unit {0}} l.view l.at (λ u. u) (space_at ▷ text_at closes) last (Ok tt) new) → MustSteps l.view l.at names types attr inside enclosed enclosed_pieces old (Ok y) new
-          closed w = steps_end l types attr inside enclosed_pieces y refl (word_more l types attr inside closes [] behind_item w)
+          closed w = steps_end l types attr inside enclosed_pieces y refl (word_more l types attr inside closes [] after_item w)

@@ -12,7 +12,7 @@ use Rattle.irtext_base.specs.declared.base.attributes.AttrObj.{AttrObj}
 use Rattle.irtext_base.specs.declared.base.attributes.AttrObj.TheVariants.{GivenNames, Ident, Own}
 use Rattle.irtext_base.specs.declared.parsable.fault.ParseFault.{ParseFault}
 use Rattle.irtext_base.proofs.Compose.{takes_none, refuses_first_demanded, refuses_mapped_demanded}
-use Rattle.irtext_stream.specs.Places.{StandsBehind}
+use Rattle.irtext_stream.specs.Places.{IsPlaceAfter}
 use Rattle.irtext_stream.specs.Stream.{Comes}
 use Rattle.irtext_tokens.specs.ListOutcomes.{items_after, separated_at}
 use Rattle.irtext_tokens.specs.MustRead.{MustRead}
@@ -24,7 +24,7 @@ use Rattle.irtext_grammar.specs.Grammar.Tree.{Name, Attribute}
 use Rattle.irtext_grammar.specs.Spelling.AttrText.{attr_tree}
 use Rattle.irtext_parse_spec.specs.Heads.{name_of, name_at, pair_at, dictionary_at}
 use Rattle.irtext_parse_pieces.specs.declared.entries.Key.{Key}
-use Rattle.irtext_parse_pieces.specs.Entries.{IsKey, IsEntry, AreEntries, MustEntries, EntriesBehind, dictionary_if}
+use Rattle.irtext_parse_pieces.specs.Entries.{IsKey, IsEntry, AreEntries, MustEntries, EntriesAfter, dictionary_if}
 use Rattle.irtext_parse_pieces.specs.Named.{whole, Optional, MayMean, MustMean}
 use Rattle.irtext_parse_pieces.proofs.Listings.{list_some}
 use Rattle.irtext_parse_pieces.proofs.Meanings.{takes_whole, may_whole, must_refuse, passed_whole}
@@ -52,11 +52,11 @@ module _ {S A : Type 0} (l : Lens S) where
 
   -- a key was taken
   pub key_there : {old new : S} (key : Key) → (l.view old).failed ≡ false → begins begins_word (l.view old).rest ≡ true → Takes l.view l.at (front in_word (l.view old).rest) (after in_word (l.view old).rest) old new
-      → StandsBehind key.at (l.view old).passed → key.name ≡ front in_word (l.view old).rest → MayMean {A = A} l.view l.at (IsKey (whole (l.view old))) name_at old (Ok key) new
+      → IsPlaceAfter key.at (l.view old).passed → key.name ≡ front in_word (l.view old).rest → MayMean {A = A} l.view l.at (IsKey (whole (l.view old))) name_at old (Ok key) new
   unfolding word_at
   key_there {old = old} {new = new} key f b t p e = record {
     meant = λ _. name_of (length (l.view old).rest) (front in_word (l.view old).rest);
-    means = record { named = e; place = record { passed = (l.view old).passed; rest = (l.view old).rest; same = refl; stands = p; counts = refl } };
+    means = record { named = e; place = record { passed = (l.view old).passed; rest = (l.view old).rest; same = refl; positioned = p; counts = refl } };
     read = record { answers = rw (f, b) (refl, t) };
   }
 
@@ -72,7 +72,7 @@ module _ {S A : Type 0} (l : Lens S) where
 
   -- there is a first entry, and what follows it
   pub list_entries : (item : Text → Outcome (Name ℕ × Attribute A)) {old mid new last : S} {first : Key × AttrObj A} {r : Result (Vec (Key × AttrObj A) Global) (ParseFault A)} → MayMean {A = A} l.view l.at (IsEntry (whole (l.view old))) item old (Ok first) mid → Takes l.view l.at (front is_whitespace (l.view mid).rest) (after is_whitespace (l.view mid).rest) mid new
-      → EntriesBehind l.view l.at item first new r last → MustEntries l.view l.at (separated_at 44 item) old r last
+      → EntriesAfter l.view l.at item first new r last → MustEntries l.view l.at (separated_at 44 item) old r last
   list_entries item {old = old} {mid = mid} {new = new} {last = last} {first = n} {r = r} h k rest =
       let e : whole (l.view new) ≡ whole (l.view old) = takes_whole l mid new (front is_whitespace (l.view mid).rest) (after is_whitespace (l.view mid).rest) k ∙ may_whole l h.read in
       list_some l item h.read k (λ fine. subst (λ t. MustMean l.view l.at (AreEntries t) (λ t. items_after 44 item (length t) (h.meant n ∷ []) t) new r last) e (rest (h.meant n) (subst (λ t. IsEntry t n (h.meant n)) (sym e) h.means) fine))
@@ -101,31 +101,31 @@ module _ {S A : Type 0} (l : Lens S) where
         record { meant = λ _. None; means = tt; read = record { answers = rw b (refuses_mapped_demanded l.view l.at l.view_at l.at_at Some (l.view old).failed (dictionary_at attr (l.view old).rest) old new fault h.read.answers) } }
 
 -- what follows the entries
-abbrev behind_entries : {A : Type 0} → List (Name ℕ × Attribute A) → Text → Outcome (List (Name ℕ × Attribute A))
-behind_entries es t = mapped (λ _. es) (text_at (codes "]") t)
+abbrev after_entries : {A : Type 0} → List (Name ℕ × Attribute A) → Text → Outcome (List (Name ℕ × Attribute A))
+after_entries es t = mapped (λ _. es) (text_at (codes "]") t)
 
 -- what follows the opening bracket
-abbrev behind_bracket : {A : Type 0} → (Text → Outcome (AttrView A)) → Unit {0} → Text → Outcome (List (Name ℕ × Attribute A))
-behind_bracket attr u t = followed (space_at t) (λ _ u. followed (separated_at 44 (pair_at attr) u) behind_entries)
+abbrev after_bracket : {A : Type 0} → (Text → Outcome (AttrView A)) → Unit {0} → Text → Outcome (List (Name ℕ × Attribute A))
+after_bracket attr u t = followed (space_at t) (λ _ u. followed (separated_at 44 (pair_at attr) u) after_entries)
 
 module _ {S A : Type 0} (l : Lens S) (attr : Text → Outcome (AttrView A)) where
   -- there is no opening bracket
   pub no_bracket : {old new : S} {fault : ParseFault A} → MustRead {Y = Unit {0}} l.view l.at (λ u. u) (text_at (codes "[")) old (Err fault) new → MustEntries l.view l.at (dictionary_at attr) old (Err fault) new
   unfolding dictionary_at
-  no_bracket h = must_refuse l (first_refused l {sees = λ _. []} (behind_bracket attr) h)
+  no_bracket h = must_refuse l (first_refused l {sees = λ _. []} (after_bracket attr) h)
 
   module _ {old opened spaced_now : S} (bracket : MustRead {A = A} {Y = Unit {0}} l.view l.at (λ u. u) (text_at (codes "[")) old (Ok tt) opened) (space : TakesFront l.view l.at is_whitespace opened spaced_now) where
-    entries_next : Passed l (dictionary_at attr) (λ u. followed (separated_at 44 (pair_at attr) u) behind_entries) old spaced_now
+    entries_next : Passed l (dictionary_at attr) (λ u. followed (separated_at 44 (pair_at attr) u) after_entries) old spaced_now
     unfolding dictionary_at
-    entries_next = spaced l (λ _ u. followed (separated_at 44 (pair_at attr) u) behind_entries) (first l (behind_bracket attr) bracket) space
+    entries_next = spaced l (λ _ u. followed (separated_at 44 (pair_at attr) u) after_entries) (first l (after_bracket attr) bracket) space
 
     -- an entry is an error
     pub no_entry_read : {new : S} {fault : ParseFault A} → MustEntries l.view l.at (separated_at 44 (pair_at attr)) spaced_now (Err fault) new → MustEntries l.view l.at (dictionary_at attr) old (Err fault) new
-    no_entry_read h = must_refuse l (refuses l {sees = λ _. []} behind_entries entries_next h.read)
+    no_entry_read h = must_refuse l (refuses l {sees = λ _. []} after_entries entries_next h.read)
 
     module _ {listed : S} {entries : Vec (Key × AttrObj A) Global} (list : MustEntries {A = A} l.view l.at (separated_at 44 (pair_at attr)) spaced_now (Ok entries) listed) where
-      end_next : Passed l (dictionary_at attr) (behind_entries (list.meant entries)) old listed
-      end_next = more l behind_entries entries_next list.read
+      end_next : Passed l (dictionary_at attr) (after_entries (list.meant entries)) old listed
+      end_next = more l after_entries entries_next list.read
 
       -- there is no closing bracket
       pub no_end : {new : S} {fault : ParseFault A} → MustRead {Y = Unit {0}} l.view l.at (λ u. u) (text_at (codes "]")) listed (Err fault) new → MustEntries l.view l.at (dictionary_at attr) old (Err fault) new

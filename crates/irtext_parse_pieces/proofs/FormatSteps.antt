@@ -10,7 +10,7 @@ use Rattle.irtext_base.specs.declared.format.Directive as code
 use Rattle.irtext_base.specs.FormatViews.{directive_of, directives_of}
 use Rattle.irtext_parse_spec.specs.Heads.{Step, step_of, front_steps, directive_at, piece_at}
 use Rattle.irtext_parse_spec.specs.Resume.{is_flat}
-use Rattle.irtext_parse_spec.proofs.Resume.Front.{in_front, behind_front}
+use Rattle.irtext_parse_spec.proofs.Resume.Front.{in_front, after_front}
 
 -- the step at a place is that of the directive there
 custom_step : (ds : List code.Directive) (i : ℕ) → slice_get (map step_of (directives_of ds)) i ≡ option_map (λ d. step_of (directive_of d)) (slice_get ds i)
@@ -70,7 +70,7 @@ front_over left e = ap front_steps e
 
 -- nor where a step comes that parses regions
 pub front_ended : (left rest : List Step) (step : Step) → left ≡ step ∷ rest → is_flat step ≡ false → front_steps left ≡ []
-front_ended left rest step e b = ap front_steps e ∙ (behind_front step rest b).0
+front_ended left rest step e b = ap front_steps e ∙ (after_front step rest b).0
 
 module _ {X : Type 0} (steps : List Step) (found : List X) (x : X) where
   one_more : suc (length found) ≡ length (found ++ (x ∷ []))

@@ -14,13 +14,13 @@ count_words T A zero = refl
 count_words T A (suc n) = ap suc (count_words T A n)
 
 module _ {T A : Type 0} where
-  word_behind : (n : ℕ) → only_words {T = T} {A = A} (suc n) ≡ only_words n ++ (read.Word ∷ [])
-  word_behind zero = refl
-  word_behind (suc n) = ap (λ l. read.Word ∷ l) (word_behind n)
+  word_at_end : (n : ℕ) → only_words {T = T} {A = A} (suc n) ≡ only_words n ++ (read.Word ∷ [])
+  word_at_end zero = refl
+  word_at_end (suc n) = ap (λ l. read.Word ∷ l) (word_at_end n)
 
   -- one more word is one more of those after the last piece
   pub word_more : (found : List (ℕ × ReadPiece T A)) (n : ℕ) → with_words found (suc n) ≡ with_words found n ++ (read.Word ∷ [])
-  word_more [] n = word_behind n
+  word_more [] n = word_at_end n
   word_more (f ∷ found) n = ap (λ l. only_words f.0 ++ f.1 ∷ l) (word_more found n) ∙ sym (append_assoc (only_words f.0) (f.1 ∷ with_words found n) (read.Word ∷ []))
 
   -- any other piece is after these words

@@ -2,7 +2,7 @@
 use Rattle.std.proofs.Common.{◌≡◌, ℕ, Bool, true, false, Ok, Err, List, [], ◌∷◌, ◌++◌, refl, sym, ◌∙◌, ap, subst, inl}
 use Rattle.std.specs.Char.{is_whitespace}
 use Rattle.irtext_base.specs.Text.{Text, front, after}
-use Rattle.irtext_base.specs.Answers.{Outcome, Read, Missing, Bad, Takes, StarvesHere, Answers, followed, prefixed, unless_failed}
+use Rattle.irtext_base.specs.Answers.{Outcome, Read, Missing, Bad, Takes, RunsOutHere, Answers, followed, prefixed, unless_failed}
 use Rattle.irtext_base.specs.Locations.{AttrView}
 use Rattle.irtext_base.specs.declared.parsable.fault.ParseFault.{ParseFault}
 use Rattle.irtext_scopes.specs.Names.{KeepsNames}
@@ -17,15 +17,15 @@ use Rattle.irtext_grammar.specs.Grammar.Tree.{Piece, Part}
 use Rattle.irtext_parse_spec.specs.Heads.{Step, front_steps, piece_at}
 use Rattle.irtext_parse_spec.specs.Resume.{is_flat, front_at}
 use Rattle.irtext_parse_spec.proofs.Resume.Front.{in_front}
-use Rattle.irtext_base.proofs.Compose.{starves_behind, answers_demanded}
+use Rattle.irtext_base.proofs.Compose.{runs_out_after, answers_demanded}
 use Rattle.irtext_parse_pieces.specs.declared.pieces.ReadPiece.{ReadPiece}
 use Rattle.irtext_parse_pieces.specs.declared.pieces.ReadPiece.TheVariants as read
 use Rattle.irtext_parse_pieces.specs.Fronts.{IsPart, front_of, MustFront, MustFind}
 use Rattle.irtext_parse_pieces.specs.Pieces.{IsPiece, MustPiece}
-use Rattle.irtext_parse_pieces.specs.Named.{whole, StandsFor, Each}
+use Rattle.irtext_parse_pieces.specs.Named.{whole, Represents, Each}
 use Rattle.irtext_parse_pieces.proofs.Listings.{each_on, each_more}
 use Rattle.irtext_parse_pieces.proofs.PieceSteps.{no_tree, plain_there, piece_refused}
-use Rattle.irtext_parse_pieces.proofs.Meanings.{stands_on, must_refuse, passed_whole}
+use Rattle.irtext_parse_pieces.proofs.Meanings.{still_represents, must_refuse, passed_whole}
 
 pub followed_prefixed : {X Y : Type 0} (t : Text) (o : Outcome X) (k : X → Text → Outcome Y) → followed (prefixed t o) k ≡ prefixed t (followed o k)
 followed_prefixed t (Read x taken rest) k = sym (prefixed-prefixed t taken (k x rest))
@@ -42,10 +42,10 @@ module _ {T A : Type 0} where
   -- a piece represents the same when more names are added
   pub piece_on : (names more : List Text) (text : Text) → KeepsNames names more → (r : ReadPiece T A) (p : Piece ℕ T A) → IsPiece names text r p → IsPiece more text r p
   piece_on names more text k read.Word p h = h
-  piece_on names more text k (read.Operand i n) p h = (h.0, h.1, stands_on names more n h.0 k refl h.2)
-  piece_on names more text k (read.Operands ns) p h = (h.0, h.1, each_on (StandsFor names text) (StandsFor more text) (λ y x s. stands_on names more y x k refl s) ns h.0 h.2)
-  piece_on names more text k (read.Successor i n) p h = (h.0, h.1, stands_on names more n h.0 k refl h.2)
-  piece_on names more text k (read.Successors ns) p h = (h.0, h.1, each_on (StandsFor names text) (StandsFor more text) (λ y x s. stands_on names more y x k refl s) ns h.0 h.2)
+  piece_on names more text k (read.Operand i n) p h = (h.0, h.1, still_represents names more n h.0 k refl h.2)
+  piece_on names more text k (read.Operands ns) p h = (h.0, h.1, each_on (Represents names text) (Represents more text) (λ y x s. still_represents names more y x k refl s) ns h.0 h.2)
+  piece_on names more text k (read.Successor i n) p h = (h.0, h.1, still_represents names more n h.0 k refl h.2)
+  piece_on names more text k (read.Successors ns) p h = (h.0, h.1, each_on (Represents names text) (Represents more text) (λ y x s. still_represents names more y x k refl s) ns h.0 h.2)
   piece_on names more text k (read.Attr key a) p h = h
   piece_on names more text k (read.Dictionary es) p h = h
   piece_on names more text k (read.ResultType i t) p h = h
@@ -81,15 +81,15 @@ module _ {S T A : Type 0} (l : Lens S) (found more : List (ReadPiece T A)) where
     piece_missed h = record { meant = λ _. no_tree; means = tt; read = record { answers = h.read.answers } }
 
     -- out of memory after it
-    pub found_starved : {mid new : S} {y : ReadPiece T A} {fault : ParseFault A} → MustPiece l.view l.at names outcome old (Ok y) mid → StarvesHere l.view l.at mid fault new → MustFind l.view l.at names outcome found more old (Err fault) new
-    found_starved {mid = mid} {new = new} {fault = fault} h s =
+    pub found_ran_out : {mid new : S} {y : ReadPiece T A} {fault : ParseFault A} → MustPiece l.view l.at names outcome old (Ok y) mid → RunsOutHere l.view l.at mid fault new → MustFind l.view l.at names outcome found more old (Err fault) new
+    found_ran_out {mid = mid} {new = new} {fault = fault} h s =
         let p = first l (λ x t. Read x [] t) h.read in
-        record { meant = λ _. no_tree; means = tt; read = record { answers = inl (starves_behind l.view l.at l.view_at l.at_at old mid new p.taken (l.view mid).rest fault p.fine p.takes s) } }
+        record { meant = λ _. no_tree; means = tt; read = record { answers = inl (runs_out_after l.view l.at l.view_at l.at_at old mid new p.taken (l.view mid).rest fault p.fine p.takes s) } }
 
 module _ {S T A : Type 0} (l : Lens S) (types : Text → Outcome T) (attr : Text → Outcome (AttrView A)) (inside : Bool) where
   -- what follows a piece, with these parts before it
-  abbrev pub behind_piece : List Step → List (Part ℕ T A) → Piece ℕ T A → Text → Outcome (List (Part ℕ T A))
-  behind_piece rest parts p = front_of types attr inside rest (parts ++ (tree.piece p ∷ []))
+  abbrev pub after_piece : List Step → List (Part ℕ T A) → Piece ℕ T A → Text → Outcome (List (Part ℕ T A))
+  after_piece rest parts p = front_of types attr inside rest (parts ++ (tree.piece p ∷ []))
 
   -- the pieces found so far, and what is left of the steps
   pub record Fronting (names : List Text) (all left : List Step) (old now : S) (found : List (ReadPiece T A)) : Type 0 where
@@ -102,18 +102,18 @@ module _ {S T A : Type 0} (l : Lens S) (types : Text → Outcome T) (attr : Text
   front_begins names all old fine = record { parts = []; each = tt; passed = starts l (front_of types attr inside all []) (front_of types attr inside all []) old fine refl }
 
   next_is : (left rest : List Step) (step : Step) (parts : List (Part ℕ T A)) (text : Text) → left ≡ step ∷ rest → is_flat step ≡ true
-      → front_of types attr inside left parts text ≡ followed (space_at text) (λ _ u. followed (piece_at types attr inside step u) (behind_piece rest parts))
+      → front_of types attr inside left parts text ≡ followed (space_at text) (λ _ u. followed (piece_at types attr inside step u) (after_piece rest parts))
   next_is left rest step parts text e b =
       ap (λ ss. front_of types attr inside ss parts text) e
       ∙ ap (λ ss. front_at types attr inside ss parts text) (in_front step rest b).0
-      ∙ followed_followed (space_at text) (λ _ u. piece_at types attr inside step u) (behind_piece rest parts)
+      ∙ followed_followed (space_at text) (λ _ u. piece_at types attr inside step u) (after_piece rest parts)
 
   module _ {names : List Text} {all left : List Step} {old now : S} {found : List (ReadPiece T A)} where
     -- a piece is to be parsed after white space
     pub front_next : {mid : S} (rest : List Step) (step : Step) → left ≡ step ∷ rest → is_flat step ≡ true → (p : Fronting names all left old now found) → Takes l.view l.at (front is_whitespace (l.view now).rest) (after is_whitespace (l.view now).rest) now mid
-        → Passed l (front_of types attr inside all []) (λ t. followed (piece_at types attr inside step t) (behind_piece rest p.parts)) old mid
+        → Passed l (front_of types attr inside all []) (λ t. followed (piece_at types attr inside step t) (after_piece rest p.parts)) old mid
     front_next rest step e b p k =
-        spaced l (λ _ u. followed (piece_at types attr inside step u) (behind_piece rest p.parts)) (turned l (λ t. followed (space_at t) (λ _ u. followed (piece_at types attr inside step u) (behind_piece rest p.parts))) (next_is left rest step p.parts (l.view now).rest e b) p.passed) k
+        spaced l (λ _ u. followed (piece_at types attr inside step u) (after_piece rest p.parts)) (turned l (λ t. followed (space_at t) (λ _ u. followed (piece_at types attr inside step u) (after_piece rest p.parts))) (next_is left rest step p.parts (l.view now).rest e b) p.passed) k
 
     -- it was parsed
     pub front_more : {mid new : S} {more_found : List (ReadPiece T A)} (rest : List Step) (step : Step) (more_names : List Text) → left ≡ step ∷ rest → is_flat step ≡ true → (p : Fronting names all left old now found) → Takes l.view l.at (front is_whitespace (l.view now).rest) (after is_whitespace (l.view now).rest) now mid
@@ -127,13 +127,13 @@ module _ {S T A : Type 0} (l : Lens S) (types : Text → Outcome T) (attr : Text
         record {
           parts = p.parts ++ (tree.piece x ∷ []);
           each = subst (λ ys. Each (IsPart more_names text) ys (p.parts ++ (tree.piece x ∷ []))) (sym h.means.1) (each_more (IsPart more_names text) found p.parts y (tree.piece x) (each_on (IsPart names text) (IsPart more_names text) (λ r part i. (i.0, i.1, piece_on names more_names text keeps r i.0 i.2)) found p.parts p.each) (x, refl, m));
-          passed = more l (behind_piece rest p.parts) q h.read;
+          passed = more l (after_piece rest p.parts) q h.read;
         }
 
     -- it is an error
     pub front_refused : {mid new : S} {fault : ParseFault A} {more_found : List (ReadPiece T A)} {others more_names : List Text} (rest : List Step) (step : Step) → left ≡ step ∷ rest → is_flat step ≡ true → Fronting names all left old now found → Takes l.view l.at (front is_whitespace (l.view now).rest) (after is_whitespace (l.view now).rest) now mid
         → MustFind {A = A} l.view l.at others (piece_at types attr inside step) found more_found mid (Err fault) new → MustFront l.view l.at more_names types attr inside all old (Err fault) new
-    front_refused rest step e b p k h = must_refuse l (refuses l {sees = λ _. []} (behind_piece rest p.parts) (front_next rest step e b p k) h.read)
+    front_refused rest step e b p k h = must_refuse l (refuses l {sees = λ _. []} (after_piece rest p.parts) (front_next rest step e b p k) h.read)
 
     -- none of the front is left
     pub front_ends : front_steps left ≡ [] → Fronting names all left old now found → MustFront {A = A} l.view l.at names types attr inside all old (Ok found) now

@@ -26,7 +26,7 @@ use Rattle.irtext_parse_pieces.specs.Headers.{MustHead}
 use Rattle.irtext_parse_pieces.specs.Marks.{IsMarkIf}
 use Rattle.irtext_parse_pieces.specs.Named.{whole, Each, Optional, MustMean, MustName}
 use Rattle.irtext_parse_pieces.proofs.EntrySteps.{first_refused}
-use Rattle.irtext_parse_pieces.proofs.Meanings.{must_refuse, passed_whole, stands_on}
+use Rattle.irtext_parse_pieces.proofs.Meanings.{must_refuse, passed_whole, still_represents}
 use Rattle.irtext_parse_pieces.proofs.NameSteps.{nobody}
 
 -- a header of these parts
@@ -39,28 +39,28 @@ headless = head_of nobody [] None None
 
 module _ {S T A : Type 0} (l : Lens S) (types : Text → Outcome T) (attr : Text → Outcome (AttrView A)) where
   -- what follows the mark, with the white space
-  abbrev behind_mark : Name ℕ → List (Name ℕ × T) → Option (List (Name ℕ × Attribute A)) → Option (Mark ℕ) → Text → Outcome (Head ℕ T A)
-  behind_mark label arguments attributes mark t = followed (space_at t) (λ _ u. mapped (λ _. head_of label arguments attributes mark) (text_at (codes ":") u))
+  abbrev after_mark : Name ℕ → List (Name ℕ × T) → Option (List (Name ℕ × Attribute A)) → Option (Mark ℕ) → Text → Outcome (Head ℕ T A)
+  after_mark label arguments attributes mark t = followed (space_at t) (λ _ u. mapped (λ _. head_of label arguments attributes mark) (text_at (codes ":") u))
 
   -- what follows the dictionary, with the white space
-  abbrev behind_attributes : Name ℕ → List (Name ℕ × T) → Option (List (Name ℕ × Attribute A)) → Text → Outcome (Head ℕ T A)
-  behind_attributes label arguments attributes t = followed (space_at t) (λ _ u. followed (mark_if_at u) (behind_mark label arguments attributes))
+  abbrev after_attributes : Name ℕ → List (Name ℕ × T) → Option (List (Name ℕ × Attribute A)) → Text → Outcome (Head ℕ T A)
+  after_attributes label arguments attributes t = followed (space_at t) (λ _ u. followed (mark_if_at u) (after_mark label arguments attributes))
 
   -- what follows the closing parenthesis
-  abbrev behind_closing : Name ℕ → List (Name ℕ × T) → Unit {0} → Text → Outcome (Head ℕ T A)
-  behind_closing label arguments w t = followed (space_at t) (λ _ u. followed (dictionary_if attr u) (behind_attributes label arguments))
+  abbrev after_closing : Name ℕ → List (Name ℕ × T) → Unit {0} → Text → Outcome (Head ℕ T A)
+  after_closing label arguments w t = followed (space_at t) (λ _ u. followed (dictionary_if attr u) (after_attributes label arguments))
 
   -- what follows the arguments
-  abbrev behind_arguments : Name ℕ → List (Name ℕ × T) → Text → Outcome (Head ℕ T A)
-  behind_arguments label arguments t = followed (text_at (codes ")") t) (behind_closing label arguments)
+  abbrev after_arguments : Name ℕ → List (Name ℕ × T) → Text → Outcome (Head ℕ T A)
+  after_arguments label arguments t = followed (text_at (codes ")") t) (after_closing label arguments)
 
   -- what follows the opening parenthesis
-  abbrev behind_opening : Name ℕ → Unit {0} → Text → Outcome (Head ℕ T A)
-  behind_opening label w t = followed (separated_at 44 (argument_at types attr) t) (behind_arguments label)
+  abbrev after_opening : Name ℕ → Unit {0} → Text → Outcome (Head ℕ T A)
+  after_opening label w t = followed (separated_at 44 (argument_at types attr) t) (after_arguments label)
 
   -- what follows the label
-  abbrev behind_label : Name ℕ → Text → Outcome (Head ℕ T A)
-  behind_label label t = followed (spaced_at (codes "(") t) (behind_opening label)
+  abbrev after_label : Name ℕ → Text → Outcome (Head ℕ T A)
+  after_label label t = followed (spaced_at (codes "(") t) (after_opening label)
 
   -- the header is this error
   abbrev NoHead : S → List Text → ParseFault A → S → Type 0
@@ -75,46 +75,46 @@ module _ {S T A : Type 0} (l : Lens S) (types : Text → Outcome T) (attr : Text
   At old now next = Passed l (head_at types attr) next old now
 
   pub no_label : (names : List Text) {old : S} {fault : ParseFault A} {new : S} → MustName l.view l.at names label_at old (Err fault) new → NoHead old names fault new
-  no_label names h = must_refuse l (first_refused l {sees = λ _. headless} behind_label h.read)
+  no_label names h = must_refuse l (first_refused l {sees = λ _. headless} after_label h.read)
 
   module _ (names0 : List Text) {old s1 : S} {label : ReadName} (read1 : MustName {A = A} l.view l.at names0 label_at old (Ok label) s1) where
-    at1 : At old s1 (behind_label (read1.meant label))
-    at1 = first l behind_label read1.read
+    at1 : At old s1 (after_label (read1.meant label))
+    at1 = first l after_label read1.read
 
     pub no_opening : {fault : ParseFault A} {new : S} → Word (spaced_at (codes "(")) s1 (Err fault) new → NoHead old names0 fault new
-    no_opening h = must_refuse l (refuses l {sees = λ _. headless} (behind_opening (read1.meant label)) at1 h)
+    no_opening h = must_refuse l (refuses l {sees = λ _. headless} (after_opening (read1.meant label)) at1 h)
 
     module _ {s2 : S} (word2 : Word (spaced_at (codes "(")) s1 (Ok tt) s2) (names : List Text) where
-      at2 : At old s2 (behind_opening (read1.meant label) tt)
-      at2 = more l (behind_opening (read1.meant label)) at1 word2
+      at2 : At old s2 (after_opening (read1.meant label) tt)
+      at2 = more l (after_opening (read1.meant label)) at1 word2
 
       pub no_arguments : {fault : ParseFault A} {new : S} → MustArguments l.view l.at names (separated_at 44 (argument_at types attr)) s2 (Err fault) new → NoHead old names fault new
-      no_arguments h = must_refuse l (refuses l {sees = λ _. headless} (behind_arguments (read1.meant label)) at2 h.read)
+      no_arguments h = must_refuse l (refuses l {sees = λ _. headless} (after_arguments (read1.meant label)) at2 h.read)
 
       module _ {s3 : S} {arguments : List (ReadName × T)} (read3 : MustArguments {A = A} l.view l.at names (separated_at 44 (argument_at types attr)) s2 (Ok arguments) s3) where
-        at3 : At old s3 (behind_arguments (read1.meant label) (read3.meant arguments))
-        at3 = more l (behind_arguments (read1.meant label)) at2 read3.read
+        at3 : At old s3 (after_arguments (read1.meant label) (read3.meant arguments))
+        at3 = more l (after_arguments (read1.meant label)) at2 read3.read
 
         pub no_closing : {fault : ParseFault A} {new : S} → Word (text_at (codes ")")) s3 (Err fault) new → NoHead old names fault new
-        no_closing h = must_refuse l (refuses l {sees = λ _. headless} (behind_closing (read1.meant label) (read3.meant arguments)) at3 h)
+        no_closing h = must_refuse l (refuses l {sees = λ _. headless} (after_closing (read1.meant label) (read3.meant arguments)) at3 h)
 
         module _ {s4 s5 : S} (word4 : Word (text_at (codes ")")) s3 (Ok tt) s4) (space5 : TakesFront l.view l.at is_whitespace s4 s5) where
-          at5 : At old s5 (λ u. followed (dictionary_if attr u) (behind_attributes (read1.meant label) (read3.meant arguments)))
+          at5 : At old s5 (λ u. followed (dictionary_if attr u) (after_attributes (read1.meant label) (read3.meant arguments)))
           at5 =
-              spaced l (λ _ u. followed (dictionary_if attr u) (behind_attributes (read1.meant label) (read3.meant arguments)))
-              (more l (behind_closing (read1.meant label) (read3.meant arguments)) at3 word4) space5
+              spaced l (λ _ u. followed (dictionary_if attr u) (after_attributes (read1.meant label) (read3.meant arguments)))
+              (more l (after_closing (read1.meant label) (read3.meant arguments)) at3 word4) space5
 
           pub no_dictionary : {fault : ParseFault A} {new : S} → MustDictionaryIf l.view l.at attr s5 (Err fault) new → NoHead old names fault new
-          no_dictionary h = must_refuse l (refuses l {sees = λ _. headless} (behind_attributes (read1.meant label) (read3.meant arguments)) at5 h.read)
+          no_dictionary h = must_refuse l (refuses l {sees = λ _. headless} (after_attributes (read1.meant label) (read3.meant arguments)) at5 h.read)
 
           module _ {s6 s7 : S} {attributes : Option (Vec (Key × AttrObj A) Global)} (read6 : MustDictionaryIf l.view l.at attr s5 (Ok attributes) s6) (space7 : TakesFront l.view l.at is_whitespace s6 s7) where
-            at7 : At old s7 (λ u. followed (mark_if_at u) (behind_mark (read1.meant label) (read3.meant arguments) (read6.meant attributes)))
+            at7 : At old s7 (λ u. followed (mark_if_at u) (after_mark (read1.meant label) (read3.meant arguments) (read6.meant attributes)))
             at7 =
-                spaced l (λ _ u. followed (mark_if_at u) (behind_mark (read1.meant label) (read3.meant arguments) (read6.meant attributes)))
-                (more l (behind_attributes (read1.meant label) (read3.meant arguments)) at5 read6.read) space7
+                spaced l (λ _ u. followed (mark_if_at u) (after_mark (read1.meant label) (read3.meant arguments) (read6.meant attributes)))
+                (more l (after_attributes (read1.meant label) (read3.meant arguments)) at5 read6.read) space7
 
             pub no_mark : {fault : ParseFault A} {new : S} → MustMean l.view l.at (IsMarkIf (whole (l.view s7))) mark_if_at s7 (Err fault) new → NoHead old names fault new
-            no_mark h = must_refuse l (refuses l {sees = λ _. headless} (behind_mark (read1.meant label) (read3.meant arguments) (read6.meant attributes)) at7 h.read)
+            no_mark h = must_refuse l (refuses l {sees = λ _. headless} (after_mark (read1.meant label) (read3.meant arguments) (read6.meant attributes)) at7 h.read)
 
             module _ {s8 s9 : S} {mark : Option ReadMark} (read8 : MustMean {A = A} l.view l.at (IsMarkIf (whole (l.view s7))) mark_if_at s7 (Ok mark) s8) (space9 : TakesFront l.view l.at is_whitespace s8 s9) where
               -- all parts of the header
@@ -124,7 +124,7 @@ module _ {S T A : Type 0} (l : Lens S) (types : Text → Outcome T) (attr : Text
               at9 : At old s9 (λ u. mapped (λ _. whole_head) (text_at (codes ":") u))
               at9 =
                   spaced l (λ _ u. mapped (λ _. whole_head) (text_at (codes ":") u))
-                  (more l (behind_mark (read1.meant label) (read3.meant arguments) (read6.meant attributes)) at7 read8.read) space9
+                  (more l (after_mark (read1.meant label) (read3.meant arguments) (read6.meant attributes)) at7 read8.read) space9
 
               pub no_end : {fault : ParseFault A} {new : S} → Word (text_at (codes ":")) s9 (Err fault) new → NoHead old names fault new
               no_end h = must_refuse l (refuses_seen l {sees = λ _. headless} (λ _. whole_head) at9 h)
@@ -135,7 +135,7 @@ module _ {S T A : Type 0} (l : Lens S) (types : Text → Outcome T) (attr : Text
               head_read keeps h = record {
                 meant = λ _. whole_head;
                 means = record {
-                  label = stands_on names0 names label (read1.meant label) keeps refl read1.means;
+                  label = still_represents names0 names label (read1.meant label) keeps refl read1.means;
                   arguments = subst (λ t. Each (IsArgument names t) arguments (read3.meant arguments)) (passed_whole l at2) read3.means;
                   attributes = subst (λ t. Optional (AreEntries t) attributes (read6.meant attributes)) (passed_whole l at5) read6.means;
                   mark = subst (λ t. IsMarkIf t mark (read8.meant mark)) (passed_whole l at7) read8.means;

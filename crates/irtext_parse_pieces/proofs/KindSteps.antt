@@ -10,7 +10,7 @@ use Rattle.irtext_parse_pieces.specs.declared.lists.NameKind.{NameKind}
 use Rattle.irtext_parse_pieces.specs.declared.lists.NameKind.TheVariants as kind
 use Rattle.irtext_parse_pieces.specs.declared.names.ReadName.{ReadName}
 use Rattle.irtext_parse_pieces.specs.Kinds.{named_at, names_directive, names_tree, read_names}
-use Rattle.irtext_parse_pieces.specs.Named.{StandsFor, Each}
+use Rattle.irtext_parse_pieces.specs.Named.{Represents, Each}
 use Rattle.irtext_parse_pieces.specs.Pieces.{IsPiece}
 
 -- what the directive of all names of a kind parses
@@ -19,6 +19,6 @@ names_step types attr inside kind.Value u = refl
 names_step types attr inside kind.Block u = refl
 
 -- names that represent those of the text are a piece of it
-pub names_stand : (T A : Type 0) (kind : NameKind) (names : List Text) (text : Text) (y : List ReadName) (x : List (Name ℕ)) → Each (StandsFor names text) y x → IsPiece {T = T} {A = A} names text (read_names kind y) (names_tree kind x)
-names_stand T A kind.Value names text y x m = (x, refl, m)
-names_stand T A kind.Block names text y x m = (x, refl, m)
+pub names_represent : (T A : Type 0) (kind : NameKind) (names : List Text) (text : Text) (y : List ReadName) (x : List (Name ℕ)) → Each (Represents names text) y x → IsPiece {T = T} {A = A} names text (read_names kind y) (names_tree kind x)
+names_represent T A kind.Value names text y x m = (x, refl, m)
+names_represent T A kind.Block names text y x m = (x, refl, m)

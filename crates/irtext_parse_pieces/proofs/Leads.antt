@@ -9,12 +9,12 @@ use Rattle.irtext_base.specs.Reading.{the}
 use Rattle.irtext_base.specs.Stream.{advanced}
 use Rattle.irtext_base.specs.Format.{Id}
 use Rattle.irtext_base.specs.Faults.{Fault, UnregisteredOp, UnregisteredDialect, id_of}
-use Rattle.irtext_base.specs.Answers.{Outcome, Read, Missing, Bad, Takes, Gives, SameStream, Starves, StarvesHere, Refuses, Commits, Answers, DemandsOf, demanded, followed, mapped, prefixed, unless_failed}
-use Rattle.irtext_base.specs.Places.{StandsBehind}
+use Rattle.irtext_base.specs.Answers.{Outcome, Read, Missing, Bad, Takes, Gives, SameStream, RunsOut, RunsOutHere, Refuses, Commits, Answers, DemandsOf, demanded, followed, mapped, prefixed, unless_failed}
+use Rattle.irtext_base.specs.Places.{IsPlaceAfter}
 use Rattle.irtext_base.specs.declared.base.identifier.OpId.{OpId}
 use Rattle.irtext_base.specs.declared.parsable.fault.ParseFault.{ParseFault}
 use Rattle.irtext_stream.specs.declared.position.Place.{Place}
-use Rattle.irtext_base.proofs.Compose.{seen_after, takes_more, takes_stands, starves_behind, answers_after, answers_demanded, stands_failed, gives_mapped, refuses_mapped}
+use Rattle.irtext_base.proofs.Compose.{seen_after, takes_more, takes_same_stream, runs_out_after, answers_after, answers_demanded, same_stream_failed, gives_mapped, refuses_mapped}
 use Rattle.irtext_context.specs.Dialects.{Table, same_id}
 use Rattle.irtext_context.specs.DialectTable as table
 use Rattle.irtext_context.specs.DialectTable.{dialect_of, registered}
@@ -25,8 +25,8 @@ use Rattle.irtext_tokens.proofs.Spelling.{begins_the, takes_next, takes_none_is}
 use Rattle.irtext_tokens.proofs.Steps.{Lens}
 use Rattle.irtext_tokens.proofs.Words.{taken_since}
 use Rattle.irtext_grammar.specs.Contexts.Formats.{op_id}
-use Rattle.irtext_parse_spec.specs.Readers.Parts.{behind, is_led}
-use Rattle.irtext_parse_spec.specs.Readers.Operations.{registered_behind, Registers, RefusesAt}
+use Rattle.irtext_parse_spec.specs.Readers.Parts.{after_lead, is_led}
+use Rattle.irtext_parse_spec.specs.Readers.Operations.{registered_after, Registers, RefusesAt}
 use Rattle.std.specs.Char.{is_whitespace}
 use Rattle.irtext_tokens.specs.Tokens.{space_at}
 use Rattle.irtext_grammar.specs.Grammar.Tree.{Name}
@@ -64,16 +64,16 @@ module _ {S : Type 0} (l : Lens S) where
       }
 
   -- after them the stream is over the same text
-  pub dotted_stands : {old mid new : S} → Dotted old mid → new ≡ mid → SameStream l.view l.at (l.view old).failed old new
-  dotted_stands {old = old} {mid = mid} d e =
-      subst (λ s. SameStream l.view l.at (l.view old).failed old s) (sym e) (takes_stands l.view l.at l.view_at l.at_at old mid (front in_word (l.view old).rest ++ (46 ∷ [])) (l.view mid).rest d.takes)
+  pub dotted_same_stream : {old mid new : S} → Dotted old mid → new ≡ mid → SameStream l.view l.at (l.view old).failed old new
+  dotted_same_stream {old = old} {mid = mid} d e =
+      subst (λ s. SameStream l.view l.at (l.view old).failed old s) (sym e) (takes_same_stream l.view l.at l.view_at l.at_at old mid (front in_word (l.view old).rest ++ (46 ∷ [])) (l.view mid).rest d.takes)
 
   -- and after one more word
-  pub word_stands : {old mid new : S} → Dotted old mid → Takes l.view l.at (front in_word (l.view mid).rest) (after in_word (l.view mid).rest) mid new → SameStream l.view l.at (l.view old).failed old new
-  word_stands {old = old} {mid = mid} {new = new} d t =
+  pub word_same_stream : {old mid new : S} → Dotted old mid → Takes l.view l.at (front in_word (l.view mid).rest) (after in_word (l.view mid).rest) mid new → SameStream l.view l.at (l.view old).failed old new
+  word_same_stream {old = old} {mid = mid} {new = new} d t =
       let first = front in_word (l.view old).rest ++ (46 ∷ []) in
       let name = (l.view mid).rest in
-      takes_stands l.view l.at l.view_at l.at_at old new (first ++ front in_word name) (after in_word name) (takes_more l.view l.at l.view_at l.at_at old mid new first name (front in_word name) (after in_word name) d.takes t)
+      takes_same_stream l.view l.at l.view_at l.at_at old new (first ++ front in_word name) (after in_word name) (takes_more l.view l.at l.view_at l.at_at old mid new first name (front in_word name) (after in_word name) d.takes t)
 
   takes_id : (old mid new : S) (i : OpId) → Dotted old mid → begins begins_word (l.view mid).rest ≡ true → Takes l.view l.at (front in_word (l.view mid).rest) (after in_word (l.view mid).rest) mid new
       → i ≡ id_of_texts (front in_word (l.view old).rest) (front in_word (l.view mid).rest) → TakesId l.view l.at old i new
@@ -93,24 +93,24 @@ module _ {S : Type 0} (l : Lens S) where
   found_there old mid new None d b t e = tt
   found_there old mid new (Some op) d b t e = takes_id old mid new op.0.now d b t e
 
-behind_is : {X : Type 0} (lead : Text) (o : Outcome X) (x : X) (taken rest : Text) → o ≡ Read x taken rest → behind lead o ≡ Read x (lead ++ taken) rest
-behind_is [] o x taken rest e = e
-behind_is (c ∷ lead) o x taken rest e = ap (prefixed (c ∷ lead)) e
+after_holds : {X : Type 0} (lead : Text) (o : Outcome X) (x : X) (taken rest : Text) → o ≡ Read x taken rest → after_lead lead o ≡ Read x (lead ++ taken) rest
+after_holds [] o x taken rest e = e
+after_holds (c ∷ lead) o x taken rest e = ap (prefixed (c ∷ lead)) e
 
 dialect_there : (o : Option Table) (id : OpId) → is_some (option_and_then (λ table. lookup (same_id id) table.entries) o) ≡ true → is_some o ≡ true
 dialect_there None id e = e
 dialect_there (Some table) id e = refl
 
 module _ {S : Type 0} (dialects : List (Text × Table)) (l : Lens S) where
-  found_led : (lead : Text) {i : OpId} (mid now : S) → is_some (registered dialects i) ≡ true → (h : TakesId l.view l.at mid i now) → registered_behind dialects lead (behind lead (id_at (l.view mid).rest)) ≡ Read (id_of i) (lead ++ h.taken) (l.view now).rest
+  found_led : (lead : Text) {i : OpId} (mid now : S) → is_some (registered dialects i) ≡ true → (h : TakesId l.view l.at mid i now) → registered_after dialects lead (after_lead lead (id_at (l.view mid).rest)) ≡ Read (id_of i) (lead ++ h.taken) (l.view now).rest
   found_led lead {i = i} mid now known h =
       let d : is_some (dialect_of dialects i.dialect) ≡ true = dialect_there (dialect_of dialects i.dialect) i known in
       let n : is_some (registered dialects (op_id (id_of i))) ≡ true = known in
-      ap (registered_behind dialects lead) (behind_is lead (id_at (l.view mid).rest) (id_of i) h.taken (l.view now).rest h.read) ∙ rw (d, n) refl
+      ap (registered_after dialects lead) (after_holds lead (id_at (l.view mid).rest) (id_of i) h.taken (l.view now).rest h.read) ∙ rw (d, n) refl
 
 module _ {S A : Type 0} (dialects : List (Text × Table)) (l : Lens S) where
   led_answered : (lead text : Text) (old mid next new : S) (a r : Result OpId (ParseFault A)) → (l.view old).failed ≡ false → Takes l.view l.at lead text old mid → Answers l.view l.at id_of (unless_failed (l.view mid).failed (id_at (l.view mid).rest)) mid a next →
-      cond (is_led lead) (DemandsOf l.view l.at a next r new) ((r ≡ a) × (new ≡ next)) → Answers l.view l.at id_of (behind lead (id_at text)) old r new
+      cond (is_led lead) (DemandsOf l.view l.at a next r new) ((r ≡ a) × (new ≡ next)) → Answers l.view l.at id_of (after_lead lead (id_at text)) old r new
   led_answered [] text old mid next new a r f t h d =
       let e : mid ≡ old = takes_none_is l.view l.at l.view_at l.at_view l.at_at old mid text t in
       let b : Answers l.view l.at id_of (unless_failed (l.view old).failed (id_at (l.view old).rest)) old a next = subst (λ s. Answers l.view l.at id_of (unless_failed (l.view s).failed (id_at (l.view s).rest)) s a next) e h in
@@ -121,70 +121,70 @@ module _ {S A : Type 0} (dialects : List (Text × Table)) (l : Lens S) where
       let q : demanded (unless_failed (l.view mid).failed (id_at (l.view mid).rest)) ≡ demanded (id_at text) = rw (v, f) refl in
       answers_after l.view l.at l.view_at l.at_at id_of (id_at text) old mid new (c ∷ lead) text r t (subst (λ o. Answers l.view l.at id_of o mid r new) q b)
 
-  refused_at : (cause : Fault) (upto more : Text) (place : Place) (old mid new : S) (fault : ParseFault A) (t r : Text) → upto ++ more ≡ (l.view old).rest → Takes l.view l.at t r old mid → StandsBehind place ((l.view old).passed ++ upto) → RefusesAt l.view l.at cause place mid fault new → Commits l.view l.at cause upto old fault new
+  refused_at : (cause : Fault) (upto more : Text) (place : Place) (old mid new : S) (fault : ParseFault A) (t r : Text) → upto ++ more ≡ (l.view old).rest → Takes l.view l.at t r old mid → IsPlaceAfter place ((l.view old).passed ++ upto) → RefusesAt l.view l.at cause place mid fault new → Commits l.view l.at cause upto old fault new
   refused_at cause upto more place old mid new fault t r e k p h =
-      let s = takes_stands l.view l.at l.view_at l.at_at old mid t r k in
+      let s = takes_same_stream l.view l.at l.view_at l.at_at old mid t r k in
       let same = append_assoc (l.view old).passed upto more ∙ (ap (λ z. (l.view old).passed ++ z) e ∙ set_within l old mid s) in
-      record { because = h.because; committed = h.committed; place = h.position ((l.view old).passed ++ upto) more same p; left = stands_failed l.view l.at l.view_at l.at_at (l.view old).failed old mid new s h.left }
+      record { because = h.because; committed = h.committed; place = h.position ((l.view old).passed ++ upto) more same p; left = same_stream_failed l.view l.at l.view_at l.at_at (l.view old).failed old mid new s h.left }
 
-  by_dialect : (b n : Bool) (lead more : Text) (start place : Place) (i : OpId) (t r : Text) (old mid new : S) (fault : ParseFault A) → lead ++ more ≡ (l.view old).rest → Takes l.view l.at t r old mid → StandsBehind start (l.view old).passed → StandsBehind place ((l.view old).passed ++ lead) →
+  by_dialect : (b n : Bool) (lead more : Text) (start place : Place) (i : OpId) (t r : Text) (old mid new : S) (fault : ParseFault A) → lead ++ more ≡ (l.view old).rest → Takes l.view l.at t r old mid → IsPlaceAfter start (l.view old).passed → IsPlaceAfter place ((l.view old).passed ++ lead) →
       cond b ((n ≡ false) × RefusesAt l.view l.at (UnregisteredOp (id_of i)) start mid fault new) (RefusesAt l.view l.at (UnregisteredDialect i.dialect) place mid fault new) →
-      Starves l.view l.at old fault new ⊎ Refuses l.view l.at (cond b (cond n (Read (id_of i) t r) (Bad (UnregisteredOp (id_of i)) [])) (Bad (UnregisteredDialect i.dialect) lead)) old fault new
+      RunsOut l.view l.at old fault new ⊎ Refuses l.view l.at (cond b (cond n (Read (id_of i) t r) (Bad (UnregisteredOp (id_of i)) [])) (Bad (UnregisteredDialect i.dialect) lead)) old fault new
   by_dialect true n lead more start place i t r old mid new fault e k p q h = inr (rw h.0 (refused_at (UnregisteredOp (id_of i)) [] (l.view old).rest start old mid new fault t r refl k (rw append-nil p) h.1))
   by_dialect false n lead more start place i t r old mid new fault e k p q h = inr (refused_at (UnregisteredDialect i.dialect) lead more place old mid new fault t r e k q h)
 
-  registers : (lead more : Text) (o : Outcome Id) (start place : Place) (i : OpId) (old mid new : S) (r : Result OpId (ParseFault A)) → lead ++ more ≡ (l.view old).rest → StandsBehind start (l.view old).passed → StandsBehind place ((l.view old).passed ++ lead) → Gives l.view l.at o old (id_of i) mid → Registers l.view l.at dialects start place i mid r new
-      → Answers l.view l.at id_of (registered_behind dialects lead o) old r new
+  registers : (lead more : Text) (o : Outcome Id) (start place : Place) (i : OpId) (old mid new : S) (r : Result OpId (ParseFault A)) → lead ++ more ≡ (l.view old).rest → IsPlaceAfter start (l.view old).passed → IsPlaceAfter place ((l.view old).passed ++ lead) → Gives l.view l.at o old (id_of i) mid → Registers l.view l.at dialects start place i mid r new
+      → Answers l.view l.at id_of (registered_after dialects lead o) old r new
   registers lead more (Read x t q) start place i old mid new (Ok j) e p s h k =
       let d : is_some (dialect_of dialects x.dialect) ≡ true = subst (λ y. is_some (dialect_of dialects y.dialect) ≡ true) h.0 k.0 in
       let n : is_some (table.registered dialects (op_id x)) ≡ true = subst (λ y. is_some (table.registered dialects (op_id y)) ≡ true) h.0 k.1 in
       rw (d, n) (rw k.2 h.0, rw k.3 h.1)
   registers lead more (Read x t q) start place i old mid new (Err fault) e p s h k =
-      subst (λ y. Starves l.view l.at old fault new ⊎ Refuses l.view l.at (registered_behind dialects lead (Read y t q)) old fault new) h.0
+      subst (λ y. RunsOut l.view l.at old fault new ⊎ Refuses l.view l.at (registered_after dialects lead (Read y t q)) old fault new) h.0
       (by_dialect (is_some (dialect_of dialects i.dialect)) (is_some (table.registered dialects i)) lead more start place i t q old mid new fault e h.1 p s k)
   registers lead more (Missing cause) start place i old mid new r e p s h k = absurd h
   registers lead more (Bad cause upto) start place i old mid new r e p s h k = absurd h
 
-  unregistered : (lead : Text) (o : Outcome Id) (old new : S) (fault : ParseFault A) → Starves l.view l.at old fault new ⊎ Refuses l.view l.at o old fault new → Starves l.view l.at old fault new ⊎ Refuses l.view l.at (registered_behind dialects lead o) old fault new
+  unregistered : (lead : Text) (o : Outcome Id) (old new : S) (fault : ParseFault A) → RunsOut l.view l.at old fault new ⊎ Refuses l.view l.at o old fault new → RunsOut l.view l.at old fault new ⊎ Refuses l.view l.at (registered_after dialects lead o) old fault new
   unregistered lead o old new fault (inl h) = inl h
   unregistered lead (Read x t r) old new fault (inr h) = absurd h
   unregistered lead (Missing cause) old new fault (inr h) = inr h
   unregistered lead (Bad cause upto) old new fault (inr h) = inr h
 
   -- an id that is found is parsed, unless out of memory
-  pub found_behind : {X : Type 0} {mid now new : S} {i : OpId} (start : Place) (led : Bool) (r : Result (OpId × X) (ParseFault A)) → TakesId l.view l.at mid i now → is_some (registered dialects i) ≡ true → IfOk r (λ op. op.0 ≡ i) → OnOk r (new ≡ now) → IfErr r (λ fault. StarvesHere l.view l.at now fault new)
+  pub found_after : {X : Type 0} {mid now new : S} {i : OpId} (start : Place) (led : Bool) (r : Result (OpId × X) (ParseFault A)) → TakesId l.view l.at mid i now → is_some (registered dialects i) ≡ true → IfOk r (λ op. op.0 ≡ i) → OnOk r (new ≡ now) → IfErr r (λ fault. RunsOutHere l.view l.at now fault new)
       → AnswersLed {A = A} l.view l.at dialects start led mid (id_in r) new
-  found_behind {mid = mid} {now = now} {new = new} {i = i} start led (Ok op) h known e n s = record {
+  found_after {mid = mid} {now = now} {new = new} {i = i} start led (Ok op) h known e n s = record {
     answers = λ old lead fine takes same at.
         rw (found_led dialects l lead mid now known h, n) (ap id_of e, takes_more l.view l.at l.view_at l.at_at old mid now lead (l.view mid).rest h.taken (l.view now).rest takes h.takes);
   }
-  found_behind {mid = mid} {now = now} {new = new} {i = i} start led (Err fault) h known e n s = record {
+  found_after {mid = mid} {now = now} {new = new} {i = i} start led (Err fault) h known e n s = record {
     answers = λ old lead fine takes same at.
-        inl (starves_behind l.view l.at l.view_at l.at_at old now new (lead ++ h.taken) (l.view now).rest fault fine (takes_more l.view l.at l.view_at l.at_at old mid now lead (l.view mid).rest h.taken (l.view now).rest takes h.takes) s);
+        inl (runs_out_after l.view l.at l.view_at l.at_at old now new (lead ++ h.taken) (l.view now).rest fault fine (takes_more l.view l.at l.view_at l.at_at old mid now lead (l.view mid).rest h.taken (l.view now).rest takes h.takes) s);
   }
 
   -- the id is an error
-  pub refused_behind : {mid new : S} (next : S) (a : Result OpId (ParseFault A)) {fault : ParseFault A} (start : Place) (led : Bool) → Answers l.view l.at id_of (unless_failed (l.view mid).failed (id_at (l.view mid).rest)) mid a next → cond led (DemandsOf l.view l.at a next (Err fault) new) ((Err fault ≡ a) × (new ≡ next))
+  pub refused_after : {mid new : S} (next : S) (a : Result OpId (ParseFault A)) {fault : ParseFault A} (start : Place) (led : Bool) → Answers l.view l.at id_of (unless_failed (l.view mid).failed (id_at (l.view mid).rest)) mid a next → cond led (DemandsOf l.view l.at a next (Err fault) new) ((Err fault ≡ a) × (new ≡ next))
       → AnswersLed {A = A} l.view l.at dialects start led mid (Err fault) new
-  refused_behind {mid = mid} {new = new} next a {fault = fault} start led h d = record {
+  refused_after {mid = mid} {new = new} next a {fault = fault} start led h d = record {
     answers = λ old lead fine takes same at.
-        unregistered lead (behind lead (id_at (l.view mid).rest)) old new fault (led_answered lead (l.view mid).rest old mid next new a (Err fault) fine takes h (subst (λ b. cond b (DemandsOf l.view l.at a next (Err fault) new) ((Err fault ≡ a) × (new ≡ next))) same d));
+        unregistered lead (after_lead lead (id_at (l.view mid).rest)) old new fault (led_answered lead (l.view mid).rest old mid next new a (Err fault) fine takes h (subst (λ b. cond b (DemandsOf l.view l.at a next (Err fault) new) ((Err fault ≡ a) × (new ≡ next))) same d));
   }
 
   -- the id is parsed, and looked up
   pub registered_led : {mid new : S} (next now : S) (a : Result OpId (ParseFault A)) (i : OpId) (start place : Place) (led : Bool) (r : Result OpId (ParseFault A)) → Answers l.view l.at id_of (unless_failed (l.view mid).failed (id_at (l.view mid).rest)) mid a next → cond led (DemandsOf l.view l.at a next (Ok i) now) ((Ok i ≡ a) × (now ≡ next))
-      → StandsBehind place (l.view mid).passed → Registers l.view l.at dialects start place i now r new → AnswersLed {A = A} l.view l.at dialects start led mid r new
+      → IsPlaceAfter place (l.view mid).passed → Registers l.view l.at dialects start place i now r new → AnswersLed {A = A} l.view l.at dialects start led mid r new
   registered_led {mid = mid} {new = new} next now a i start place led r h d q k = record {
     answers = λ old lead fine takes same at.
         let v = seen_after l.view l.at l.view_at l.at_at old mid lead (l.view mid).rest takes in
-        let p : StandsBehind place ((l.view old).passed ++ lead) = subst (λ t. StandsBehind place t) (ap (λ w. w.passed) v) q in
+        let p : IsPlaceAfter place ((l.view old).passed ++ lead) = subst (λ t. IsPlaceAfter place t) (ap (λ w. w.passed) v) q in
         let n = led_answered lead (l.view mid).rest old mid next now a (Ok i) fine takes h (subst (λ b. cond b (DemandsOf l.view l.at a next (Ok i) now) ((Ok i ≡ a) × (now ≡ next))) same d) in
-        registers lead (l.view mid).rest (behind lead (id_at (l.view mid).rest)) start place i old now new r takes.same at p n k;
+        registers lead (l.view mid).rest (after_lead lead (id_at (l.view mid).rest)) start place i old now new r takes.same at p n k;
   }
 
 -- a lead is never missing
-led_refused : {S A : Type 0} (l : Lens S) (dialects : List (Text × Table)) (b : Bool) (t : Text) (o : Outcome (List (Name ℕ))) (old new : S) (fault : ParseFault A) → Starves l.view l.at old fault new ⊎ Refuses l.view l.at (demanded (unless_failed b (prefixed t o))) old fault new
-    → Starves l.view l.at old fault new ⊎ Refuses l.view l.at (unless_failed b (led_by dialects (prefixed t o))) old fault new
+led_refused : {S A : Type 0} (l : Lens S) (dialects : List (Text × Table)) (b : Bool) (t : Text) (o : Outcome (List (Name ℕ))) (old new : S) (fault : ParseFault A) → RunsOut l.view l.at old fault new ⊎ Refuses l.view l.at (demanded (unless_failed b (prefixed t o))) old fault new
+    → RunsOut l.view l.at old fault new ⊎ Refuses l.view l.at (unless_failed b (led_by dialects (prefixed t o))) old fault new
 led_refused l dialects b t o old new fault (inl h) = inl h
 led_refused l dialects true t o old new fault (inr h) = inr h
 led_refused l dialects false t (Read x u r) old new fault (inr h) = absurd h
@@ -213,8 +213,8 @@ module _ {S A : Type 0} (l : Lens S) where
   lead_taken {old = old} {mid = mid} {ns = ns} h = took_of l lead_at (l.view old).failed (lead_at (l.view old).rest) old mid (h.meant ns) refl refl h.read.answers
 
   -- whether it is not empty, by the bytes since its beginning
-  pub lead_since : {names : List Text} {old mid : S} {ns : List ReadName} (h : MustNames {A = A} l.view l.at names lead_at old (Ok ns) mid) (start : Place) (bytes : List ℕ) (empty : Bool) → StandsBehind start (l.view old).passed
-      → ((passed taken : Text) → passed ++ taken ≡ (l.view mid).passed → StandsBehind start passed → bytes ≡ encode_utf8_all taken) → empty ≡ eqb (length bytes) 0 → not empty ≡ is_led (lead_taken h).taken
+  pub lead_since : {names : List Text} {old mid : S} {ns : List ReadName} (h : MustNames {A = A} l.view l.at names lead_at old (Ok ns) mid) (start : Place) (bytes : List ℕ) (empty : Bool) → IsPlaceAfter start (l.view old).passed
+      → ((passed taken : Text) → passed ++ taken ≡ (l.view mid).passed → IsPlaceAfter start passed → bytes ≡ encode_utf8_all taken) → empty ≡ eqb (length bytes) 0 → not empty ≡ is_led (lead_taken h).taken
   lead_since {old = old} {mid = mid} h start bytes empty at since e =
       let t = lead_taken h in
       let w = taken_since l.view l.at l.view_at l.at_at old mid start bytes t.taken (l.view mid).rest t.takes at since in
@@ -230,7 +230,7 @@ module _ {S A : Type 0} (l : Lens S) where
       }
 
   -- a lead, and the id after it
-  pub led_read : {X : Type 0} {names : List Text} {old mid new : S} {ns : List ReadName} {id : OpId} (info : X) (dialects : List (Text × Table)) (start : Place) (led : Bool) (h : MustNames {A = A} l.view l.at names lead_at old (Ok ns) mid) → led ≡ is_led (lead_taken h).taken → StandsBehind start (l.view old).passed → AnswersLed {A = A} l.view l.at dialects start led mid (Ok id) new
+  pub led_read : {X : Type 0} {names : List Text} {old mid new : S} {ns : List ReadName} {id : OpId} (info : X) (dialects : List (Text × Table)) (start : Place) (led : Bool) (h : MustNames {A = A} l.view l.at names lead_at old (Ok ns) mid) → led ≡ is_led (lead_taken h).taken → IsPlaceAfter start (l.view old).passed → AnswersLed {A = A} l.view l.at dialects start led mid (Ok id) new
       → MayMean {A = A} l.view l.at (IsLed names (whole (l.view old))) (led_at dialects) old (Ok (ns, id, info)) new
   led_read {old = old} {mid = mid} {new = new} {ns = ns} {id = id} info dialects start led h e at k =
       let t = lead_taken h in
@@ -238,11 +238,11 @@ module _ {S A : Type 0} (l : Lens S) where
       record {
         meant = λ _. (h.meant ns, id_of id);
         means = (h.means, refl);
-        read = record { answers = rw (t.fine, t.is) (gives_mapped l.view l.at l.view_at l.at_at (λ i. (h.meant ns, i)) false (registered_behind dialects t.taken (behind t.taken (id_at (l.view mid).rest))) old new (id_of id) (h.meant ns, id_of id) refl a) };
+        read = record { answers = rw (t.fine, t.is) (gives_mapped l.view l.at l.view_at l.at_at (λ i. (h.meant ns, i)) false (registered_after dialects t.taken (after_lead t.taken (id_at (l.view mid).rest))) old new (id_of id) (h.meant ns, id_of id) refl a) };
       }
 
   -- a lead, and an error of the id after it
-  pub led_missed : {Y : Type 0} {Means : Y → List (Name ℕ) × Id → Type 0} {names : List Text} {old mid new : S} {ns : List ReadName} {fault : ParseFault A} (dialects : List (Text × Table)) (start : Place) (led : Bool) (h : MustNames {A = A} l.view l.at names lead_at old (Ok ns) mid) → led ≡ is_led (lead_taken h).taken → StandsBehind start (l.view old).passed → AnswersLed {A = A} l.view l.at dialects start led mid (Err fault) new
+  pub led_missed : {Y : Type 0} {Means : Y → List (Name ℕ) × Id → Type 0} {names : List Text} {old mid new : S} {ns : List ReadName} {fault : ParseFault A} (dialects : List (Text × Table)) (start : Place) (led : Bool) (h : MustNames {A = A} l.view l.at names lead_at old (Ok ns) mid) → led ≡ is_led (lead_taken h).taken → IsPlaceAfter start (l.view old).passed → AnswersLed {A = A} l.view l.at dialects start led mid (Err fault) new
       → MayMean l.view l.at Means (led_at dialects) old (Err fault) new
   led_missed {old = old} {mid = mid} {new = new} {ns = ns} {fault = fault} dialects start led h e at k =
       let t = lead_taken h in
@@ -250,5 +250,5 @@ module _ {S A : Type 0} (l : Lens S) where
       record {
         meant = λ _. ([], record { dialect = []; name = [] });
         means = tt;
-        read = record { answers = rw (t.fine, t.is) (refuses_mapped l.view l.at l.view_at l.at_at (λ i. (h.meant ns, i)) false (registered_behind dialects t.taken (behind t.taken (id_at (l.view mid).rest))) old new fault a) };
+        read = record { answers = rw (t.fine, t.is) (refuses_mapped l.view l.at l.view_at l.at_at (λ i. (h.meant ns, i)) false (registered_after dialects t.taken (after_lead t.taken (id_at (l.view mid).rest))) old new fault a) };
       }

@@ -4,20 +4,20 @@ use Rattle.std.specs.Char.{is_whitespace}
 use Rattle.irtext_base.specs.Text.{Text, begins, front, after}
 use Rattle.irtext_base.specs.Reading.{the}
 use Rattle.irtext_base.specs.Stream.{advanced}
-use Rattle.irtext_base.specs.Answers.{Outcome, Read, Missing, Bad, Takes, Starves, StarvesHere, Refuses, mapped, followed, unless_failed}
+use Rattle.irtext_base.specs.Answers.{Outcome, Read, Missing, Bad, Takes, RunsOut, RunsOutHere, Refuses, mapped, followed, unless_failed}
 use Rattle.irtext_base.specs.declared.parsable.fault.ParseFault.{ParseFault}
 use Rattle.irtext_base.proofs.Compose.{refuses_first_demanded}
 use Rattle.irtext_tokens.specs.ListOutcomes.{item_after, items_after, or_empty, separated_at}
 use Rattle.irtext_tokens.specs.MustRead.{MayRead, MustRead}
 use Rattle.irtext_tokens.specs.Reads.{TakesFront}
 use Rattle.irtext_tokens.specs.Tokens.{space_at}
-use Rattle.irtext_tokens.proofs.ListOutcomes.{Found, found_first, found_all, goes_on, falls_behind, behind_separator, behind_space, list_begun, list_empty, separated_stands}
-use Rattle.irtext_tokens.proofs.Steps.{Lens, Passed, first, more, took, spaced, refuses, starved, last_spaced, begins_with, begins_refused, begun_by, fine_there, never_missing}
+use Rattle.irtext_tokens.proofs.ListOutcomes.{Found, found_first, found_all, goes_on, falls_after, after_separator, after_spaces, list_begun, list_empty, separated_never_missing}
+use Rattle.irtext_tokens.proofs.Steps.{Lens, Passed, first, more, took, spaced, refuses, ran_out, last_spaced, begins_with, begins_refused, begun_by, fine_there, never_missing}
 use Rattle.irtext_grammar.specs.Grammar.Tree.{Name}
 use Rattle.irtext_parse_pieces.specs.declared.names.ReadName.{ReadName}
-use Rattle.irtext_parse_pieces.specs.Arguments.{IsArgument, MustArguments, ArgumentsBehind}
-use Rattle.irtext_parse_pieces.specs.Lists.{IsBehindComma, Appends}
-use Rattle.irtext_parse_pieces.specs.Named.{whole, StandsFor, Each, MayMean, MustMean, MayName, MustNames, NamesBehind}
+use Rattle.irtext_parse_pieces.specs.Arguments.{IsArgument, MustArguments, ArgumentsAfter}
+use Rattle.irtext_parse_pieces.specs.Lists.{IsAfterComma, Appends}
+use Rattle.irtext_parse_pieces.specs.Named.{whole, Represents, Each, MayMean, MustMean, MayName, MustNames, NamesAfter}
 use Rattle.irtext_parse_pieces.proofs.Meanings.{passed_whole, takes_whole, may_whole, must_refuse}
 
 -- one more of each, after the others
@@ -35,12 +35,12 @@ each_on Means Other on (y ∷ ys) [] h = absurd h
 each_on Means Other on (y ∷ ys) (x ∷ xs) h = (on y x h.0, each_on Means Other on ys xs h.1)
 
 -- what follows the first item
-abbrev pub behind_first : {X : Type 0} → (Text → Outcome X) → List X → Text → Outcome (List X)
-behind_first item found t = items_after 44 item (length t) found t
+abbrev pub after_first : {X : Type 0} → (Text → Outcome X) → List X → Text → Outcome (List X)
+after_first item found t = items_after 44 item (length t) found t
 
 module _ {S X : Type 0} (l : Lens S) (item : Text → Outcome X) where
   bad_first : {A : Type 0} (b : Bool) (o : Outcome (List X)) (text : Text) (old new : S) (fault : ParseFault A) → fault.committed ≡ true
-      → Starves l.view l.at old fault new ⊎ Refuses l.view l.at (unless_failed b o) old fault new → Starves l.view l.at old fault new ⊎ Refuses l.view l.at (unless_failed b (or_empty (followed o (behind_first item)) text)) old fault new
+      → RunsOut l.view l.at old fault new ⊎ Refuses l.view l.at (unless_failed b o) old fault new → RunsOut l.view l.at old fault new ⊎ Refuses l.view l.at (unless_failed b (or_empty (followed o (after_first item)) text)) old fault new
   bad_first b o text old new fault c (inl h) = inl h
   bad_first true o text old new fault c (inr h) = inr h
   bad_first false (Read x t r) text old new fault c (inr h) = absurd h
@@ -64,7 +64,7 @@ module _ {S X Y : Type 0} (l : Lens S) (item : Text → Outcome X) where
   -- a separator, an item and white space consume at least one character
   pub item_falls : {A : Type 0} {see : Y → X} {now mid later next new : S} {y : Y} → begins (the 44) (l.view now).rest ≡ true → mid ≡ l.at now (advanced (l.view now)) → Takes l.view l.at (front is_whitespace (l.view mid).rest) (after is_whitespace (l.view mid).rest) mid later
       → MustRead {A = A} l.view l.at see item later (Ok y) next → Takes l.view l.at (front is_whitespace (l.view next).rest) (after is_whitespace (l.view next).rest) next new → length (l.view new).rest < length (l.view now).rest
-  item_falls b t k h behind = falls_behind l 44 b t k (item_read [] h behind)
+  item_falls b t k h following = falls_after l 44 b t k (item_read [] h following)
 
   -- the items found so far after the first one, and what each represents
   pub record Listing (Means : Y → X → Type 0) (begun : List X) (old now : S) (found : List Y) : Type 0 where
@@ -89,10 +89,10 @@ module _ {S X Y : Type 0} (l : Lens S) (item : Text → Outcome X) where
 
       -- an item is to be parsed after a separator and white space
       pub listing_next : {mid later : S} → begins (the 44) (l.view now).rest ≡ true → mid ≡ l.at now (advanced (l.view now)) → Takes l.view l.at (front is_whitespace (l.view mid).rest) (after is_whitespace (l.view mid).rest) mid later → (p : Listing Means begun old now found)
-          → (n : ℕ) × (p.so_far.room ≡ suc n) × Passed l (λ t. items_after 44 item (length t) begun t) (behind_space 44 item n p.items tt) old later
+          → (n : ℕ) × (p.so_far.room ≡ suc n) × Passed l (λ t. items_after 44 item (length t) begun t) (after_spaces 44 item n p.items tt) old later
       listing_next b t k p =
           let w = goes_on 44 item l b p.so_far in
-          (w.0, w.1, spaced l (behind_space 44 item w.0 p.items) (took l 44 (behind_separator 44 item w.0 p.items) w.2 b t) k)
+          (w.0, w.1, spaced l (after_spaces 44 item w.0 p.items) (took l 44 (after_separator 44 item w.0 p.items) w.2 b t) k)
 
       -- the whole text is the same there
       pub listing_whole : {mid later : S} → begins (the 44) (l.view now).rest ≡ true → mid ≡ l.at now (advanced (l.view now)) → Takes l.view l.at (front is_whitespace (l.view mid).rest) (after is_whitespace (l.view mid).rest) mid later → Listing Means begun old now found → whole (l.view later) ≡ whole (l.view old)
@@ -110,22 +110,22 @@ module _ {S X Y : Type 0} (l : Lens S) (item : Text → Outcome X) where
         -- the item there was parsed, with the white space after it
         pub listing_more : {Other : Y → X → Type 0} {next new : S} {y : Y} → ((y : Y) (x : X) → Means y x → Other y x) → (h : MustMean {A = A} l.view l.at Other item later (Ok y) next) → Takes l.view l.at (front is_whitespace (l.view next).rest) (after is_whitespace (l.view next).rest) next new
             → Listing Other begun old new (found ++ (y ∷ []))
-        listing_more {Other = Other} {next = next} {new = new} {y = y} on h behind =
+        listing_more {Other = Other} {next = next} {new = new} {y = y} on h following =
             let w = listing_next b t k p in
-            let i = item_read {see = h.meant} p.items h.read behind in
+            let i = item_read {see = h.meant} p.items h.read following in
             record {
               items = p.items ++ (h.meant y ∷ []);
               each = each_more Other found p.items y (h.meant y) (each_on Means Other on found p.items p.each) h.means;
               so_far = record {
                 room = w.0;
-                enough = omega (arith, falls_behind l 44 b t k i, p.so_far.enough, w.1);
+                enough = omega (arith, falls_after l 44 b t k i, p.so_far.enough, w.1);
                 passed = more l (λ more v. items_after 44 item w.0 more v) w.2 i;
               };
             }
 
       -- out of memory there
-      pub listing_starved : {A W : Type 0} (sees : W → List X) {fault : ParseFault A} {new : S} → Listing Means begun old now found → StarvesHere l.view l.at now fault new → MustRead l.view l.at sees (λ t. items_after 44 item (length t) begun t) old (Err fault) new
-      listing_starved sees p h = starved l {sees = sees} p.so_far.passed h
+      pub listing_ran_out : {A W : Type 0} (sees : W → List X) {fault : ParseFault A} {new : S} → Listing Means begun old now found → RunsOutHere l.view l.at now fault new → MustRead l.view l.at sees (λ t. items_after 44 item (length t) begun t) old (Err fault) new
+      listing_ran_out sees p h = ran_out l {sees = sees} p.so_far.passed h
 
   module _ {A : Type 0} {see : Y → X} {old new : S} where
     first_refused : {fault : ParseFault A} → MayRead l.view l.at see item old (Err fault) new → MayRead {Y = Y} l.view l.at (λ _. []) (item_after 44 item []) old (Err fault) new
@@ -135,20 +135,20 @@ module _ {S X Y : Type 0} (l : Lens S) (item : Text → Outcome X) where
     -- the first item is bad
     pub list_bad : (sees : W → List X) {fault : ParseFault A} → fault.committed ≡ true → MayRead l.view l.at see item old (Err fault) new → MustRead l.view l.at sees (separated_at 44 item) old (Err fault) new
     list_bad sees {fault = fault} c h =
-        never_missing l (separated_at 44 item) (separated_stands 44 item) (record { answers = bad_first l item (l.view old).failed (item_after 44 item [] (l.view old).rest) (l.view old).rest old new fault c (first_refused h).answers })
+        never_missing l (separated_at 44 item) (separated_never_missing 44 item) (record { answers = bad_first l item (l.view old).failed (item_after 44 item [] (l.view old).rest) (l.view old).rest old new fault c (first_refused h).answers })
 
     -- there is no first item
     pub list_none : (sees : W → List X) (w : W) → sees w ≡ [] → {fault : ParseFault A} → fault.committed ≡ false → MayRead l.view l.at see item old (Err fault) new → MustRead {A = A} l.view l.at sees (separated_at 44 item) old (Ok w) new
     list_none sees w e c h =
-        never_missing l (separated_at 44 item) (separated_stands 44 item) (list_empty l (behind_first item) w e c (first_refused h))
+        never_missing l (separated_at 44 item) (separated_never_missing 44 item) (list_empty l (after_first item) w e c (first_refused h))
 
     -- there is a first item
     pub list_some : {MeansAll : W → List X → Type 0} {y : Y} {mid last : S} {r : Result W (ParseFault A)} → MayRead {A = A} l.view l.at see item old (Ok y) mid → Takes l.view l.at (front is_whitespace (l.view mid).rest) (after is_whitespace (l.view mid).rest) mid new
         → ((l.view new).failed ≡ false → MustMean l.view l.at MeansAll (λ t. items_after 44 item (length t) (see y ∷ []) t) new r last) → MustMean l.view l.at MeansAll (separated_at 44 item) old r last
     list_some h k rest =
         let i = first_read h k in
-        let m = rest (fine_there l (begins_with l (behind_first item) i)) in
-        record { meant = m.meant; means = m.means; read = never_missing l (separated_at 44 item) (separated_stands 44 item) (list_begun l (behind_first item) i (λ _. m.read)) }
+        let m = rest (fine_there l (begins_with l (after_first item) i)) in
+        record { meant = m.meant; means = m.means; read = never_missing l (separated_at 44 item) (separated_never_missing 44 item) (list_begun l (after_first item) i (λ _. m.read)) }
 
   -- without a separator behind it the first item is all
   pub only_first : {A : Type 0} {Means : Y → X → Type 0} (x : X) (y : Y) {old : S} {ys : List Y} → ys ≡ y ∷ [] → begins (the 44) (l.view old).rest ≡ false → (l.view old).failed ≡ false → Means y x
@@ -165,12 +165,12 @@ module _ {S X Y : Type 0} (l : Lens S) (item : Text → Outcome X) where
       go false c e = rw e (record { meant = λ _. []; means = none; read = list_none (λ _. []) w refl c m.read })
 
 -- a turn of a loop over items consumes at least one character
-pub turn_falls : {S X Y A : Type 0} (l : Lens S) (item : Text → Outcome X) {now later next new : S} {found more : List Y} {y : Y} {Means : Y → X → Type 0} → IsBehindComma l.view l.at now later → MustMean {A = A} l.view l.at Means item later (Ok y) next → Appends {A = A} l.view l.at found y next (Ok more) new
+pub turn_falls : {S X Y A : Type 0} (l : Lens S) (item : Text → Outcome X) {now later next new : S} {found more : List Y} {y : Y} {Means : Y → X → Type 0} → IsAfterComma l.view l.at now later → MustMean {A = A} l.view l.at Means item later (Ok y) next → Appends {A = A} l.view l.at found y next (Ok more) new
     → length (l.view new).rest < length (l.view now).rest
 turn_falls {A = A} l item {now = now} comma m a = subst (λ s. length (l.view s).rest < length (l.view now).rest) (sym a.appended.1) (item_falls l item {A = A} comma.comes comma.taken comma.spaced m.read a.spaced)
 
 -- one turn of a loop over items: `,` and white space, an item and the white space behind it
-module _ {S X Y A : Type 0} (l : Lens S) (item : Text → Outcome X) {begun : List X} {old now later : S} {found : List Y} (comma : IsBehindComma l.view l.at now later) where
+module _ {S X Y A : Type 0} (l : Lens S) (item : Text → Outcome X) {begun : List X} {old now later : S} {found : List Y} (comma : IsAfterComma l.view l.at now later) where
   -- the item is an error
   pub turn_refused : {M N : Y → X → Type 0} {W : Type 0} {MeansAll : W → List X → Type 0} {fault : ParseFault A} {new : S} → Listing l item M begun old now found → MustMean l.view l.at N item later (Err fault) new
       → MustMean l.view l.at MeansAll (λ t. items_after 44 item (length t) begun t) old (Err fault) new
@@ -180,9 +180,9 @@ module _ {S X Y A : Type 0} (l : Lens S) (item : Text → Outcome X) {begun : Li
       (m : MustMean {A = A} l.view l.at (Other (whole (l.view later))) item later (Ok y) next) (p : Listing l item (Means (whole (l.view old))) begun old now found) where
     -- the item is one more
     pub turn_more : {new : S} → TakesFront l.view l.at is_whitespace next new → Listing l item (Other (whole (l.view old))) begun old new (found ++ (y ∷ []))
-    turn_more behind =
+    turn_more following =
         let e = listing_whole l item comma.comes comma.taken comma.spaced p in
-        listing_more l item comma.comes comma.taken comma.spaced p on (subst (λ t. MustMean {A = A} l.view l.at (Other t) item later (Ok y) next) e m) behind
+        listing_more l item comma.comes comma.taken comma.spaced p on (subst (λ t. MustMean {A = A} l.view l.at (Other t) item later (Ok y) next) e m) following
 
     -- it was appended to those that were found
     pub turn_keeps : {more : List Y} {new : S} → Appends {A = A} l.view l.at found y next (Ok more) new → Listing l item (Other (whole (l.view old))) begun old new more
@@ -191,8 +191,8 @@ module _ {S X Y A : Type 0} (l : Lens S) (item : Text → Outcome X) {begun : Li
         (subst (λ s. Listing l item (Other (whole (l.view old))) begun old s (found ++ (y ∷ []))) (sym a.appended.1) (turn_more a.spaced))
 
     -- there was no memory to append it
-    pub turn_starved : {W : Type 0} {MeansAll : W → List X → Type 0} {fault : ParseFault A} {new : S} → Appends l.view l.at found y next (Err fault) new → MustMean l.view l.at MeansAll (λ t. items_after 44 item (length t) begun t) old (Err fault) new
-    turn_starved a = must_refuse l (listing_starved l item (λ _. []) (turn_more a.spaced) a.appended)
+    pub turn_ran_out : {W : Type 0} {MeansAll : W → List X → Type 0} {fault : ParseFault A} {new : S} → Appends l.view l.at found y next (Err fault) new → MustMean l.view l.at MeansAll (λ t. items_after 44 item (length t) begun t) old (Err fault) new
+    turn_ran_out a = must_refuse l (listing_ran_out l item (λ _. []) (turn_more a.spaced) a.appended)
 
 module _ {S X Y A : Type 0} (l : Lens S) (item : Text → Outcome X) {Means : Y → X → Type 0} {begun : List X} {old now new : S} {found : List Y} where
   -- no `,` comes next, so these are all
@@ -203,14 +203,14 @@ module _ {S X Y A : Type 0} (l : Lens S) (item : Text → Outcome X) {Means : Y 
 
 -- there is a first name, and what follows it
 pub list_names : {S A : Type 0} (l : Lens S) (item : Text → Outcome (Name ℕ)) (before names : List Text) {old mid new last : S} {first : ReadName} {r : Result (List ReadName) (ParseFault A)} → MayName {A = A} l.view l.at before item old (Ok first) mid → Takes l.view l.at (front is_whitespace (l.view mid).rest) (after is_whitespace (l.view mid).rest) mid new
-    → NamesBehind l.view l.at before names item first new r last → MustNames l.view l.at names (separated_at 44 item) old r last
+    → NamesAfter l.view l.at before names item first new r last → MustNames l.view l.at names (separated_at 44 item) old r last
 list_names {A = A} l item before names {old = old} {mid = mid} {new = new} {last = last} {first = n} {r = r} h k rest =
     let e : whole (l.view new) ≡ whole (l.view old) = takes_whole l mid new (front is_whitespace (l.view mid).rest) (after is_whitespace (l.view mid).rest) k ∙ may_whole l h.read in
-    list_some l item h.read k (λ fine. subst (λ t. MustMean l.view l.at (Each (StandsFor names t)) (λ t. items_after 44 item (length t) (h.meant n ∷ []) t) new r last) e (rest (h.meant n) (subst (λ t. StandsFor before t n (h.meant n)) (sym e) h.means) fine))
+    list_some l item h.read k (λ fine. subst (λ t. MustMean l.view l.at (Each (Represents names t)) (λ t. items_after 44 item (length t) (h.meant n ∷ []) t) new r last) e (rest (h.meant n) (subst (λ t. Represents before t n (h.meant n)) (sym e) h.means) fine))
 
 -- there is a first argument, and what follows it
 pub list_arguments : {S T A : Type 0} (l : Lens S) (item : Text → Outcome (Name ℕ × T)) (before names : List Text) {old mid new last : S} {first : ReadName × T} {r : Result (List (ReadName × T)) (ParseFault A)} → MayMean {A = A} l.view l.at (IsArgument before (whole (l.view old))) item old (Ok first) mid → Takes l.view l.at (front is_whitespace (l.view mid).rest) (after is_whitespace (l.view mid).rest) mid new
-    → ArgumentsBehind l.view l.at before names item first new r last → MustArguments l.view l.at names (separated_at 44 item) old r last
+    → ArgumentsAfter l.view l.at before names item first new r last → MustArguments l.view l.at names (separated_at 44 item) old r last
 list_arguments {A = A} l item before names {old = old} {mid = mid} {new = new} {last = last} {first = n} {r = r} h k rest =
     let e : whole (l.view new) ≡ whole (l.view old) = takes_whole l mid new (front is_whitespace (l.view mid).rest) (after is_whitespace (l.view mid).rest) k ∙ may_whole l h.read in
     list_some l item h.read k (λ fine. subst (λ t. MustMean l.view l.at (Each (IsArgument names t)) (λ t. items_after 44 item (length t) (h.meant n ∷ []) t) new r last) e (rest (h.meant n) (subst (λ t. IsArgument before t n (h.meant n)) (sym e) h.means) fine))

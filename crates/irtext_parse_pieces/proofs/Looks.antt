@@ -3,24 +3,24 @@ use Rattle.std.proofs.Common.{◌≡◌, ℕ, suc, Bool, true, false, cond, Resu
 use Rattle.std.specs.Char.{is_whitespace}
 use Rattle.irtext_base.specs.Text.{Text, begins, front, after, begins_word, in_word}
 use Rattle.irtext_base.specs.Reading.{the}
-use Rattle.irtext_base.specs.Answers.{Outcome, Read, Missing, Bad, Takes, Gives, Commits, SameStream, Starves, StarvesHere, Refuses, demanded, prefixed, mapped, followed, unless_failed}
+use Rattle.irtext_base.specs.Answers.{Outcome, Read, Missing, Bad, Takes, Gives, Commits, SameStream, RunsOut, RunsOutHere, Refuses, demanded, prefixed, mapped, followed, unless_failed}
 use Rattle.irtext_base.specs.declared.parsable.fault.ParseFault.{ParseFault}
 use Rattle.irtext_base.specs.Faults.{Failed}
-use Rattle.irtext_base.proofs.Compose.{starves_after, stands_after, takes_stands, takes_none, seen_after, starves_behind}
+use Rattle.irtext_base.proofs.Compose.{runs_out_in_rest, same_stream_after, takes_same_stream, takes_none, seen_after, runs_out_after}
 use Rattle.irtext_tokens.specs.ListOutcomes.{item_after, items_after, or_empty, separated_at}
 use Rattle.irtext_tokens.specs.MustRead.{MayRead}
 use Rattle.irtext_tokens.specs.Tokens.{space_at, word_at}
-use Rattle.irtext_tokens.proofs.ListOutcomes.{behind_space}
+use Rattle.irtext_tokens.proofs.ListOutcomes.{after_spaces}
 use Rattle.irtext_tokens.proofs.Spelling.{begins_the}
 use Rattle.irtext_tokens.proofs.Steps.{Lens, Passed, begins_with, fine_there}
 use Rattle.irtext_grammar.specs.Grammar.Tree.{Name}
 use Rattle.irtext_parse_spec.specs.Heads.{name_at, results_at, named}
 use Rattle.irtext_parse_pieces.specs.declared.names.ReadName.{ReadName}
-use Rattle.irtext_parse_pieces.specs.Lists.{IsBehindComma}
-use Rattle.irtext_parse_pieces.specs.Named.{whole, StandsFor, MayMean, MayName, MustNames}
-use Rattle.irtext_parse_pieces.specs.Results.{is_read, results_if_at, Looks, LooksBehind}
+use Rattle.irtext_parse_pieces.specs.Lists.{IsAfterComma}
+use Rattle.irtext_parse_pieces.specs.Named.{whole, Represents, MayMean, MayName, MustNames}
+use Rattle.irtext_parse_pieces.specs.Results.{is_read, results_if_at, Looks, LooksAfter}
 use Rattle.irtext_parse_pieces.proofs.Meanings.{takes_whole, may_whole}
-use Rattle.irtext_parse_pieces.proofs.Listings.{Listing, behind_first, first_read, list_names, list_none, listing_next}
+use Rattle.irtext_parse_pieces.proofs.Listings.{Listing, after_first, first_read, list_names, list_none, listing_next}
 
 read_demanded : {X : Type 0} (o : Outcome X) → is_read (demanded o) ≡ is_read o
 read_demanded (Read x t r) = refl
@@ -50,7 +50,7 @@ unfolding word_at
 dotted_unread text rest b e = rw (b, e) refl
 
 -- no item follows the separator
-pub next_unread : (n : ℕ) (found : List (Name ℕ)) (text : Text) → is_read (name_at text) ≡ false → is_read (behind_space 44 name_at n found tt text) ≡ false
+pub next_unread : (n : ℕ) (found : List (Name ℕ)) (text : Text) → is_read (name_at text) ≡ false → is_read (after_spaces 44 name_at n found tt text) ≡ false
 next_unread n found text e =
     unread_followed (item_after 44 name_at found text) (λ more v. items_after 44 name_at n more v) (unread_followed (name_at text) (λ x t. mapped (λ _. found ++ (x ∷ [])) (space_at t)) e)
 
@@ -65,8 +65,8 @@ module _ {S : Type 0} (l : Lens S) where
   passed_unread {outcome = outcome} {next = next} {old = old} {mid = mid} p e = sym (read_demanded (outcome (l.view old).rest)) ∙ (ap is_read p.so_far ∙ (read_prefixed p.taken (next (l.view mid).rest) ∙ e))
 
   -- the stream is over the same text
-  pub passed_stands : {V : Type 0} {outcome next : Text → Outcome V} {old mid : S} → Passed l outcome next old mid → SameStream l.view l.at false old mid
-  passed_stands {old = old} {mid = mid} p = subst (λ b. SameStream l.view l.at b old mid) p.fine (takes_stands l.view l.at l.view_at l.at_at old mid p.taken (l.view mid).rest p.takes)
+  pub passed_same_stream : {V : Type 0} {outcome next : Text → Outcome V} {old mid : S} → Passed l outcome next old mid → SameStream l.view l.at false old mid
+  passed_same_stream {old = old} {mid = mid} p = subst (λ b. SameStream l.view l.at b old mid) p.fine (takes_same_stream l.view l.at l.view_at l.at_at old mid p.taken (l.view mid).rest p.takes)
 
   -- a word was taken, and `.` follows
   pub dotted_there : (old mid : S) → begins begins_word (l.view old).rest ≡ true → Takes l.view l.at (front in_word (l.view old).rest) (after in_word (l.view old).rest) old mid → begins (the 46) (l.view mid).rest ≡ true → is_read (results_at (l.view old).rest) ≡ false
@@ -82,7 +82,7 @@ module _ {S : Type 0} (l : Lens S) where
   begun_unread false (Bad cause upto) k text old new x h e = absurd h
 
 module _ {S A : Type 0} (l : Lens S) where
-  unread : {X Y : Type 0} (b : Bool) (o : Outcome X) (see : Y → X) (old new : S) (fault : ParseFault A) → fault.committed ≡ false → Starves l.view l.at old fault new ⊎ Refuses l.view l.at (unless_failed b o) old fault new → (is_read o ≡ false) × (new ≡ old)
+  unread : {X Y : Type 0} (b : Bool) (o : Outcome X) (see : Y → X) (old new : S) (fault : ParseFault A) → fault.committed ≡ false → RunsOut l.view l.at old fault new ⊎ Refuses l.view l.at (unless_failed b o) old fault new → (is_read o ≡ false) × (new ≡ old)
   unread b o see old new fault c (inl h) = absurd (true≢false (sym h.committed ∙ c))
   unread true o see old new fault c (inr h) = absurd (true≢false (sym h.committed ∙ c))
   unread false (Read x t r) see old new fault c (inr h) = absurd h
@@ -93,18 +93,18 @@ module _ {S A : Type 0} (l : Lens S) where
   pub missing_unread : {X Y : Type 0} {see : Y → X} {f : Text → Outcome X} {old new : S} {fault : ParseFault A} → MayRead l.view l.at see f old (Err fault) new → fault.committed ≡ false → (is_read (f (l.view old).rest) ≡ false) × (new ≡ old)
   missing_unread {see = see} {f = f} {old = old} {new = new} {fault = fault} h c = unread (l.view old).failed (f (l.view old).rest) see old new fault c h.answers
 
-  bad_name : (b : Bool) (text : Text) (old new : S) (fault : ParseFault A) → begins begins_word text ≡ b → fault.committed ≡ true → Starves l.view l.at old fault new ⊎ Refuses l.view l.at (name_at text) old fault new → Starves l.view l.at old fault new
+  bad_name : (b : Bool) (text : Text) (old new : S) (fault : ParseFault A) → begins begins_word text ≡ b → fault.committed ≡ true → RunsOut l.view l.at old fault new ⊎ Refuses l.view l.at (name_at text) old fault new → RunsOut l.view l.at old fault new
   unfolding word_at
   bad_name b text old new fault e c (inl h) = h
   bad_name true text old new fault e c (inr h) = absurd (rw e at h)
   bad_name false text old new fault e c (inr h) = let m = rw e at h in absurd (true≢false (sym c ∙ m.committed))
 
   -- a name is never bad: its committed error is out of memory
-  pub name_starves : {Y : Type 0} {see : Y → Name ℕ} {old new : S} {fault : ParseFault A} → (l.view old).failed ≡ false → MayRead l.view l.at see name_at old (Err fault) new → fault.committed ≡ true → Starves l.view l.at old fault new
-  name_starves {old = old} {new = new} {fault = fault} fine h c = bad_name (begins begins_word (l.view old).rest) (l.view old).rest old new fault refl c (rw fine at h.answers)
+  pub name_runs_out : {Y : Type 0} {see : Y → Name ℕ} {old new : S} {fault : ParseFault A} → (l.view old).failed ≡ false → MayRead l.view l.at see name_at old (Err fault) new → fault.committed ≡ true → RunsOut l.view l.at old fault new
+  name_runs_out {old = old} {new = new} {fault = fault} fine h c = bad_name (begins begins_word (l.view old).rest) (l.view old).rest old new fault refl c (rw fine at h.answers)
 
-  pub passed_starves : {V : Type 0} {outcome next : Text → Outcome V} {old mid new : S} {fault : ParseFault A} → Passed l outcome next old mid → Starves l.view l.at mid fault new → Starves l.view l.at old fault new
-  passed_starves {old = old} {mid = mid} {new = new} {fault = fault} p h = starves_after l.view l.at l.view_at l.at_at old mid new p.taken (l.view mid).rest fault p.takes h
+  pub passed_runs_out : {V : Type 0} {outcome next : Text → Outcome V} {old mid new : S} {fault : ParseFault A} → Passed l outcome next old mid → RunsOut l.view l.at mid fault new → RunsOut l.view l.at old fault new
+  passed_runs_out {old = old} {mid = mid} {new = new} {fault = fault} p h = runs_out_in_rest l.view l.at l.view_at l.at_at old mid new p.taken (l.view mid).rest fault p.takes h
 
   -- there are none
   pub results_none : {names : List Text} {old new : S} (found : List ReadName) → found ≡ [] → (l.view old).failed ≡ false → is_read (results_at (l.view old).rest) ≡ false → new ≡ old → MustNames {A = A} l.view l.at names results_if_at old (Ok found) new
@@ -119,17 +119,17 @@ module _ {S A : Type 0} (l : Lens S) where
   results_fail e h = record { meant = λ _. []; means = tt; read = record { answers = rw e (inr h) } }
 
   -- out of memory
-  pub results_starve : {names : List Text} {old start new : S} {fault : ParseFault A} → start ≡ old → Starves l.view l.at start fault new → MustNames {A = A} l.view l.at names results_if_at old (Err fault) new
-  results_starve {names = names} {new = new} {fault = fault} still h =
+  pub results_run_out : {names : List Text} {old start new : S} {fault : ParseFault A} → start ≡ old → RunsOut l.view l.at start fault new → MustNames {A = A} l.view l.at names results_if_at old (Err fault) new
+  results_run_out {names = names} {new = new} {fault = fault} still h =
       subst (λ s. MustNames {A = A} l.view l.at names results_if_at s (Err fault) new) still (record { meant = λ _. []; means = tt; read = record { answers = inl h } })
 
   -- out of memory at the stream's position
-  pub passed_here : {V : Type 0} {outcome next : Text → Outcome V} {old mid new : S} {fault : ParseFault A} → Passed l outcome next old mid → StarvesHere l.view l.at mid fault new → Starves l.view l.at old fault new
-  passed_here {old = old} {mid = mid} {new = new} {fault = fault} p h = starves_behind l.view l.at l.view_at l.at_at old mid new p.taken (l.view mid).rest fault p.fine p.takes h
+  pub passed_here : {V : Type 0} {outcome next : Text → Outcome V} {old mid new : S} {fault : ParseFault A} → Passed l outcome next old mid → RunsOutHere l.view l.at mid fault new → RunsOut l.view l.at old fault new
+  passed_here {old = old} {mid = mid} {new = new} {fault = fault} p h = runs_out_after l.view l.at l.view_at l.at_at old mid new p.taken (l.view mid).rest fault p.fine p.takes h
 
   -- there is a first name, and more are looked for after it
   pub list_looks : (before names : List Text) {old mid new : S} (last : S) {n : ReadName} (r : Result (Option (List ReadName)) (ParseFault A)) → MayName {A = A} l.view l.at before name_at old (Ok n) mid → Takes l.view l.at (front is_whitespace (l.view mid).rest) (after is_whitespace (l.view mid).rest) mid new
-      → LooksBehind l.view l.at before names n new r last → Looks l.view l.at names (separated_at 44 name_at) old r last
+      → LooksAfter l.view l.at before names n new r last → Looks l.view l.at names (separated_at 44 name_at) old r last
   list_looks before names {old = old} {mid = mid} {new = new} last {n = n} r h k rest = go r rest
     where
       e : whole (l.view new) ≡ whole (l.view old)
@@ -138,31 +138,31 @@ module _ {S A : Type 0} (l : Lens S) where
       i : MayRead {A = A} {Y = ReadName} l.view l.at (λ _. h.meant n ∷ []) (item_after 44 name_at []) old (Ok n) new
       i = first_read l name_at h.read k
 
-      p : Passed l (λ t. followed (item_after 44 name_at [] t) (behind_first name_at)) (behind_first name_at (h.meant n ∷ [])) old new
-      p = begins_with l (behind_first name_at) i
+      p : Passed l (λ t. followed (item_after 44 name_at [] t) (after_first name_at)) (after_first name_at (h.meant n ∷ [])) old new
+      p = begins_with l (after_first name_at) i
 
-      go : (r : Result (Option (List ReadName)) (ParseFault A)) → LooksBehind l.view l.at before names n new r last → Looks l.view l.at names (separated_at 44 name_at) old r last
+      go : (r : Result (Option (List ReadName)) (ParseFault A)) → LooksAfter l.view l.at before names n new r last → Looks l.view l.at names (separated_at 44 name_at) old r last
       go (Ok (Some found)) rest = list_names l name_at before names h k rest
       go (Ok None) rest =
-          let x = rest (h.meant n) (subst (λ t. StandsFor before t n (h.meant n)) (sym e) h.means) (fine_there l p) in (
-            begun_unread l (l.view old).failed (item_after 44 name_at [] (l.view old).rest) (behind_first name_at) (l.view old).rest old new (h.meant n ∷ []) i.answers (passed_unread l p x.0),
-            stands_after l.view l.at l.view_at l.at_at false old new last p.taken (l.view new).rest p.takes x.1,
+          let x = rest (h.meant n) (subst (λ t. Represents before t n (h.meant n)) (sym e) h.means) (fine_there l p) in (
+            begun_unread l (l.view old).failed (item_after 44 name_at [] (l.view old).rest) (after_first name_at) (l.view old).rest old new (h.meant n ∷ []) i.answers (passed_unread l p x.0),
+            same_stream_after l.view l.at l.view_at l.at_at false old new last p.taken (l.view new).rest p.takes x.1,
           )
-      go (Err fault) rest = passed_starves p (rest (h.meant n) (subst (λ t. StandsFor before t n (h.meant n)) (sym e) h.means) (fine_there l p))
+      go (Err fault) rest = passed_runs_out p (rest (h.meant n) (subst (λ t. Represents before t n (h.meant n)) (sym e) h.means) (fine_there l p))
 
   -- an uncommitted error in place of a name, behind these: no names are found
-  pub next_unlooked : (names : List Text) {Means Other : ReadName → Name ℕ → Type 0} {begun : List (Name ℕ)} {old now later new : S} {found : List ReadName} {fault : ParseFault A} (r : Result (Option (List ReadName)) (ParseFault A)) → IsBehindComma l.view l.at now later → Listing l name_at Means begun old now found
+  pub next_unlooked : (names : List Text) {Means Other : ReadName → Name ℕ → Type 0} {begun : List (Name ℕ)} {old now later new : S} {found : List ReadName} {fault : ParseFault A} (r : Result (Option (List ReadName)) (ParseFault A)) → IsAfterComma l.view l.at now later → Listing l name_at Means begun old now found
       → MayMean l.view l.at Other name_at later (Err fault) new → cond fault.committed (r ≡ Err fault) (r ≡ Ok None) → Looks l.view l.at names (λ t. items_after 44 name_at (length t) begun t) old r new
   next_unlooked names {begun = begun} {old = old} {later = later} {new = new} {fault = fault} r comma p m h = go fault.committed refl h
     where
-      q : (n : ℕ) × (p.so_far.room ≡ suc n) × Passed l (λ t. items_after 44 name_at (length t) begun t) (behind_space 44 name_at n p.items tt) old later
+      q : (n : ℕ) × (p.so_far.room ≡ suc n) × Passed l (λ t. items_after 44 name_at (length t) begun t) (after_spaces 44 name_at n p.items tt) old later
       q = listing_next l name_at comma.comes comma.taken comma.spaced p
 
       go : (b : Bool) → fault.committed ≡ b → cond b (r ≡ Err fault) (r ≡ Ok None) → Looks l.view l.at names (λ t. items_after 44 name_at (length t) begun t) old r new
-      go true c e = rw e (passed_starves q.2 (name_starves (fine_there l q.2) m.read c))
+      go true c e = rw e (passed_runs_out q.2 (name_runs_out (fine_there l q.2) m.read c))
       go false c e =
           let n = missing_unread m.read c in
-          rw e (passed_unread l q.2 (next_unread q.0 p.items (l.view later).rest n.0), subst (λ s. SameStream l.view l.at false old s) (sym n.1) (passed_stands l q.2))
+          rw e (passed_unread l q.2 (next_unread q.0 p.items (l.view later).rest n.0), subst (λ s. SameStream l.view l.at false old s) (sym n.1) (passed_same_stream l q.2))
 
   -- the same of the first name: then there are none
   pub first_unlooked : (names : List Text) {Means : ReadName → Name ℕ → Type 0} {old new : S} {fault : ParseFault A} (none : List ReadName) (r : Result (Option (List ReadName)) (ParseFault A)) → none ≡ [] → (l.view old).failed ≡ false → MayMean l.view l.at Means name_at old (Err fault) new
@@ -170,5 +170,5 @@ module _ {S A : Type 0} (l : Lens S) where
   first_unlooked names {old = old} {new = new} {fault = fault} none r empty fine m h = go fault.committed refl h
     where
       go : (b : Bool) → fault.committed ≡ b → cond b (r ≡ Err fault) (r ≡ Ok (Some none)) → Looks l.view l.at names (separated_at 44 name_at) old r new
-      go true c e = rw e (name_starves fine m.read c)
+      go true c e = rw e (name_runs_out fine m.read c)
       go false c e = rw e (record { meant = λ _. []; means = rw empty tt; read = list_none l name_at (λ _. []) none refl c m.read })

@@ -5,7 +5,7 @@ use Rattle.irtext_base.specs.Reading.{the}
 use Rattle.irtext_base.specs.Answers.{mapped}
 use Rattle.irtext_base.specs.declared.parsable.fault.ParseFault.{ParseFault}
 use Rattle.irtext_base.proofs.Compose.{takes_none, refuses_mapped_demanded}
-use Rattle.irtext_stream.specs.Places.{StandsBehind}
+use Rattle.irtext_stream.specs.Places.{IsPlaceAfter}
 use Rattle.irtext_tokens.specs.Demanded.{index_at}
 use Rattle.irtext_tokens.specs.MustRead.{MustRead}
 use Rattle.irtext_tokens.proofs.Steps.{Lens, seen_alone, mapped_mapped}
@@ -33,13 +33,13 @@ module _ {S A : Type 0} (l : Lens S) where
   no_mark {old = old} f b = record { meant = λ _. None; means = tt; read = record { answers = rw (f, b) (refl, takes_none l.view l.at l.view_at l.at_at l.at_view old) } }
 
   -- an index was parsed after `!`
-  pub mark_there : {old new : S} (mark : ReadMark) → begins (the 33) (l.view old).rest ≡ true → MustRead {A = A} l.view l.at (λ n. n) index_at old (Ok mark.index) new → StandsBehind mark.at (l.view old).passed
+  pub mark_there : {old new : S} (mark : ReadMark) → begins (the 33) (l.view old).rest ≡ true → MustRead {A = A} l.view l.at (λ n. n) index_at old (Ok mark.index) new → IsPlaceAfter mark.at (l.view old).passed
       → MustMean {A = A} l.view l.at (IsMarkIf (whole (l.view old))) mark_if_at old (Ok (Some mark)) new
   mark_there {old = old} mark b h p =
       let place = length (l.view old).rest in
       record {
         meant = λ _. marked place mark.index;
-        means = record { indexed = refl; place = record { passed = (l.view old).passed; rest = (l.view old).rest; same = refl; stands = p; counts = refl } };
+        means = record { indexed = refl; place = record { passed = (l.view old).passed; rest = (l.view old).rest; same = refl; positioned = p; counts = refl } };
         read = record { answers = rw (mark_is (l.view old).rest b) (seen_alone l {A = A} (λ (m : Option ReadMark). marked place mark.index) (marked place) (Some mark) refl h).answers };
       }
 

@@ -12,11 +12,11 @@ use Rattle.irtext_tokens.specs.MustRead.{MayRead, MustRead}
 use Rattle.irtext_tokens.proofs.Steps.{Lens, Passed, insisted, last, begins_with, begun_by}
 use Rattle.irtext_grammar.specs.Grammar.Tree.{Name}
 use Rattle.irtext_parse_pieces.specs.declared.names.ReadName.{ReadName}
-use Rattle.irtext_parse_pieces.specs.Named.{whole, Leaves, StandsFor, NamesRead, MayMean, MustMean, Misses}
+use Rattle.irtext_parse_pieces.specs.Named.{whole, Leaves, Represents, NamesRead, MayMean, MustMean, Misses}
 
 -- a name represents the same when more names are added and more text is parsed
-pub stands_on : (names more : List Text) {text other : Text} (n : ReadName) (x : Name ℕ) → KeepsNames names more → text ≡ other → StandsFor names text n x → StandsFor more other n x
-stands_on names more n x keeps e h = record { named = keeps n.name x.text h.named; place = subst (λ t. Leaves t n.at x.place) e h.place }
+pub still_represents : (names more : List Text) {text other : Text} (n : ReadName) (x : Name ℕ) → KeepsNames names more → text ≡ other → Represents names text n x → Represents more other n x
+still_represents names more n x keeps e h = record { named = keeps n.name x.text h.named; place = subst (λ t. Leaves t n.at x.place) e h.place }
 
 -- what a value represents, stated in another way
 pub means_on : {X Y A : Type 0} (Means Other : Y → X → Type 0) → ((y : Y) (x : X) → Means y x → Other y x) → (meant : Y → X) (r : Result Y (ParseFault A)) → IfOk r (λ y. Means y (meant y)) → IfOk r (λ y. Other y (meant y))
@@ -33,8 +33,8 @@ module _ {V B : Type 0} where
   names_more old mid new h k = record { kept = λ i text e. k.kept i text (h.kept i text e); words = λ w. k.words (h.words w); values = k.values ∙ h.values; labels = k.labels ∙ h.labels }
 
   -- and a name represents the same
-  pub stand_on : {names more : NameTracker V B} → NamesRead names more → {text : Text} (n : ReadName) (x : Name ℕ) → StandsFor names.names text n x → StandsFor more.names text n x
-  stand_on {names = names} {more = more} h n x s = stands_on names.names more.names n x h.kept refl s
+  pub names_still_represent : {names more : NameTracker V B} → NamesRead names more → {text : Text} (n : ReadName) (x : Name ℕ) → Represents names.names text n x → Represents more.names text n x
+  names_still_represent {names = names} {more = more} h n x s = still_represents names.names more.names n x h.kept refl s
 
 module _ {S : Type 0} (l : Lens S) where
   pub takes_whole : (old mid : S) (t r : Text) → Takes l.view l.at t r old mid → whole (l.view mid) ≡ whole (l.view old)
@@ -84,9 +84,9 @@ module _ {S : Type 0} (l : Lens S) where
     must_fail x e h = record { meant = λ _. x; means = tt; read = record { answers = rw e (inr h) } }
 
     -- the result of a required parser after a first one is the result of both
-    pub behind_may : {V U : Type 0} {see : V → U} {first : Text → Outcome U} {old mid new : S} {v : V} {r : Result Y (ParseFault A)} (Other : Y → X → Type 0) → ((y : Y) (x : X) → Means y x → Other y x)
+    pub after_may : {V U : Type 0} {see : V → U} {first : Text → Outcome U} {old mid new : S} {v : V} {r : Result Y (ParseFault A)} (Other : Y → X → Type 0) → ((y : Y) (x : X) → Means y x → Other y x)
         → MayRead {A = A} l.view l.at see first old (Ok v) mid → MustMean l.view l.at Means f mid r new → MayMean l.view l.at Other (λ t. followed (first t) (λ _ u. f u)) old r new
-    behind_may {r = r} Other on h m =
+    after_may {r = r} Other on h m =
         let next : _ → Text → Outcome X = λ _ u. f u in
         record { meant = m.meant; means = means_on Means Other on m.meant r m.means; read = begun_by l next h (last l (begins_with l next h) m.read) }
 

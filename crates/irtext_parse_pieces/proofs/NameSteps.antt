@@ -4,10 +4,10 @@ use Rattle.std.specs.List.{slice_get}
 use Rattle.irtext_base.specs.Text.{Text, begins, front, after, begins_word, in_word}
 use Rattle.irtext_base.specs.Stream.{first_of}
 use Rattle.irtext_base.specs.Faults.{Unexpected, AnIdentifier}
-use Rattle.irtext_base.specs.Answers.{Takes, Passes, StarvesHere, Answers, mapped, followed, unless_failed}
+use Rattle.irtext_base.specs.Answers.{Takes, Passes, RunsOutHere, Answers, mapped, followed, unless_failed}
 use Rattle.irtext_base.specs.declared.parsable.fault.ParseFault.{ParseFault}
-use Rattle.irtext_base.proofs.Compose.{starves_behind, refuses_first_demanded, refuses_mapped_demanded}
-use Rattle.irtext_stream.specs.Places.{StandsBehind}
+use Rattle.irtext_base.proofs.Compose.{runs_out_after, refuses_first_demanded, refuses_mapped_demanded}
+use Rattle.irtext_stream.specs.Places.{IsPlaceAfter}
 use Rattle.irtext_stream.specs.declared.position.Place.{Place}
 use Rattle.irtext_tokens.specs.MustRead.{MayRead, MustRead}
 use Rattle.irtext_tokens.specs.Demanded.{symbol_at as mark_and_name}
@@ -15,10 +15,10 @@ use Rattle.irtext_tokens.specs.Tokens.{word_at, identifier_at, text_at}
 use Rattle.irtext_tokens.proofs.Steps.{Lens, first, last_seen, refuses_seen, begins_refused, seen_alone, mapped_followed, mapped_mapped}
 use Rattle.irtext_grammar.specs.Grammar.Tree.{Name}
 use Rattle.irtext_parse_spec.specs.Heads.{name_of, name_at, symbol_at, used_at, target_at}
-use Rattle.irtext_parse_pieces.proofs.Meanings.{behind_may, may_whole, stands_on}
+use Rattle.irtext_parse_pieces.proofs.Meanings.{after_may, may_whole, still_represents}
 use Rattle.irtext_parse_pieces.specs.declared.names.ReadName.{ReadName}
 use Rattle.irtext_parse_pieces.specs.declared.names.Symbol.{Symbol}
-use Rattle.irtext_parse_pieces.specs.Named.{whole, StandsFor, IsSymbol, MayMean, MustMean, MayName, MustName}
+use Rattle.irtext_parse_pieces.specs.Named.{whole, Represents, IsSymbol, MayMean, MustMean, MayName, MustName}
 
 -- a name without letters, for when none was parsed
 pub nobody : Name ℕ
@@ -42,37 +42,37 @@ module _ {S A : Type 0} (l : Lens S) where
   no_name f b h = record { meant = λ _. nobody; means = tt; read = record { answers = rw (f, b) (inr h) } }
 
   -- out of memory after it
-  pub name_starved : {Y : Type 0} {Means : Y → Name ℕ → Type 0} {old mid new : S} {fault : ParseFault A} → (l.view old).failed ≡ false → Takes l.view l.at (front in_word (l.view old).rest) (after in_word (l.view old).rest) old mid → StarvesHere l.view l.at mid fault new
+  pub name_ran_out : {Y : Type 0} {Means : Y → Name ℕ → Type 0} {old mid new : S} {fault : ParseFault A} → (l.view old).failed ≡ false → Takes l.view l.at (front in_word (l.view old).rest) (after in_word (l.view old).rest) old mid → RunsOutHere l.view l.at mid fault new
       → MayMean l.view l.at Means name_at old (Err fault) new
-  name_starved {old = old} {mid = mid} {new = new} {fault = fault} f t h =
-      record { meant = λ _. nobody; means = tt; read = record { answers = rw f (inl (starves_behind l.view l.at l.view_at l.at_at old mid new (front in_word (l.view old).rest) (after in_word (l.view old).rest) fault f t h)) } }
+  name_ran_out {old = old} {mid = mid} {new = new} {fault = fault} f t h =
+      record { meant = λ _. nobody; means = tt; read = record { answers = rw f (inl (runs_out_after l.view l.at l.view_at l.at_at old mid new (front in_word (l.view old).rest) (after in_word (l.view old).rest) fault f t h)) } }
 
   -- whatever is returned then, it is that error
-  pub unstored : {Means : ReadName → Name ℕ → Type 0} {old mid new : S} (r : Result ReadName (ParseFault A)) → (l.view old).failed ≡ false → Takes l.view l.at (front in_word (l.view old).rest) (after in_word (l.view old).rest) old mid → IsErrAnd r (λ fault. StarvesHere l.view l.at mid fault new)
+  pub unstored : {Means : ReadName → Name ℕ → Type 0} {old mid new : S} (r : Result ReadName (ParseFault A)) → (l.view old).failed ≡ false → Takes l.view l.at (front in_word (l.view old).rest) (after in_word (l.view old).rest) old mid → IsErrAnd r (λ fault. RunsOutHere l.view l.at mid fault new)
       → MayMean l.view l.at Means name_at old r new
   unstored (Ok n) f t h = absurd h
-  unstored (Err fault) f t h = name_starved f t h
+  unstored (Err fault) f t h = name_ran_out f t h
 
   -- a name was taken, and has a number
   pub name_there : {old new : S} (names : List Text) (n : ReadName) → (l.view old).failed ≡ false → begins begins_word (l.view old).rest ≡ true → Takes l.view l.at (front in_word (l.view old).rest) (after in_word (l.view old).rest) old new
-      → StandsBehind n.at (l.view old).passed → slice_get names n.name ≡ Some (front in_word (l.view old).rest) → MayName {A = A} l.view l.at names name_at old (Ok n) new
+      → IsPlaceAfter n.at (l.view old).passed → slice_get names n.name ≡ Some (front in_word (l.view old).rest) → MayName {A = A} l.view l.at names name_at old (Ok n) new
   unfolding word_at
   name_there {old = old} {new = new} names n f b t p e = record {
     meant = λ _. name_of (length (l.view old).rest) (front in_word (l.view old).rest);
-    means = record { named = e; place = record { passed = (l.view old).passed; rest = (l.view old).rest; same = refl; stands = p; counts = refl } };
+    means = record { named = e; place = record { passed = (l.view old).passed; rest = (l.view old).rest; same = refl; positioned = p; counts = refl } };
     read = record { answers = rw (f, b) (refl, t) };
   }
 
   -- after a fixed text a name was parsed, with the place of that text
-  pub behind_mark : {old mid new : S} {n : ReadName} (w : Text) (names : List Text) (at : Place) → MustRead {A = A} l.view l.at (λ (u : Unit {0}). u) (text_at w) old (Ok tt) mid → MustName {A = A} l.view l.at names name_at mid (Ok n) new → StandsBehind at (l.view old).passed
+  pub after_mark : {old mid new : S} {n : ReadName} (w : Text) (names : List Text) (at : Place) → MustRead {A = A} l.view l.at (λ (u : Unit {0}). u) (text_at w) old (Ok tt) mid → MustName {A = A} l.view l.at names name_at mid (Ok n) new → IsPlaceAfter at (l.view old).passed
       → MustName {A = A} l.view l.at names (λ t. mapped (name_of (length t)) (followed (text_at w t) (λ _ u. identifier_at u))) old (Ok (record { name = n.name; at = at })) new
-  behind_mark {old = old} {new = new} {n = n} w names at h m p =
+  after_mark {old = old} {new = new} {n = n} w names at h m p =
       let place = length (l.view old).rest in
       let moved : ReadName = record { name = n.name; at = at } in
       let q = last_seen l {A = A} (λ _. name_of place (m.meant n).text) (moved_to place) moved refl (first l (λ _ u. mapped (moved_to place) (name_at u)) h) m.read in
       record {
         meant = λ _. name_of place (m.meant n).text;
-        means = record { named = m.means.named; place = record { passed = (l.view old).passed; rest = (l.view old).rest; same = refl; stands = p; counts = refl } };
+        means = record { named = m.means.named; place = record { passed = (l.view old).passed; rest = (l.view old).rest; same = refl; positioned = p; counts = refl } };
         read = record { answers = rw (← moved_is place w (l.view old).rest) q.answers };
       }
 
@@ -98,19 +98,19 @@ module _ {S A : Type 0} (l : Lens S) where
   target_refused inside h = record { meant = λ _. nobody; means = tt; read = begins_refused l {see = λ (u : Unit {0}). u} (λ _. nobody) (λ _ u. used_at inside u) (record { answers = h }) }
 
   -- a label that is used is parsed after its `^`
-  pub target_behind : {old mid new : S} {r : Result ReadName (ParseFault A)} (inside : Bool) (names : List Text) → Answers l.view l.at {A = A} (λ (u : Unit {0}). u) (unless_failed (l.view old).failed (text_at (codes "^") (l.view old).rest)) old (Ok tt) mid
+  pub target_after : {old mid new : S} {r : Result ReadName (ParseFault A)} (inside : Bool) (names : List Text) → Answers l.view l.at {A = A} (λ (u : Unit {0}). u) (unless_failed (l.view old).failed (text_at (codes "^") (l.view old).rest)) old (Ok tt) mid
       → MustName l.view l.at names (used_at inside) mid r new → MayName l.view l.at names (target_at inside) old r new
-  target_behind {old = old} {mid = mid} inside names h m =
+  target_after {old = old} {mid = mid} inside names h m =
       let first : MayRead {A = A} l.view l.at (λ (u : Unit {0}). u) (text_at (codes "^")) old (Ok tt) mid = record { answers = h } in
-      behind_may l (StandsFor names (whole (l.view old))) (λ n x k. stands_on names names n x (λ i text e. e) (may_whole l first) k) first m
+      after_may l (Represents names (whole (l.view old))) (λ n x k. still_represents names names n x (λ i text e. e) (may_whole l first) k) first m
 
   -- a symbol was parsed
-  pub symbol_read : {old new : S} (symbol : Symbol) → MustRead {A = A} l.view l.at (λ name. name) mark_and_name old (Ok symbol.name) new → StandsBehind symbol.at (l.view old).passed → MustMean {A = A} l.view l.at (IsSymbol (whole (l.view old))) symbol_at old (Ok symbol) new
+  pub symbol_read : {old new : S} (symbol : Symbol) → MustRead {A = A} l.view l.at (λ name. name) mark_and_name old (Ok symbol.name) new → IsPlaceAfter symbol.at (l.view old).passed → MustMean {A = A} l.view l.at (IsSymbol (whole (l.view old))) symbol_at old (Ok symbol) new
   symbol_read {old = old} symbol h p =
       let place = length (l.view old).rest in
       record {
         meant = λ _. name_of place symbol.name;
-        means = record { named = refl; place = record { passed = (l.view old).passed; rest = (l.view old).rest; same = refl; stands = p; counts = refl } };
+        means = record { named = refl; place = record { passed = (l.view old).passed; rest = (l.view old).rest; same = refl; positioned = p; counts = refl } };
         read = record { answers = (seen_alone l {A = A} (λ (s : Symbol). name_of place symbol.name) (name_of place) symbol refl h).answers };
       }
 

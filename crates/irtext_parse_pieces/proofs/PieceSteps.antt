@@ -3,7 +3,7 @@ use Rattle.std.proofs.Common.{◌≡◌, ℕ, Bool, true, false, cond, Result, O
 use Rattle.std.specs.Char.{is_whitespace}
 use Rattle.irtext_base.specs.Text.{Text, front, after}
 use Rattle.irtext_base.specs.Reading.{the}
-use Rattle.irtext_base.specs.Answers.{Outcome, Read, Missing, Bad, Takes, Gives, StarvesHere, Commits, mapped, demanded, unless_failed}
+use Rattle.irtext_base.specs.Answers.{Outcome, Read, Missing, Bad, Takes, Gives, RunsOutHere, Commits, mapped, demanded, unless_failed}
 use Rattle.irtext_base.specs.Faults.{Fault, Failed}
 use Rattle.irtext_base.specs.Locations.{AttrView}
 use Rattle.irtext_base.specs.declared.base.attributes.AttrObj.{AttrObj}
@@ -13,7 +13,7 @@ use Rattle.irtext_tokens.specs.ListOutcomes.{items_after, separated_at}
 use Rattle.irtext_tokens.specs.MustRead.{MayRead, MustRead}
 use Rattle.irtext_tokens.specs.Tokens.{text_at}
 use Rattle.irtext_tokens.proofs.Spelling.{whole_gives}
-use Rattle.irtext_tokens.proofs.Steps.{Lens, first, seen_alone, starved, mapped_is_followed}
+use Rattle.irtext_tokens.proofs.Steps.{Lens, first, seen_alone, ran_out, mapped_is_followed}
 use Rattle.irtext_stream.specs.Stream.{Comes}
 use Rattle.irtext_stream.specs.Text.{BeginsOtherwise}
 use Rattle.irtext_grammar.specs.Contexts.Held.{attribute_of}
@@ -23,7 +23,7 @@ use Rattle.irtext_parse_spec.specs.Readers.Directives.{attribute_at}
 use Rattle.irtext_parse_spec.specs.Readers.Marker.{marker, starts_with}
 use Rattle.irtext_parse_spec.specs.Heads.{outlined_or_at}
 use Rattle.irtext_parse_spec.proofs.Readers.MarkerSteps.{starts_whole, starts_not}
-use Rattle.irtext_parse_pieces.specs.Pieces.{MustTypes, TypesBehind, seen_attribute}
+use Rattle.irtext_parse_pieces.specs.Pieces.{MustTypes, TypesAfter, seen_attribute}
 use Rattle.irtext_parse_pieces.specs.Named.{Each, MayMean, MustMean}
 use Rattle.irtext_parse_pieces.proofs.Listings.{list_some}
 
@@ -53,7 +53,7 @@ module _ {S A : Type 0} (l : Lens S) where
 
   -- there is a first type, and what follows it
   pub list_types : {T : Type 0} (item : Text → Outcome T) {old mid new last : S} {first : T} {r : Result (List T) (ParseFault A)} → MayMean {A = A} l.view l.at ◌≡◌ item old (Ok first) mid → Takes l.view l.at (front is_whitespace (l.view mid).rest) (after is_whitespace (l.view mid).rest) mid new
-      → TypesBehind l.view l.at item first new r last → MustTypes l.view l.at (separated_at 44 item) old r last
+      → TypesAfter l.view l.at item first new r last → MustTypes l.view l.at (separated_at 44 item) old r last
   list_types item {new = new} {last = last} {first = n} {r = r} h k rest =
       list_some l item h.read k (λ fine. subst (λ x. MustMean l.view l.at (Each ◌≡◌) (λ t. items_after 44 item (length t) (x ∷ []) t) new r last) h.means (rest fine))
 
@@ -76,9 +76,9 @@ module _ {S A : Type 0} (l : Lens S) where
   plain_there {see = see} k w {y = y} h m = record { meant = λ _. k (see y); means = m; read = seen_alone l {A = A} (λ _. k (see y)) k w refl h }
 
   -- out of memory after what was parsed
-  pub piece_starved : {X Y V W : Type 0} {Other : W → V → Type 0} {see : Y → X} {f : Text → Outcome X} (k : X → V) → V → {old mid new : S} {y : Y} {fault : ParseFault A} → MustRead {A = A} l.view l.at see f old (Ok y) mid → StarvesHere l.view l.at mid fault new → MustMean l.view l.at Other (λ t. mapped k (f t)) old (Err fault) new
-  piece_starved {W = W} {f = f} k v {old = old} h s =
-      let q = starved l {W = W} {sees = λ _. v} (first l (λ x t. Read (k x) [] t) h) s in
+  pub piece_ran_out : {X Y V W : Type 0} {Other : W → V → Type 0} {see : Y → X} {f : Text → Outcome X} (k : X → V) → V → {old mid new : S} {y : Y} {fault : ParseFault A} → MustRead {A = A} l.view l.at see f old (Ok y) mid → RunsOutHere l.view l.at mid fault new → MustMean l.view l.at Other (λ t. mapped k (f t)) old (Err fault) new
+  piece_ran_out {W = W} {f = f} k v {old = old} h s =
+      let q = ran_out l {W = W} {sees = λ _. v} (first l (λ x t. Read (k x) [] t) h) s in
       record { meant = λ _. v; means = tt; read = record { answers = rw (mapped_is_followed k (f (l.view old).rest)) q.answers } }
 
   -- nothing can be parsed there

@@ -5,7 +5,7 @@ use Rattle.std.specs.List.{list_all}
 use Rattle.std.specs.Prelude.{IfSome}
 use Rattle.std.specs.Str.{chars, encode_utf8_all, IsUtf8}
 use Rattle.irtext_base.specs.Answers.{Takes}
-use Rattle.irtext_base.specs.Stream.{behind}
+use Rattle.irtext_base.specs.Stream.{after_taken}
 use Rattle.irtext_base.specs.Text.{Text, begins, front, after, in_word, is_identifier}
 use Rattle.irtext_base.proofs.Characters.{and_left, and_right, front_all, after_all, identifier_every}
 use Rattle.irtext_base.proofs.Compose.{takes_none, takes_more}
@@ -42,7 +42,7 @@ module _ {S : Type 0} (l : Lens S) where
       let every = identifier_every word is in
       let utf8 : IsUtf8 word = subst IsUtf8 same u in
       let k : Comes word (l.view old) (λ v. new ≡ l.at old v) = subst (λ t. Comes t (l.view old) (λ v. new ≡ l.at old v)) (ap chars same ∙ word_chars word utf8 every) h in
-      let left : k.0 ≡ (l.view new).rest = sym (ap (λ v. v.rest) (ap l.view k.2 ∙ l.view_at old (behind (l.view old) word k.0))) in
+      let left : k.0 ≡ (l.view new).rest = sym (ap (λ v. v.rest) (ap l.view k.2 ∙ l.view_at old (after_taken (l.view old) word k.0))) in
       record { word = word; in_words = every; takes = subst (λ r. Takes l.view l.at word r old new) left (record { is = k.2; same = sym k.1 }); ends = ends }
 
   -- the rest of the word was consumed after it

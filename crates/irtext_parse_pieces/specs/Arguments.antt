@@ -7,11 +7,11 @@ use Rattle.irtext_base.specs.declared.parsable.fault.ParseFault.{ParseFault}
 use Rattle.irtext_tokens.specs.ListOutcomes.{items_after}
 use Rattle.irtext_grammar.specs.Grammar.Tree.{Name}
 use Rattle.irtext_parse_pieces.specs.declared.names.ReadName.{ReadName}
-use Rattle.irtext_parse_pieces.specs.Named.{whole, StandsFor, Each, MustMean}
+use Rattle.irtext_parse_pieces.specs.Named.{whole, Represents, Each, MustMean}
 
 -- the argument represents one of the text: its name does, and its type is the same
 abbrev pub IsArgument : {T : Type 0} → List Text → Text → ReadName × T → Name ℕ × T → Type 0
-IsArgument names text read argument = StandsFor names text read.0 argument.0 × (read.1 ≡ argument.1)
+IsArgument names text read argument = Represents names text read.0 argument.0 × (read.1 ≡ argument.1)
 
 module _ {S T A : Type 0} (view : S → StreamView) (at : S → StreamView → S) where
   -- the result is the list of arguments that comes next, or its fault
@@ -19,6 +19,6 @@ module _ {S T A : Type 0} (view : S → StreamView) (at : S → StreamView → S
   MustArguments names outcome old result new = MustMean view at (Each (IsArgument names (whole (view old)))) outcome old result new
 
   -- given a first argument, the result is the list of arguments that continues it, or its fault
-  abbrev pub ArgumentsBehind : List Text → List Text → (Text → Outcome (Name ℕ × T)) → ReadName × T → S → Result (List (ReadName × T)) (ParseFault A) → S → Type 0
-  ArgumentsBehind before names item first old result new = (argument : Name ℕ × T) → IsArgument before (whole (view old)) first argument → (view old).failed ≡ false
+  abbrev pub ArgumentsAfter : List Text → List Text → (Text → Outcome (Name ℕ × T)) → ReadName × T → S → Result (List (ReadName × T)) (ParseFault A) → S → Type 0
+  ArgumentsAfter before names item first old result new = (argument : Name ℕ × T) → IsArgument before (whole (view old)) first argument → (view old).failed ≡ false
       → MustArguments names (λ t. items_after 44 item (length t) (argument ∷ []) t) old result new

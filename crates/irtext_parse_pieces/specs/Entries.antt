@@ -47,8 +47,8 @@ module _ {S A : Type 0} (view : S → StreamView) (at : S → StreamView → S) 
   MustEntries outcome old result new = MustMean view at (AreEntries (whole (view old))) outcome old result new
 
   -- given a first entry, the result is the list of entries that continues it, or its fault
-  abbrev pub EntriesBehind : (Text → Outcome (Name ℕ × Attribute A)) → Key × AttrObj A → S → Result (Vec (Key × AttrObj A) Global) (ParseFault A) → S → Type 0
-  EntriesBehind item first old result new = (entry : Name ℕ × Attribute A) → IsEntry (whole (view old)) first entry → (view old).failed ≡ false
+  abbrev pub EntriesAfter : (Text → Outcome (Name ℕ × Attribute A)) → Key × AttrObj A → S → Result (Vec (Key × AttrObj A) Global) (ParseFault A) → S → Type 0
+  EntriesAfter item first old result new = (entry : Name ℕ × Attribute A) → IsEntry (whole (view old)) first entry → (view old).failed ≡ false
       → MustEntries (λ t. items_after 44 item (length t) (entry ∷ []) t) old result new
 
   -- the result is the dictionary that comes next, or none, or its fault

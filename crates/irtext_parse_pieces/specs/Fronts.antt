@@ -5,7 +5,7 @@ use Rattle.irtext_base.specs.Stream.{StreamView}
 use Rattle.irtext_base.specs.Answers.{Outcome}
 use Rattle.irtext_base.specs.Locations.{AttrView}
 use Rattle.irtext_base.specs.declared.parsable.fault.ParseFault.{ParseFault}
-use Rattle.irtext_stream.specs.Classes.{behind_space}
+use Rattle.irtext_stream.specs.Classes.{after_spaces}
 use Rattle.irtext_stream.specs.Stream.{Comes}
 use Rattle.irtext_tokens.specs.Infix.{Reader}
 use Rattle.irtext_grammar.specs.Grammar.Tree as tree
@@ -26,13 +26,13 @@ abbrev pub front_of : {T A : Type 0} → (Text → Outcome T) → (Text → Outc
 front_of types_at attr inside steps = front_at types_at attr inside (front_steps steps)
 
 -- one more piece was appended to those found, and it represents this piece of the text
-abbrev pub IsBehind : {T A : Type 0} → List Text → Text → List (ReadPiece T A) → List (ReadPiece T A) → Piece ℕ T A → Type 0
-IsBehind {T = T} {A = A} names text found more p = (read : ReadPiece T A) × (more ≡ found ++ read ∷ []) × IsPiece names text read p
+abbrev pub IsAppended : {T A : Type 0} → List Text → Text → List (ReadPiece T A) → List (ReadPiece T A) → Piece ℕ T A → Type 0
+IsAppended {T = T} {A = A} names text found more p = (read : ReadPiece T A) × (more ≡ found ++ read ∷ []) × IsPiece names text read p
 
 -- these texts follow, one after another with white space before each, and this is the view after them
 abbrev pub ComeSpaced : List Text → StreamView → StreamView → Type 0
 ComeSpaced [] v w = w ≡ v
-ComeSpaced (t ∷ ts) v w = Comes t (behind_space v) (λ u. ComeSpaced ts u w)
+ComeSpaced (t ∷ ts) v w = Comes t (after_spaces v) (λ u. ComeSpaced ts u w)
 
 -- there is one piece for each step before the first region
 abbrev pub HasFront : {T A : Type 0} → List Step → List (ReadPiece T A) → Type 0
@@ -49,9 +49,9 @@ module _ {S T A : Type 0} (view : S → StreamView) (at : S → StreamView → S
     pub texts : List Text
     pub later : List Text
     pub first : texts ++ later ≡ all
-    pub behind : StreamView
-    pub come : ComeSpaced texts (view old) behind
-    pub reached : new ≡ at old behind
+    pub following : StreamView
+    pub come : ComeSpaced texts (view old) following
+    pub reached : new ≡ at old following
     pub appended : more ≡ found ++ only_words (length texts)
 
   -- the result is the list of pieces that the steps parse, or their fault
@@ -60,4 +60,4 @@ module _ {S T A : Type 0} (view : S → StreamView) (at : S → StreamView → S
 
   -- the piece that comes next was appended to those found, or the result is its fault
   abbrev pub MustFind : List Text → Reader (Piece ℕ T A) → List (ReadPiece T A) → List (ReadPiece T A) → S → Result (Unit {0}) (ParseFault A) → S → Type 0
-  MustFind names outcome found more old result new = MustMean view at (λ _ p. IsBehind names (whole (view old)) found more p) outcome old result new
+  MustFind names outcome found more old result new = MustMean view at (λ _ p. IsAppended names (whole (view old)) found more p) outcome old result new

@@ -11,11 +11,11 @@ use Rattle.irtext_parse_pieces.specs.declared.headers.BlockHead.{BlockHead}
 use Rattle.irtext_parse_pieces.specs.Arguments.{IsArgument}
 use Rattle.irtext_parse_pieces.specs.Entries.{AreEntries}
 use Rattle.irtext_parse_pieces.specs.Marks.{IsMarkIf}
-use Rattle.irtext_parse_pieces.specs.Named.{whole, StandsFor, Each, Optional, MustMean}
+use Rattle.irtext_parse_pieces.specs.Named.{whole, Represents, Each, Optional, MustMean}
 
 -- all parts of the header represent those of the text
 pub record IsHead {T A : Type 0} (names : List Text) (text : Text) (read : BlockHead T A) (head : Head ℕ T A) : Type 0 where
-  pub label : StandsFor names text read.label head.label
+  pub label : Represents names text read.label head.label
   pub arguments : Each (IsArgument names text) read.arguments head.arguments
   pub attributes : Optional (AreEntries text) read.attributes head.attributes
   pub mark : IsMarkIf text read.mark head.mark

@@ -5,7 +5,7 @@ use Rattle.irtext_base.specs.Stream.{StreamView}
 use Rattle.irtext_base.specs.Answers.{Read, Takes, Answers}
 use Rattle.irtext_base.specs.Faults.{id_of}
 use Rattle.irtext_base.specs.Format.{Id, Accepted}
-use Rattle.irtext_base.specs.Places.{StandsBehind}
+use Rattle.irtext_base.specs.Places.{IsPlaceAfter}
 use Rattle.irtext_base.specs.declared.base.identifier.OpId.{OpId}
 use Rattle.irtext_base.specs.declared.parsable.fault.ParseFault.{ParseFault}
 use Rattle.irtext_stream.specs.declared.position.Place.{Place}
@@ -15,10 +15,10 @@ use Rattle.irtext_base.specs.FormatViews.{format_of}
 use Rattle.irtext_context.specs.declared.dialect.OpInfo.{OpInfo}
 use Rattle.irtext_tokens.specs.Tokens.{id_at}
 use Rattle.irtext_grammar.specs.Grammar.Tree.{Name}
-use Rattle.irtext_parse_spec.specs.Readers.Parts.{behind, is_led}
-use Rattle.irtext_parse_spec.specs.Readers.Operations.{registered_behind}
+use Rattle.irtext_parse_spec.specs.Readers.Parts.{after_lead, is_led}
+use Rattle.irtext_parse_spec.specs.Readers.Operations.{registered_after}
 use Rattle.irtext_parse_pieces.specs.declared.names.ReadName.{ReadName}
-use Rattle.irtext_parse_pieces.specs.Named.{StandsFor, Each}
+use Rattle.irtext_parse_pieces.specs.Named.{Represents, Each}
 
 -- the id that comes next was consumed
 pub record TakesId {S : Type 0} (view : S → StreamView) (at : S → StreamView → S) (old : S) (id : OpId) (new : S) : Type 0 where
@@ -38,10 +38,10 @@ id_in (Err fault) = Err fault
 
 -- the names of the results represent these, and the id is this one
 abbrev pub IsLed : {X : Type 0} → List Text → Text → List ReadName × OpId × X → List (Name ℕ) × Id → Type 0
-IsLed names text op led = Each (StandsFor names text) op.0 led.0 × (id_of op.1 ≡ led.1)
+IsLed names text op led = Each (Represents names text) op.0 led.0 × (id_of op.1 ≡ led.1)
 
 -- After any lead, which begins at a place and is empty or not, the result is the id of a registered operation, or its fault. A lead is
 -- what precedes an id: white space and the names of results.
 pub record AnswersLed {S A : Type 0} (view : S → StreamView) (at : S → StreamView → S) (dialects : List (Text × Table)) (start : Place) (led : Bool) (mid : S) (result : Result OpId (ParseFault A)) (new : S) : Type 0 where
-  pub answers : (old : S) (lead : Text) → (view old).failed ≡ false → Takes view at lead (view mid).rest old mid → led ≡ is_led lead → StandsBehind start (view old).passed
-      → Answers view at id_of (registered_behind dialects lead (behind lead (id_at (view mid).rest))) old result new
+  pub answers : (old : S) (lead : Text) → (view old).failed ≡ false → Takes view at lead (view mid).rest old mid → led ≡ is_led lead → IsPlaceAfter start (view old).passed
+      → Answers view at id_of (registered_after dialects lead (after_lead lead (id_at (view mid).rest))) old result new

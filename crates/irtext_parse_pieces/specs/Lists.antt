@@ -1,7 +1,7 @@
 -- Between functions: the turns of a loop over items that are separated by `,`.
 use Rattle.std.specs.Prelude.{◌≡◌, Bool, true, false, List, [], ◌∷◌, ◌++◌, MatchBool, Result, Ok, Err}
 use Rattle.std.specs.Char.{is_whitespace}
-use Rattle.irtext_base.specs.Answers.{StarvesHere}
+use Rattle.irtext_base.specs.Answers.{RunsOutHere}
 use Rattle.irtext_base.specs.Reading.{the}
 use Rattle.irtext_base.specs.Stream.{StreamView, advanced}
 use Rattle.irtext_base.specs.Text.{begins}
@@ -10,7 +10,7 @@ use Rattle.irtext_tokens.specs.Reads.{TakesFront}
 
 module _ {S : Type 0} (view : S → StreamView) (at : S → StreamView → S) where
   -- `,` came next, and was consumed with the white space behind it
-  pub record IsBehindComma (old new : S) : Type 0 where
+  pub record IsAfterComma (old new : S) : Type 0 where
     pub comes : begins (the 44) (view old).rest ≡ true
     pub mid : S
     pub taken : mid ≡ at old (advanced (view old))
@@ -18,13 +18,13 @@ module _ {S : Type 0} (view : S → StreamView) (at : S → StreamView → S) wh
 
   -- if `,` comes next, it was consumed with the white space behind it; otherwise the stream is unchanged
   abbrev pub TakesComma : S → Bool → S → Type 0
-  TakesComma old result new = MatchBool result (IsBehindComma old new) ((begins (the 44) (view old).rest ≡ false) × (new ≡ old))
+  TakesComma old result new = MatchBool result (IsAfterComma old new) ((begins (the 44) (view old).rest ≡ false) × (new ≡ old))
 
 module _ {S X A : Type 0} (view : S → StreamView) (at : S → StreamView → S) (items : List X) (item : X) where
   -- the item was appended to the others, and the stream is unchanged; or an allocation failed
   abbrev pub Appended : S → Result (List X) (ParseFault A) → S → Type 0
   Appended old (Ok more) new = (more ≡ items ++ item ∷ []) × (new ≡ old)
-  Appended old (Err fault) new = StarvesHere view at old fault new
+  Appended old (Err fault) new = RunsOutHere view at old fault new
 
   -- the white space behind the item was consumed, and then the item was appended to the others, or an allocation failed
   pub record Appends (old : S) (result : Result (List X) (ParseFault A)) (new : S) : Type 0 where

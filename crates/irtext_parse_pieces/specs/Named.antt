@@ -2,9 +2,9 @@
 use Rattle.std.specs.Prelude.{◌≡◌, ◌⊎◌, ℕ, true, false, List, [], ◌∷◌, ◌++◌, length, slice_get, Option, Some, None, Result, IfOk}
 use Rattle.irtext_base.specs.Text.{Text, is_identifier}
 use Rattle.irtext_base.specs.Stream.{StreamView}
-use Rattle.irtext_base.specs.Answers.{Outcome, Starves, Refuses, unless_failed}
+use Rattle.irtext_base.specs.Answers.{Outcome, RunsOut, Refuses, unless_failed}
 use Rattle.irtext_base.specs.declared.parsable.fault.ParseFault.{ParseFault}
-use Rattle.irtext_stream.specs.Places.{StandsBehind}
+use Rattle.irtext_stream.specs.Places.{IsPlaceAfter}
 use Rattle.irtext_stream.specs.declared.position.Place.{Place}
 use Rattle.irtext_scopes.specs.Names.{KeepsNames}
 use Rattle.irtext_scopes.specs.declared.tracker.NameTracker.{NameTracker}
@@ -23,11 +23,11 @@ pub record Leaves (text : Text) (place : Place) (left : ℕ) : Type 0 where
   pub passed : Text
   pub rest : Text
   pub same : passed ++ rest ≡ text
-  pub stands : StandsBehind place passed
+  pub positioned : IsPlaceAfter place passed
   pub counts : left ≡ length rest
 
 -- the name's number is that of the text, and its position is the name's place
-pub record StandsFor (names : List Text) (text : Text) (read : ReadName) (name : Name ℕ) : Type 0 where
+pub record Represents (names : List Text) (text : Text) (read : ReadName) (name : Name ℕ) : Type 0 where
   pub named : slice_get names read.name ≡ Some name.text
   pub place : Leaves text read.at name.place
 
@@ -63,7 +63,7 @@ pub record NamesRead {V B : Type 0} (old new : NameTracker V B) : Type 0 where
 
 -- an allocation failed, or the fault is the one that `outcome` gives for the text
 abbrev pub Misses : {S A X : Type 0} → (S → StreamView) → (S → StreamView → S) → (Text → Outcome X) → S → ParseFault A → S → Type 0
-Misses view at outcome old fault new = Starves view at old fault new ⊎ Refuses view at (unless_failed (view old).failed (outcome (view old).rest)) old fault new
+Misses view at outcome old fault new = RunsOut view at old fault new ⊎ Refuses view at (unless_failed (view old).failed (outcome (view old).rest)) old fault new
 
 module _ {S A X Y : Type 0} (view : S → StreamView) (at : S → StreamView → S) (Means : Y → X → Type 0) (outcome : Text → Outcome X) (old : S) (result : Result Y (ParseFault A)) (new : S) where
   -- the result for the text is as `outcome` says, and a value represents that of `outcome`
@@ -81,18 +81,18 @@ module _ {S A X Y : Type 0} (view : S → StreamView) (at : S → StreamView →
 module _ {S A : Type 0} (view : S → StreamView) (at : S → StreamView → S) (names : List Text) (outcome : Text → Outcome (Name ℕ)) (old : S) (result : Result ReadName (ParseFault A)) (new : S) where
   -- the result is a name, which may be missing, or its fault
   abbrev pub MayName : Type 0
-  MayName = MayMean view at (StandsFor names (whole (view old))) outcome old result new
+  MayName = MayMean view at (Represents names (whole (view old))) outcome old result new
 
   -- the result is a name, which is required, or its fault
   abbrev pub MustName : Type 0
-  MustName = MustMean view at (StandsFor names (whole (view old))) outcome old result new
+  MustName = MustMean view at (Represents names (whole (view old))) outcome old result new
 
 module _ {S A : Type 0} (view : S → StreamView) (at : S → StreamView → S) where
   -- the result is the list of names that comes next, or its fault
   abbrev pub MustNames : List Text → (Text → Outcome (List (Name ℕ))) → S → Result (List ReadName) (ParseFault A) → S → Type 0
-  MustNames names outcome old result new = MustMean view at (Each (StandsFor names (whole (view old)))) outcome old result new
+  MustNames names outcome old result new = MustMean view at (Each (Represents names (whole (view old)))) outcome old result new
 
   -- given a first name, the result is the list of names that continues it, or its fault
-  abbrev pub NamesBehind : List Text → List Text → (Text → Outcome (Name ℕ)) → ReadName → S → Result (List ReadName) (ParseFault A) → S → Type 0
-  NamesBehind before names item first old result new = (name : Name ℕ) → StandsFor before (whole (view old)) first name → (view old).failed ≡ false
+  abbrev pub NamesAfter : List Text → List Text → (Text → Outcome (Name ℕ)) → ReadName → S → Result (List ReadName) (ParseFault A) → S → Type 0
+  NamesAfter before names item first old result new = (name : Name ℕ) → Represents before (whole (view old)) first name → (view old).failed ≡ false
       → MustNames names (λ t. items_after 44 item (length t) (name ∷ []) t) old result new

@@ -15,7 +15,7 @@ use Rattle.irtext_grammar.specs.Grammar.Tree.{Name, Attribute, Piece}
 use Rattle.irtext_parse_pieces.specs.declared.pieces.ReadPiece.{ReadPiece}
 use Rattle.irtext_parse_pieces.specs.declared.pieces.ReadPiece.TheVariants as read
 use Rattle.irtext_parse_pieces.specs.Entries.{AreEntries}
-use Rattle.irtext_parse_pieces.specs.Named.{whole, StandsFor, IsSymbol, Each, MustMean}
+use Rattle.irtext_parse_pieces.specs.Named.{whole, Represents, IsSymbol, Each, MustMean}
 
 -- the parsed attribute, or none
 abbrev pub seen_attribute : {A : Type 0} → Option (AttrObj A) → Option (Attribute A)
@@ -25,10 +25,10 @@ seen_attribute (Some a) = Some (attribute_of a)
 -- the parsed piece represents this piece of the text, with all parts
 abbrev pub IsPiece : {T A : Type 0} → List Text → Text → ReadPiece T A → Piece ℕ T A → Type 0
 IsPiece names text read.Word p = (s : Text) × (p ≡ tree.word s)
-IsPiece names text (read.Operand i n) p = (m : Name ℕ) × (p ≡ tree.operand i m) × StandsFor names text n m
-IsPiece names text (read.Operands ns) p = (ms : List (Name ℕ)) × (p ≡ tree.operands ms) × Each (StandsFor names text) ns ms
-IsPiece names text (read.Successor i n) p = (m : Name ℕ) × (p ≡ tree.successor i m) × StandsFor names text n m
-IsPiece names text (read.Successors ns) p = (ms : List (Name ℕ)) × (p ≡ tree.successors ms) × Each (StandsFor names text) ns ms
+IsPiece names text (read.Operand i n) p = (m : Name ℕ) × (p ≡ tree.operand i m) × Represents names text n m
+IsPiece names text (read.Operands ns) p = (ms : List (Name ℕ)) × (p ≡ tree.operands ms) × Each (Represents names text) ns ms
+IsPiece names text (read.Successor i n) p = (m : Name ℕ) × (p ≡ tree.successor i m) × Represents names text n m
+IsPiece names text (read.Successors ns) p = (ms : List (Name ℕ)) × (p ≡ tree.successors ms) × Each (Represents names text) ns ms
 IsPiece names text (read.Attr k a) p = p ≡ tree.attribute k (seen_attribute a)
 IsPiece {A = A} names text (read.Dictionary es) p = (ds : List (Name ℕ × Attribute A)) × (p ≡ tree.dictionary ds) × AreEntries text es ds
 IsPiece names text (read.ResultType i t) p = p ≡ tree.result_type i t
@@ -46,8 +46,8 @@ module _ {S T A : Type 0} (view : S → StreamView) (at : S → StreamView → S
   MustTypes outcome old result new = MustMean view at (Each ◌≡◌) outcome old result new
 
   -- given a first type, the result is the list of types that continues it, or its fault
-  abbrev pub TypesBehind : (Text → Outcome T) → T → S → Result (List T) (ParseFault A) → S → Type 0
-  TypesBehind item first old result new = (view old).failed ≡ false → MustTypes (λ t. items_after 44 item (length t) (first ∷ []) t) old result new
+  abbrev pub TypesAfter : (Text → Outcome T) → T → S → Result (List T) (ParseFault A) → S → Type 0
+  TypesAfter item first old result new = (view old).failed ≡ false → MustTypes (λ t. items_after 44 item (length t) (first ∷ []) t) old result new
 
   -- the result is the piece that comes next, or its fault
   abbrev pub MustPiece : List Text → Reader (Piece ℕ T A) → S → Result (ReadPiece T A) (ParseFault A) → S → Type 0

@@ -2,14 +2,14 @@
 use Rattle.std.specs.Prelude.{◌≡◌, ℕ, Bool, true, false, List, [], ◌∷◌, length, Option, Some, None, Result, Ok, Err}
 use Rattle.irtext_base.specs.Text.{Text}
 use Rattle.irtext_base.specs.Stream.{StreamView}
-use Rattle.irtext_base.specs.Answers.{Outcome, Read, Missing, Bad, SameStream, Starves}
+use Rattle.irtext_base.specs.Answers.{Outcome, Read, Missing, Bad, SameStream, RunsOut}
 use Rattle.irtext_base.specs.declared.parsable.fault.ParseFault.{ParseFault}
 use Rattle.irtext_tokens.specs.ListOutcomes.{items_after}
 use Rattle.irtext_tokens.specs.Infix.{Reader}
 use Rattle.irtext_grammar.specs.Grammar.Tree.{Name}
 use Rattle.irtext_parse_spec.specs.Heads.{name_at, results_at, named}
 use Rattle.irtext_parse_pieces.specs.declared.names.ReadName.{ReadName}
-use Rattle.irtext_parse_pieces.specs.Named.{whole, StandsFor, MustNames}
+use Rattle.irtext_parse_pieces.specs.Named.{whole, Represents, MustNames}
 
 -- whether the outcome is a value
 abbrev pub is_read : {X : Type 0} → Outcome X → Bool
@@ -26,9 +26,9 @@ module _ {S A : Type 0} (view : S → StreamView) (at : S → StreamView → S) 
   abbrev pub Looks : List Text → (Text → Outcome (List (Name ℕ))) → S → Result (Option (List ReadName)) (ParseFault A) → S → Type 0
   Looks names outcome old (Ok (Some found)) new = MustNames {A = A} view at names outcome old (Ok found) new
   Looks names outcome old (Ok None) new = (is_read (outcome (view old).rest) ≡ false) × SameStream view at false old new
-  Looks names outcome old (Err fault) new = Starves view at old fault new
+  Looks names outcome old (Err fault) new = RunsOut view at old fault new
 
   -- the same after a first name
-  abbrev pub LooksBehind : List Text → List Text → ReadName → S → Result (Option (List ReadName)) (ParseFault A) → S → Type 0
-  LooksBehind before names first old result new = (name : Name ℕ) → StandsFor before (whole (view old)) first name → (view old).failed ≡ false
+  abbrev pub LooksAfter : List Text → List Text → ReadName → S → Result (Option (List ReadName)) (ParseFault A) → S → Type 0
+  LooksAfter before names first old result new = (name : Name ℕ) → Represents before (whole (view old)) first name → (view old).failed ≡ false
       → Looks names (λ t. items_after 44 name_at (length t) (name ∷ []) t) old result new

@@ -2,7 +2,7 @@
 ghost use Rattle.irtext_tokens.specs.ListOutcomes.{separated_at};
 ghost use Rattle.irtext_tokens.specs.AttrTexts.{attr_at};
 ghost use Rattle.irtext_parse_spec.specs.Heads.{argument_at};
-ghost use Rattle.irtext_parse_pieces.specs.Arguments.{IsArgument, MustArguments, ArgumentsBehind};
+ghost use Rattle.irtext_parse_pieces.specs.Arguments.{IsArgument, MustArguments, ArgumentsAfter};
 ghost use Rattle.irtext_parse_pieces.specs.Named.{MayMean, NamesRead, whole};
 
 use crate::lists::{NameKind, comma_taken, none_named, unless_committed, with_spaced};
@@ -40,7 +40,7 @@ fn more_arguments<S: OwnStream, V: Copy, B: Copy, T: IrText<A>, A: AttrText<A>>(
     names: &mut NameTracker<V, B>,
     first: (ReadName, T),
 ) -> ParseResult<Few<(ReadName, T)>, A>
-    ensures read { ArgumentsBehind S.CharStream.view S.CharStream.at names.old.names names.new.names
+    ensures read { ArgumentsAfter S.CharStream.view S.CharStream.at names.old.names names.new.names
         (argument_at T.IrText.reading (attr_at A.IrText.reading)) first stream.old result stream.new }
     ensures names { NamesRead names.old names.new }
 {

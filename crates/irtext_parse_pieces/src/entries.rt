@@ -5,7 +5,7 @@ ghost use Rattle.irtext_tokens.specs.MustRead.{MustRead};
 ghost use Rattle.irtext_parse_spec.specs.Readers.Directives.{attribute_at};
 ghost use Rattle.irtext_grammar.specs.Contexts.Held.{attribute_of};
 ghost use Rattle.irtext_parse_spec.specs.Heads.{name_at, pair_at, dictionary_at};
-ghost use Rattle.irtext_parse_pieces.specs.Entries.{IsKey, IsEntry, TakesWord, MustEntries, EntriesBehind, MustDictionaryIf};
+ghost use Rattle.irtext_parse_pieces.specs.Entries.{IsKey, IsEntry, TakesWord, MustEntries, EntriesAfter, MustDictionaryIf};
 ghost use Rattle.irtext_parse_pieces.specs.Named.{MayMean, whole};
 
 use crate::keys::Keys;
@@ -114,7 +114,7 @@ fn more_entries<S: OwnStream, A: AttrText<A>>(
     keys: &mut Keys,
     first: ReadEntry<A>,
 ) -> ParseResult<Vec<ReadEntry<A>>, A>
-    ensures { EntriesBehind S.CharStream.view S.CharStream.at (pair_at (attr_at A.IrText.reading)) first
+    ensures { EntriesAfter S.CharStream.view S.CharStream.at (pair_at (attr_at A.IrText.reading)) first
         stream.old result stream.new }
 {
     let mut found = Vec::new(stream.allocator());

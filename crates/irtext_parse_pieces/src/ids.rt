@@ -1,6 +1,6 @@
 //! The ids of registered operations, looked up by their texts, and what precedes them.
 ghost use Rattle.std.specs.Prelude.{◌≡◌, false, cond, IfOk, IfErr, OnOk, IfSome};
-ghost use Rattle.irtext_base.specs.Answers.{SameStream, StarvesHere, DemandsOf};
+ghost use Rattle.irtext_base.specs.Answers.{SameStream, RunsOutHere, DemandsOf};
 ghost use Rattle.irtext_parse_spec.specs.Heads.{lead_at, led_at};
 ghost use Rattle.irtext_parse_spec.specs.Readers.Operations.{Registers};
 ghost use Rattle.irtext_parse_pieces.specs.Ids.{TakesId, IsKnown, IsLed, id_in, AnswersLed};
@@ -29,7 +29,7 @@ fn look_up<'c, S: CharStream, T: IrText<A>, A: AttrText<A>>(
 ) -> Option<(&'c OpId, &'c OpInfo)>
     ensures read { IfSome result (λ op. TakesId S.view S.at stream.old op.0.now stream.new) }
     ensures known { IfSome result (λ op. IsKnown ctx.now.dialects op.0.now op.1.now) }
-    ensures stands { SameStream S.view S.at (S.view stream.old).failed stream.old stream.new }
+    ensures same_stream { SameStream S.view S.at (S.view stream.old).failed stream.old stream.new }
 {
     let place = stream.position();
     if !skip_identifier(stream) {
@@ -66,7 +66,7 @@ fn shared<'c, S: CharStream, A>(
     ensures id { IfOk result (λ op. op.0 ≡ id.now) }
     ensures info { IfOk result (λ op. op.1.now ≡ info.now) }
     ensures stream { OnOk result (stream.new ≡ stream.old) }
-    ensures starved { IfErr result (λ fault. StarvesHere S.view S.at stream.old fault stream.new) }
+    ensures ran_out { IfErr result (λ fault. RunsOutHere S.view S.at stream.old fault stream.new) }
 {
     match copied(id) {
         Ok(id) => Ok((id, info)),
@@ -74,16 +74,16 @@ fn shared<'c, S: CharStream, A>(
     }
 }
 
-/// Returns the same result, with an error committed if `wanted` is set.
+/// Returns the same result, with an error committed if `is_required` is set.
 fn demand_if<S: CharStream, X, A>(
     stream: &mut S,
-    wanted: bool,
+    is_required: bool,
     answer: ParseResult<X, A>,
 ) -> ParseResult<X, A>
-    ensures { cond wanted (DemandsOf S.view S.at answer stream.old result stream.new) ((result ≡ answer)
+    ensures { cond is_required (DemandsOf S.view S.at answer stream.old result stream.new) ((result ≡ answer)
         × (stream.new ≡ stream.old)) }
 {
-    if wanted {
+    if is_required {
         committed(stream, answer)
     } else {
         answer
@@ -116,7 +116,7 @@ fn registered<'c, S: CharStream, T: IrText<A>, A: AttrText<A>>(
 /// Parses the id of a registered operation after a lead, and returns it with the operation's registered information. A lead is what
 /// precedes an id: white space and the names of results; it may be empty. `start` is where the lead begins, and `led` says whether it is
 /// not empty; then every error is committed. A registered id allocates nothing.
-fn id_behind<'c, S: CharStream, T: IrText<A>, A: AttrText<A>>(
+fn id_after<'c, S: CharStream, T: IrText<A>, A: AttrText<A>>(
     stream: &mut S,
     ctx: &'c Context<T, A>,
     start: Place,
@@ -174,6 +174,6 @@ pub fn results_and_id_parse<'c, S: CharStream, V: Copy, B: Copy, T: IrText<A>, A
     let start = stream.position();
     let results = lead_parse(stream, names)?;
     let led = !stream.text_since(start).is_empty();
-    let (id, info) = id_behind(stream, ctx, start, led)?;
+    let (id, info) = id_after(stream, ctx, start, led)?;
     Ok((results, id, info))
 }

@@ -3,7 +3,7 @@ ghost use Rattle.std.specs.Prelude.{◌≡◌, ◌++◌, ◌∷◌, [], ◌&&◌
 ghost use Rattle.irtext_base.specs.Text.{begins};
 ghost use Rattle.irtext_tokens.specs.ListOutcomes.{separated_at};
 ghost use Rattle.irtext_parse_pieces.specs.Lists.{TakesComma, Appends};
-ghost use Rattle.irtext_parse_pieces.specs.Named.{MayName, MustNames, NamesBehind, NamesRead};
+ghost use Rattle.irtext_parse_pieces.specs.Named.{MayName, MustNames, NamesAfter, NamesRead};
 ghost use Rattle.irtext_parse_pieces.specs.Kinds.{beginning, named_at};
 
 use crate::names::{ReadName, used_parse};
@@ -123,7 +123,7 @@ fn more_names<S: CharStream, V: Copy, B: Copy, A: Drop>(
     inside: bool,
     first: ReadName,
 ) -> ParseResult<Few<ReadName>, A>
-    ensures read { NamesBehind S.view S.at names.old.names names.new.names (named_at kind inside) first
+    ensures read { NamesAfter S.view S.at names.old.names names.new.names (named_at kind inside) first
         stream.old result stream.new }
     ensures names { NamesRead names.old names.new }
 {

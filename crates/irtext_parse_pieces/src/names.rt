@@ -1,6 +1,6 @@
 //! Parsing of names. Each distinct name is stored once per parse, and is known by its number from then on.
 ghost use Rattle.std.specs.Prelude.{◌≡◌, List, false, IsErrAnd};
-ghost use Rattle.irtext_base.specs.Answers.{StarvesHere};
+ghost use Rattle.irtext_base.specs.Answers.{RunsOutHere};
 ghost use Rattle.irtext_base.specs.Text.{Text, begins, begins_word};
 ghost use Rattle.irtext_parse_spec.specs.Heads.{name_at, label_at, symbol_at, used_at};
 ghost use Rattle.irtext_parse_pieces.specs.Named.{whole, IsSymbol, MustMean, MayName, MustName, NamesRead, Misses};
@@ -57,7 +57,7 @@ fn name_missing<S: CharStream, A>(stream: &mut S) -> ParseResult<ReadName, A>
 #[cold]
 #[inline(never)]
 fn name_unstored<S: CharStream, A>(stream: &mut S) -> ParseResult<ReadName, A>
-    ensures { IsErrAnd result (λ fault. StarvesHere S.view S.at stream.old fault stream.new) }
+    ensures { IsErrAnd result (λ fault. RunsOutHere S.view S.at stream.old fault stream.new) }
 {
     Err(out_of_memory(stream))
 }

@@ -3,7 +3,7 @@ ghost use Rattle.std.specs.Prelude.{◌≡◌, true, false};
 ghost use Rattle.irtext_tokens.specs.ListOutcomes.{separated_at};
 ghost use Rattle.irtext_parse_spec.specs.Heads.{name_at, results_at};
 ghost use Rattle.irtext_parse_pieces.specs.Named.{MustNames, NamesRead};
-ghost use Rattle.irtext_parse_pieces.specs.Results.{is_read, results_if_at, Looks, LooksBehind};
+ghost use Rattle.irtext_parse_pieces.specs.Results.{is_read, results_if_at, Looks, LooksAfter};
 
 use crate::lists::{comma_taken, unless_committed, with_spaced};
 use crate::names::{ReadName, name_parse};
@@ -35,7 +35,7 @@ fn more_results<S: CharStream, V: Copy, B: Copy, A: Drop>(
     names: &mut NameTracker<V, B>,
     first: ReadName,
 ) -> ParseResult<Option<Few<ReadName>>, A>
-    ensures looks { LooksBehind S.view S.at names.old.names names.new.names first stream.old result
+    ensures looks { LooksAfter S.view S.at names.old.names names.new.names first stream.old result
         stream.new }
     ensures names { NamesRead names.old names.new }
 {

@@ -1,7 +1,7 @@
 //! Lists of types, separated by `,`. Up to two types are stored without an allocation.
 ghost use Rattle.std.specs.Prelude.{◌≡◌};
 ghost use Rattle.irtext_tokens.specs.ListOutcomes.{separated_at};
-ghost use Rattle.irtext_parse_pieces.specs.Pieces.{MustTypes, TypesBehind};
+ghost use Rattle.irtext_parse_pieces.specs.Pieces.{MustTypes, TypesAfter};
 ghost use Rattle.irtext_parse_pieces.specs.Named.{MayMean};
 
 use crate::lists::{comma_taken, unless_committed, with_spaced};
@@ -25,7 +25,7 @@ fn more_types<S: OwnStream, T: IrText<A>, A: Drop>(
     stream: &mut S,
     first: T,
 ) -> ParseResult<Few<T>, A>
-    ensures { TypesBehind S.CharStream.view S.CharStream.at T.IrText.reading first stream.old result
+    ensures { TypesAfter S.CharStream.view S.CharStream.at T.IrText.reading first stream.old result
         stream.new }
 {
     let mut found = Few::one(first);

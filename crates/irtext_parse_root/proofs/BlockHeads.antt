@@ -7,12 +7,12 @@ use Rattle.irtext_base.specs.Format.{same_text}
 use Rattle.irtext_base.specs.Faults as causes
 use Rattle.irtext_base.specs.Faults.{Fault, Failed, Unexpected, Word, fault_of}
 use Rattle.irtext_base.specs.Own.{Sincere}
-use Rattle.irtext_base.specs.Answers.{Outcome, Read, Missing, Bad, Answers, Gives, Starves, Refuses, StarvesHere, Passes, demanded, prefixed, mapped, followed, unless_failed}
-use Rattle.irtext_base.specs.Stream.{StreamView, IsAt, first_of, behind, after_failure}
+use Rattle.irtext_base.specs.Answers.{Outcome, Read, Missing, Bad, Answers, Gives, RunsOut, Refuses, RunsOutHere, Passes, demanded, prefixed, mapped, followed, unless_failed}
+use Rattle.irtext_base.specs.Stream.{StreamView, IsAt, first_of, after_taken, after_failure}
 use Rattle.irtext_base.specs.Locations.{AttrView}
 use Rattle.irtext_base.specs.declared.base.attributes.AttrObj.{AttrObj}
 use Rattle.irtext_base.specs.declared.parsable.fault.ParseFault.{ParseFault}
-use Rattle.irtext_base.proofs.Compose.{starves_here}
+use Rattle.irtext_base.proofs.Compose.{runs_out_here}
 use Rattle.irtext_base.proofs.Sincere.{Of}
 use Rattle.irtext_stream.specs.Places.{AtOffset}
 use Rattle.irtext_tokens.specs.AttrTexts.{attr_at}
@@ -42,13 +42,13 @@ use Rattle.irtext_parse_pieces.specs.Arguments.{IsArgument}
 use Rattle.irtext_parse_pieces.specs.Entries.{IsEntry}
 use Rattle.irtext_parse_pieces.specs.Headers.{IsHead}
 use Rattle.irtext_parse_pieces.specs.Marks.{IsMark, IsMarkIf}
-use Rattle.irtext_parse_pieces.specs.Named.{StandsFor, Each, MayMean, MustMean}
+use Rattle.irtext_parse_pieces.specs.Named.{Represents, Each, MayMean, MustMean}
 use Rattle.irtext_parse_pieces.proofs.Meanings.{may_whole}
 use Rattle.irtext_promises.specs.Alone.{FailsOutside, RefusesBlock}
 use Rattle.irtext_promises.specs.Promises.{outside_with, IsOf, IsFirst}
 use Rattle.irtext_parse_nested.specs.Blocks.{entries_in, IsKeyFault}
 use Rattle.irtext_parse_nested.specs.Definitions.{IsFaultOf}
-use Rattle.irtext_parse_nested.proofs.Faults.{stands_there, some_same}
+use Rattle.irtext_parse_nested.proofs.Faults.{place_is_there, some_same}
 use Rattle.irtext_parse_nested.proofs.Headers.{keys_each}
 use Rattle.irtext_parse_nested.proofs.Marking.{not_noted, noted_before}
 use Rattle.irtext_parse_root.proofs.Failing.{head_honest}
@@ -101,7 +101,7 @@ module _ {T A : Type 0} (types_at : Text → Outcome T) (attr : Text → Outcome
         let a = subst (λ b. Answers itself replaced h.meant (demanded (unless_failed b o)) old r new) fine h.read.answers in
         record { meant = h.meant; means = h.means; read = record { answers = subst (λ b. Answers itself replaced h.meant (unless_failed b o) old r new) (sym fine) (subst (λ o. Answers itself replaced h.meant o old r new) (head_there old.rest e) a) } }
 
-    unread : (fault : ParseFault A) → Starves itself replaced old fault new ⊎ Refuses itself replaced (head_at types_at attr old.rest) old fault new → MayMean {Y = Y} itself replaced Means (head_at types_at attr) old (Err fault) new
+    unread : (fault : ParseFault A) → RunsOut itself replaced old fault new ⊎ Refuses itself replaced (head_at types_at attr old.rest) old fault new → MayMean {Y = Y} itself replaced Means (head_at types_at attr) old (Err fault) new
     unread fault h = record {
       meant = λ _. nothing_read;
       means = tt;
@@ -113,8 +113,8 @@ module _ {T A : Type 0} (types_at : Text → Outcome T) (attr : Text → Outcome
     none_begins fault e h = unread fault (inr (subst (λ o. Refuses itself replaced o old fault new) (sym (head_missing old.rest e)) h))
 
     -- nor is there memory to say so
-    pub none_starves : (fault : ParseFault A) → StarvesHere itself replaced old fault new → MayMean {Y = Y} itself replaced Means (head_at types_at attr) old (Err fault) new
-    none_starves fault h = unread fault (inl (starves_here itself replaced alone.view_at alone.at_at alone.at_view old new fault fine h))
+    pub none_runs_out : (fault : ParseFault A) → RunsOutHere itself replaced old fault new → MayMean {Y = Y} itself replaced Means (head_at types_at attr) old (Err fault) new
+    none_runs_out fault h = unread fault (inl (runs_out_here itself replaced alone.view_at alone.at_at alone.at_view old new fault fine h))
 
 -- ---- what is wrong with a header
 module _ {A : Type 0} (text : Text) (fault : ParseFault A) where
@@ -132,7 +132,7 @@ module _ {A : Type 0} (text : Text) (fault : ParseFault A) where
       subst (λ b. KeyWith e.0 later b (marks ++ [])) (sym (ap₂ block_may_hold (sym i.0.named) (sym i.1) ∙ is)) (subst (λ ms. KeyWith e.0 later true ms) (sym (append-nil marks)) (good refl))
   one_key marks later r e i false is bad good =
       let k = bad refl in
-      subst (λ b. KeyWith e.0 later b (marks ++ [])) (sym (ap₂ block_may_hold (sym i.0.named) (sym i.1) ∙ is)) (k.because ∙ ap causes.ReservedKey i.0.named, stands_there i.0.place k.place)
+      subst (λ b. KeyWith e.0 later b (marks ++ [])) (sym (ap₂ block_may_hold (sym i.0.named) (sym i.1) ∙ is)) (k.because ∙ ap causes.ReservedKey i.0.named, place_is_there i.0.place k.place)
 
   -- a key that is reserved, or the first failure after the keys
   keys_first : (marks : List ℕ) (more : List (Act Text ℕ)) (rs : List (Key × AttrObj A)) (es : List (Name ℕ × Attribute A)) → Each (IsEntry text) rs es → ((key : Key) → first_reserved rs ≡ Some key → IsKeyFault text key fault)
@@ -146,8 +146,8 @@ module _ {A : Type 0} (text : Text) (fault : ParseFault A) where
       (λ good. let shown : first_reserved (r ∷ rs) ≡ first_reserved rs = ap (λ b. cond b (first_reserved rs) (Some r.0)) good in keys_first marks more rs es i.1 (λ key f. some key (shown ∙ f)) (λ f. none (shown ∙ f)))
 
   -- a name outside of every scope
-  outside_is : (names : List Text) (read : ReadName) (w : Name ℕ) → StandsFor names text read w → IsFaultOf names text causes.NoActiveScope read fault → IsOf text (record { cause = script.NoActiveScope w.text; at = Some w.place }) fault
-  outside_is names read w s f = (f.because ∙ ap causes.NoActiveScope (some_same (sym f.named ∙ s.named)), stands_there s.place f.place)
+  outside_is : (names : List Text) (read : ReadName) (w : Name ℕ) → Represents names text read w → IsFaultOf names text causes.NoActiveScope read fault → IsOf text (record { cause = script.NoActiveScope w.text; at = Some w.place }) fault
+  outside_is names read w s f = (f.because ∙ ap causes.NoActiveScope (some_same (sym f.named ∙ s.named)), place_is_there s.place f.place)
 
   -- the fault says that the mark's index is recorded already
   abbrev SaysTwice : ReadMark → Type 0
@@ -164,7 +164,7 @@ module _ {A : Type 0} (text : Text) (fault : ParseFault A) where
   one_mark noted more r m i (Some y) e some none =
       let k = some refl in
       let there : lookup (same_index m.index) noted ≡ Some y = subst (λ j. lookup (same_index j) noted ≡ Some y) i.indexed e in
-      subst (MarkWith m more (indices_of noted)) (sym (noted_before m.index noted (λ f. cc (f, there)))) (k.0 ∙ ap causes.DuplicateIndex i.indexed, stands_there i.place k.1)
+      subst (MarkWith m more (indices_of noted)) (sym (noted_before m.index noted (λ f. cc (f, there)))) (k.0 ∙ ap causes.DuplicateIndex i.indexed, place_is_there i.place k.1)
 
   -- a mark whose index is already recorded, or the first failure after it
   mark_first : {X : Type 0} (noted : List (ℕ × X)) (more : List (Act Text ℕ)) (read : Option ReadMark) (m : Option (Mark ℕ)) → IsMarkIf text read m → ((k : ReadMark) → noted_twice read noted ≡ Some k → SaysTwice k)
@@ -275,7 +275,7 @@ module _ {T A : Type 0} (types_at : Text → Outcome T) (attr : Text → Outcome
     pub there : head_at types_at attr old.rest ≡ Read head taken rest
     pub is : IsHead names (whole new) read head
     pub same : whole new ≡ whole old
-    pub left : new ≡ behind old taken rest
+    pub left : new ≡ after_taken old taken rest
 
   pub head_read : (read : BlockHead T A) (new : StreamView) → MayMean {A = A} itself replaced (IsHead names (whole old)) (head_at types_at attr) old (Ok read) new → HeadRead read new
   head_read read new m = go (head_at types_at attr old.rest) refl (subst (λ b. Gives itself replaced (unless_failed b (head_at types_at attr old.rest)) old (m.meant read) new) fine m.read.answers)
@@ -309,7 +309,7 @@ first_missing (Bad cause upto) h = record { says = tt }
 module _ {T A : Type 0} (types_at : Text → Outcome T) (attr : Text → Outcome (AttrView A)) (old new : StreamView) (fault : ParseFault A) where
   -- the header is not parsed
   pub unread_missed : {Y : Type 0} {Means : Y → Head ℕ T A → Type 0} (marks : List ℕ) → old.failed ≡ false → MayMean {Y = Y} itself replaced Means (head_at types_at attr) old (Err fault) new → UnlessMemory (MissesBlock types_at attr marks old new) fault
-  unread_missed marks fine m = elim (subst (λ b. Starves itself replaced old fault new ⊎ Refuses itself replaced (unless_failed b (head_at types_at attr old.rest)) old fault new) fine m.read.answers) [
+  unread_missed marks fine m = elim (subst (λ b. RunsOut itself replaced old fault new ⊎ Refuses itself replaced (unless_failed b (head_at types_at attr old.rest)) old fault new) fine m.read.answers) [
     | inl s ↦ inl (record { because = s.because; flag = s.committed })
     | inr r ↦ inr (no_header r)
   ]
@@ -319,24 +319,24 @@ module _ {T A : Type 0} (types_at : Text → Outcome T) (attr : Text → Outcome
       (said : UnlessMemory (FailsOutside marks (whole mid) h.head) fault) where
     pub read_missed : UnlessMemory (MissesBlock types_at attr marks old new) fault
     read_missed = elim said [
-      | inl starved ↦ inl starved
+      | inl ran_out ↦ inl ran_out
       | inr f ↦ inr (by_header h.head h.taken h.rest h.there (fails ∙ ap after_failure h.left) (subst (λ t. FailsOutside marks t h.head fault) h.same f))
     ]
 
     committed : fault.committed ≡ true
-    committed = elim said [ inl starved ↦ starved.flag | inr f ↦ f.flag ]
+    committed = elim said [ inl ran_out ↦ ran_out.flag | inr f ↦ f.flag ]
 
     pub read_refusal : Refusal old fault new
     read_refusal = record {
       committed = λ e. ap (λ v. v.failed) fails;
       uncommitted = λ e. absurd (cc (committed, e));
       first = λ e. absurd (cc (committed, e));
-      failed = λ e. absurd (elim said [ inl starved ↦ cc (starved.because, e) | inr f ↦ first_fine (whole mid) (failures same_text (outside_with marks) (does_all (header_acts [] h.head) done)) fault f.first e ]);
+      failed = λ e. absurd (elim said [ inl ran_out ↦ cc (ran_out.because, e) | inr f ↦ first_fine (whole mid) (failures same_text (outside_with marks) (does_all (header_acts [] h.head) done)) fault f.first e ]);
     }
 
   -- if no mark was recorded, that is what is promised on a fresh state
   pub misses_fresh : (marks : List ℕ) → marks ≡ [] → UnlessMemory (MissesBlock types_at attr marks old new) fault → UnlessMemory (RefusesBlock types_at attr old) fault
-  misses_fresh marks none (inl starved) = inl starved
+  misses_fresh marks none (inl ran_out) = inl ran_out
   misses_fresh marks none (inr (no_header r)) = inr (record { fails = λ head taken rest e. absurd (subst (λ o. Refuses itself replaced o old fault new) e r) })
   misses_fresh marks none (inr (by_header h t r e n f)) =
       inr (record {

@@ -30,7 +30,7 @@ use Rattle.irtext_parse_root.specs.Built.{built, IsHeld, RegionTracks, HoldsRegi
 use Rattle.irtext_parse_root.specs.Carried.{marks_in_blocks, marks_so_far, AreCarried}
 use Rattle.irtext_parse_root.specs.Here.{Base, within}
 use Rattle.irtext_parse_root.proofs.Carrying.{uses_carry, enters_carry, leaves_carry, closes_carry, root_carry, block_carry, alone_carry, heads_carry, carried_still, carried_more, carried_last, carried_new}
-use Rattle.irtext_parse_root.specs.Told.{Did, did_use, did_late, did_enter, did_leave, did_close, did_mark, did_head}
+use Rattle.irtext_parse_root.specs.Recorded.{Did, did_use, did_late, did_enter, did_leave, did_close, did_mark, did_head}
 
 -- an operation that is open has its own
 pub own_there : {T A : Type 0} (L : ℕ → Location A → Type 0) (items : Made) (c : ContextView T A) (w : List Object) (p : Ptr Operation) (own : OwnSoFar T A) (ats : List (OpenAt T A)) (us : List (Unfinished T A))

@@ -25,17 +25,17 @@ use Rattle.irtext_parse_root.specs.Carried.{marks_in_regions, marks_in_blocks, m
 
 -- ---- the marks of parts that follow one another
 module _ {T A : Type 0} where
-  regions_behind : (rs more : Regions (Op ℕ T A) (Head ℕ T A) (Brace ℕ)) → marks_in_regions (append_regions rs more) ≡ marks_in_regions rs ++ marks_in_regions more
-  regions_behind no_regions more = refl
-  regions_behind (region brace bs rs) more = ap (λ z. marks_in_blocks bs ++ z) (regions_behind rs more) ∙ sym (append_assoc (marks_in_blocks bs) (marks_in_regions rs) (marks_in_regions more))
+  regions_appended : (rs more : Regions (Op ℕ T A) (Head ℕ T A) (Brace ℕ)) → marks_in_regions (append_regions rs more) ≡ marks_in_regions rs ++ marks_in_regions more
+  regions_appended no_regions more = refl
+  regions_appended (region brace bs rs) more = ap (λ z. marks_in_blocks bs ++ z) (regions_appended rs more) ∙ sym (append_assoc (marks_in_blocks bs) (marks_in_regions rs) (marks_in_regions more))
 
-  blocks_behind : (bs more : Blocks (Op ℕ T A) (Head ℕ T A) (Brace ℕ)) → marks_in_blocks (append_blocks bs more) ≡ marks_in_blocks bs ++ marks_in_blocks more
-  blocks_behind no_blocks more = refl
-  blocks_behind (block h os bs) more = ap (λ z. noted_as h.mark h.label.place ++ (marks_in_operations os ++ z)) (blocks_behind bs more) ∙ simp append_assoc
+  blocks_appended : (bs more : Blocks (Op ℕ T A) (Head ℕ T A) (Brace ℕ)) → marks_in_blocks (append_blocks bs more) ≡ marks_in_blocks bs ++ marks_in_blocks more
+  blocks_appended no_blocks more = refl
+  blocks_appended (block h os bs) more = ap (λ z. noted_as h.mark h.label.place ++ (marks_in_operations os ++ z)) (blocks_appended bs more) ∙ simp append_assoc
 
-  operations_behind : (os more : Operations (Op ℕ T A) (Head ℕ T A) (Brace ℕ)) → marks_in_operations (append_operations os more) ≡ marks_in_operations os ++ marks_in_operations more
-  operations_behind no_operations more = refl
-  operations_behind (operation o rs os) more = ap (λ z. (marks_in_regions rs ++ noted_as o.mark o.place) ++ z) (operations_behind os more) ∙ simp append_assoc
+  operations_appended : (os more : Operations (Op ℕ T A) (Head ℕ T A) (Brace ℕ)) → marks_in_operations (append_operations os more) ≡ marks_in_operations os ++ marks_in_operations more
+  operations_appended no_operations more = refl
+  operations_appended (operation o rs os) more = ap (λ z. (marks_in_regions rs ++ noted_as o.mark o.place) ++ z) (operations_appended os more) ∙ simp append_assoc
 
 -- ---- what is done
 
@@ -48,13 +48,13 @@ module _ {T A : Type 0} where
   pub head_marks : (h : Head ℕ T A) (bs : Blocks (Op ℕ T A) (Head ℕ T A) (Brace ℕ)) (last : Option (Head ℕ T A × Operations (Op ℕ T A) (Head ℕ T A) (Brace ℕ))) (us : List (Unfinished T A))
       → marks_open (block_begun h (region_so_far bs last ∷ us)) ≡ marks_open (region_so_far bs last ∷ us) ++ noted_as h.mark h.label.place
   head_marks h bs last us =
-      ap (λ z. marks_open us ++ z) (blocks_behind (whole_blocks bs last) (block h no_operations no_blocks)) ∙ simp (append_assoc, append-nil)
+      ap (λ z. marks_open us ++ z) (blocks_appended (whole_blocks bs last) (block h no_operations no_blocks)) ∙ simp (append_assoc, append-nil)
 
   -- a region ends in an operation
   pub region_marks : (place at : ℕ) (id : Id) (rs : Regions (Op ℕ T A) (Head ℕ T A) (Brace ℕ)) (bs : Blocks (Op ℕ T A) (Head ℕ T A) (Brace ℕ)) (last : Option (Head ℕ T A × Operations (Op ℕ T A) (Head ℕ T A) (Brace ℕ))) (us : List (Unfinished T A))
       → marks_open (region_ended place (region_so_far bs last ∷ operation_so_far at id rs ∷ us)) ≡ marks_open (region_so_far bs last ∷ operation_so_far at id rs ∷ us)
   region_marks place at id rs bs last us =
-      ap (λ z. marks_open us ++ z) (regions_behind rs (region (shown place) (whole_blocks bs last) no_regions)) ∙ simp (append_assoc, append-nil)
+      ap (λ z. marks_open us ++ z) (regions_appended rs (region (shown place) (whole_blocks bs last) no_regions)) ∙ simp (append_assoc, append-nil)
 
   -- an operation ends that is outside of every region
   pub root_marks : (mark : Option (Mark ℕ)) (o : Op ℕ T A) (rs : Regions (Op ℕ T A) (Head ℕ T A) (Brace ℕ)) → marks_so_far (operation_marked mark (but_its_mark o rs ∷ []) None) ≡ marks_open (but_its_mark o rs ∷ []) ++ noted_as mark o.place
@@ -65,9 +65,9 @@ module _ {T A : Type 0} where
       → marks_so_far (operation_marked mark (but_its_mark o rs ∷ region_so_far bs (Some last) ∷ us) t) ≡ marks_so_far (record { unfinished = but_its_mark o rs ∷ region_so_far bs (Some last) ∷ us; tree = t }) ++ noted_as mark o.place
   operation_marks mark o rs bs last us t =
       let one = operation (with_mark mark o) rs no_operations in
-      let a = blocks_behind bs (block last.0 (append_operations last.1 one) no_blocks) in
-      let b = operations_behind last.1 one in
-      let c = blocks_behind bs (block last.0 last.1 no_blocks) in
+      let a = blocks_appended bs (block last.0 (append_operations last.1 one) no_blocks) in
+      let b = operations_appended last.1 one in
+      let c = blocks_appended bs (block last.0 last.1 no_blocks) in
       let first : marks_so_far (operation_marked mark (but_its_mark o rs ∷ region_so_far bs (Some last) ∷ us) t)
       ≡ marks_whole t ++ (marks_open us ++ (marks_in_blocks bs ++ (noted_as last.0.mark last.0.label.place ++ ((marks_in_operations last.1 ++ ((marks_in_regions rs ++ noted_as mark o.place) ++ [])) ++ [])))) =
       ap (λ z. marks_whole t ++ (marks_open us ++ z)) a ∙ ap (λ z. marks_whole t ++ (marks_open us ++ (marks_in_blocks bs ++ (noted_as last.0.mark last.0.label.place ++ (z ++ []))))) b in

@@ -23,17 +23,17 @@ use Rattle.irtext_parse_spec.proofs.Resume.Frames.{goes_trans, stuck_at}
 use Rattle.irtext_parse_pieces.proofs.Meanings.{takes_whole}
 use Rattle.irtext_parse_nested.proofs.Marking.{gains_nothing}
 use Rattle.irtext_parse_nested.specs.Ends.{GainsMarks}
-use Rattle.irtext_parse_nested.specs.Items.{Names, Made, Pledge, StandsAs, Acts, ActsWith, ActFails, IsFailure, IsTextFault, doing}
+use Rattle.irtext_parse_nested.specs.Items.{Names, Made, Pledge, MachineAgrees, Acts, ActsWith, ActFails, IsFailure, IsTextFault, doing}
 use Rattle.irtext_parse_nested.specs.Located.{IsLocated}
 use Rattle.irtext_parse_root.specs.Built.{Built}
 use Rattle.irtext_parse_root.specs.Here.{Base}
 use Rattle.irtext_parse_spec.specs.Readers.Streams.{KeepsRest}
 use Rattle.irtext_parse_root.specs.Levels.{Level, pledges_of}
-use Rattle.irtext_parse_root.specs.Told.{all_done}
+use Rattle.irtext_parse_root.specs.Recorded.{all_done}
 use Rattle.irtext_parse_root.specs.Turned.{Carries, Remains, Turned, Faulted, at_text, by_names}
 use Rattle.irtext_parse_root.proofs.Carrying.{falls_both}
 use Rattle.irtext_parse_root.proofs.Staying.{stay_still, stay_both}
-use Rattle.irtext_parse_root.proofs.Telling.{done_both, goes_told, goes_behind, stuck_behind}
+use Rattle.irtext_parse_root.proofs.Telling.{done_both, goes_recorded, goes_after, stuck_after}
 use Rattle.irtext_parse_nested.proofs.Lasting.{lasts_then, lasts_itself}
 
 -- ---- acts
@@ -46,8 +46,8 @@ module _ {T A U : Type 0} where
     -- besides operations that are open further out
     pub acts_besides : (others held opened : List Pledge) → ActsWith made act before s held names z opened → ActsWith made act before s (others ++ held) names z (others ++ opened)
     acts_besides others held opened a = record {
-      so = λ path items more o h. subst (λ ps. StandsAs path (made ++ items) ps names z (act path o)) (append_assoc more others opened)
-          (a.so path items (more ++ others) o (subst (λ ps. StandsAs path items ps before s o) (sym (append_assoc more others held)) h));
+      so = λ path items more o h. subst (λ ps. MachineAgrees path (made ++ items) ps names z (act path o)) (append_assoc more others opened)
+          (a.so path items (more ++ others) o (subst (λ ps. MachineAgrees path items ps before s o) (sym (append_assoc more others held)) h));
     }
 
     -- if no operation is opened
@@ -55,26 +55,26 @@ module _ {T A U : Type 0} where
     acts_within others a =
         let b = acts_besides others [] [] a in
         record {
-          so = λ path items more o h. subst (λ ps. StandsAs path (made ++ items) (more ++ ps) names z (act path o)) (append-nil others)
-              (b.so path items more o (subst (λ ps. StandsAs path items (more ++ ps) before s o) (sym (append-nil others)) h));
+          so = λ path items more o h. subst (λ ps. MachineAgrees path (made ++ items) (more ++ ps) names z (act path o)) (append-nil others)
+              (b.so path items more o (subst (λ ps. MachineAgrees path items (more ++ ps) before s o) (sym (append-nil others)) h));
         }
 
     -- where one is opened
     pub acts_open : (others : List Pledge) (pledge : Pledge) → ActsWith made act before s [] names z (pledge ∷ []) → ActsWith made act before s others names z (others ++ pledge ∷ [])
     acts_open others pledge a =
         let b = acts_besides others [] (pledge ∷ []) a in
-        record { so = λ path items more o h. b.so path items more o (subst (λ ps. StandsAs path items (more ++ ps) before s o) (sym (append-nil others)) h) }
+        record { so = λ path items more o h. b.so path items more o (subst (λ ps. MachineAgrees path items (more ++ ps) before s o) (sym (append-nil others)) h) }
 
     -- where one is closed
     pub acts_close : (others : List Pledge) (pledge : Pledge) → ActsWith made act before s (pledge ∷ []) names z [] → ActsWith made act before s (others ++ pledge ∷ []) names z others
     acts_close others pledge a =
         let b = acts_besides others (pledge ∷ []) [] a in
-        record { so = λ path items more o h. subst (λ ps. StandsAs path (made ++ items) (more ++ ps) names z (act path o)) (append-nil others) (b.so path items more o h) }
+        record { so = λ path items more o h. subst (λ ps. MachineAgrees path (made ++ items) (more ++ ps) names z (act path o)) (append-nil others) (b.so path items more o h) }
 
   -- an act that fails besides open operations
   pub fails_besides : {text : Text} {act : (ℕ → Path) → Outcome → Outcome} {before : Names} {s : code.State T A U} {held : List Pledge} {fault : ParseFault A} (others : List Pledge) (h : ActFails text act before s held fault)
-      → (path : ℕ → Path) (items : Made) (more : List Pledge) (o : Outcome) → StandsAs path items (more ++ (others ++ held)) before s o → act path o ≡ failed h.failure
-  fails_besides {before = before} {s = s} {held = held} others h path items more o k = h.so path items (more ++ others) o (subst (λ ps. StandsAs path items ps before s o) (sym (append_assoc more others held)) k)
+      → (path : ℕ → Path) (items : Made) (more : List Pledge) (o : Outcome) → MachineAgrees path items (more ++ (others ++ held)) before s o → act path o ≡ failed h.failure
+  fails_besides {before = before} {s = s} {held = held} others h path items more o k = h.so path items (more ++ others) o (subst (λ ps. MachineAgrees path items ps before s o) (sym (append_assoc more others held)) k)
 
 -- ---- streams
 -- what is parsed leaves the whole text
@@ -150,10 +150,10 @@ module _ {T A U : Type 0} {types_at : Reader T} {attr : Reader (AttrView A)} {di
   turned_both {ks = ks} {n2 = n2} {s0 = s0} {s1 = s1} {s2 = s2} h k = record {
     did = k.did ++ h.did;
     made = k.made ++ h.made;
-    goes = goes_trans h.goes (goes_behind k.goes h.did);
+    goes = goes_trans h.goes (goes_after k.goes h.did);
     acts = record {
-      so = λ path items more o z. subst (λ y. StandsAs path ((k.made ++ h.made) ++ items) (more ++ pledges_of ks) n2 s2.state y) (sym (done_both (doing dialects path) k.did h.did o))
-          (subst (λ made. StandsAs path made (more ++ pledges_of ks) n2 s2.state (all_done (doing dialects path) k.did (all_done (doing dialects path) h.did o))) (sym (append_assoc k.made h.made items))
+      so = λ path items more o z. subst (λ y. MachineAgrees path ((k.made ++ h.made) ++ items) (more ++ pledges_of ks) n2 s2.state y) (sym (done_both (doing dialects path) k.did h.did o))
+          (subst (λ made. MachineAgrees path made (more ++ pledges_of ks) n2 s2.state (all_done (doing dialects path) k.did (all_done (doing dialects path) h.did o))) (sym (append_assoc k.made h.made items))
           (k.acts.so path (h.made ++ items) more (all_done (doing dialects path) h.did o) (h.acts.so path items more o z)));
     };
     stays = stay_both s0.state.ctx.now s1.state.ctx.now s2.state.ctx.now h.stays k.stays;
@@ -175,19 +175,19 @@ turned_over {types_at = types_at} {attr = attr} {base = base} {ls = ls} {ks = ks
 -- ---- faults
 module _ {T A U : Type 0} {types_at : Reader T} {attr : Reader (AttrView A)} {dialects : List (Text × Table)} {source : Source} {text : Text} {base : Base} where
   -- a fault after a turn
-  pub faulted_behind : {ls ms : List (Level T A)} {n0 n1 : Names} {s0 s1 : StateStream T A U} {fault : ParseFault A} → Turned types_at attr dialects source text base ls n0 s0 ms n1 s1 → whole s1.stream ≡ whole s0.stream
+  pub faulted_after : {ls ms : List (Level T A)} {n0 n1 : Names} {s0 s1 : StateStream T A U} {fault : ParseFault A} → Turned types_at attr dialects source text base ls n0 s0 ms n1 s1 → whole s1.stream ≡ whole s0.stream
       → UnlessMemory (Faulted types_at attr dialects ms n1 s1) fault → UnlessMemory (Faulted types_at attr dialects ls n0 s0) fault
-  faulted_behind h e (inl starved) = inl starved
-  faulted_behind {fault = fault} h e (inr (at_text did made names mid still cause place g a f)) =
-      inr (at_text (did ++ h.did) (made ++ h.made) names mid still cause place (stuck_at h.goes (stuck_behind g h.did))
+  faulted_after h e (inl ran_out) = inl ran_out
+  faulted_after {fault = fault} h e (inr (at_text did made names mid still cause place g a f)) =
+      inr (at_text (did ++ h.did) (made ++ h.made) names mid still cause place (stuck_at h.goes (stuck_after g h.did))
       (record {
-        so = λ path items more o z. subst (λ y. StandsAs path ((made ++ h.made) ++ items) (more ++ still) names mid y) (sym (done_both (doing dialects path) did h.did o))
-            (subst (λ y. StandsAs path y (more ++ still) names mid (all_done (doing dialects path) did (all_done (doing dialects path) h.did o))) (sym (append_assoc made h.made items))
+        so = λ path items more o z. subst (λ y. MachineAgrees path ((made ++ h.made) ++ items) (more ++ still) names mid y) (sym (done_both (doing dialects path) did h.did o))
+            (subst (λ y. MachineAgrees path y (more ++ still) names mid (all_done (doing dialects path) did (all_done (doing dialects path) h.did o))) (sym (append_assoc made h.made items))
             (a.so path (h.made ++ items) more (all_done (doing dialects path) h.did o) (h.acts.so path items more o z)));
       }) (subst (λ t. IsTextFault t cause place fault) e f))
-  faulted_behind {fault = fault} h e (inr (by_names failure f ends)) =
+  faulted_after {fault = fault} h e (inr (by_names failure f ends)) =
       inr (by_names failure (subst (λ t. IsFailure t failure fault) e f)
-      (λ path items more o z. subst (EndsIn (failed failure)) (sym (goes_told (doing dialects path) h.goes o).so) (ends path (h.made ++ items) more (all_done (doing dialects path) h.did o) (h.acts.so path items more o z))))
+      (λ path items more o z. subst (EndsIn (failed failure)) (sym (goes_recorded (doing dialects path) h.goes o).so) (ends path (h.made ++ items) more (all_done (doing dialects path) h.did o) (h.acts.so path items more o z))))
 
 -- the same over what is equal
 pub faulted_over : {T A U : Type 0} {types_at : Reader T} {attr : Reader (AttrView A)} {ls : List (Level T A)} {n0 : Names} {s0 : StateStream T A U} {fault : ParseFault A} (d e : List (Text × Table)) → d ≡ e

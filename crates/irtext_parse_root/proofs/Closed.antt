@@ -30,7 +30,7 @@ use Rattle.irtext_parse_spec.specs.Exact.{NeedsWord}
 use Rattle.irtext_parse_spec.proofs.Naming.Shorter.{Shortens}
 use Rattle.irtext_promises.specs.Leaves.{LeavesTree, LeavesClosed}
 use Rattle.irtext_promises.specs.Promises.{tree_marks}
-use Rattle.irtext_promises.proofs.Behind.{none_left, place_told}
+use Rattle.irtext_promises.proofs.AfterTree.{none_left, place_written}
 use Rattle.irtext_promises.proofs.Kept as kept
 use Rattle.irtext_parse_nested.specs.Items.{Names, IsSound}
 use Rattle.irtext_parse_nested.specs.Located.{IsLocated}
@@ -92,7 +92,7 @@ module _ {T A U : Type 0} (types_at : Text → Outcome T) (types_written : T →
     first = location_of new.state.ctx.now.paths old.state.src (whole old.stream)
 
     tells : (n : ℕ) (l : Location A) → L n l → location_over new.state.ctx.now.paths l ≡ first n
-    tells n l e = place_told new.state.ctx.now.paths old.state.src (whole old.stream) n l e
+    tells n l e = place_written new.state.ctx.now.paths old.state.src (whole old.stream) n l e
 
     pub reads_tree : ReadsTree types_at (attr_at reading) op old new
     reads_tree = record {

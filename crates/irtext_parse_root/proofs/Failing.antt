@@ -17,12 +17,12 @@ use Rattle.irtext_tokens.proofs.Honest.{Honest, ◌then◌, ◌so◌, seen, hone
 use Rattle.irtext_grammar.specs.Contexts.Formats.{op_id, isolated}
 use Rattle.irtext_grammar.specs.Grammar.Tree as tree
 use Rattle.irtext_grammar.specs.Grammar.Tree.{Name, Part}
-use Rattle.irtext_parse_spec.specs.Readers.Parts.{behind, without_first}
-use Rattle.irtext_parse_spec.specs.Readers.Operations.{registered_behind}
+use Rattle.irtext_parse_spec.specs.Readers.Parts.{after_lead, without_first}
+use Rattle.irtext_parse_spec.specs.Readers.Operations.{registered_after}
 use Rattle.irtext_tokens.specs.Demanded.{index_at}
 use Rattle.irtext_parse_spec.specs.Promises.Supported.{is_committed}
 use Rattle.irtext_parse_spec.proofs.Readers.Honest.{honest_nothing}
-use Rattle.irtext_parse_spec.proofs.Readers.NeverFailed.{NotFailed, Fine, fine_honest, fine_missing, fine_bad, fine_either, fine_behind, fine_mapped}
+use Rattle.irtext_parse_spec.proofs.Readers.NeverFailed.{NotFailed, Fine, fine_honest, fine_missing, fine_bad, fine_either, fine_after_lead, fine_mapped}
 use Rattle.irtext_parse_spec.specs.Heads.{Step, flat, types, one, all, name_of, label_at, argument_at, mark_at, mark_if_at, head_at, piece_at, front_steps, region_steps, lead_at, led_by, led_at}
 use Rattle.irtext_parse_spec.specs.Reached.{Reached, Advanced, Stopped, came, tells, Actions, Reads, begins_operation, begins_region, begins_block, steps_in, regions_by, more_by, operations_by, blocks_by, front_by, steps_by, end_by, body_by, operation_by, block_by, region_by, region_within, region_at, operation_at}
 use Rattle.irtext_parse_nested.proofs.FrontHonest.{name_honest, lead_honest, dictionary_honest, piece_honest}
@@ -78,14 +78,14 @@ mark_honest = record { of = λ text. of_mapped text (λ i. record { place = leng
 mark_if_honest : Honest mark_if_at
 mark_if_honest = honest_either (begins (the 33)) (seen Some mark_honest) (honest_nothing None)
 
-fine_registered : (dialects : List (Text × Table)) (lead : Text) (o : Outcome Id) → Fine o → Fine (registered_behind dialects lead o)
+fine_registered : (dialects : List (Text × Table)) (lead : Text) (o : Outcome Id) → Fine o → Fine (registered_after dialects lead o)
 fine_registered dialects lead (Read id taken rest) h =
     fine_either (is_some (dialect_of dialects id.dialect)) _ _ (fine_either (is_some (registered dialects (op_id id))) _ _ h (fine_bad (UnregisteredOp id) [] (λ e. absurd (cc)))) (fine_bad (UnregisteredDialect id.dialect) lead (λ e. absurd (cc)))
 fine_registered dialects lead (Missing cause) h = fine_missing cause h.spares
 fine_registered dialects lead (Bad cause upto) h = fine_bad cause upto h.spares
 
 fine_led_by : (dialects : List (Text × Table)) (o : Outcome (List (Name ℕ))) → Fine o → Fine (led_by dialects o)
-fine_led_by dialects (Read ns lead rest) h = fine_mapped (λ id. (ns, id)) _ (fine_registered dialects lead (behind lead (id_at rest)) (fine_behind lead (id_at rest) (fine_honest honest_id rest)))
+fine_led_by dialects (Read ns lead rest) h = fine_mapped (λ id. (ns, id)) _ (fine_registered dialects lead (after_lead lead (id_at rest)) (fine_after_lead lead (id_at rest) (fine_honest honest_id rest)))
 fine_led_by dialects (Missing cause) h = fine_missing cause h.spares
 fine_led_by dialects (Bad cause upto) h = fine_bad cause upto h.spares
 
@@ -93,7 +93,7 @@ fine_led : (dialects : List (Text × Table)) (text : Text) → Fine (led_at dial
 fine_led dialects text = fine_led_by dialects (lead_at text) (fine_honest lead_honest text)
 
 -- where nothing is led, for a cause of a text
-registered_first : (dialects : List (Text × Table)) (lead text : Text) (o : Outcome Id) → Of text o → (cause : Fault) → registered_behind dialects lead o ≡ Missing cause → is_first_fault cause ≡ true
+registered_first : (dialects : List (Text × Table)) (lead text : Text) (o : Outcome Id) → Of text o → (cause : Fault) → registered_after dialects lead o ≡ Missing cause → is_first_fault cause ≡ true
 registered_first dialects lead text (Read id taken rest) h cause e = go (is_some (dialect_of dialects id.dialect)) (is_some (registered dialects (op_id id))) e
   where
     go : (a b : Bool) → cond a (cond b (Read id taken rest) (Bad (UnregisteredOp id) [])) (Bad (UnregisteredDialect id.dialect) lead) ≡ Missing cause → is_first_fault cause ≡ true
@@ -108,11 +108,11 @@ mapped_missing see (Read x taken rest) cause e = absurd (cc)
 mapped_missing see (Missing c) cause e = let same : c ≡ cause = cc e in ap Missing same
 mapped_missing see (Bad c u) cause e = absurd (cc)
 
-behind_first : (dialects : List (Text × Table)) (lead rest : Text) (cause : Fault) → registered_behind dialects lead (behind lead (id_at rest)) ≡ Missing cause → is_first_fault cause ≡ true
-behind_first dialects [] rest cause e = registered_first dialects [] rest (id_at rest) (honest_id.of rest) cause e
-behind_first dialects (c ∷ lead) rest cause e = go (id_at rest) e
+after_first : (dialects : List (Text × Table)) (lead rest : Text) (cause : Fault) → registered_after dialects lead (after_lead lead (id_at rest)) ≡ Missing cause → is_first_fault cause ≡ true
+after_first dialects [] rest cause e = registered_first dialects [] rest (id_at rest) (honest_id.of rest) cause e
+after_first dialects (c ∷ lead) rest cause e = go (id_at rest) e
   where
-    go : (o : Outcome Id) → registered_behind dialects (c ∷ lead) (behind (c ∷ lead) o) ≡ Missing cause → is_first_fault cause ≡ true
+    go : (o : Outcome Id) → registered_after dialects (c ∷ lead) (after_lead (c ∷ lead) o) ≡ Missing cause → is_first_fault cause ≡ true
     go (Read id taken left) e = registered_first dialects (c ∷ lead) (c ∷ lead ++ (taken ++ left)) (Read id (c ∷ lead ++ taken) left) (of_read _ id (c ∷ lead ++ taken) left (append_assoc (c ∷ lead) taken left)) cause e
     go (Missing d) e = absurd (cc)
     go (Bad d u) e = absurd (cc)
@@ -121,7 +121,7 @@ pub led_first : (dialects : List (Text × Table)) (text : Text) (cause : Fault) 
 led_first dialects text cause e = go (lead_at text) (lead_honest.of text) e
   where
     go : (o : Outcome (List (Name ℕ))) → Of text o → led_by dialects o ≡ Missing cause → is_first_fault cause ≡ true
-    go (Read ns lead rest) h e = behind_first dialects lead rest cause (mapped_missing (λ id. (ns, id)) (registered_behind dialects lead (behind lead (id_at rest))) cause e)
+    go (Read ns lead rest) h e = after_first dialects lead rest cause (mapped_missing (λ id. (ns, id)) (registered_after dialects lead (after_lead lead (id_at rest))) cause e)
     go (Missing c) h e = let same : c ≡ cause = cc e in subst (λ z. is_first_fault z ≡ true) same h.says
     go (Bad c u) h e = absurd (cc)
 

@@ -12,9 +12,9 @@ use Rattle.irtext_grammar.specs.Names.Script.{Path}
 use Rattle.irtext_parse_spec.specs.Promises.Section.{indices_of}
 use Rattle.irtext_names.specs.Linked.{nothing_made}
 use Rattle.irtext_names.proofs.Added.{no_ties, no_waits}
-use Rattle.irtext_names.proofs.Linked.Kept.{stands_by}
+use Rattle.irtext_names.proofs.Linked.Kept.{agrees_by}
 use Rattle.irtext_promises.specs.Promises.{start_with}
-use Rattle.irtext_parse_nested.specs.Items.{Names, StandsAs, BlanksDefine, IsSound}
+use Rattle.irtext_parse_nested.specs.Items.{Names, MachineAgrees, BlanksDefine, IsSound}
 use Rattle.irtext_parse_nested.proofs.OfItems.{nothing_of}
 use Rattle.irtext_parse_root.specs.Turned.{IsSoundOnce}
 
@@ -36,21 +36,21 @@ module _ {T A U : Type 0} (names : Names) (s : code.State T A U) (no_names : nam
   begun = start_with (indices_of (marks_of s))
 
   -- names, graph and marks agree with it
-  pub begun_stands : (path : ℕ → Path) → StandsAs path [] [] names s (going begun)
-  begun_stands path = record {
+  pub begun_agrees : (path : ℕ → Path) → MachineAgrees path [] [] names s (going begun)
+  begun_agrees path = record {
     known = nothing_made;
     of_items = nothing_of path;
     state = begun;
     going = refl;
-    stands = stands_by names s.ctx.now.graph nothing_made [] begun [] [] [] no_names no_values no_labels none_twice (rw (no_values, no_labels) (no_ties s.ctx.now.graph)) tt tt
+    agreed = agrees_by names s.ctx.now.graph nothing_made [] begun [] [] [] no_names no_values no_labels none_twice (rw (no_values, no_labels) (no_ties s.ctx.now.graph)) tt tt
         (λ p v i. absurd i) (λ p b i. absurd i) (λ u p i. absurd i);
     marks = refl;
     results = λ w i. absurd i;
   }
 
   -- it is the initial state if no mark is recorded
-  pub fresh_stands : marks_of s ≡ [] → (path : ℕ → Path) → StandsAs path [] [] names s (going start)
-  fresh_stands none path = subst (λ ms. StandsAs path [] [] names s (going (start_with ms))) (ap indices_of none) (begun_stands path)
+  pub fresh_agrees : marks_of s ≡ [] → (path : ℕ → Path) → MachineAgrees path [] [] names s (going start)
+  fresh_agrees none path = subst (λ ms. MachineAgrees path [] [] names s (going (start_with ms))) (ap indices_of none) (begun_agrees path)
 
   -- no placeholder waits for a name, since all live objects are older
   pub fresh_sound : AllOlder s.ctx.now.graph.made s.ctx.now.graph → IsSound s.ctx.now.graph.made names s

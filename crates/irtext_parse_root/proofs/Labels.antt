@@ -32,30 +32,30 @@ module _ {T A : Type 0} (types_at : Reader T) (attr : Reader (AttrView A)) (labe
   head_with arguments attributes mark = record { label = label; arguments = arguments; attributes = attributes; mark = mark }
 
   -- what follows the label, from its end
-  abbrev behind_mark : List (Name ℕ × T) → Option (List (Name ℕ × Attribute A)) → Option (Mark ℕ) → Reader (Head ℕ T A)
-  behind_mark arguments attributes mark = space_at ▷ word (codes ":") ⇒ λ _. head_with arguments attributes mark
+  abbrev after_mark : List (Name ℕ × T) → Option (List (Name ℕ × Attribute A)) → Option (Mark ℕ) → Reader (Head ℕ T A)
+  after_mark arguments attributes mark = space_at ▷ word (codes ":") ⇒ λ _. head_with arguments attributes mark
 
-  abbrev behind_attributes : List (Name ℕ × T) → Option (List (Name ℕ × Attribute A)) → Reader (Head ℕ T A)
-  behind_attributes arguments attributes = space_at ▷ mark_if_at ▶ λ mark. behind_mark arguments attributes mark
+  abbrev after_attributes : List (Name ℕ × T) → Option (List (Name ℕ × Attribute A)) → Reader (Head ℕ T A)
+  after_attributes arguments attributes = space_at ▷ mark_if_at ▶ λ mark. after_mark arguments attributes mark
 
-  abbrev behind_arguments : List (Name ℕ × T) → Reader (Head ℕ T A)
-  behind_arguments arguments = word (codes ")") ▷ space_at ▷ dictionary_if_at types_at attr ▶ λ attributes. behind_attributes arguments attributes
+  abbrev after_arguments : List (Name ℕ × T) → Reader (Head ℕ T A)
+  after_arguments arguments = word (codes ")") ▷ space_at ▷ dictionary_if_at types_at attr ▶ λ attributes. after_attributes arguments attributes
 
-  abbrev behind_label : Reader (Head ℕ T A)
-  behind_label = spaced_at (codes "(") ▷ separated_at 44 (argument_at types_at attr) ▶ λ arguments. behind_arguments arguments
+  abbrev after_label : Reader (Head ℕ T A)
+  after_label = spaced_at (codes "(") ▷ separated_at 44 (argument_at types_at attr) ▶ λ arguments. after_arguments arguments
 
   abbrev HasIt : Head ℕ T A → Type 0
   HasIt h = h.label ≡ label
 
-  keeps_label : Gives HasIt behind_label
+  keeps_label : Gives HasIt after_label
   keeps_label =
-      gives_next HasIt (spaced_at (codes "(")) (separated_at 44 (argument_at types_at attr) ▶ λ arguments. behind_arguments arguments)
-      (gives_so HasIt (separated_at 44 (argument_at types_at attr)) (λ arguments. behind_arguments arguments) (λ arguments.
-      gives_next HasIt (word (codes ")")) (space_at ▷ dictionary_if_at types_at attr ▶ λ attributes. behind_attributes arguments attributes)
-      (gives_next HasIt space_at (dictionary_if_at types_at attr ▶ λ attributes. behind_attributes arguments attributes)
-      (gives_so HasIt (dictionary_if_at types_at attr) (λ attributes. behind_attributes arguments attributes) (λ attributes.
-      gives_next HasIt space_at (mark_if_at ▶ λ mark. behind_mark arguments attributes mark)
-      (gives_so HasIt mark_if_at (λ mark. behind_mark arguments attributes mark) (λ mark.
+      gives_next HasIt (spaced_at (codes "(")) (separated_at 44 (argument_at types_at attr) ▶ λ arguments. after_arguments arguments)
+      (gives_so HasIt (separated_at 44 (argument_at types_at attr)) (λ arguments. after_arguments arguments) (λ arguments.
+      gives_next HasIt (word (codes ")")) (space_at ▷ dictionary_if_at types_at attr ▶ λ attributes. after_attributes arguments attributes)
+      (gives_next HasIt space_at (dictionary_if_at types_at attr ▶ λ attributes. after_attributes arguments attributes)
+      (gives_so HasIt (dictionary_if_at types_at attr) (λ attributes. after_attributes arguments attributes) (λ attributes.
+      gives_next HasIt space_at (mark_if_at ▶ λ mark. after_mark arguments attributes mark)
+      (gives_so HasIt mark_if_at (λ mark. after_mark arguments attributes mark) (λ mark.
       gives_next HasIt space_at (word (codes ":") ⇒ λ _. head_with arguments attributes mark)
       (gives_seen HasIt (λ _. head_with arguments attributes mark) (word (codes ":")) (λ x. refl)))))))))
 
@@ -63,7 +63,7 @@ module _ {T A : Type 0} (types_at : Reader T) (attr : Reader (AttrView A)) where
   -- the place of the label is that of the header
   pub head_place : (text : Text) (h : Head ℕ T A) (taken rest : Text) → head_at types_at attr text ≡ Read h taken rest → h.label.place ≡ length text
   head_place text h taken rest e =
-      let q = followed_read (label_at text) (λ label. behind_label types_at attr label) h taken rest e in
+      let q = followed_read (label_at text) (λ label. after_label types_at attr label) h taken rest e in
       let same = (keeps_label types_at attr q.value).by q.middle h q.more rest q.second in
       let m = mapped_read (name_of (length text)) ((word (codes "^") ▷ identifier_at) text) q.value q.front q.middle q.first in
       ap (λ n. n.place) same ∙ sym (ap (λ n. n.place) m.2)

@@ -16,8 +16,8 @@ use Rattle.irtext_parse_spec.specs.Naming.{body_of}
 use Rattle.irtext_parse_spec.specs.Reached.{steps_in}
 use Rattle.irtext_parse_spec.specs.Resume.{OpenOperation, Open, Pops, weight, weights, work, by_character}
 use Rattle.irtext_parse_pieces.specs.declared.names.ReadName.{ReadName}
-use Rattle.irtext_parse_pieces.specs.Named.{StandsFor, Each}
-use Rattle.irtext_parse_pieces.proofs.Meanings.{stands_on}
+use Rattle.irtext_parse_pieces.specs.Named.{Represents, Each}
+use Rattle.irtext_parse_pieces.proofs.Meanings.{still_represents}
 use Rattle.irtext_parse_nested.specs.declared.frame.BegunOperation.{BegunOperation}
 use Rattle.irtext_parse_nested.specs.Beginning.{HasBegun}
 use Rattle.irtext_parse_nested.specs.OpenOperation.{IsBegun}
@@ -30,11 +30,11 @@ use Rattle.irtext_parse_root.specs.Turned.{TakesLast}
 use Rattle.irtext_parse_root.specs.Levels.{Level, at_operation, at_region, at_block, outward, frame_of, open_of, first_frame, WaitIn, next_of, waiting, task_of, next_task, left_to_do, IsNewFrame, AreNewFrames, AreAllNew}
 
 -- ---- the objects of open frames are still live
-each_on : (names more : List Text) (text : Text) (ns : List ReadName) (xs : List (Name ℕ)) → KeepsNames names more → Each (StandsFor names text) ns xs → Each (StandsFor more text) ns xs
+each_on : (names more : List Text) (text : Text) (ns : List ReadName) (xs : List (Name ℕ)) → KeepsNames names more → Each (Represents names text) ns xs → Each (Represents more text) ns xs
 each_on names more text [] [] k h = tt
 each_on names more text [] (x ∷ xs) k h = absurd h
 each_on names more text (n ∷ ns) [] k h = absurd h
-each_on names more text (n ∷ ns) (x ∷ xs) k h = (stands_on names more n x k refl h.0, each_on names more text ns xs k h.1)
+each_on names more text (n ∷ ns) (x ∷ xs) k h = (still_represents names more n x k refl h.0, each_on names more text ns xs k h.1)
 
 module _ {T A : Type 0} (names more : List Text) (text : Text) (old new : ContextView T A) (keeps : KeepsNames names more) (lasts : KeepsLive old new) where
   pub begun_lasts : (b : BegunOperation) (o : OpenOperation T A) → IsBegun names text old b o → IsBegun more text new b o
@@ -49,15 +49,15 @@ module _ {T A : Type 0} (names more : List Text) (text : Text) (old new : Contex
     coming = subst (λ d. IfSome b.coming (λ next. IsStep next (slice_get (steps_in d o.id) b.step))) (sym lasts.dialects) h.coming;
     is_isolated = subst (λ d. b.isolated ≡ isolated d o.id) (sym lasts.dialects) h.is_isolated;
     late = h.late;
-    stands = lasts.operations b.op h.stands;
-    counts = lasts.results b.op h.stands ∙ h.counts;
+    alive = lasts.operations b.op h.alive;
+    counts = lasts.results b.op h.alive ∙ h.counts;
     typed = λ later none. subst (λ d. length (result_types (body_of (format_of d o.id) (o.parts ++ later))) ≡ b.results) (sym lasts.dialects) (h.typed later none);
   }
 
   pub level_lasts : (l : Level T A) → IsLevel names text old l → IsLevel more text new l
   level_lasts (at_operation b o own) h = (begun_lasts b o h.0, subst (λ d. HasBegun (format_of d) o own) (sym lasts.dialects) h.1)
-  level_lasts (at_region r iso place last) h = record { is_isolated = h.is_isolated; placed = h.placed; stands = lasts.regions r.region h.stands }
-  level_lasts (at_block b) h = let k = lasts.blocks b.block h.stands h.inside in record { is_first = h.is_first; stands = k.0; inside = subst IsSome (sym k.1) h.inside }
+  level_lasts (at_region r iso place last) h = record { is_isolated = h.is_isolated; placed = h.placed; alive = lasts.regions r.region h.alive }
+  level_lasts (at_block b) h = let k = lasts.blocks b.block h.alive h.inside in record { is_first = h.is_first; alive = k.0; inside = subst IsSome (sym k.1) h.inside }
 
   pub levels_last : (ls : List (Level T A)) → AreLevels names text old ls → AreLevels more text new ls
   levels_last [] h = tt

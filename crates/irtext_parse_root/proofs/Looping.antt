@@ -13,7 +13,7 @@ use Rattle.irtext_parse_root.specs.declared.frames.Frame.{Frame}
 use Rattle.irtext_parse_root.specs.Here.{Base, IsHere, AreHere}
 use Rattle.irtext_parse_root.specs.Levels.{Level, at_operation, at_region, at_block, first_frame, left_to_do, AreNewFrames}
 use Rattle.irtext_parse_root.specs.Turned.{Carries, Turned, Faulted, Arrives, Proceeds, Stops}
-use Rattle.irtext_parse_root.proofs.Chains.{moved_whole, turned_none, turned_both, turned_over, faulted_behind, faulted_over}
+use Rattle.irtext_parse_root.proofs.Chains.{moved_whole, turned_none, turned_both, turned_over, faulted_after, faulted_over}
 
 -- nothing is open
 none_open : {T A : Type 0} (ls : List (Level T A)) → None ≡ first_frame ls → ls ≡ []
@@ -60,7 +60,7 @@ module _ {T A U : Type 0} (types_at : Reader T) (attr : Reader (AttrView A)) (n0
       pub stops_on : (fault : ParseFault A) (base : Base) (v k : ℕ) (ls : List (Level T A)) → Stops types_at attr frame waits n1 s1 fault → Arrives types_at attr base v k ls n0 s0 n1 s1 (Some frame) waits
           → UnlessMemory (Faulted types_at attr s0.state.ctx.now.dialects ls n0 s0) fault
       stops_on fault base v k ls st a =
-          faulted_behind a.turned same (faulted_over s1.state.ctx.now.dialects s0.state.ctx.now.dialects carries.lasts.dialects (st.stops base v k a.later (here_now base v k ls (Some frame) waits a)))
+          faulted_after a.turned same (faulted_over s1.state.ctx.now.dialects s0.state.ctx.now.dialects carries.lasts.dialects (st.stops base v k a.later (here_now base v k ls (Some frame) waits a)))
 
       -- less is left
       pub less_on : (n2 : Names) (s2 : StateStream T A U) (next : Option Frame) (frames : List Frame) → Proceeds types_at attr frame waits n1 s1 n2 s2 next frames

@@ -118,8 +118,8 @@ has_left i n xs ys h = record { mark = h.mark; there = among_left (n, Some h.mar
 has_right : (i n : ℕ) (xs ys : List (ℕ × Option (Mark ℕ))) → Has i n ys → Has i n (xs ++ ys)
 has_right i n xs ys h = record { mark = h.mark; there = among_right (n, Some h.mark) xs ys h.there; index = h.index }
 
-has_behind : (i n : ℕ) (x : ℕ × Option (Mark ℕ)) (xs : List (ℕ × Option (Mark ℕ))) → Has i n xs → Has i n (x ∷ xs)
-has_behind i n x xs h = record { mark = h.mark; there = inr h.there; index = h.index }
+has_after : (i n : ℕ) (x : ℕ × Option (Mark ℕ)) (xs : List (ℕ × Option (Mark ℕ))) → Has i n xs → Has i n (x ∷ xs)
+has_after i n x xs h = record { mark = h.mark; there = inr h.there; index = h.index }
 
 has_here : (i n place : ℕ) (mark : Option (Mark ℕ)) (xs : List (ℕ × Option (Mark ℕ))) → Among (i, n) (noted_as mark place) → Has i n ((place, mark) ∷ xs)
 has_here i n place mark xs a = let h = noted_from i n place mark a in record { mark = h.0; there = inl (ap (λ z. (n, z)) (sym h.1) ∙ ap (λ z. (z, mark)) h.3); index = h.2 }
@@ -137,7 +137,7 @@ module _ {T A : Type 0} where
     blocks_have i n no_blocks a = absurd a
     blocks_have i n (block h os bs) a = elim (among_split (i, n) (noted_as h.mark h.label.place) (marks_in_operations os ++ marks_in_blocks bs) a) [
       | inl b ↦ has_here i n h.label.place h.mark (marked_operations os ++ marked_blocks bs) b
-      | inr b ↦ has_behind i n (h.label.place, h.mark) (marked_operations os ++ marked_blocks bs) (elim (among_split (i, n) (marks_in_operations os) (marks_in_blocks bs) b) [
+      | inr b ↦ has_after i n (h.label.place, h.mark) (marked_operations os ++ marked_blocks bs) (elim (among_split (i, n) (marks_in_operations os) (marks_in_blocks bs) b) [
         | inl c ↦ has_left i n (marked_operations os) (marked_blocks bs) (operations_have i n os c)
         | inr c ↦ has_right i n (marked_operations os) (marked_blocks bs) (blocks_have i n bs c)
       ])
@@ -147,15 +147,15 @@ module _ {T A : Type 0} where
     operations_have i n no_operations a = absurd a
     operations_have i n (operation o rs os) a = elim (among_split (i, n) (marks_in_regions rs ++ noted_as o.mark o.place) (marks_in_operations os) a) [
       | inl b ↦ elim (among_split (i, n) (marks_in_regions rs) (noted_as o.mark o.place) b) [
-        | inl c ↦ has_behind i n (o.place, o.mark) (marked_regions rs ++ marked_operations os) (has_left i n (marked_regions rs) (marked_operations os) (regions_have i n rs c))
+        | inl c ↦ has_after i n (o.place, o.mark) (marked_regions rs ++ marked_operations os) (has_left i n (marked_regions rs) (marked_operations os) (regions_have i n rs c))
         | inr c ↦ has_here i n o.place o.mark (marked_regions rs ++ marked_operations os) c
       ]
-      | inr b ↦ has_behind i n (o.place, o.mark) (marked_regions rs ++ marked_operations os) (has_right i n (marked_regions rs) (marked_operations os) (operations_have i n os b))
+      | inr b ↦ has_after i n (o.place, o.mark) (marked_regions rs ++ marked_operations os) (has_right i n (marked_regions rs) (marked_operations os) (operations_have i n os b))
     ]
 
   tree_has : (i n : ℕ) (t : Tree ℕ T A) → Among (i, n) (marks_in t) → Has i n (marked_items t)
   tree_has i n t a = elim (among_split (i, n) (marks_in_regions t.regions) (noted_as t.own.mark t.own.place) a) [
-    | inl b ↦ has_behind i n (t.own.place, t.own.mark) (marked_regions t.regions) (regions_have i n t.regions b)
+    | inl b ↦ has_after i n (t.own.place, t.own.mark) (marked_regions t.regions) (regions_have i n t.regions b)
     | inr b ↦ has_here i n t.own.place t.own.mark (marked_regions t.regions) b
   ]
 

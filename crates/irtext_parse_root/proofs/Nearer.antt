@@ -15,7 +15,7 @@ use Rattle.irtext_grammar.specs.Grammar.Tree.{Name, Part, Head}
 use Rattle.irtext_parse_spec.specs.Promises.Section.{Moves}
 use Rattle.irtext_parse_spec.specs.Readers.RestLengths.{Leaves, LeavesNoMore}
 use Rattle.irtext_parse_spec.specs.Readers.Parts.{without_first}
-use Rattle.irtext_parse_root.specs.Stands.{one_stands, text_there}
+use Rattle.irtext_parse_root.specs.OperationFollows.{operation_follows, text_there}
 use Rattle.irtext_tokens.proofs.Spelling.{begins_the}
 use Rattle.irtext_parse_spec.proofs.Locations.RestLengths.{space_bound, Within, within_honest, ◌so◌, ◌then◌, leaves_read}
 use Rattle.irtext_parse_spec.specs.Heads.{Step, head_at, led_at}
@@ -32,9 +32,9 @@ less_left o [] h b x taken rest e = absurd (cc b)
 less_left o (d ∷ text) h b x taken rest e = let k = (h (length text) (le_refl (suc (length text)))).by x taken rest e in omega (arith, k)
 
 -- a text that begins with a character has one
-pub some_stands : (test : ℕ → Bool) (text : Text) → begins test text ≡ true → begins (λ z. true) text ≡ true
-some_stands test [] b = absurd (cc b)
-some_stands test (c ∷ text) b = refl
+pub some_character : (test : ℕ → Bool) (text : Text) → begins test text ≡ true → begins (λ z. true) text ≡ true
+some_character test [] b = absurd (cc b)
+some_character test (c ∷ text) b = refl
 
 module _ {T A : Type 0} {types_at : Reader T} {attr : Reader (AttrView A)} (no_more : LeavesNoMore types_at) (none_more : LeavesNoMore attr) where
   front_within : (b : ℕ) (inside : Bool) (ss : List Step) (found : List (Part ℕ T A)) → Within b (front_at types_at attr inside ss found)
@@ -76,7 +76,7 @@ brace_fewer [] x taken rest e = absurd (cc e)
 brace_fewer (c ∷ text) x taken rest e = less_left ((word (codes "{") ▷ space_at) (c ∷ text)) (c ∷ text) (λ n l. brace_leaves n (c ∷ text) l) refl x taken rest e
 
 -- what follows `;`
-pub semicolon_fewer : (text rest : Text) → one_stands false text ≡ true → rest ≡ text_there false text → length rest < length text
+pub semicolon_fewer : (text rest : Text) → operation_follows false text ≡ true → rest ≡ text_there false text → length rest < length text
 semicolon_fewer text rest one_is at =
     let s = begins_the 59 (after_space text) one_is in
     let e : rest ≡ after_space s.0 = at ∙ (ap (λ b. cond b (after_space (without_first (after_space text))) (after_space text)) one_is ∙ ap (λ t. after_space (without_first t)) s.1) in

@@ -19,11 +19,11 @@ use Rattle.irtext_parse_spec.specs.Promises.Root.{UnlessMemory}
 use Rattle.irtext_parse_spec.specs.Promises.Section.{indices_of}
 use Rattle.irtext_promises.specs.Leaves.{LeavesTree}
 use Rattle.irtext_promises.specs.Promises.{start_with, HasFault, at_text, by_names}
-use Rattle.irtext_parse_nested.specs.Items.{Names, StandsAs, doing}
+use Rattle.irtext_parse_nested.specs.Items.{Names, MachineAgrees, doing}
 use Rattle.irtext_parse_nested.specs.Located.{IsLocated}
 use Rattle.irtext_parse_root.specs.Nested as nested
 use Rattle.irtext_parse_root.specs.Nested.{ReadsNested, RefusesNested}
-use Rattle.irtext_parse_root.proofs.Fresh.{begun_stands}
+use Rattle.irtext_parse_root.proofs.Fresh.{begun_agrees}
 
 module _ {T A U : Type 0} (types_at : Reader T) (attr : Reader (AttrView A)) (before : Names) (old : StateStream T A U)
     (no_names : before.names ≡ []) (no_values : before.values ≡ []) (no_labels : before.labels ≡ []) where
@@ -36,9 +36,9 @@ module _ {T A U : Type 0} (types_at : Reader T) (attr : Reader (AttrView A)) (be
   -- ---- it was parsed
   module _ (op : Ptr Operation) (names : Names) (new : StateStream T A U) (r : ReadsNested types_at attr before old op names new) where
     -- the state of the machine after it
-    pub at_end : (path : ℕ → Path) → (z : Outcome) × StandsAs path (r.made ++ []) [] names new.state z
+    pub at_end : (path : ℕ → Path) → (z : Outcome) × MachineAgrees path (r.made ++ []) [] names new.state z
         × (operation_at dialects types_at attr (doing dialects path) true old.stream.rest (going (start_with earlier)) ≡ Advanced tt z new.stream.rest)
-    at_end path = r.runs path [] (going (start_with earlier)) (begun_stands before old.state no_names no_values no_labels path)
+    at_end path = r.runs path [] (going (start_with earlier)) (begun_agrees before old.state no_names no_values no_labels path)
 
     abbrev pub leaves_tree : LeavesTree types_at attr dialects earlier (IsLocated old.state.src (whole old.stream)) op (indices_of (marks_of new.state)) old.state.ctx.now new.state.ctx.now old.stream.rest new.stream.rest
     leaves_tree = record {
@@ -52,7 +52,7 @@ module _ {T A U : Type 0} (types_at : Reader T) (attr : Reader (AttrView A)) (be
         known = z.1.known;
         are = subst (λ items. AreOf path items z.1.known) (append-nil r.made) z.1.of_items;
         state = z.1.state;
-        stands = z.1.stands;
+        agreed = z.1.agreed;
         marked = z.1.marks;
         came = z.2 ∙ ap (λ o. Advanced tt o new.stream.rest) z.1.going;
       };
@@ -60,8 +60,8 @@ module _ {T A U : Type 0} (types_at : Reader T) (attr : Reader (AttrView A)) (be
 
   -- ---- it was an error
   pub has_fault : (fault : ParseFault A) → UnlessMemory (RefusesNested types_at attr before old) fault → UnlessMemory (HasFault types_at attr dialects earlier (whole old.stream) old.stream.rest) fault
-  has_fault fault (inl starved) = inl starved
+  has_fault fault (inl ran_out) = inl ran_out
   has_fault fault (inr (nested.at_text cause place f flag so)) =
-      inr (at_text cause place f.because f.placed flag (λ path. so path [] (going (start_with earlier)) (begun_stands before old.state no_names no_values no_labels path)))
+      inr (at_text cause place f.because f.placed flag (λ path. so path [] (going (start_with earlier)) (begun_agrees before old.state no_names no_values no_labels path)))
   has_fault fault (inr (nested.by_names failure f so)) =
-      inr (by_names failure (f.cause, f.place) f.committed (λ path. so path [] (going (start_with earlier)) (begun_stands before old.state no_names no_values no_labels path)))
+      inr (by_names failure (f.cause, f.place) f.committed (λ path. so path [] (going (start_with earlier)) (begun_agrees before old.state no_names no_values no_labels path)))

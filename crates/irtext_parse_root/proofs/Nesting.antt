@@ -28,7 +28,7 @@ use Rattle.irtext_parse_spec.specs.Resume.{OpenOperation, to_come, an_operation,
 use Rattle.irtext_parse_spec.proofs.Naming.Keeps.{failed_keeps}
 use Rattle.irtext_parse_spec.proofs.Resume.Failed.{failed_at}
 use Rattle.irtext_parse_spec.proofs.Resume.Frames.{goes_trans, stuck_at}
-use Rattle.irtext_parse_spec.proofs.Resume.Front.{splits_piece, front_reads, front_lacks}
+use Rattle.irtext_parse_spec.proofs.Resume.Front.{splits_piece, front_reads, front_misses}
 use Rattle.irtext_parse_spec.proofs.Knot.Whole.{leaves_no_more}
 use Rattle.irtext_parse_spec.proofs.Resume.Turns.{operation_begins, no_lead, no_front}
 use Rattle.irtext_parse_spec.specs.Building.{Unfinished, building, nothing_open, finished}
@@ -38,7 +38,7 @@ use Rattle.irtext_parse_spec.proofs.Tracked.{holds_nothing, uses_at_root}
 use Rattle.irtext_parse_nested.specs.declared.frame.BegunOperation.{BegunOperation}
 use Rattle.irtext_parse_nested.specs.Beginning.{HasBegun}
 use Rattle.irtext_parse_nested.specs.OpenOperation.{IsBegun, pledge_of}
-use Rattle.irtext_parse_nested.specs.Items.{Names, StandsAs, IsFailure, IsTextFault, doing}
+use Rattle.irtext_parse_nested.specs.Items.{Names, MachineAgrees, IsFailure, IsTextFault, doing}
 use Rattle.irtext_parse_nested.specs.Located.{IsLocated}
 use Rattle.irtext_parse_nested.specs.Read as read
 use Rattle.irtext_parse_nested.specs.Read.{begun_by, RefusesOperation}
@@ -48,14 +48,14 @@ use Rattle.irtext_parse_root.specs.Here.{outermost, IsHere, AreHere}
 use Rattle.irtext_parse_root.specs.Levels.{Level, at_operation}
 use Rattle.irtext_parse_root.specs.Nested as nested
 use Rattle.irtext_parse_root.specs.Nested.{ReadsNested, RefusesNested}
-use Rattle.irtext_parse_root.specs.Told.{Did, did_use, told, all_done}
+use Rattle.irtext_parse_root.specs.Recorded.{Did, did_use, recorder, all_done}
 use Rattle.irtext_parse_root.specs.Turned.{Turned, Faulted, at_text, by_names, Stops, Finishes}
 use Rattle.irtext_parse_root.specs.Turns.{Begins}
 use Rattle.irtext_parse_root.proofs.Carrying.{falls_both}
 use Rattle.irtext_parse_root.specs.Carried.{marks_so_far, marks_in, AreCarried, Falls}
 use Rattle.irtext_parse_root.proofs.Chains.{moved_whole, carries_both, turned_over, faulted_over}
 use Rattle.irtext_parse_root.proofs.Nearer.{front_fewer, led_fewer, led_some}
-use Rattle.irtext_parse_root.proofs.Telling.{done_both, goes_told, goes_behind, stuck_told, stuck_behind}
+use Rattle.irtext_parse_root.proofs.Telling.{done_both, goes_recorded, goes_after, stuck_recorded, stuck_after}
 
 -- nothing is open, and a tree is whole
 finished_is : {T A : Type 0} (I : Object → ℕ → Location A → Type 0) (c : ContextView T A) (w : List Object) (p : Ptr Operation) (us : List (Unfinished T A)) (t : Option (Tree ℕ T A)) → AreOpenAt I c w [] us None → TreeHolds I c w (Some p) t
@@ -114,8 +114,8 @@ module _ {T A U : Type 0} (types_at : Reader T) (reading : Reader A) (h : Splits
         operation_begins dialects types_at attr d [] true s old.stream.rest q.names q.id q.lead q.middle q.led q.parts s1.stream.rest
         (front_reads dialects types_at attr d true (splits_piece types_at reading h k true) (front_steps (steps_in dialects q.id)) [] q.parts q.middle q.taken s1.stream.rest s q.front)
 
-    begun_stands : (path : ℕ → Path) (items : Made) (o : Machine) → StandsAs path items [] before old.state o → StandsAs path (item ∷ items) (pledge_of b begun_here.place ∷ []) n1 s1.state ((does path).uses begun_here.place begun_here.id begun_here.parts o)
-    begun_stands path items o st = bg.begins.acts.so path items [] o st
+    begun_agrees : (path : ℕ → Path) (items : Made) (o : Machine) → MachineAgrees path items [] before old.state o → MachineAgrees path (item ∷ items) (pledge_of b begun_here.place ∷ []) n1 s1.state ((does path).uses begun_here.place begun_here.id begun_here.parts o)
+    begun_agrees path items o st = bg.begins.acts.so path items [] o st
 
     begun_held : IsHeld (format_of dialects) (IsLocated old.state.src (whole old.stream)) (outermost b.op) old.state.ctx.now s1.state.ctx.now (item ∷ []) [] (operation_under b.op bg.own ∷ []) None first
     begun_held = record {
@@ -144,7 +144,7 @@ module _ {T A U : Type 0} (types_at : Reader T) (reading : Reader A) (h : Splits
       turned = turned_over s1.state.ctx.now.dialects dialects s1.state.src old.state.src (whole s1.stream) (whole old.stream) bg.carries.lasts.dialects bg.carries.rest.src same_text turned_raw
 
       nested_goes : {S : Type 0} (d : Actions T A S) (s : S) → operation_at dialects types_at attr d true old.stream.rest s ≡ Advanced tt (all_done d (turned.did ++ first) s) s2.stream.rest
-      nested_goes d s = (goes_told d (goes_trans (begun_goes told []) (goes_behind turned.goes first)) s).so
+      nested_goes d s = (goes_recorded d (goes_trans (begun_goes recorder []) (goes_after turned.goes first)) s).so
 
       nested_held : IsHeld (format_of dialects) (IsLocated old.state.src (whole old.stream)) (outermost b.op) old.state.ctx.now s2.state.ctx.now (turned.made ++ item ∷ []) turned.marks [] (Some b.op) (turned.did ++ first)
       nested_held = turned.builds old.state.ctx.now (item ∷ []) [] first begun_held
@@ -161,9 +161,9 @@ module _ {T A U : Type 0} (types_at : Reader T) (reading : Reader A) (h : Splits
             made = turned.made ++ item ∷ [];
             runs = λ path items o st. (
               all_done (does path) (turned.did ++ first) o,
-              subst (λ z. StandsAs path z [] n2 s2.state (all_done (does path) (turned.did ++ first) o)) (sym (append_assoc turned.made (item ∷ []) items))
-                  (subst (λ z. StandsAs path (turned.made ++ item ∷ items) [] n2 s2.state z) (sym (done_both (does path) turned.did first o))
-                  (turned.acts.so path (item ∷ items) [] ((does path).uses begun_here.place begun_here.id begun_here.parts o) (begun_stands path items o st))),
+              subst (λ z. MachineAgrees path z [] n2 s2.state (all_done (does path) (turned.did ++ first) o)) (sym (append_assoc turned.made (item ∷ []) items))
+                  (subst (λ z. MachineAgrees path (turned.made ++ item ∷ items) [] n2 s2.state z) (sym (done_both (does path) turned.did first o))
+                  (turned.acts.so path (item ∷ items) [] ((does path).uses begun_here.place begun_here.id begun_here.parts o) (begun_agrees path items o st))),
               nested_goes (does path) o,
             );
             objects = held.whole;
@@ -177,32 +177,32 @@ module _ {T A U : Type 0} (types_at : Reader T) (reading : Reader A) (h : Splits
     -- ---- or there is a fault in it
     module _ (fault : ParseFault A) (st : Stops types_at attr (framed.Operation b) [] n1 s1 fault) where
       inside_refused : UnlessMemory (Faulted types_at attr dialects alone n1 s1) fault → UnlessMemory (RefusesNested types_at attr before old) fault
-      inside_refused (inl starved) = inl starved
+      inside_refused (inl ran_out) = inl ran_out
       inside_refused (inr (at_text did made names mid still cause place g a f)) = inr (nested.at_text cause place (subst (λ t. IsTextFault t cause place fault) same_text f) (st.committed ∙ sym (ap is_committed bg.begins.read.led))
-          (λ path items o stands.
-          let z = a.so path (item ∷ items) [] ((does path).uses begun_here.place begun_here.id begun_here.parts o) (begun_stands path items o stands) in
-          (z.state, (stuck_told (does path) (stuck_at (begun_goes told []) (stuck_behind g first)) o).so ∙ ap (λ y. Stopped y cause place) (done_both (does path) did first o ∙ z.going))))
+          (λ path items o agreed.
+          let z = a.so path (item ∷ items) [] ((does path).uses begun_here.place begun_here.id begun_here.parts o) (begun_agrees path items o agreed) in
+          (z.state, (stuck_recorded (does path) (stuck_at (begun_goes recorder []) (stuck_after g first)) o).so ∙ ap (λ y. Stopped y cause place) (done_both (does path) did first o ∙ z.going))))
       inside_refused (inr (by_names failure f ends)) = inr (nested.by_names failure (subst (λ t. IsFailure t failure fault) same_text f)
-          (λ path items o stands. subst (EndsIn (failed failure)) (sym (begun_goes (does path) o).so)
-          (ends path (item ∷ items) [] ((does path).uses begun_here.place begun_here.id begun_here.parts o) (begun_stands path items o stands))))
+          (λ path items o agreed. subst (EndsIn (failed failure)) (sym (begun_goes (does path) o).so)
+          (ends path (item ∷ items) [] ((does path).uses begun_here.place begun_here.id begun_here.parts o) (begun_agrees path items o agreed))))
 
       pub nested_stops : UnlessMemory (RefusesNested types_at attr before old) fault
       nested_stops = inside_refused (faulted_over s1.state.ctx.now.dialects dialects bg.carries.lasts.dialects (st.stops (outermost b.op) (length before.values) (length before.labels) alone root_here))
 
   -- ---- or none begins
   pub none_begins : (fault : ParseFault A) → UnlessMemory (RefusesOperation types_at attr true false before old) fault → UnlessMemory (RefusesNested types_at attr before old) fault
-  none_begins fault (inl starved) = inl starved
+  none_begins fault (inl ran_out) = inl ran_out
   none_begins fault (inr (read.no_lead d flag)) = inr (nested.at_text d.cause (length old.stream.rest - length d.upto) d.fault_is flag
-      (λ path items o stands. (stands.state, (no_lead dialects types_at attr (does path) [] true o old.stream.rest d.cause d.upto d.bad).so ∙ ap (λ y. Stopped y d.cause (length old.stream.rest - length d.upto)) stands.going)))
+      (λ path items o agreed. (agreed.state, (no_lead dialects types_at attr (does path) [] true o old.stream.rest d.cause d.upto d.bad).so ∙ ap (λ y. Stopped y d.cause (length old.stream.rest - length d.upto)) agreed.going)))
   none_begins fault (inr (read.no_front names id lead middle e d flag)) = inr (nested.at_text d.cause (length middle - length d.upto) d.fault_is (flag ∙ sym (ap is_committed e))
-      (λ path items o stands. (
-        stands.state,
+      (λ path items o agreed. (
+        agreed.state,
         (no_front dialects types_at attr (does path) [] true o old.stream.rest names id lead middle e o d.cause (length middle - length d.upto)
-            (front_lacks dialects types_at attr (does path) true (splits_piece types_at reading h k true) (front_steps (steps_in dialects id)) [] middle o d.cause d.upto d.bad)).so
-            ∙ ap (λ y. Stopped y d.cause (length middle - length d.upto)) stands.going,
+            (front_misses dialects types_at attr (does path) true (splits_piece types_at reading h k true) (front_steps (steps_in dialects id)) [] middle o d.cause d.upto d.bad)).so
+            ∙ ap (λ y. Stopped y d.cause (length middle - length d.upto)) agreed.going,
       )))
-  none_begins fault (inr (read.no_uses rest q f)) = inr (nested.by_names f.failure f.is (λ path items o stands.
-      let at : (does path).uses (length old.stream.rest) q.id q.parts o ≡ failed f.failure = f.so path items [] o stands in
+  none_begins fault (inr (read.no_uses rest q f)) = inr (nested.by_names f.failure f.is (λ path items o agreed.
+      let at : (does path).uses (length old.stream.rest) q.id q.parts o ≡ failed f.failure = f.so path items [] o agreed in
       failed_at (failed_keeps {T = T} {A = A} (format_of dialects) path f.failure)
       (subst (λ z. Goes dialects types_at attr (does path) (Some (to_come true)) [] o old.stream.rest (Some (an_operation (begun_by types_at attr true old rest q))) [] z rest) at
       (operation_begins dialects types_at attr (does path) [] true o old.stream.rest q.names q.id q.lead q.middle q.led q.parts rest

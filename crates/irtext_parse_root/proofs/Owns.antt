@@ -58,7 +58,7 @@ module _ {T A : Type 0} (formats : Id → Option Format) (o : OpenOperation T A)
   own_region step ss part e is none h = record {
     place = h.place;
     id = h.id;
-    entries = h.entries ∙ ap (put_all []) (sym (behind o.parts));
+    entries = h.entries ∙ ap (put_all []) (sym (following o.parts));
     operands = λ later parts. ap (λ ps. length (operand_names (unmarked o.place o.names o.id (body_of (formats o.id) ps)))) (append_assoc o.parts (part ∷ []) later) ∙ h.operands (part ∷ later) (fit later parts);
     successors = λ later parts. ap (λ ps. length (successor_labels (unmarked o.place o.names o.id (body_of (formats o.id) ps)))) (append_assoc o.parts (part ∷ []) later) ∙ h.successors (part ∷ later) (fit later parts);
     types = λ later parts. ap (λ ps. result_types (body_of (formats o.id) ps)) (append_assoc o.parts (part ∷ []) later) ∙ h.types (part ∷ later) (fit later parts);
@@ -69,11 +69,11 @@ module _ {T A : Type 0} (formats : Id → Option Format) (o : OpenOperation T A)
       fit : (later : List (Part ℕ T A)) → ArePartsOf ss later → ArePartsOf o.steps (part ∷ later)
       fit later parts = subst (λ z. ArePartsOf z (part ∷ later)) (sym e) (is, parts)
 
-      behind : (ps : List (Part ℕ T A)) → views stored (ps ++ part ∷ []) ≡ views stored ps
-      behind [] = none
-      behind (tree.piece p ∷ ps) = ap (λ z. stored p ++ z) (behind ps)
-      behind (tree.region i ∷ ps) = behind ps
-      behind (tree.regions ∷ ps) = behind ps
+      following : (ps : List (Part ℕ T A)) → views stored (ps ++ part ∷ []) ≡ views stored ps
+      following [] = none
+      following (tree.piece p ∷ ps) = ap (λ z. stored p ++ z) (following ps)
+      following (tree.region i ∷ ps) = following ps
+      following (tree.regions ∷ ps) = following ps
 
 -- ---- steps
 -- the step that comes is the first of those that are left
@@ -107,7 +107,7 @@ module _ {T A : Type 0} (names : List Text) (text : Text) (ctx : ContextView T A
     coming = tt;
     is_isolated = h.is_isolated;
     late = (subst ReadNeither e h.late).1;
-    stands = h.stands;
+    alive = h.alive;
     counts = h.counts;
     typed = λ later untyped. ap (λ ps. length (result_types (body_of (format_of ctx.dialects o.id) ps))) (append_assoc o.parts (part ∷ []) later) ∙ h.typed (part ∷ later) (All-cons HasNoType part later none untyped);
   })

@@ -40,14 +40,14 @@ use Rattle.irtext_parse_nested.specs.Read.{begun_by, EndsRegion}
 use Rattle.irtext_parse_root.specs.declared.frames.Frame.{Frame}
 use Rattle.irtext_parse_root.specs.declared.frames.Frame.TheVariants as framed
 use Rattle.irtext_parse_pieces.specs.declared.coming.Coming.TheVariants as comes
-use Rattle.irtext_parse_root.specs.Here.{AreHere, Base, AreLevels, StandsInBlock, Nest, IsHere}
+use Rattle.irtext_parse_root.specs.Here.{AreHere, Base, AreLevels, IsInBlock, Nest, IsHere}
 use Rattle.irtext_parse_root.specs.Levels.{Level, at_operation, at_region, at_block, outward, open_of, first_frame, next_of, waiting, isolated_in, regions_in, left_to_do, IsNewFrame, AreNewFrames, AreAllNew}
-use Rattle.irtext_parse_root.specs.Told.{told}
+use Rattle.irtext_parse_root.specs.Recorded.{recorder}
 use Rattle.irtext_parse_root.specs.Turned.{Carries, TakesLast, Arrives, Proceeds}
-use Rattle.irtext_parse_root.specs.Stands.{one_stands, text_there, PassesTo}
+use Rattle.irtext_parse_root.specs.OperationFollows.{operation_follows, text_there, PassesTo}
 use Rattle.irtext_parse_root.specs.Turns.{IsNext, Begins, Continues, Ends, Enters, Leaves, Heads}
 use Rattle.irtext_parse_spec.proofs.Resume.Weights.{operation_nearer, step_nearer, region_nearer, another_nearer, block_nearer, first_nearer, other_nearer, end_nearer, steps_fewer}
-use Rattle.irtext_parse_root.proofs.Nearer.{moves_fewer, some_stands, front_fewer, head_fewer, led_fewer, led_some, brace_fewer, semicolon_fewer}
+use Rattle.irtext_parse_root.proofs.Nearer.{moves_fewer, some_character, front_fewer, head_fewer, led_fewer, led_some, brace_fewer, semicolon_fewer}
 use Rattle.irtext_parse_root.proofs.Labels.{head_place}
 use Rattle.irtext_parse_root.proofs.Owns.{own_region, begun_region, piece_comes, region_comes, regions_come, end_comes, steps_here, no_steps_here}
 use Rattle.irtext_parse_root.proofs.Turning.{with_stream, block_left, operation_in_block, piece_read, region_entered, another_entered, regions_over, root_over, operation_over, block_begun, region_over, base_over}
@@ -241,7 +241,7 @@ module _ {T A U : Type 0} (types_at : Reader T) (reading : Reader A) (h : Splits
               next_is = refl;
               others = here.others;
               levels = ((r.1, own_lasts names new c.carries (with_steps o ss (o.parts ++ tree.piece r.0.piece ∷ [])) (record own { entries = put_all own.entries (stored r.0.piece) }) own_then.0), others_last names new c.carries more here.levels.1);
-              nest = (subst (λ p. StandsInBlock base p more) (sym c.goes.op) here.nest.0, nests_last names new c.carries base v more here.nest.1);
+              nest = (subst (λ p. IsInBlock base p more) (sym c.goes.op) here.nest.0, nests_last names new c.carries base v more here.nest.1);
               values = c.depth.values ∙ here.values;
               labels = c.depth.labels ∙ here.labels;
             };
@@ -290,7 +290,7 @@ module _ {T A U : Type 0} (types_at : Reader T) (reading : Reader A) (h : Splits
               nest = (
                 ap (λ d. isolated d o.id) (sym (same_dialects names new enters_carries)),
                 subst (λ n. 0 < n) depth (is_open_some names.values en.is_in),
-                (subst (λ p. StandsInBlock base p more) (sym same) here.nest.0, nests_last names new enters_carries base u more here.nest.1),
+                (subst (λ p. IsInBlock base p more) (sym same) here.nest.0, nests_last names new enters_carries base u more here.nest.1),
               );
               values = depth;
               labels = omega (arith, labels, outside);
@@ -315,7 +315,7 @@ module _ {T A U : Type 0} (types_at : Reader T) (reading : Reader A) (h : Splits
                 later = at_region r (isolated ctx.dialects o.id) (length v.rest) None ∷ at_operation next (with_steps o ss ps) own ∷ more;
                 here = is_within base u l o own more here next ss ps same_op pushed (begun_region before.names text ctx b next o (one s.0) ss (tree.region s.0) e next_is tt here.levels.0.0)
                     (own_region (format_of ctx.dialects) o own (one s.0) ss (tree.region s.0) e refl refl here.levels.0.1);
-                turned = region_entered types_at attr base before old b o own more (loops told) r v names new s.0 ss next iso e same_op (ap (λ z. z.results) next_is) (iso_here base u l o own more here) passes.rest en.begins en.came en.gains en.spares en.marks (moves_fewer old.stream new.stream enters_carries.moves);
+                turned = region_entered types_at attr base before old b o own more (loops recorder) r v names new s.0 ss next iso e same_op (ap (λ z. z.results) next_is) (iso_here base u l o own more here) passes.rest en.begins en.came en.gains en.spares en.marks (moves_fewer old.stream new.stream enters_carries.moves);
               },
               region_nearer often (waiting (at_operation b o own ∷ more)) old.stream.rest new.stream.rest o (one s.0) ss ps (isolated ctx.dialects o.id) (length v.rest) e more_often (fewer base u l o own more here),
             )
@@ -325,7 +325,7 @@ module _ {T A U : Type 0} (types_at : Reader T) (reading : Reader A) (h : Splits
             (λ m le all. (en.fresh m le, pushed_new names new enters_carries m le frames waits (framed.Operation next) pushed all.1 (subst (λ p. IsNew m ctx.graph (TheOperation p)) (sym same_op) all.0)))
 
       -- ---- one of all
-      module _ (is : IsNext ctx.dialects b comes.Regions) (stands : begins_region (after_space old.stream.rest) ≡ true) (pushed : waits ≡ frames ++ framed.Operation b ∷ []) where
+      module _ (is : IsNext ctx.dialects b comes.Regions) (follows_on : begins_region (after_space old.stream.rest) ≡ true) (pushed : waits ≡ frames ++ framed.Operation b ∷ []) where
         another_arrives : (base : Base) (u l : ℕ) (o : OpenOperation T A) (own : OwnSoFar T A) (more : List (Level T A)) → IsHere base u l (at_operation b o own ∷ more) before text ctx (Some (framed.Operation b)) frames
             → Comes base u l (at_operation b o own ∷ more) names new (Some (framed.Region r)) waits
         another_arrives base u l o own more here =
@@ -333,7 +333,7 @@ module _ {T A U : Type 0} (types_at : Reader T) (reading : Reader A) (h : Splits
               record {
                 later = at_region r (isolated ctx.dialects o.id) (length v.rest) None ∷ at_operation b (with_steps o o.steps o.parts) own ∷ more;
                 here = is_within base u l o own more here b o.steps o.parts refl pushed here.levels.0.0 here.levels.0.1;
-                turned = another_entered types_at attr base before old b o own more (loops told) r v names new (drop (b.step + 1) (steps_in ctx.dialects (id_of b.id))) iso e stands (iso_here base u l o own more here) passes.rest en.begins en.came en.gains en.spares en.marks (moves_fewer old.stream new.stream enters_carries.moves);
+                turned = another_entered types_at attr base before old b o own more (loops recorder) r v names new (drop (b.step + 1) (steps_in ctx.dialects (id_of b.id))) iso e follows_on (iso_here base u l o own more here) passes.rest en.begins en.came en.gains en.spares en.marks (moves_fewer old.stream new.stream enters_carries.moves);
               },
               another_nearer often (waiting (at_operation b o own ∷ more)) old.stream.rest new.stream.rest o (isolated ctx.dialects o.id) (length v.rest) more_often (fewer base u l o own more here),
             )
@@ -358,11 +358,11 @@ module _ {T A U : Type 0} (types_at : Reader T) (reading : Reader A) (h : Splits
                 next_is = refl;
                 others = here.others;
                 levels = ((begun_region before.names text ctx b next o all ss tree.regions e next_is tt here.levels.0.0, own_region (format_of ctx.dialects) o own all ss tree.regions e tt refl here.levels.0.1), here.levels.1);
-                nest = (subst (λ p. StandsInBlock base p more) (sym (ap (λ z. z.op) next_is)) here.nest.0, here.nest.1);
+                nest = (subst (λ p. IsInBlock base p more) (sym (ap (λ z. z.op) next_is)) here.nest.0, here.nest.1);
                 values = here.values;
                 labels = here.labels;
               };
-              turned = regions_over types_at attr base before old b o own more (loops told) ss next v e none (ap (λ z. z.op) next_is) (ap (λ z. z.results) next_is) passes.rest (moves_fewer old.stream v passes.moves);
+              turned = regions_over types_at attr base before old b o own more (loops recorder) ss next v e none (ap (λ z. z.op) next_is) (ap (λ z. z.results) next_is) passes.rest (moves_fewer old.stream v passes.moves);
             },
             step_nearer often (waiting (at_operation b o own ∷ more)) old.stream.rest v.rest o all ss (o.parts ++ tree.regions ∷ []) e (moves_fewer old.stream v passes.moves),
           )
@@ -373,7 +373,7 @@ module _ {T A U : Type 0} (types_at : Reader T) (reading : Reader A) (h : Splits
 
     -- ---- a block begins
     module _ (r : BegunRegion) (frames waits : List Frame) (kb : BegunBlock) (names : Names) (new : StateStream T A U) (hd : Heads types_at attr before (with_stream old v) r.region kb names new)
-        (stands : begins_block (after_space old.stream.rest) ≡ true) (first : kb.first ≡ true) (pushed : waits ≡ frames ++ framed.Region r ∷ []) where
+        (follows_on : begins_block (after_space old.stream.rest) ≡ true) (first : kb.first ≡ true) (pushed : waits ≡ frames ++ framed.Region r ∷ []) where
       heads_carries : Carries before old names new
       heads_carries = carries_passed v passes.moves hd.carries
 
@@ -386,14 +386,14 @@ module _ {T A U : Type 0} (types_at : Reader T) (reading : Reader A) (h : Splits
             next_is = refl;
             others = pushed ∙ ap (λ z. z ++ framed.Region r ∷ []) here.others;
             levels = (
-              record { is_first = refl; stands = hd.begins.block.stands; inside = hd.begins.block.inside },
+              record { is_first = refl; alive = hd.begins.block.alive; inside = hd.begins.block.inside },
               (level_lasts before.names names.names text ctx new.state.ctx.now heads_carries.keeps heads_carries.lasts (at_region r iso place last) here.levels.0, others_last names new heads_carries more here.levels.1),
             );
             nest = (refl, nest_over iso place last more base u names new heads_carries here.nest);
             values = hd.depth.values ∙ (here.values ∙ ap (λ n. n + u) (isolated_last r iso place last (Some kb.block) more));
             labels = hd.depth.labels ∙ here.labels;
           };
-          turned = block_begun types_at attr base before old (loops told) r iso place last more v passes.rest names new kb stands first same_text hd.begins hd.came hd.gains hd.spares hd.noted (subst (λ n. (length new.stream.rest < n) × (n ≤ length old.stream.rest)) (sym label_there) (v_less, moves_fewer old.stream v passes.moves));
+          turned = block_begun types_at attr base before old (loops recorder) r iso place last more v passes.rest names new kb follows_on first same_text hd.begins hd.came hd.gains hd.spares hd.noted (subst (λ n. (length new.stream.rest < n) × (n ≤ length old.stream.rest)) (sym label_there) (v_less, moves_fewer old.stream v passes.moves));
         },
         subst (λ f. work often (Some (a_block f)) (waiting (at_region r iso place last ∷ more) ++ a_region iso place ∷ []) new.stream.rest < work often (Some (a_region iso place)) (waiting (at_region r iso place last ∷ more)) old.stream.rest) (sym first)
             (block_nearer often (waiting (at_region r iso place last ∷ more)) old.stream.rest new.stream.rest iso place more_often head_less),
@@ -401,7 +401,7 @@ module _ {T A U : Type 0} (types_at : Reader T) (reading : Reader A) (h : Splits
         where
           v_less : length new.stream.rest < length v.rest
           v_less = head_fewer (leaves_no_more types_at h) (leaves_no_more attr (splits_attr reading k)) v.rest hd.begins.head hd.begins.taken new.stream.rest
-              (subst (λ t. begins (λ z. true) t ≡ true) (sym passes.rest) (some_stands (the 94) (after_space old.stream.rest) stands)) hd.begins.read
+              (subst (λ t. begins (λ z. true) t ≡ true) (sym passes.rest) (some_character (the 94) (after_space old.stream.rest) follows_on)) hd.begins.read
 
           head_less : length new.stream.rest < length old.stream.rest
           head_less = let m = v_less in let n = moves_fewer old.stream v passes.moves in omega (arith, m, n)
@@ -426,7 +426,7 @@ module _ {T A U : Type 0} (types_at : Reader T) (reading : Reader A) (h : Splits
       module _ (base : Base) (u l : ℕ) (iso : Bool) (place : ℕ) (last : Option (Ptr BasicBlock)) where
         left_read : (more : List (Level T A)) → IsHere base u l (at_region r iso place last ∷ more) before text ctx (Some (framed.Region r)) frames → EndsRegion types_at attr iso place before (with_stream old v) names new
         left_read more here = subst (λ i. EndsRegion types_at attr i place before (with_stream old v) names new) here.levels.0.is_isolated
-            (lv.ends place (record { is_isolated = refl; placed = subst (λ t. placing.Leaves t r.at place) (sym same_text) here.levels.0.placed; stands = here.levels.0.stands }))
+            (lv.ends place (record { is_isolated = refl; placed = subst (λ t. placing.Leaves t r.at place) (sym same_text) here.levels.0.placed; alive = here.levels.0.alive }))
 
         left_here : (more : List (Level T A)) → IsHere base u l (at_region r iso place last ∷ more) before text ctx (Some (framed.Region r)) frames → IsHere base u l more names text new.state.ctx.now next waits
         left_here more here =
@@ -451,7 +451,7 @@ module _ {T A U : Type 0} (types_at : Reader T) (reading : Reader A) (h : Splits
           record {
             later = [];
             here = left_here [] here;
-            turned = base_over types_at attr base before old (loops told) r iso place last [] v passes.rest names new none (left_read [] here) lv.state (moves_fewer old.stream new.stream leaves_carries.moves) refl here.nest.0;
+            turned = base_over types_at attr base before old (loops recorder) r iso place last [] v passes.rest names new none (left_read [] here) lv.state (moves_fewer old.stream new.stream leaves_carries.moves) refl here.nest.0;
           },
           left_nearer [],
         )
@@ -459,7 +459,7 @@ module _ {T A U : Type 0} (types_at : Reader T) (reading : Reader A) (h : Splits
           record {
             later = at_operation b o own ∷ outside;
             here = left_here (at_operation b o own ∷ outside) here;
-            turned = region_over types_at attr base before old (loops told) r iso place last (at_operation b o own ∷ outside) v passes.rest names new none (left_read (at_operation b o own ∷ outside) here) lv.state (moves_fewer old.stream new.stream leaves_carries.moves) b o own outside refl;
+            turned = region_over types_at attr base before old (loops recorder) r iso place last (at_operation b o own ∷ outside) v passes.rest names new none (left_read (at_operation b o own ∷ outside) here) lv.state (moves_fewer old.stream new.stream leaves_carries.moves) b o own outside refl;
           },
           left_nearer (at_operation b o own ∷ outside),
         )
@@ -526,7 +526,7 @@ module _ {T A U : Type 0} (types_at : Reader T) (reading : Reader A) (h : Splits
     BlockIsHere base u l r iso place last more = IsHere base u l (at_block kb ∷ at_region r iso place last ∷ more) before text ctx (Some (framed.Block kb)) frames
 
     -- it is left
-    module _ (next : Option Frame) (none : one_stands kb.first old.stream.rest ≡ false) (takes : TakesLast frames next waits) where
+    module _ (next : Option Frame) (none : operation_follows kb.first old.stream.rest ≡ false) (takes : TakesLast frames next waits) where
       gone_carries : Carries before old before (with_stream old v)
       gone_carries = carries_pass before old v passes.moves
 
@@ -538,7 +538,7 @@ module _ {T A U : Type 0} (types_at : Reader T) (reading : Reader A) (h : Splits
             record {
               later = inner;
               here = record { next_is = t.0; others = t.1; levels = here.levels.1; nest = here.nest.1; values = here.values; labels = here.labels };
-              turned = block_left types_at attr base before old (loops told) kb r iso place last more v none passes.rest (moves_fewer old.stream v passes.moves);
+              turned = block_left types_at attr base before old (loops recorder) kb r iso place last more v none passes.rest (moves_fewer old.stream v passes.moves);
             },
             end_nearer often (outward (map open_of inner)) old.stream.rest v.rest (a_block kb.first) (next_of inner) (waiting inner) (theory_pops inner) (moves_fewer old.stream v passes.moves),
           )
@@ -548,7 +548,7 @@ module _ {T A U : Type 0} (types_at : Reader T) (reading : Reader A) (h : Splits
           (λ m le all. new_taken m ctx.graph frames waits next takes all.1)
 
     -- an operation begins in it
-    module _ (b : BegunOperation) (names : Names) (new : StateStream T A U) (bg : Begins types_at attr before (with_stream old v) (Some kb.block) b names new) (stands : one_stands kb.first old.stream.rest ≡ true)
+    module _ (b : BegunOperation) (names : Names) (new : StateStream T A U) (bg : Begins types_at attr before (with_stream old v) (Some kb.block) b names new) (follows_on : operation_follows kb.first old.stream.rest ≡ true)
         (pushed : waits ≡ frames ++ framed.Block (record { block = kb.block; first = false }) ∷ []) where
       begins_carries : Carries before old names new
       begins_carries = carries_passed v passes.moves bg.carries
@@ -568,7 +568,7 @@ module _ {T A U : Type 0} (types_at : Reader T) (reading : Reader A) (h : Splits
           omega (arith, lead, front)
 
       -- as much is left to do of the one as is shown of the other
-      begins_nearer : (first : Bool) (fs : List (Open T A)) → one_stands first old.stream.rest ≡ true → v.rest ≡ text_there first old.stream.rest
+      begins_nearer : (first : Bool) (fs : List (Open T A)) → operation_follows first old.stream.rest ≡ true → v.rest ≡ text_there first old.stream.rest
           → work often (Some (an_operation begun_here)) (fs ++ a_block false ∷ []) new.stream.rest < work often (Some (a_block first)) fs old.stream.rest
       begins_nearer first fs one_is at =
           let less = front_less in
@@ -576,7 +576,7 @@ module _ {T A U : Type 0} (types_at : Reader T) (reading : Reader A) (h : Splits
           let before_it = comes first one_is at in
           omega (arith, then, before_it)
         where
-          comes : (first : Bool) → one_stands first old.stream.rest ≡ true → v.rest ≡ text_there first old.stream.rest → work often (Some (to_come true)) (fs ++ a_block false ∷ []) v.rest < work often (Some (a_block first)) fs old.stream.rest
+          comes : (first : Bool) → operation_follows first old.stream.rest ≡ true → v.rest ≡ text_there first old.stream.rest → work often (Some (to_come true)) (fs ++ a_block false ∷ []) v.rest < work often (Some (a_block first)) fs old.stream.rest
           comes true one_is at = first_nearer often fs old.stream.rest v.rest (moves_fewer old.stream v passes.moves)
           comes false one_is at = other_nearer often fs old.stream.rest v.rest more_often (semicolon_fewer old.stream.rest v.rest one_is at)
 
@@ -592,15 +592,15 @@ module _ {T A U : Type 0} (types_at : Reader T) (reading : Reader A) (h : Splits
                 others = pushed ∙ ap (λ z. z ++ framed.Block (record { block = kb.block; first = false }) ∷ []) here.others;
                 levels = (
                   (subst (λ t. IsBegun names.names t new.state.ctx.now b begun_here) here_text bg.begins.begun, own_lasts names new begins_carries begun_here bg.own bg.has),
-                  (record { is_first = refl; stands = block.stands; inside = block.inside }, others_last names new begins_carries inner here.levels.1),
+                  (record { is_first = refl; alive = block.alive; inside = block.inside }, others_last names new begins_carries inner here.levels.1),
                 );
                 nest = (tt, (here.nest.0, nests_last names new begins_carries base u inner here.nest.1));
                 values = bg.depth.values ∙ here.values;
                 labels = bg.depth.labels ∙ here.labels;
               };
-              turned = operation_in_block types_at attr base before old (loops told) kb r iso place last more v (splits_piece types_at reading h k true) b names new stands passes.rest here_text here.nest.0 (front_less, moves_fewer old.stream v passes.moves) bg;
+              turned = operation_in_block types_at attr base before old (loops recorder) kb r iso place last more v (splits_piece types_at reading h k true) b names new follows_on passes.rest here_text here.nest.0 (front_less, moves_fewer old.stream v passes.moves) bg;
             },
-            begins_nearer kb.first (outward (map open_of inner)) stands passes.rest,
+            begins_nearer kb.first (outward (map open_of inner)) follows_on passes.rest,
           )
 
       pub begins_proceeds : AreHere T A text ctx before (Some (framed.Block kb)) frames → Proceeds types_at attr (framed.Block kb) frames before old names new (Some (framed.Operation b)) waits

@@ -16,7 +16,7 @@ use Rattle.irtext_parse_root.specs.Nested as nested
 use Rattle.irtext_parse_root.specs.Nested.{RefusesNested}
 use Rattle.irtext_parse_root.proofs.Failing.{operation_never_failed, operation_first}
 use Rattle.irtext_parse_root.proofs.Causes.{no_cause}
-use Rattle.irtext_parse_root.proofs.Fresh.{begun, begun_stands}
+use Rattle.irtext_parse_root.proofs.Fresh.{begun, begun_agrees}
 
 -- The cause does not say that the stream had failed, and where nothing was parsed it is one of a text.
 pub record SaysText {A : Type 0} (fault : ParseFault A) : Type 0 where
@@ -35,11 +35,11 @@ refusal_by old mid fault says unread = record {
 module _ {T A U : Type 0} (types_at : Reader T) (reading : Reader A) (sincere_types : Sincere types_at) (sincere : Sincere reading) (before : Names) (old : StateStream T A U)
     (no_names : before.names ≡ []) (no_values : before.values ≡ []) (no_labels : before.labels ≡ []) where
   pub says_text : (fault : ParseFault A) → UnlessMemory (RefusesNested types_at (attr_at reading) before old) fault → SaysText fault
-  says_text fault (inl starved) = record { not_failed = λ e. cc (starved.because, e); first = λ e. absurd (cc (starved.flag, e)) }
+  says_text fault (inl ran_out) = record { not_failed = λ e. cc (ran_out.because, e); first = λ e. absurd (cc (ran_out.flag, e)) }
   says_text fault (inr (nested.at_text cause place f flag so)) =
       let ds = old.state.ctx.now.dialects in
       let path : ℕ → Path = λ n. [] in
-      let stuck = so path [] (going (begun before old.state no_names no_values no_labels)) (begun_stands before old.state no_names no_values no_labels path) in
+      let stuck = so path [] (going (begun before old.state no_names no_values no_labels)) (begun_agrees before old.state no_names no_values no_labels path) in
       record {
         not_failed = λ e. operation_never_failed types_at reading sincere_types sincere ds (doing {T = T} {A = A} ds path) old.stream.rest (going (begun before old.state no_names no_values no_labels)) (going stuck.0) cause place stuck.1 (sym f.because ∙ e);
         first = λ e. subst (λ z. is_first_fault z ≡ true) (sym f.because)

@@ -40,7 +40,7 @@ use Rattle.irtext_parse_spec.specs.Naming.{paths_in_blocks}
 use Rattle.irtext_parse_spec.specs.Unchanged.{RegionsHold, IsThere}
 use Rattle.irtext_parse_spec.specs.Tracks.{Made, noted, HasChild}
 use Rattle.irtext_parse_spec.proofs.Whole.{WholeRegions, WholeBlocks, WholeOperations}
-use Rattle.irtext_names.specs.Linked.{Known, StandsAt}
+use Rattle.irtext_names.specs.Linked.{Known, NamesAgree}
 use Rattle.irtext_names.specs.OfItems.{AreOf}
 use Rattle.irtext_names.specs.Tied.{NoneIsLeft}
 use Rattle.irtext_promises.specs.Alone.{OnlyNewIn, held_region}
@@ -75,7 +75,7 @@ module _ {T A : Type 0} (L : ℕ → Location A → Type 0) (start mid now : Con
     (a : Appends mid.graph now.graph (TheOperation op) (TheRegion r)) (here : IsSome (operation start op))
     (m : ℕ) (older : AllOlder m start.graph) (kept : KeepsOlder m start mid) (none : NoneIsLeft m [] mid.graph) (blanks : BlanksDefine m mid) (holders : (o k : Object) → parent start.graph o ≡ Some k → IsLive start.graph k)
     (nest : graphs.Nested (children now.graph) (parent now.graph)) (path : ℕ → Path) (said : Each (λ item. path item.0 ≡ item.1) (paths_in_blocks (0 ∷ []) 0 bs))
-    (isolated : Id → Bool) (id : Id) (id_closed : isolated id ≡ true) (formed : FormedBlocks bs) (names_at : NameTracker Value (Ptr BasicBlock)) (known : Known) (are : AreOf path items known) (st : State) (stands : StandsAt names_at mid.graph known [] st)
+    (isolated : Id → Bool) (id : Id) (id_closed : isolated id ≡ true) (formed : FormedBlocks bs) (names_at : NameTracker Value (Ptr BasicBlock)) (known : Known) (are : AreOf path items known) (st : State) (agreed : NamesAgree names_at mid.graph known [] st)
     (ran : run (going history.start) (events (script.within true place (blocks_script isolated (0 ∷ []) 0 bs) done)) ≡ going st)
     (first : ℕ → Written A) (tells : (n : ℕ) (l : Location A) → L n l → location_over now.paths l ≡ first n) where
   abbrev rs : Regions (Op ℕ T A) (Head ℕ T A) (Brace ℕ)
@@ -92,7 +92,7 @@ module _ {T A : Type 0} (L : ℕ → Location A → Type 0) (start mid now : Con
 
   -- the contents of the region are what the blocks build
   pub builds_now : held_region now r ≡ built_regions isolated first [] [] [] 0 true rs
-  builds_now = builds.region_builds L now items whole r place bs hold_now tracks.known tracks.once inside_now nest path said first isolated id id_closed formed names_at mid.graph known are st stands
+  builds_now = builds.region_builds L now items whole r place bs hold_now tracks.known tracks.once inside_now nest path said first isolated id id_closed formed names_at mid.graph known are st agreed
       (moved.used_same (noted items L) mid now op r a whole not_whole) ran tells
 
   linked_now : AllRegions OpLinked (λ b. ⊤) (λ q. ⊤) (held_region now r)

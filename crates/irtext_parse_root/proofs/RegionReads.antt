@@ -41,14 +41,14 @@ use Rattle.irtext_parse_spec.proofs.Built.{blocks_after, last_after, whole_after
 use Rattle.irtext_parse_spec.proofs.Seen.{shows_blocks}
 use Rattle.irtext_parse_spec.proofs.Whole.{WholeRegions, WholeBlocks, WholeOperations, blocks_read}
 use Rattle.irtext_names.proofs.Linked.Passes.{ran_through}
-use Rattle.irtext_parse_nested.specs.Items.{Names, StandsAs, doing}
+use Rattle.irtext_parse_nested.specs.Items.{Names, MachineAgrees, doing}
 use Rattle.irtext_parse_root.specs.Carried.{marks_in_blocks, AreCarried}
-use Rattle.irtext_parse_root.specs.Told.{Did, did_enter, did_leave, told, all_done}
+use Rattle.irtext_parse_root.specs.Recorded.{Did, did_enter, did_leave, recorder, all_done}
 use Rattle.irtext_parse_root.specs.Under.{ReadsUnder}
 use Rattle.irtext_parse_spec.specs.Tracks.{Made}
 use Rattle.irtext_parse_root.proofs.Carrying.{marks_are}
 use Rattle.irtext_parse_root.proofs.Telling.{tells_does, done_both}
-use Rattle.irtext_parse_root.proofs.Fresh.{fresh_stands}
+use Rattle.irtext_parse_root.proofs.Fresh.{fresh_agrees}
 use Rattle.irtext_context.specs.Context as context
 use Rattle.irtext_context.specs.Context.{KeepsOlder}
 use Rattle.irtext_graph.specs.declared.object.Object.{Object}
@@ -61,7 +61,7 @@ use Rattle.irtext_parse_spec.specs.Promises.Root.{location_of}
 use Rattle.irtext_names.specs.OfItems.{AreOf}
 use Rattle.irtext_names.specs.Tied.{NoneIsLeft}
 use Rattle.irtext_promises.specs.Alone.{region_alone, BuildsRegion}
-use Rattle.irtext_promises.proofs.Behind.{values_shut, labels_shut, none_left, place_told}
+use Rattle.irtext_promises.proofs.AfterTree.{values_shut, labels_shut, none_left, place_written}
 use Rattle.irtext_promises.proofs.Kept.{came_same}
 use Rattle.irtext_parse_nested.specs.Items.{IsSound}
 use Rattle.irtext_parse_nested.specs.Located.{IsLocated}
@@ -116,15 +116,15 @@ so_far_same bs cs l m e = let f : bs ≡ cs = cc in let g : l ≡ m = cc in λ i
 
 module _ {T A : Type 0} (formats : Id → Option Format) (isolated : Id → Bool) where
   -- if the recorded actions are those of blocks in their braces, what is built of them is these blocks
-  told_builds : (iso is : Bool) (place at : ℕ) (before : List (Did T A)) (bs : Blocks (Op ℕ T A) (Head ℕ T A) (Brace ℕ)) → WholeBlocks formats bs
-      → ◌≡◌ {A = List (Did T A)} ((did_leave is at ∷ before) ++ did_enter iso ∷ []) (did_leave iso place ∷ do_blocks isolated told bs (did_enter iso ∷ []))
+  recorded_builds : (iso is : Bool) (place at : ℕ) (before : List (Did T A)) (bs : Blocks (Op ℕ T A) (Head ℕ T A) (Brace ℕ)) → WholeBlocks formats bs
+      → ◌≡◌ {A = List (Did T A)} ((did_leave is at ∷ before) ++ did_enter iso ∷ []) (did_leave iso place ∷ do_blocks isolated recorder bs (did_enter iso ∷ []))
       → all_done (building formats) before (in_region {T = T} {A = A} no_blocks None [] None) ≡ in_region (blocks_after no_blocks None bs) (last_after None bs) [] None
-  told_builds iso is place at before bs whole e =
+  recorded_builds iso is place at before bs whole e =
       let does = building {T = T} {A = A} formats in
-      let inner : before ++ did_enter iso ∷ [] ≡ do_blocks isolated told bs (did_enter iso ∷ []) = left_last is iso at place (before ++ did_enter iso ∷ []) (do_blocks isolated told bs (did_enter iso ∷ [])) e in
+      let inner : before ++ did_enter iso ∷ [] ≡ do_blocks isolated recorder bs (did_enter iso ∷ []) = left_last is iso at place (before ++ did_enter iso ∷ []) (do_blocks isolated recorder bs (did_enter iso ∷ [])) e in
       sym (done_both does before (did_enter iso ∷ []) nothing_open)
       ∙ (ap (λ ds. all_done does ds nothing_open) inner
-      ∙ (shows_blocks isolated (λ ds. all_done does ds nothing_open) told does (tells_does does nothing_open) bs (did_enter iso ∷ [])
+      ∙ (shows_blocks isolated (λ ds. all_done does ds nothing_open) recorder does (tells_does does nothing_open) bs (did_enter iso ∷ [])
       ∙ blocks_build formats isolated bs whole no_blocks None [] None))
 
 module _ {T A U : Type 0} (types_at : Reader T) (types_written : T → Text) (reading : Reader A) (written : A → Text) (types_split : Splits types_at) (splits : Splits reading) (words : NeedsWord reading)
@@ -154,9 +154,9 @@ module _ {T A U : Type 0} (types_at : Reader T) (types_written : T → Text) (re
 
   text_is : Text_is
   text_is =
-      let x = knot.region_read types_at types_written reading written ds types_split splits told accepted u.iso old.stream.rest [] (u.did ++ did_enter u.iso ∷ []) new.stream.rest u.tells in
-      let e = subst (λ z. ◌≡◌ {A = List (Did T A)} (z ++ did_enter u.iso ∷ []) (did_leave u.iso place ∷ do_blocks (isolated ds) told x.0 (did_enter u.iso ∷ []))) u.holds.is x.2 in
-      let b = told_builds (format_of ds) (isolated ds) u.iso u.holds.iso place u.holds.place u.holds.before x.0 (blocks_whole types owns (format_of ds) place x.0 old.stream.rest new.stream.rest x.1) e in
+      let x = knot.region_read types_at types_written reading written ds types_split splits recorder accepted u.iso old.stream.rest [] (u.did ++ did_enter u.iso ∷ []) new.stream.rest u.tells in
+      let e = subst (λ z. ◌≡◌ {A = List (Did T A)} (z ++ did_enter u.iso ∷ []) (did_leave u.iso place ∷ do_blocks (isolated ds) recorder x.0 (did_enter u.iso ∷ []))) u.holds.is x.2 in
+      let b = recorded_builds (format_of ds) (isolated ds) u.iso u.holds.iso place u.holds.place u.holds.before x.0 (blocks_whole types owns (format_of ds) place x.0 old.stream.rest new.stream.rest x.1) e in
       let f = sym u.holds.built_before ∙ ap (λ (z : Building T A). z.unfinished) b in record {
         bs = x.0;
         is_read = x.1;
@@ -171,8 +171,8 @@ module _ {T A U : Type 0} (types_at : Reader T) (types_written : T → Text) (re
   pub named : (path : ℕ → Path) × Each (λ item. path item.0 ≡ item.1) (paths_in_blocks (0 ∷ []) 0 blocks)
   named = paths_exist types owns (format_of ds) short_types short_owns (0 ∷ []) (shown place) blocks old.stream.rest new.stream.rest region_reads
 
-  abbrev at_end : (z : history.Outcome) × StandsAs named.0 (u.made ++ []) [] names u.mid.state z × (region_at ds types_at (attr_at reading) (doing ds named.0) u.iso old.stream.rest (going start) ≡ Advanced tt z new.stream.rest)
-  at_end = u.runs named.0 [] (going start) (fresh_stands before old.state no_names no_values no_labels fresh.marks named.0)
+  abbrev at_end : (z : history.Outcome) × MachineAgrees named.0 (u.made ++ []) [] names u.mid.state z × (region_at ds types_at (attr_at reading) (doing ds named.0) u.iso old.stream.rest (going start) ≡ Advanced tt z new.stream.rest)
+  at_end = u.runs named.0 [] (going start) (fresh_agrees before old.state no_names no_values no_labels fresh.marks named.0)
 
   -- the machine ran their script without failure
   pub ran : run (going start) (events (region_alone ds place blocks)) ≡ going at_end.1.state
@@ -214,10 +214,10 @@ module _ {T A U : Type 0} (types_at : Reader T) (types_written : T → Text) (re
       (kept : KeepsOlder old.state.ctx.now.graph.made old.state.ctx.now u.mid.state.ctx.now) (sound : IsSound old.state.ctx.now.graph.made names u.mid.state)
       (nest : graphs.Nested (children new.state.ctx.now.graph) (parent new.state.ctx.now.graph)) (holders : (c k : Object) → parent old.state.ctx.now.graph c ≡ Some k → IsLive old.state.ctx.now.graph k) where
     values_none : names.values ≡ []
-    values_none = values_shut names u.mid.state.ctx.now.graph at_end.1.known [] at_end.1.state at_end.1.stands (ap (λ (z : history.State). z.values) region_says)
+    values_none = values_shut names u.mid.state.ctx.now.graph at_end.1.known [] at_end.1.state at_end.1.agreed (ap (λ (z : history.State). z.values) region_says)
 
     labels_none : names.labels ≡ []
-    labels_none = labels_shut names u.mid.state.ctx.now.graph at_end.1.known [] at_end.1.state at_end.1.stands (ap (λ (z : history.State). z.labels) region_says)
+    labels_none = labels_shut names u.mid.state.ctx.now.graph at_end.1.known [] at_end.1.state at_end.1.agreed (ap (λ (z : history.State). z.labels) region_says)
 
     none : NoneIsLeft old.state.ctx.now.graph.made [] u.mid.state.ctx.now.graph
     none = none_left old.state.ctx.now.graph.made names.values names.labels u.mid.state.ctx.now.graph values_none labels_none sound.waiting
@@ -236,10 +236,10 @@ module _ {T A U : Type 0} (types_at : Reader T) (types_written : T → Text) (re
       resolves = region_resolves;
       moves = u.moves;
       builds = built.builds_now (IsLocated old.state.src (whole old.stream)) old.state.ctx.now u.mid.state.ctx.now new.state.ctx.now u.made u.holds.whole op r place blocks u.holds.holds u.holds.there u.holds.tracks u.places here
-          old.state.ctx.now.graph.made older kept none sound.blanks holders nest named.0 named.1 (isolated ds) id id_closed formed names at_end.1.known are at_end.1.state at_end.1.stands ran
-          (location_of new.state.ctx.now.paths old.state.src (whole old.stream)) (λ n l e. place_told new.state.ctx.now.paths old.state.src (whole old.stream) n l e);
+          old.state.ctx.now.graph.made older kept none sound.blanks holders nest named.0 named.1 (isolated ds) id id_closed formed names at_end.1.known are at_end.1.state at_end.1.agreed ran
+          (location_of new.state.ctx.now.paths old.state.src (whole old.stream)) (λ n l e. place_written new.state.ctx.now.paths old.state.src (whole old.stream) n l e);
       marks = region_marks;
       only = built.only_now (IsLocated old.state.src (whole old.stream)) old.state.ctx.now u.mid.state.ctx.now new.state.ctx.now u.made u.holds.whole op r place blocks u.holds.holds u.holds.there u.holds.tracks u.places here
-          old.state.ctx.now.graph.made older kept none sound.blanks holders nest named.0 named.1 (isolated ds) id id_closed formed names at_end.1.known are at_end.1.state at_end.1.stands ran
-          (location_of new.state.ctx.now.paths old.state.src (whole old.stream)) (λ n l e. place_told new.state.ctx.now.paths old.state.src (whole old.stream) n l e) u.with_it;
+          old.state.ctx.now.graph.made older kept none sound.blanks holders nest named.0 named.1 (isolated ds) id id_closed formed names at_end.1.known are at_end.1.state at_end.1.agreed ran
+          (location_of new.state.ctx.now.paths old.state.src (whole old.stream)) (λ n l e. place_written new.state.ctx.now.paths old.state.src (whole old.stream) n l e) u.with_it;
     }

@@ -46,7 +46,7 @@ use Rattle.irtext_promises.specs.Alone as alone
 use Rattle.irtext_promises.specs.Alone.{region_alone, RefusesRegion, first}
 use Rattle.irtext_promises.specs.Promises.{start_with, IsOf, IsFirst}
 use Rattle.irtext_promises.proofs.Refuses.{first_is}
-use Rattle.irtext_parse_nested.specs.Items.{Names, StandsAs, doing}
+use Rattle.irtext_parse_nested.specs.Items.{Names, MachineAgrees, doing}
 use Rattle.irtext_parse_root.specs.AnyRegion as region
 use Rattle.irtext_parse_root.specs.AnyRegion.{ReadsRegion, HasRegionFault, MissesRegion}
 use Rattle.irtext_parse_root.specs.Under as under
@@ -54,7 +54,7 @@ use Rattle.irtext_parse_root.specs.Under.{IsolatedAs, ReadsUnder, FaultUnder, Re
 use Rattle.irtext_parse_root.specs.Region.{unisolated, IsReportedAt}
 use Rattle.irtext_parse_root.proofs.Causes.{no_cause}
 use Rattle.irtext_parse_root.proofs.Failing.{region_never_failed}
-use Rattle.irtext_parse_root.proofs.Fresh.{begun_stands}
+use Rattle.irtext_parse_root.proofs.Fresh.{begun_agrees}
 use Rattle.irtext_parse_root.proofs.Refused.{SaysText}
 use Rattle.irtext_parse_root.proofs.RegionPlaces.{paths_exist}
 use Rattle.irtext_parse_root.proofs.RegionRuns.{region_runs}
@@ -128,14 +128,14 @@ refused_unisolated old new fault because flag fails = record {
 module _ {T A U : Type 0} (types_at : Reader T) (reading : Reader A) (sincere_types : Sincere types_at) (sincere : Sincere reading) (before : Names) (old : StateStream T A U)
     (no_names : before.names ≡ []) (no_values : before.values ≡ []) (no_labels : before.labels ≡ []) (op : Ptr Operation) where
   pub says_region : (fault : ParseFault A) → UnlessMemory (RefusesUnder types_at (attr_at reading) op before old) fault → SaysText fault
-  says_region fault (inl starved) = record { not_failed = λ e. cc (starved.because, e); first = λ e. absurd (cc (starved.flag, e)) }
+  says_region fault (inl ran_out) = record { not_failed = λ e. cc (ran_out.because, e); first = λ e. absurd (cc (ran_out.flag, e)) }
   says_region fault (inr (under.not_isolated of_it shared because flag at)) = record { not_failed = λ e. cc (because, e); first = λ e. absurd (cc (flag, e)) }
   says_region fault (inr (under.in_text iso of_it opened (under.no_region begins because flag at))) = record { not_failed = λ e. cc (because, e); first = λ e. ap is_first_fault because }
   says_region fault (inr (under.in_text iso of_it opened (under.at_text begins cause place f flag so))) =
       let ds = old.state.ctx.now.dialects in
       let path : ℕ → Path = λ n. [] in
       let begun = start_with (indices_of (marks_of old.state)) in
-      let stuck = so path [] (going begun) (begun_stands before old.state no_names no_values no_labels path) in
+      let stuck = so path [] (going begun) (begun_agrees before old.state no_names no_values no_labels path) in
       record {
         not_failed = λ e. region_never_failed types_at reading sincere_types sincere ds (doing {T = T} {A = A} ds path) iso old.stream.rest (going begun) (going stuck.0) cause place stuck.1 (sym f.because ∙ e);
         first = λ e. absurd (cc (flag, e));
@@ -159,8 +159,8 @@ module _ {T A U : Type 0} (types_at : Reader T) (attr : Reader (AttrView A)) (be
   abbrev reached : Bool → (ℕ → Path) → Reached Unit history.Outcome
   reached iso path = region_at dialects types_at attr (doing dialects path) iso old.stream.rest begun
 
-  begun_there : (path : ℕ → Path) → StandsAs path [] [] before old.state begun
-  begun_there path = begun_stands before old.state no_names no_values no_labels path
+  begun_there : (path : ℕ → Path) → MachineAgrees path [] [] before old.state begun
+  begun_there path = begun_agrees before old.state no_names no_values no_labels path
 
   fault_missed : (iso : Bool) → iso ≡ true → (fault : ParseFault A) → FaultUnder types_at attr iso before old fault → HasRegionFault types_at attr dialects earlier old.stream fault
   fault_missed iso is fault (under.no_region begins because flag at) = region.no_brace begins because at flag
@@ -181,7 +181,7 @@ module _ {T A U : Type 0} (types_at : Reader T) (attr : Reader (AttrView A)) (be
 
   -- and if it is an error, the fault is that of the text
   pub misses_region : (fault : ParseFault A) → UnlessMemory (RefusesUnder types_at attr op before old) fault → UnlessMemory (MissesRegion types_at attr op old) fault
-  misses_region fault (inl starved) = inl starved
+  misses_region fault (inl ran_out) = inl ran_out
   misses_region fault (inr (under.not_isolated of_it shared because flag at)) = let e = closed_as old.state.ctx.now op here none false of_it in absurd (cc)
   misses_region fault (inr (under.in_text iso of_it opened f)) = inr (region.in_text none (fault_missed iso (closed_as old.state.ctx.now op here none iso of_it) fault f))
 
@@ -234,7 +234,7 @@ module _ {T A U : Type 0} (types_at : Reader T) (types_written : T → Text) (re
 
   -- what an error says on any state is what is promised of it on a fresh one
   pub refuses_region : UnlessMemory (MissesRegion types_at (attr_at reading) op old) fault → UnlessMemory (RefusesRegion (texts_of types_at types_written) (texts_of reading written) ds (unisolated old.state.ctx.now op) old.stream) fault
-  refuses_region (inl starved) = inl starved
+  refuses_region (inl ran_out) = inl ran_out
   refuses_region (inr (region.not_isolated u)) = inr (alone.not_isolated u)
   refuses_region (inr (region.in_text none f)) =
       let here = subst (λ ms. HasRegionFault types_at (attr_at reading) ds ms old.stream fault) (ap indices_of fresh.marks) f in

@@ -42,7 +42,7 @@ module _ {T A U : Type 0} {types : ir_text.Ghosts T A} {owns : ir_text.Ghosts A 
   pub operation_missed : (look : Bool) → AnswersOperation types owns look old (Err fault) new
   operation_missed look = record {
     read = tt;
-    missed = λ fine. elim missed [ inl starved ↦ inl starved | inr has ↦ inr (no_operation accepted has) ];
+    missed = λ fine. elim missed [ inl ran_out ↦ inl ran_out | inr has ↦ inr (no_operation accepted has) ];
     builds = λ fresh. tt;
     unresolved = refused_fresh look;
   }
@@ -50,7 +50,7 @@ module _ {T A U : Type 0} {types : ir_text.Ghosts T A} {owns : ir_text.Ghosts A 
   pub root_missed : AnswersWhole types owns old (Err fault) new
   root_missed = record {
     read = tt;
-    missed = λ fine. elim missed [ inl starved ↦ inl starved | inr has ↦ inr (no_root (no_operation accepted has)) ];
+    missed = λ fine. elim missed [ inl ran_out ↦ inl ran_out | inr has ↦ inr (no_root (no_operation accepted has)) ];
     builds = λ fresh. tt;
     unresolved = λ fresh. whole_refused (texts types) (texts owns) types.reading (attr owns) (refused_fresh true fresh);
   }

@@ -6,7 +6,7 @@ use Rattle.irtext_base.specs.Faults.{Fault, fault_of}
 use Rattle.irtext_base.specs.Answers.{Outcome}
 use Rattle.irtext_base.specs.Stream.{IsAt}
 use Rattle.irtext_base.specs.declared.parsable.fault.ParseFault.{ParseFault}
-use Rattle.irtext_grammar.specs.Contexts.Held.{StandsAt}
+use Rattle.irtext_grammar.specs.Contexts.Held.{IsPosition}
 use Rattle.irtext_grammar.specs.Names.Script as script
 use Rattle.irtext_grammar.specs.Names.Script.{Cause, Failure}
 use Rattle.irtext_parse_spec.specs.Promises.Root.{IsCause, IsPlace}
@@ -37,7 +37,7 @@ module _ {A X : Type 0} (all passed rest : Text) (whole : passed ++ rest ≡ all
       let k : (fault_for s.first.cause ≡ cause) × (s.upto ≡ upto) = subst (λ z. RefusedAs z cause upto) s.bad h in
       let text : all ≡ (passed ++ upto) ++ s.stop = sym whole ∙ (ap (λ z. passed ++ z) (sym s.splits ∙ ap (λ z. z ++ s.stop) k.1) ∙ sym (append_assoc passed upto s.stop)) in
       let front : take (length all - length s.stop) all ≡ passed ++ upto = ap (λ z. take (length z - length s.stop) z) text ∙ front_is (passed ++ upto) s.stop in
-      let place : StandsAt all (length s.stop) fault.pos = subst (λ z. IsAt fault.pos.line fault.pos.column z) (sym front) at in
+      let place : IsPosition all (length s.stop) fault.pos = subst (λ z. IsAt fault.pos.line fault.pos.column z) (sym front) at in
       subst (λ z. IsFirst all z fault) (sym s.is)
       (subst (IsCause s.first.cause) (k.0 ∙ sym because) (is_own s.first.cause), subst (λ z. IsPlace all z fault.pos) (sym s.at) place)
 

@@ -36,7 +36,7 @@ use Rattle.irtext_grammar.proofs.Graphs.Links.{all_there}
 use Rattle.irtext_grammar.proofs.Names.ResolvedRoot as resolved
 use Rattle.irtext_parse_spec.specs.Promises.Root.{location_of}
 use Rattle.irtext_parse_spec.specs.Promises.Section.{indices_of, is_noted}
-use Rattle.irtext_parse_spec.specs.Promises.Supported.{location_standing}
+use Rattle.irtext_parse_spec.specs.Promises.Supported.{location_verdict}
 use Rattle.irtext_parse_spec.specs.Promises.Root.{UnlessMemory}
 use Rattle.irtext_parse_spec.proofs.Readers.Answered.{moves_more}
 use Rattle.irtext_parse_spec.proofs.Knot.Whole as knot
@@ -48,7 +48,7 @@ use Rattle.irtext_promises.specs.Placed.{RootIs}
 use Rattle.irtext_promises.specs.Promises.{BuildsTree, BuildsRoot, RefusesRoot}
 use Rattle.irtext_promises.specs.WithSection.{SameShape}
 use Rattle.irtext_promises.proofs.Ages.{operation_stays, block_stays, region_stays}
-use Rattle.irtext_promises.proofs.Behind.{place_told}
+use Rattle.irtext_promises.proofs.AfterTree.{place_written}
 use Rattle.irtext_promises.proofs.Equal.{Keeps}
 use Rattle.irtext_promises.proofs.Kept as kept
 use Rattle.irtext_promises.proofs.Root as root
@@ -149,7 +149,7 @@ module _ {T A U : Type 0} {types : ir_text.Ghosts T A} {owns : ir_text.Ghosts A 
     keeps_links = kept.keeps types_at types_written reading written dialects laws.types_split laws.splits laws.words laws.short_types laws.short_owns m.accepted L op earlier noted old.state.ctx.now mid.state.ctx.now old.stream.rest mid.stream.rest m.leaves m.closed first
 
   tells_first : (n : ℕ) (l : Location A) → L n l → location_over mid.state.ctx.now.paths l ≡ first_of mid.state.ctx.now n
-  tells_first n l e = place_told mid.state.ctx.now.paths old.state.src (whole old.stream) n l e
+  tells_first n l e = place_written mid.state.ctx.now.paths old.state.src (whole old.stream) n l e
 
   whole_without : IsWhole mid.state.ctx.now op
   whole_without = root_whole mid.state.ctx.now (first_of mid.state.ctx.now) [] op t
@@ -162,7 +162,7 @@ module _ {T A U : Type 0} {types : ir_text.Ghosts T A} {owns : ir_text.Ghosts A 
       record {
         tree = t;
         entries = [];
-        reads = (mid.stream.rest, reads_it, subst (λ z. section_if (knot.L types_at types_written reading written dialects) (location_standing (attr_at reading)) z [] mid.stream.rest mid.stream.rest) (sym unmarked) refl);
+        reads = (mid.stream.rest, reads_it, subst (λ z. section_if (knot.L types_at types_written reading written dialects) (location_verdict (attr_at reading)) z [] mid.stream.rest mid.stream.rest) (sym unmarked) refl);
         resolves = tree_resolves;
         moves = m.moves;
         builds = m.builds;
@@ -198,15 +198,15 @@ module _ {T A U : Type 0} {types : ir_text.Ghosts T A} {owns : ir_text.Ghosts A 
     -- ---- it was parsed
     -- what the text is then, whatever the items have
     module _ (entries : List (Entry ℕ A (Written A))) (taken rest : Text) (reads : section_at (attr_at reading) noted (rules_of marks) mid.stream.rest ≡ Read entries taken rest) where
-      read : section (knot.L types_at types_written reading written dialects) (location_standing (attr_at reading)) entries mid.stream.rest rest
+      read : section (knot.L types_at types_written reading written dialects) (location_verdict (attr_at reading)) entries mid.stream.rest rest
           × (taken ++ rest ≡ mid.stream.rest) × (refused noted (rules_of marks) entries ≡ [])
       read = section_read (texts_of types_at types_written) reading written (format_of dialects) laws.sincere laws.lawful noted (rules_of marks) mid.stream.rest entries taken rest reads
 
       none_wrong : refused noted (rule_of t) entries ≡ []
       none_wrong = subst (λ rules. refused noted rules entries ≡ []) same_rules read.2
 
-      pub reads_marked : reads_root (knot.L types_at types_written reading written dialects) (location_standing (attr_at reading)) t entries old.stream.rest rest
-      reads_marked = (mid.stream.rest, reads_it, subst (λ b. section_if (knot.L types_at types_written reading written dialects) (location_standing (attr_at reading)) b entries mid.stream.rest rest) (sym has_mark) read.0)
+      pub reads_marked : reads_root (knot.L types_at types_written reading written dialects) (location_verdict (attr_at reading)) t entries old.stream.rest rest
+      reads_marked = (mid.stream.rest, reads_it, subst (λ b. section_if (knot.L types_at types_written reading written dialects) (location_verdict (attr_at reading)) b entries mid.stream.rest rest) (sym has_mark) read.0)
 
       pub resolves_marked : failures_of (isolated dialects) t entries ≡ []
       resolves_marked = root.section_failures types_at types_written reading written dialects laws.types_split laws.splits laws.words laws.short_types laws.short_owns m.accepted L op earlier noted old.state.ctx.now mid.state.ctx.now old.stream.rest mid.stream.rest m.leaves none_earlier entries ∙ none_wrong
@@ -220,8 +220,8 @@ module _ {T A U : Type 0} {types : ir_text.Ghosts T A} {owns : ir_text.Ghosts A 
 
       each : GivesEach L mid.state.ctx.now m.leaves.items marks new.state.ctx.now first r.entries
       each = record {
-        operations = gives.operation_has (attr_at reading) mid new r (rules_of marks) none_refused L m.leaves.items first (λ n l e. place_told new.state.ctx.now.paths old.state.src (whole old.stream) n l e);
-        blocks = gives.block_has (attr_at reading) mid new r (rules_of marks) none_refused L m.leaves.items first (λ n l e. place_told new.state.ctx.now.paths old.state.src (whole old.stream) n l e);
+        operations = gives.operation_has (attr_at reading) mid new r (rules_of marks) none_refused L m.leaves.items first (λ n l e. place_written new.state.ctx.now.paths old.state.src (whole old.stream) n l e);
+        blocks = gives.block_has (attr_at reading) mid new r (rules_of marks) none_refused L m.leaves.items first (λ n l e. place_written new.state.ctx.now.paths old.state.src (whole old.stream) n l e);
       }
 
       has : RootHas new.state.ctx.now first r.entries (pointers mid.state.ctx.now.graph op) t
@@ -262,10 +262,10 @@ module _ {T A U : Type 0} {types : ir_text.Ghosts T A} {owns : ir_text.Ghosts A 
 
     -- ---- it was an error
     pub section_refused : (fault : ParseFault A) → MissesSection (attr_at reading) mid fault → UnlessMemory (RefusesRoot (texts_of types_at types_written) (texts_of reading written) types_at (attr_at reading) dialects old.stream) fault
-    section_refused fault (inl starved) = inl starved
-    section_refused fault (inr (cause, upto, h, at)) = inr (root.root_refused_behind types_at types_written reading written dialects laws.types_split laws.splits laws.words laws.short_types laws.short_owns m.accepted L op earlier noted old.state.ctx.now mid.state.ctx.now old.stream mid.stream.rest m.leaves none_earlier fault
+    section_refused fault (inl ran_out) = inl ran_out
+    section_refused fault (inr (cause, upto, h, at)) = inr (root.root_refused_after types_at types_written reading written dialects laws.types_split laws.splits laws.words laws.short_types laws.short_owns m.accepted L op earlier noted old.state.ctx.now mid.state.ctx.now old.stream mid.stream.rest m.leaves none_earlier fault
         (λ es left s.
-        let k = subst (λ b. section_if (knot.L types_at types_written reading written dialects) (location_standing (attr_at reading)) b es mid.stream.rest left) has_mark s in
+        let k = subst (λ b. section_if (knot.L types_at types_written reading written dialects) (location_verdict (attr_at reading)) b es mid.stream.rest left) has_mark s in
         let found = section_found (texts_of types_at types_written) reading written (format_of dialects) laws.sincere laws.lawful noted (rules_of marks) mid.stream.rest es left k in
         first_wrong (whole old.stream) mid.stream.passed mid.stream.rest (takes_whole alone old.stream mid.stream m.moves.taken mid.stream.rest m.moves.takes) fault cause upto at.because at.place
         (section_at (attr_at reading) noted (rules_of marks) mid.stream.rest) es left (refused noted (rule_of t) es)

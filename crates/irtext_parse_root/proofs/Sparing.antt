@@ -1,7 +1,7 @@
 -- What actions, steps and the loop leave, and that it is kept from one to the next.
 use Rattle.std.proofs.Common.{◌≡◌, ◌≤◌, ◌∙◌, ℕ, false, List, [], Option, Some, Result, Ok, Err, arith, ap, inl}
 use Rattle.std.specs.Prelude.{OnErr}
-use Rattle.irtext_base.specs.Answers.{StarvesHere}
+use Rattle.irtext_base.specs.Answers.{RunsOutHere}
 use Rattle.irtext_base.specs.Locations.{AttrView}
 use Rattle.irtext_base.specs.Stream.{StreamView}
 use Rattle.irtext_base.specs.declared.parsable.fault.ParseFault.{ParseFault}
@@ -14,7 +14,7 @@ use Rattle.irtext_parse_state.specs.declared.parsable.state.State as code
 use Rattle.irtext_parse_state.specs.declared.parsable.state.StateStream.{StateStream}
 use Rattle.irtext_parse_spec.specs.Promises.Section.{Moves}
 use Rattle.irtext_parse_spec.specs.Readers.Streams.{itself, replaced}
-use Rattle.irtext_parse_section.proofs.SectionSteps.{starved_there}
+use Rattle.irtext_parse_section.proofs.SectionSteps.{ran_out_there}
 use Rattle.irtext_parse_nested.proofs.Marking.{on_err}
 use Rattle.irtext_parse_nested.specs.Items.{Names, IsSound}
 use Rattle.irtext_parse_nested.specs.declared.frame.BegunRegion.{BegunRegion}
@@ -73,10 +73,10 @@ module _ {T A U X : Type 0} {types_at : Reader T} {attr : Reader (AttrView A)} {
   step_failed stops spares = record { proceeds = tt; stops = stops; spares = spares_as _ (λ m all. all.0) spares.remains spares }
 
   -- there was no memory for the frame to wait
-  pub step_starved : {x : X} {mid end : StreamView} {fault : ParseFault A} → StarvesHere itself replaced mid fault end → Carries before old names new → Spares (λ m. IsNewFrame m old.state.ctx.now.graph f) before old.state (Ok x) names new.state → Steps types_at attr f waits before old (Err fault) names (record { stream = end; state = new.state }) frames
-  step_starved starves carries spares =
-      let starved = starved_there starves in
-      record { proceeds = tt; stops = record { committed = starved.flag; stops = λ base v l ls here. inl starved }; spares = spares_as _ (λ m all. all.0) (remains_so carries) spares }
+  pub step_ran_out : {x : X} {mid end : StreamView} {fault : ParseFault A} → RunsOutHere itself replaced mid fault end → Carries before old names new → Spares (λ m. IsNewFrame m old.state.ctx.now.graph f) before old.state (Ok x) names new.state → Steps types_at attr f waits before old (Err fault) names (record { stream = end; state = new.state }) frames
+  step_ran_out runs_out carries spares =
+      let ran_out = ran_out_there runs_out in
+      record { proceeds = tt; stops = record { committed = ran_out.flag; stops = λ base v l ls here. inl ran_out }; spares = spares_as _ (λ m all. all.0) (remains_so carries) spares }
 
 -- a step that consumes white space alone
 pub step_passed : {T A U : Type 0} {types_at : Reader T} {attr : Reader (AttrView A)} {f : Frame} {waits frames : List Frame} {names : Names} {old : StateStream T A U} {v : StreamView} {next : Option Frame}

@@ -9,7 +9,7 @@ use Rattle.irtext_graph.specs.declared.object.Region.{Region}
 use Rattle.irtext_graph.specs.declared.object.Object.{Object}
 use Rattle.irtext_graph.specs.declared.object.Object.TheVariants.{TheOperation, TheBlock, TheRegion}
 use Rattle.irtext_graph.specs.Chained.{Among}
-use Rattle.irtext_graph.proofs.Nests.{told}
+use Rattle.irtext_graph.proofs.Nests.{same_or_other}
 use Rattle.irtext_graph.proofs.Same.{ptr_tells}
 use Rattle.irtext_parse_spec.specs.Grows.{with_last_block, RegionCame, RegionGains}
 use Rattle.irtext_parse_spec.specs.Unchanged.{IsThere, ModifiesOnly}
@@ -50,7 +50,7 @@ module _ {T A : Type 0} (old new : ContextView T A) where
 
   -- a region has one more block, which was created
   pub stay_gained : (q : Ptr Region) (b : Ptr BasicBlock) → RegionGains old new q b → ModifiesOnly (TheBlock b ∷ TheRegion q ∷ []) old new → RegionsStay old new
-  stay_gained q b gains s = record { stay = λ r view e. elim (told ptr_tells r q) [ inl f ↦ same r view e f | inr n ↦ other r view e n ] }
+  stay_gained q b gains s = record { stay = λ r view e. elim (same_or_other ptr_tells r q) [ inl f ↦ same r view e f | inr n ↦ other r view e n ] }
     where
       same : (r : Ptr Region) (view : RegionView) → region old r ≡ Some view → r ≡ q → (now : RegionView) × (region new r ≡ Some now) × (now.parent ≡ view.parent)
       same r view e f = (

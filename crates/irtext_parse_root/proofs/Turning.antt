@@ -42,8 +42,8 @@ use Rattle.irtext_parse_nested.specs.Read.{begun_by, uses_of, ReadsPiece, EndsOp
 use Rattle.irtext_parse_root.specs.Built.{Built, IsHeld, Ended}
 use Rattle.irtext_parse_root.specs.Here.{Base, outermost, within}
 use Rattle.irtext_parse_root.specs.Levels.{Level, at_operation, at_region, at_block, outward, open_of, next_of, waiting, pledges_of, ats_of}
-use Rattle.irtext_parse_root.specs.Stands.{one_stands, text_there}
-use Rattle.irtext_parse_root.specs.Told.{Did, did_use, did_late, did_enter, did_leave, did_close, did_mark, did_head, told}
+use Rattle.irtext_parse_root.specs.OperationFollows.{operation_follows, text_there}
+use Rattle.irtext_parse_root.specs.Recorded.{Did, did_use, did_late, did_enter, did_leave, did_close, did_mark, did_head, recorder}
 use Rattle.irtext_parse_root.specs.Turned.{RegionsStay, Turned}
 use Rattle.irtext_parse_root.specs.Turns.{Begins}
 use Rattle.irtext_parse_root.proofs.Builds.{begins_in_block, region_enters, piece_comes, root_ends, ends_in_block, block_comes, region_leaves, region_alone}
@@ -79,15 +79,15 @@ module _ {T A U : Type 0} (types_at : Reader T) (attr : Reader (AttrView A)) (ba
 
   -- the text where a turn ends is another name of the same
   goes_to : (f : Option (Open T A)) (fs : List (Open T A)) (n : Option (Open T A)) (ns : List (Open T A)) (did : List (Did T A)) (t u : Text) → u ≡ t
-      → Goes dialects types_at attr told f fs [] old.stream.rest n ns did t → Goes dialects types_at attr told f fs [] old.stream.rest n ns did u
-  goes_to f fs n ns did t u e g = subst (λ z. Goes dialects types_at attr told f fs [] old.stream.rest n ns did z) (sym e) g
+      → Goes dialects types_at attr recorder f fs [] old.stream.rest n ns did t → Goes dialects types_at attr recorder f fs [] old.stream.rest n ns did u
+  goes_to f fs n ns did t u e g = subst (λ z. Goes dialects types_at attr recorder f fs [] old.stream.rest n ns did z) (sym e) g
 
   -- ---- a block: no operation follows in it
-  module _ (k : Unbounded dialects types_at attr told) (kb : BegunBlock) (r : BegunRegion) (iso : Bool) (place : ℕ) (last : Option (Ptr BasicBlock)) (more : List (Level T A)) (v : StreamView) where
+  module _ (k : Unbounded dialects types_at attr recorder) (kb : BegunBlock) (r : BegunRegion) (iso : Bool) (place : ℕ) (last : Option (Ptr BasicBlock)) (more : List (Level T A)) (v : StreamView) where
     abbrev in_region : List (Level T A)
     in_region = at_region r iso place last ∷ more
 
-    pub block_left : one_stands kb.first old.stream.rest ≡ false → v.rest ≡ text_there kb.first old.stream.rest → length v.rest ≤ length old.stream.rest → Makes (at_block kb ∷ in_region) in_region before (with_stream old v)
+    pub block_left : operation_follows kb.first old.stream.rest ≡ false → v.rest ≡ text_there kb.first old.stream.rest → length v.rest ≤ length old.stream.rest → Makes (at_block kb ∷ in_region) in_region before (with_stream old v)
     block_left b e fewer = record {
       did = [];
       made = [];
@@ -100,39 +100,39 @@ module _ {T A U : Type 0} (types_at : Reader T) (attr : Reader (AttrView A)) (ba
       builds = λ start items marks ds h. record { whole = h.whole; holds = h.holds; carried = carried_still items _ _ marks refl h.carried };
     }
       where
-        go : (first : Bool) → one_stands first old.stream.rest ≡ false → v.rest ≡ text_there first old.stream.rest
-            → Goes dialects types_at attr told (Some (a_block first)) (outward (map open_of in_region)) [] old.stream.rest (next_of in_region) (waiting in_region) [] v.rest
+        go : (first : Bool) → operation_follows first old.stream.rest ≡ false → v.rest ≡ text_there first old.stream.rest
+            → Goes dialects types_at attr recorder (Some (a_block first)) (outward (map open_of in_region)) [] old.stream.rest (next_of in_region) (waiting in_region) [] v.rest
         go true b e = goes_to (Some (a_block true)) (outward (map open_of in_region)) (next_of in_region) (waiting in_region) [] (after_space old.stream.rest) v.rest e
-            (no_operation dialects types_at attr told (outward (map open_of in_region)) [] old.stream.rest (next_of in_region) (waiting in_region) b (theory_pops in_region))
+            (no_operation dialects types_at attr recorder (outward (map open_of in_region)) [] old.stream.rest (next_of in_region) (waiting in_region) b (theory_pops in_region))
         go false b e = goes_to (Some (a_block false)) (outward (map open_of in_region)) (next_of in_region) (waiting in_region) [] (after_space old.stream.rest) v.rest
             (e ∙ ap (λ z. cond z (after_space (without_first (after_space old.stream.rest))) (after_space old.stream.rest)) b)
-            (no_more_operations dialects types_at attr told k (outward (map open_of in_region)) [] old.stream.rest (next_of in_region) (waiting in_region) b (theory_pops in_region))
+            (no_more_operations dialects types_at attr recorder k (outward (map open_of in_region)) [] old.stream.rest (next_of in_region) (waiting in_region) b (theory_pops in_region))
 
     -- one follows, and its text
-    pub one_comes : (first : Bool) → one_stands first old.stream.rest ≡ true → v.rest ≡ text_there first old.stream.rest
-        → Goes dialects types_at attr told (Some (a_block first)) (outward (map open_of in_region)) [] old.stream.rest (Some (to_come true)) (outward (map open_of in_region) ++ a_block false ∷ []) [] v.rest
+    pub one_comes : (first : Bool) → operation_follows first old.stream.rest ≡ true → v.rest ≡ text_there first old.stream.rest
+        → Goes dialects types_at attr recorder (Some (a_block first)) (outward (map open_of in_region)) [] old.stream.rest (Some (to_come true)) (outward (map open_of in_region) ++ a_block false ∷ []) [] v.rest
     one_comes true b e = goes_to (Some (a_block true)) (outward (map open_of in_region)) (Some (to_come true)) (outward (map open_of in_region) ++ a_block false ∷ []) [] (after_space old.stream.rest) v.rest e
-        (first_operation dialects types_at attr told (outward (map open_of in_region)) [] old.stream.rest b)
+        (first_operation dialects types_at attr recorder (outward (map open_of in_region)) [] old.stream.rest b)
     one_comes false b e = goes_to (Some (a_block false)) (outward (map open_of in_region)) (Some (to_come true)) (outward (map open_of in_region) ++ a_block false ∷ []) [] (after_space (without_first (after_space old.stream.rest))) v.rest
         (e ∙ ap (λ z. cond z (after_space (without_first (after_space old.stream.rest))) (after_space old.stream.rest)) b)
-        (another_operation dialects types_at attr told k (outward (map open_of in_region)) [] old.stream.rest b)
+        (another_operation dialects types_at attr recorder k (outward (map open_of in_region)) [] old.stream.rest b)
 
-    abbrev waits_behind : BegunBlock
-    waits_behind = record { block = kb.block; first = false }
+    abbrev waits_after : BegunBlock
+    waits_after = record { block = kb.block; first = false }
 
     -- ---- an operation begins in it
-    pub operation_in_block : (splits : (step : Step) → Splits (piece_at types_at attr true step)) (b : BegunOperation) (names : Names) (new : StateStream T A U) → one_stands kb.first old.stream.rest ≡ true → v.rest ≡ text_there kb.first old.stream.rest
+    pub operation_in_block : (splits : (step : Step) → Splits (piece_at types_at attr true step)) (b : BegunOperation) (names : Names) (new : StateStream T A U) → operation_follows kb.first old.stream.rest ≡ true → v.rest ≡ text_there kb.first old.stream.rest
         → whole v ≡ text → last ≡ Some kb.block → (length new.stream.rest < length v.rest) × (length v.rest ≤ length old.stream.rest) → (h : Begins types_at attr before (with_stream old v) (Some kb.block) b names new)
-        → Makes (at_block kb ∷ in_region) (at_operation b (begun_by types_at attr true (with_stream old v) new.stream.rest h.begins.read) h.own ∷ at_block waits_behind ∷ in_region) names new
-    operation_in_block splits b names new stands e same is falls h =
+        → Makes (at_block kb ∷ in_region) (at_operation b (begun_by types_at attr true (with_stream old v) new.stream.rest h.begins.read) h.own ∷ at_block waits_after ∷ in_region) names new
+    operation_in_block splits b names new follows_on e same is falls h =
         let q = h.begins.read in
         let o = begun_by types_at attr true (with_stream old v) new.stream.rest q in
         record {
           did = did_use o.place o.id o.parts ∷ [];
           made = (o.place, TheOperation b.op) ∷ [];
-          goes = goes_trans (one_comes kb.first stands e)
-              (operation_begins dialects types_at attr told (outward (map open_of in_region) ++ a_block false ∷ []) true [] v.rest q.names q.id q.lead q.middle q.led q.parts new.stream.rest
-              (front_reads dialects types_at attr told true splits (front_steps (steps_in dialects q.id)) [] q.parts q.middle q.taken new.stream.rest [] q.front));
+          goes = goes_trans (one_comes kb.first follows_on e)
+              (operation_begins dialects types_at attr recorder (outward (map open_of in_region) ++ a_block false ∷ []) true [] v.rest q.names q.id q.lead q.middle q.led q.parts new.stream.rest
+              (front_reads dialects types_at attr recorder true splits (front_steps (steps_in dialects q.id)) [] q.parts q.middle q.taken new.stream.rest [] q.front));
           acts = acts_open ((o.place, TheOperation b.op) ∷ []) (λ path. uses_of types_at attr true (with_stream old v) new.stream.rest q path) before names old.state new.state (pledges_of in_region) (pledge_of b o.place)
               (record { so = λ path made others z st. h.begins.acts.so path made others z st });
           stays = stay_placed old.state.ctx.now new.state.ctx.now b.op kb.block came.2;
@@ -156,7 +156,7 @@ module _ {T A U : Type 0} (types_at : Reader T) (attr : Reader (AttrView A)) (ba
     piece_read next step ss names new e f same counts r became spares marked fewer = record {
       did = did_late o.place o.id r.piece ∷ [];
       made = [];
-      goes = piece_reads dialects types_at attr told o (outward (map open_of more)) [] old.stream.rest step ss e f r.piece r.taken new.stream.rest r.read;
+      goes = piece_reads dialects types_at attr recorder o (outward (map open_of more)) [] old.stream.rest step ss e f r.piece r.taken new.stream.rest r.read;
       acts = subst (λ w. Acts (λ path. (doing {T = T} {A = A} dialects path).late o.place o.id r.piece) before old.state (pledges_of more ++ pledge_of b o.place ∷ []) names new.state (pledges_of more ++ w ∷ []))
           (ap (λ z. record { place = o.place; op = z; results = b.results }) (sym same) ∙ ap (λ z. record { place = o.place; op = next.op; results = z }) (sym counts))
           (acts_within [] (λ path. (doing {T = T} {A = A} dialects path).late o.place o.id r.piece) before names old.state new.state (pledges_of more ++ pledge_of b o.place ∷ []) r.acts);
@@ -170,14 +170,14 @@ module _ {T A U : Type 0} (types_at : Reader T) (attr : Reader (AttrView A)) (ba
     }
 
     -- ---- it waits for a region
-    module _ (k : Unbounded dialects types_at attr told) (r : BegunRegion) (v : StreamView) (names : Names) (new : StateStream T A U) where
+    module _ (k : Unbounded dialects types_at attr recorder) (r : BegunRegion) (v : StreamView) (names : Names) (new : StateStream T A U) where
       abbrev in_it : BegunOperation → List Step → List (Part ℕ T A) → List (Level T A)
       in_it next ss ps = at_region r (isolated dialects o.id) (length v.rest) None ∷ at_operation next (with_steps o ss ps) own ∷ more
 
       entered : (next : BegunOperation) (ss : List Step) (ps : List (Part ℕ T A)) (iso : Bool) → next.op ≡ b.op → next.results ≡ b.results → iso ≡ isolated dialects o.id
           → (h : BeginsRegion types_at attr iso r before (with_stream old v) names new) → RegionCame old.state.ctx.now new.state.ctx.now r.region → OperationGains old.state.ctx.now new.state.ctx.now b.op r.region
           → ModifiesOnly (TheRegion r.region ∷ TheOperation b.op ∷ []) old.state.ctx.now new.state.ctx.now → marks_of new.state ≡ marks_of old.state → length new.stream.rest ≤ length old.stream.rest
-          → Goes dialects types_at attr told (next_of (at_operation b o own ∷ more)) (waiting (at_operation b o own ∷ more)) [] old.stream.rest (next_of (in_it next ss ps)) (waiting (in_it next ss ps)) (did_enter (isolated dialects o.id) ∷ []) new.stream.rest
+          → Goes dialects types_at attr recorder (next_of (at_operation b o own ∷ more)) (waiting (at_operation b o own ∷ more)) [] old.stream.rest (next_of (in_it next ss ps)) (waiting (in_it next ss ps)) (did_enter (isolated dialects o.id) ∷ []) new.stream.rest
           → Makes (at_operation b o own ∷ more) (in_it next ss ps) names new
       entered next ss ps iso same counts is h came gains spares marked fewer g = record {
         did = did_enter (isolated dialects o.id) ∷ [];
@@ -201,28 +201,28 @@ module _ {T A U : Type 0} (types_at : Reader T) (attr : Reader (AttrView A)) (ba
           → ModifiesOnly (TheRegion r.region ∷ TheOperation b.op ∷ []) old.state.ctx.now new.state.ctx.now → marks_of new.state ≡ marks_of old.state → length new.stream.rest ≤ length old.stream.rest
           → Makes (at_operation b o own ∷ more) (in_it next ss (o.parts ++ tree.region i ∷ [])) names new
       region_entered i ss next iso e same counts is at h came gains spares marked fewer = entered next ss (o.parts ++ tree.region i ∷ []) iso same counts is h came gains spares marked fewer
-          (subst (λ n. Goes dialects types_at attr told (next_of (at_operation b o own ∷ more)) (waiting (at_operation b o own ∷ more)) [] old.stream.rest (Some (a_region (isolated dialects o.id) n)) (waiting (in_it next ss (o.parts ++ tree.region i ∷ []))) (did_enter (isolated dialects o.id) ∷ []) new.stream.rest)
+          (subst (λ n. Goes dialects types_at attr recorder (next_of (at_operation b o own ∷ more)) (waiting (at_operation b o own ∷ more)) [] old.stream.rest (Some (a_region (isolated dialects o.id) n)) (waiting (in_it next ss (o.parts ++ tree.region i ∷ []))) (did_enter (isolated dialects o.id) ∷ []) new.stream.rest)
           (ap length (sym at))
-          (region_begins dialects types_at attr told k o (outward (map open_of more)) [] old.stream.rest i ss e tt h.taken new.stream.rest (ap (word (codes "{") ▷ space_at) (sym at) ∙ h.read)))
+          (region_begins dialects types_at attr recorder k o (outward (map open_of more)) [] old.stream.rest i ss e tt h.taken new.stream.rest (ap (word (codes "{") ▷ space_at) (sym at) ∙ h.read)))
 
       -- one of all regions
       pub another_entered : (ss : List Step) (iso : Bool) → o.steps ≡ all ∷ ss → begins_region (after_space old.stream.rest) ≡ true → iso ≡ isolated dialects o.id → v.rest ≡ after_space old.stream.rest
           → (h : BeginsRegion types_at attr iso r before (with_stream old v) names new) → RegionCame old.state.ctx.now new.state.ctx.now r.region → OperationGains old.state.ctx.now new.state.ctx.now b.op r.region
           → ModifiesOnly (TheRegion r.region ∷ TheOperation b.op ∷ []) old.state.ctx.now new.state.ctx.now → marks_of new.state ≡ marks_of old.state → length new.stream.rest ≤ length old.stream.rest
           → Makes (at_operation b o own ∷ more) (in_it b o.steps o.parts) names new
-      another_entered ss iso e stands is at h came gains spares marked fewer = entered b o.steps o.parts iso refl refl is h came gains spares marked fewer
-          (subst (λ n. Goes dialects types_at attr told (next_of (at_operation b o own ∷ more)) (waiting (at_operation b o own ∷ more)) [] old.stream.rest (Some (a_region (isolated dialects o.id) n)) (waiting (in_it b o.steps o.parts)) (did_enter (isolated dialects o.id) ∷ []) new.stream.rest)
+      another_entered ss iso e follows_on is at h came gains spares marked fewer = entered b o.steps o.parts iso refl refl is h came gains spares marked fewer
+          (subst (λ n. Goes dialects types_at attr recorder (next_of (at_operation b o own ∷ more)) (waiting (at_operation b o own ∷ more)) [] old.stream.rest (Some (a_region (isolated dialects o.id) n)) (waiting (in_it b o.steps o.parts)) (did_enter (isolated dialects o.id) ∷ []) new.stream.rest)
           (ap length (sym at))
-          (another_region dialects types_at attr told k o (outward (map open_of more)) [] old.stream.rest ss e stands tt h.taken new.stream.rest (ap (word (codes "{") ▷ space_at) (sym at) ∙ h.read)))
+          (another_region dialects types_at attr recorder k o (outward (map open_of more)) [] old.stream.rest ss e follows_on tt h.taken new.stream.rest (ap (word (codes "{") ▷ space_at) (sym at) ∙ h.read)))
 
     -- no more regions
-    pub regions_over : (k : Unbounded dialects types_at attr told) (ss : List Step) (next : BegunOperation) (v : StreamView) → o.steps ≡ all ∷ ss → begins_region (after_space old.stream.rest) ≡ false → next.op ≡ b.op → next.results ≡ b.results → v.rest ≡ after_space old.stream.rest → length v.rest ≤ length old.stream.rest
+    pub regions_over : (k : Unbounded dialects types_at attr recorder) (ss : List Step) (next : BegunOperation) (v : StreamView) → o.steps ≡ all ∷ ss → begins_region (after_space old.stream.rest) ≡ false → next.op ≡ b.op → next.results ≡ b.results → v.rest ≡ after_space old.stream.rest → length v.rest ≤ length old.stream.rest
         → Makes (at_operation b o own ∷ more) (at_operation next (with_steps o ss (o.parts ++ tree.regions ∷ [])) own ∷ more) before (with_stream old v)
     regions_over k ss next v e none same counts at fewer = record {
       did = [];
       made = [];
       goes = goes_to (next_of (at_operation b o own ∷ more)) (outward (map open_of more)) (Some (an_operation (with_steps o ss (o.parts ++ tree.regions ∷ [])))) (outward (map open_of more)) [] (after_space old.stream.rest) v.rest at
-          (no_more_regions dialects types_at attr told k o (outward (map open_of more)) [] old.stream.rest ss e none);
+          (no_more_regions dialects types_at attr recorder k o (outward (map open_of more)) [] old.stream.rest ss e none);
       acts = subst (λ w. Acts (λ path z. z) before old.state (pledges_of more ++ pledge_of b o.place ∷ []) before old.state (pledges_of more ++ w ∷ []))
           (ap (λ z. record { place = o.place; op = z; results = b.results }) (sym same) ∙ ap (λ z. record { place = o.place; op = next.op; results = z }) (sym counts))
           (acts_none before old.state (pledges_of more ++ pledge_of b o.place ∷ []));
@@ -242,8 +242,8 @@ module _ {T A U : Type 0} (types_at : Reader T) (attr : Reader (AttrView A)) (ba
       abbrev at_end : List (Did T A)
       at_end = did_mark h.mark ∷ did_close o.place o.names o.id o.parts ∷ []
 
-      end_goes : Goes dialects types_at attr told (Some (an_operation o)) (outward (map open_of more)) [] old.stream.rest (next_of more) (waiting more) at_end new.stream.rest
-      end_goes = operation_ends dialects types_at attr told o (outward (map open_of more)) [] old.stream.rest e h.mark h.taken new.stream.rest (next_of more) (waiting more) h.read (theory_pops more)
+      end_goes : Goes dialects types_at attr recorder (Some (an_operation o)) (outward (map open_of more)) [] old.stream.rest (next_of more) (waiting more) at_end new.stream.rest
+      end_goes = operation_ends dialects types_at attr recorder o (outward (map open_of more)) [] old.stream.rest e h.mark h.taken new.stream.rest (next_of more) (waiting more) h.read (theory_pops more)
 
       end_acts : Acts (λ path z. (doing {T = T} {A = A} dialects path).marks h.mark ((doing {T = T} {A = A} dialects path).closes o.place o.names o.id o.parts z)) before old.state (pledges_of more ++ pledge_of b o.place ∷ []) names new.state (pledges_of more)
       end_acts = acts_close [] (λ path z. (doing {T = T} {A = A} dialects path).marks h.mark ((doing {T = T} {A = A} dialects path).closes o.place o.names o.id o.parts z)) before names old.state new.state (pledges_of more) (pledge_of b o.place) h.acts
@@ -253,7 +253,7 @@ module _ {T A U : Type 0} (types_at : Reader T) (attr : Reader (AttrView A)) (ba
       over outside is builds = record {
         did = at_end;
         made = [];
-        goes = subst (λ ls. Goes dialects types_at attr told (Some (an_operation o)) (outward (map open_of ls)) [] old.stream.rest (next_of ls) (waiting ls) at_end new.stream.rest) is end_goes;
+        goes = subst (λ ls. Goes dialects types_at attr recorder (Some (an_operation o)) (outward (map open_of ls)) [] old.stream.rest (next_of ls) (waiting ls) at_end new.stream.rest) is end_goes;
         acts = subst (λ ls. Acts (λ path z. (doing {T = T} {A = A} dialects path).marks h.mark ((doing {T = T} {A = A} dialects path).closes o.place o.names o.id o.parts z)) before old.state (pledges_of ls ++ pledge_of b o.place ∷ []) names new.state (pledges_of ls)) is end_acts;
         stays = stay_operation old.state.ctx.now new.state.ctx.now b.op spares;
         falls = fewer;
@@ -277,17 +277,17 @@ module _ {T A U : Type 0} (types_at : Reader T) (attr : Reader (AttrView A)) (ba
           refl refl has.place has.id (own_whole (format_of dialects) o own e has) became spares r.region kb.block last (ats_of outside) at (record { whole = held.whole; holds = held.holds; carried = held.carried }))
 
   -- ---- a region
-  module _ (k : Unbounded dialects types_at attr told) (r : BegunRegion) (iso : Bool) (place : ℕ) (last : Option (Ptr BasicBlock)) (more : List (Level T A)) (v : StreamView) (at : v.rest ≡ after_space old.stream.rest) (names : Names) (new : StateStream T A U) where
+  module _ (k : Unbounded dialects types_at attr recorder) (r : BegunRegion) (iso : Bool) (place : ℕ) (last : Option (Ptr BasicBlock)) (more : List (Level T A)) (v : StreamView) (at : v.rest ≡ after_space old.stream.rest) (names : Names) (new : StateStream T A U) where
     -- a block begins in it
     pub block_begun : (kb : BegunBlock) → begins_block (after_space old.stream.rest) ≡ true → kb.first ≡ true → whole v ≡ text → (h : BeginsBlock types_at attr kb before (with_stream old v) names new)
         → BlockCame old.state.ctx.now new.state.ctx.now (IsLocated old.state.src (whole v)) kb.block h.head → RegionGains old.state.ctx.now new.state.ctx.now r.region kb.block → ModifiesOnly (TheBlock kb.block ∷ TheRegion r.region ∷ []) old.state.ctx.now new.state.ctx.now
         → marks_of new.state ≡ marks_of old.state ++ noted_as h.head.mark (item.Block kb.block) → (length new.stream.rest < h.head.label.place) × (h.head.label.place ≤ length old.stream.rest)
         → Makes (at_region r iso place last ∷ more) (at_block kb ∷ at_region r iso place (Some kb.block) ∷ more) names new
-    block_begun kb stands first same h came gains spares note falls = record {
+    block_begun kb follows_on first same h came gains spares note falls = record {
       did = did_head h.head ∷ [];
       made = (h.head.label.place, TheBlock kb.block) ∷ [];
-      goes = subst (λ f. Goes dialects types_at attr told (Some (a_region iso place)) (outward (map open_of more)) [] old.stream.rest (Some (a_block f)) (outward (map open_of more) ++ a_region iso place ∷ []) (did_head h.head ∷ []) new.stream.rest) (sym first)
-          (block_begins dialects types_at attr told k iso place (outward (map open_of more)) [] old.stream.rest stands h.head h.taken new.stream.rest (ap (head_at types_at attr) (sym at) ∙ h.read));
+      goes = subst (λ f. Goes dialects types_at attr recorder (Some (a_region iso place)) (outward (map open_of more)) [] old.stream.rest (Some (a_block f)) (outward (map open_of more) ++ a_region iso place ∷ []) (did_head h.head ∷ []) new.stream.rest) (sym first)
+          (block_begins dialects types_at attr recorder k iso place (outward (map open_of more)) [] old.stream.rest follows_on h.head h.taken new.stream.rest (ap (head_at types_at attr) (sym at) ∙ h.read));
       acts = acts_within ((h.head.label.place, TheBlock kb.block) ∷ []) (λ path. (doing dialects path).heads h.head) before names old.state new.state (pledges_of more) (record { so = λ path made others z st. h.acts.so path made others z st });
       stays = stay_gained old.state.ctx.now new.state.ctx.now r.region kb.block gains spares;
       falls = falls;
@@ -299,8 +299,8 @@ module _ {T A U : Type 0} (types_at : Reader T) (attr : Reader (AttrView A)) (ba
 
     -- it ends
     module _ (none : begins_block (after_space old.stream.rest) ≡ false) (h : EndsRegion types_at attr iso place before (with_stream old v) names new) (still : new.state ≡ old.state) (fewer : length new.stream.rest ≤ length old.stream.rest) where
-      left_goes : Goes dialects types_at attr told (Some (a_region iso place)) (outward (map open_of more)) [] old.stream.rest (next_of more) (waiting more) (did_leave iso place ∷ []) new.stream.rest
-      left_goes = region_ends dialects types_at attr told k iso place (outward (map open_of more)) [] old.stream.rest none tt h.taken new.stream.rest (next_of more) (waiting more) (ap (word (codes "}")) (sym at) ∙ h.read) (theory_pops more)
+      left_goes : Goes dialects types_at attr recorder (Some (a_region iso place)) (outward (map open_of more)) [] old.stream.rest (next_of more) (waiting more) (did_leave iso place ∷ []) new.stream.rest
+      left_goes = region_ends dialects types_at attr recorder k iso place (outward (map open_of more)) [] old.stream.rest none tt h.taken new.stream.rest (next_of more) (waiting more) (ap (word (codes "}")) (sym at) ∙ h.read) (theory_pops more)
 
       left_acts : Acts (λ path. (doing {T = T} {A = A} dialects path).leaves iso place) before old.state (pledges_of more) names new.state (pledges_of more)
       left_acts = acts_within [] (λ path. (doing {T = T} {A = A} dialects path).leaves iso place) before names old.state new.state (pledges_of more) (record { so = λ path made others z st. h.acts.so path made others z st })
@@ -310,7 +310,7 @@ module _ {T A U : Type 0} (types_at : Reader T) (attr : Reader (AttrView A)) (ba
       left_over outside is builds = record {
         did = did_leave iso place ∷ [];
         made = [];
-        goes = subst (λ ls. Goes dialects types_at attr told (Some (a_region iso place)) (outward (map open_of ls)) [] old.stream.rest (next_of ls) (waiting ls) (did_leave iso place ∷ []) new.stream.rest) is left_goes;
+        goes = subst (λ ls. Goes dialects types_at attr recorder (Some (a_region iso place)) (outward (map open_of ls)) [] old.stream.rest (next_of ls) (waiting ls) (did_leave iso place ∷ []) new.stream.rest) is left_goes;
         acts = subst (λ ls. Acts (λ path. (doing {T = T} {A = A} dialects path).leaves iso place) before old.state (pledges_of ls) names new.state (pledges_of ls)) is left_acts;
         stays = subst (λ s. RegionsStay old.state.ctx.now s.ctx.now) (sym still) (stay_still old.state.ctx.now);
         falls = fewer;

@@ -52,7 +52,7 @@ use Rattle.irtext_parse_spec.specs.Unchanged.{region_under, IsThere, ModifiesOnl
 use Rattle.irtext_parse_spec.specs.Tracks.{Made, HoldsMade, IsHeld as HeldBy}
 use Rattle.irtext_parse_spec.proofs.Kept.{there_still}
 use Rattle.irtext_parse_nested.specs.declared.frame.BegunRegion.{BegunRegion}
-use Rattle.irtext_parse_nested.specs.Items.{Names, StandsAs, IsFailure, IsTextFault, IsSound, doing}
+use Rattle.irtext_parse_nested.specs.Items.{Names, MachineAgrees, IsFailure, IsTextFault, IsSound, doing}
 use Rattle.irtext_parse_nested.specs.OpenOperation.{IsRegion}
 use Rattle.irtext_parse_nested.specs.Located.{IsLocated}
 use Rattle.irtext_parse_nested.specs.Read as read
@@ -62,7 +62,7 @@ use Rattle.irtext_parse_root.specs.Built.{start_of, IsHeld, HoldsRegion}
 use Rattle.irtext_parse_root.specs.Carried.{Falls}
 use Rattle.irtext_parse_root.specs.Here.{within, IsHere, AreHere}
 use Rattle.irtext_parse_root.specs.Levels.{Level, at_region, isolated_in}
-use Rattle.irtext_parse_root.specs.Told.{did_enter, told, all_done}
+use Rattle.irtext_parse_root.specs.Recorded.{did_enter, recorder, all_done}
 use Rattle.irtext_parse_root.specs.Turned.{Turned, Faulted, at_text, by_names, Stops, Finishes}
 use Rattle.irtext_parse_root.specs.Under as under
 use Rattle.irtext_promises.specs.Alone.{IsOutermost}
@@ -71,7 +71,7 @@ use Rattle.irtext_parse_root.proofs.Carrying.{falls_both}
 use Rattle.irtext_parse_root.proofs.Chains.{moved_whole, turned_over, faulted_over}
 use Rattle.irtext_parse_root.proofs.Nearer.{moves_fewer}
 use Rattle.irtext_parse_root.proofs.Proceeding.{entered_more, is_open_some, loops}
-use Rattle.irtext_parse_root.proofs.Telling.{goes_told, goes_behind, stuck_told}
+use Rattle.irtext_parse_root.proofs.Telling.{goes_recorded, goes_after, stuck_recorded}
 use Rattle.irtext_parse_root.proofs.Unplaced.{alone_is, alone_came, alone_spares}
 
 -- ---- a new object is nested in new ones only
@@ -125,23 +125,23 @@ module _ {T A S : Type 0} (dialects : List (Text × Table)) (types_at : Reader T
   abbrev and_brace : Bool → ℕ → Reached Unit S → Reached Unit S
   and_brace iso place o = came o (λ _ z left. tells (word (codes "}") left) left z (λ _ end. Advanced tt (does.leaves iso place z) end))
 
-  abbrev behind_brace : Bool → ℕ → S → Unit {0} → Text → Reached Unit S
-  behind_brace iso place z x rest = and_brace iso place (blocks_by (block_at dialects types_at attr does) (length rest) rest z)
+  abbrev after_brace : Bool → ℕ → S → Unit {0} → Text → Reached Unit S
+  after_brace iso place z x rest = and_brace iso place (blocks_by (block_at dialects types_at attr does) (length rest) rest z)
 
   -- after its brace its blocks are left
   region_opens : (iso : Bool) (s : S) (u : Text) (x : Unit {0}) (taken r : Text) → (word (codes "{") ▷ space_at) u ≡ Read x taken r
       → region_at dialects types_at attr does iso u s ≡ theory.whole dialects types_at attr does (Some (a_region iso (length u))) [] (does.enters iso s) r
-  region_opens iso s u x taken r e = k.region_is iso u s ∙ (tells_found ((word (codes "{") ▷ space_at) u) u (does.enters iso s) (behind_brace iso (length u) (does.enters iso s)) x taken r e
+  region_opens iso s u x taken r e = k.region_is iso u s ∙ (tells_found ((word (codes "{") ▷ space_at) u) u (does.enters iso s) (after_brace iso (length u) (does.enters iso s)) x taken r e
       ∙ ap (λ v. and_brace iso (length u) (blocks_by (block_at dialects types_at attr does) (length r) v (does.enters iso s))) (sym (tight (word (codes "{") u) x taken r e)))
 
   -- no brace follows
-  region_lacks : (iso : Bool) (s : S) (u : Text) (cause : Fault) (upto : Text) → demanded ((word (codes "{") ▷ space_at) u) ≡ Bad cause upto
+  region_misses : (iso : Bool) (s : S) (u : Text) (cause : Fault) (upto : Text) → demanded ((word (codes "{") ▷ space_at) u) ≡ Bad cause upto
       → region_at dialects types_at attr does iso u s ≡ Stopped (does.enters iso s) cause (length u - length upto)
-  region_lacks iso s u cause upto e = k.region_is iso u s ∙ tells_bad ((word (codes "{") ▷ space_at) u) u (does.enters iso s) (behind_brace iso (length u) (does.enters iso s)) cause upto e
+  region_misses iso s u cause upto e = k.region_is iso u s ∙ tells_bad ((word (codes "{") ▷ space_at) u) u (does.enters iso s) (after_brace iso (length u) (does.enters iso s)) cause upto e
 
   -- it is entered before its brace is parsed
   entered_once : (iso : Bool) (s z : S) (u : Text) → does.enters iso s ≡ z → does.enters iso z ≡ z → region_at dialects types_at attr does iso u s ≡ region_at dialects types_at attr does iso u z
-  entered_once iso s z u f g = k.region_is iso u s ∙ (ap (λ y. tells ((word (codes "{") ▷ space_at) u) u y (behind_brace iso (length u) y)) (f ∙ sym g) ∙ sym (k.region_is iso u z))
+  entered_once iso s z u f g = k.region_is iso u s ∙ (ap (λ y. tells ((word (codes "{") ▷ space_at) u) u y (after_brace iso (length u) y)) (f ∙ sym g) ∙ sym (k.region_is iso u z))
 
 -- a parse ends with the state of what was done there
 ends_in : {X S : Type 0} (s : S) (o : Reached X S) → done_in o ≡ s → EndsIn s o
@@ -157,24 +157,24 @@ module _ {T A U : Type 0} (types_at : Reader T) (reading : Reader A) (h : Splits
   -- it can't be entered, or no brace follows
   entry_fails : (fault : ParseFault A) → fault.committed ≡ true → begins_region old.stream.rest ≡ true → RefusesRegion types_at (attr_at reading) iso before old fault → FaultUnder types_at (attr_at reading) iso before old fault
   entry_fails fault committed begins (read.not_isolated a) = under.by_names begins a.failure a.is
-      (λ path items o stands.
+      (λ path items o agreed.
       let d = doing {T = T} {A = A} old.state.ctx.now.dialects path in
       let keeps = failed_keeps {T = T} {A = A} (format_of old.state.ctx.now.dialects) path a.failure in
       ends_in (failed a.failure) (region_at old.state.ctx.now.dialects types_at (attr_at reading) d iso old.stream.rest o)
-      (ap done_in (entered_once old.state.ctx.now.dialects types_at (attr_at reading) d (loops types_at reading h k before old d) iso o (failed a.failure) old.stream.rest (a.so path items [] o stands) (keeps.enters iso))
+      (ap done_in (entered_once old.state.ctx.now.dialects types_at (attr_at reading) d (loops types_at reading h k before old d) iso o (failed a.failure) old.stream.rest (a.so path items [] o agreed) (keeps.enters iso))
       ∙ (quiet_region_at old.state.ctx.now.dialects types_at (attr_at reading) d (failed a.failure) keeps iso).at old.stream.rest))
   entry_fails fault committed begins (read.no_brace names mid acts d) = under.at_text begins d.cause (length old.stream.rest - length d.upto) d.fault_is committed
-      (λ path items o stands.
-      let z = acts.so path items [] o stands in
+      (λ path items o agreed.
+      let z = acts.so path items [] o agreed in
       let w = doing {T = T} {A = A} old.state.ctx.now.dialects path in (
         z.state,
-        region_lacks old.state.ctx.now.dialects types_at (attr_at reading) w (loops types_at reading h k before old w) iso o old.stream.rest d.cause d.upto d.bad
+        region_misses old.state.ctx.now.dialects types_at (attr_at reading) w (loops types_at reading h k before old w) iso o old.stream.rest d.cause d.upto d.bad
             ∙ ap (λ y. Stopped y d.cause (length old.stream.rest - length d.upto)) z.going,
       ))
 
   pub entry_refused : (op : Ptr Operation) → IsolatedAs old.state.ctx.now op iso → (iso || is_open before.values) ≡ true → begins_region old.stream.rest ≡ true → (fault : ParseFault A) → fault.committed ≡ true
       → UnlessMemory (RefusesRegion types_at (attr_at reading) iso before old) fault → UnlessMemory (RefusesUnder types_at (attr_at reading) op before old) fault
-  entry_refused op isolation opened begins fault committed (inl starved) = inl starved
+  entry_refused op isolation opened begins fault committed (inl ran_out) = inl ran_out
   entry_refused op isolation opened begins fault committed (inr r) = inr (under.in_text iso isolation opened (entry_fails fault committed begins r))
 
 -- neither holds
@@ -281,8 +281,8 @@ module _ {T A U : Type 0} (types_at : Reader T) (reading : Reader A) (h : Splits
   held = record { whole = []; holds = holds; carried = tt }
 
   -- what is parsed and done from its brace on
-  begun_stands : (path : ℕ → Path) (items : Made) (o : Machine) → StandsAs path items [] before old.state o → StandsAs path items [] n1 s1.state ((does path).enters iso o)
-  begun_stands path items o st = bg.acts.so path items [] o st
+  begun_agrees : (path : ℕ → Path) (items : Made) (o : Machine) → MachineAgrees path items [] before old.state o → MachineAgrees path items [] n1 s1.state ((does path).enters iso o)
+  begun_agrees path items o st = bg.acts.so path items [] o st
 
   begun_goes : {S : Type 0} (d : Actions T A S) (s : S) → region_at dialects types_at attr d iso old.stream.rest s ≡ theory.whole dialects types_at attr d (Some (a_region iso (length old.stream.rest))) [] (d.enters iso s) s1.stream.rest
   begun_goes d s = region_opens dialects types_at attr d (loops types_at reading h k before old d) iso s old.stream.rest tt bg.taken s1.stream.rest bg.read
@@ -302,7 +302,7 @@ module _ {T A U : Type 0} (types_at : Reader T) (reading : Reader A) (h : Splits
         (turned.builds old.state.ctx.now [] [] [] held))
 
     all_done_goes : {S : Type 0} (d : Actions T A S) (s : S) → region_at dialects types_at attr d iso old.stream.rest s ≡ Advanced tt (all_done d turned.did (d.enters iso s)) s2.stream.rest
-    all_done_goes d s = begun_goes d s ∙ (goes_told d turned.goes (d.enters iso s)).so
+    all_done_goes d s = begun_goes d s ∙ (goes_recorded d turned.goes (d.enters iso s)).so
 
     pub reads_under : (op : Ptr Operation) (new : StateStream T A U) → IsolatedAs old.state.ctx.now op iso → new.stream ≡ s2.stream → marks_of new.state ≡ marks_of s2.state
         → ((m : ℕ) → m ≤ old.state.ctx.now.graph.made → IsSound m before old.state → IsSound m n2 s2.state)
@@ -314,13 +314,13 @@ module _ {T A U : Type 0} (types_at : Reader T) (reading : Reader A) (h : Splits
       isolation = isolation;
       moves = subst (λ v. Moves old.stream v) (sym stream) (moves_more bg.moves f.carries.moves);
       did = turned.did;
-      tells = subst (λ v. region_at dialects types_at attr told iso old.stream.rest [] ≡ Advanced tt (turned.did ++ did_enter iso ∷ []) v.rest) (sym stream)
-          (begun_goes told [] ∙ (goes_behind turned.goes (did_enter iso ∷ [])).so);
+      tells = subst (λ v. region_at dialects types_at attr recorder iso old.stream.rest [] ≡ Advanced tt (turned.did ++ did_enter iso ∷ []) v.rest) (sym stream)
+          (begun_goes recorder [] ∙ (goes_after turned.goes (did_enter iso ∷ [])).so);
       made = turned.made;
       mid = s2;
       runs = λ path items o st. (
         all_done (does path) turned.did ((does path).enters iso o),
-        turned.acts.so path items [] ((does path).enters iso o) (begun_stands path items o st),
+        turned.acts.so path items [] ((does path).enters iso o) (begun_agrees path items o st),
         subst (λ v. region_at dialects types_at attr (does path) iso old.stream.rest o ≡ Advanced tt (all_done (does path) turned.did ((does path).enters iso o)) v.rest) (sym stream) (all_done_goes (does path) o),
       );
       falls = subst (λ v. Falls (length old.stream.rest) turned.made (length v.rest)) (sym stream) (falls_from (length old.stream.rest) (length s1.stream.rest) turned.made (length s2.stream.rest) (moves_fewer old.stream s1.stream bg.moves) turned.falls);
@@ -336,16 +336,16 @@ module _ {T A U : Type 0} (types_at : Reader T) (reading : Reader A) (h : Splits
   -- ---- or there is a fault in it
   module _ (fault : ParseFault A) (st : Stops types_at attr (framed.Region b) [] n1 s1 fault) where
     inside_fails : begins_region old.stream.rest ≡ true → UnlessMemory (Faulted types_at attr dialects alone n1 s1) fault → UnlessMemory (FaultUnder types_at attr iso before old) fault
-    inside_fails begins (inl starved) = inl starved
+    inside_fails begins (inl ran_out) = inl ran_out
     inside_fails begins (inr (at_text did made names mid still cause place g a f)) = inr (under.at_text begins cause place (subst (λ t. IsTextFault t cause place fault) same_text f) st.committed
-        (λ path items o stands.
-        let z = a.so path items [] ((does path).enters iso o) (begun_stands path items o stands) in
-        (z.state, begun_goes (does path) o ∙ ((stuck_told (does path) g ((does path).enters iso o)).so ∙ ap (λ y. Stopped y cause place) z.going))))
+        (λ path items o agreed.
+        let z = a.so path items [] ((does path).enters iso o) (begun_agrees path items o agreed) in
+        (z.state, begun_goes (does path) o ∙ ((stuck_recorded (does path) g ((does path).enters iso o)).so ∙ ap (λ y. Stopped y cause place) z.going))))
     inside_fails begins (inr (by_names failure f ends)) = inr (under.by_names begins failure (subst (λ t. IsFailure t failure fault) same_text f)
-        (λ path items o stands. subst (EndsIn (failed failure)) (sym (begun_goes (does path) o)) (ends path items [] ((does path).enters iso o) (begun_stands path items o stands))))
+        (λ path items o agreed. subst (EndsIn (failed failure)) (sym (begun_goes (does path) o)) (ends path items [] ((does path).enters iso o) (begun_agrees path items o agreed))))
 
     in_its_text : (op : Ptr Operation) → IsolatedAs old.state.ctx.now op iso → (iso || is_open before.values) ≡ true → UnlessMemory (FaultUnder types_at attr iso before old) fault → UnlessMemory (RefusesUnder types_at attr op before old) fault
-    in_its_text op isolation opened (inl starved) = inl starved
+    in_its_text op isolation opened (inl ran_out) = inl ran_out
     in_its_text op isolation opened (inr f) = inr (under.in_text iso isolation opened f)
 
     pub under_stops : (op : Ptr Operation) → IsolatedAs old.state.ctx.now op iso → (iso || is_open before.values) ≡ true → begins_region old.stream.rest ≡ true → UnlessMemory (RefusesUnder types_at attr op before old) fault

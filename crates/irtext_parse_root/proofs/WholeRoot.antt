@@ -14,7 +14,7 @@ use Rattle.irtext_grammar.specs.Contexts.Held.{whole}
 use Rattle.irtext_grammar.specs.Grammar.Marked.{reads_root}
 use Rattle.irtext_parse_spec.specs.Promises.Root.{UnlessMemory}
 use Rattle.irtext_parse_spec.specs.Promises.Section.{is_noted}
-use Rattle.irtext_parse_spec.specs.Promises.Supported.{supported, location_standing}
+use Rattle.irtext_parse_spec.specs.Promises.Supported.{supported, location_verdict}
 use Rattle.irtext_promises.specs.Promises.{BuildsRoot}
 use Rattle.irtext_parse_pieces.proofs.Meanings.{takes_whole}
 use Rattle.irtext_tokens.proofs.Steps.{alone}
@@ -58,7 +58,7 @@ module _ {T A U : Type 0} {types : ir_text.Ghosts T A} {owns : ir_text.Ghosts A 
           tree = b.tree;
           entries = b.entries;
           rest = rest;
-          reads = subst (λ z. reads_root (supported old.state.ctx.now.dialects (texts types) (texts owns)) (location_standing (attr owns)) b.tree b.entries old.stream.rest z) (sym s) b.reads;
+          reads = subst (λ z. reads_root (supported old.state.ctx.now.dialects (texts types) (texts owns)) (location_verdict (attr owns)) b.tree b.entries old.stream.rest z) (sym s) b.reads;
           resolves = b.resolves;
           more = subst (λ text. ExpectsEnd text rest fault) same_whole x;
         }
@@ -75,7 +75,7 @@ module _ {T A U : Type 0} {types : ir_text.Ghosts T A} {owns : ir_text.Ghosts A 
 
     -- why a whole text was not parsed after its operation
     pub rest_refused : UnlessMemory (MissesEnd (attr owns) mid) fault → UnlessMemory (RefusesWhole (texts types) (texts owns) types.reading (attr owns) old) fault
-    rest_refused (inl starved) = inl starved
+    rest_refused (inl ran_out) = inl ran_out
     rest_refused (inr (wrong_section noted f)) = whole_refused (texts types) (texts owns) types.reading (attr owns)
         (section_refused laws op old mid m none (some_noted (marks_of mid.state) noted) fault f)
     rest_refused (inr (not_ended rest is x)) = inr (inr (more_there rest x (marks_of mid.state) refl is))

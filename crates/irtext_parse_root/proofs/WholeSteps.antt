@@ -40,13 +40,13 @@ none_first (c ∷ text) o e h = absurd (true≢false (sym (ap is_some e) ∙ h))
 
 module _ {old new : StreamView} (passes : Takes itself replaced (front is_whitespace old.rest) (after_space old.rest) old new) (next : Option ℕ) (is_next : next ≡ first_of new.rest) where
   -- what follows the white space
-  behind : new.rest ≡ after_space old.rest
-  behind = ap (λ v. v.rest) passes.is
+  following : new.rest ≡ after_space old.rest
+  following = ap (λ v. v.rest) passes.is
 
   -- only white space was left
   pub ends_here : is_some next ≡ false → OnlySpace old new
   ends_here h =
-      let space = sym behind ∙ none_first new.rest next is_next h in
+      let space = sym following ∙ none_first new.rest next is_next h in
       record { space = space; passes = subst (λ r. Takes itself replaced (front is_whitespace old.rest) r old new) space passes }
 
   -- something else was left
@@ -54,7 +54,7 @@ module _ {old new : StreamView} (passes : Takes itself replaced (front is_whites
   expects_end {fault = fault} h k = go (after_space old.rest) refl
     where
       go : (text : Text) → after_space old.rest ≡ text → ExpectsEnd (whole old) old.rest fault
-      go [] e = absurd (true≢false (sym h ∙ ap is_some (is_next ∙ ap first_of (behind ∙ e))))
+      go [] e = absurd (true≢false (sym h ∙ ap is_some (is_next ∙ ap first_of (following ∙ e))))
       go (c ∷ text) e =
           let before = old.passed ++ front is_whitespace old.rest in
           let all : whole old ≡ before ++ (c ∷ text) = ap (λ z. old.passed ++ z) (sym passes.same ∙ ap (λ z. front is_whitespace old.rest ++ z) e) ∙ sym (append_assoc old.passed (front is_whitespace old.rest) (c ∷ text)) in
@@ -62,8 +62,8 @@ module _ {old new : StreamView} (passes : Takes itself replaced (front is_whites
           record {
             more = c;
             left = text;
-            stands = e;
-            because = k.because ∙ ap (λ t. Unexpected (first_of t) TheEnd) (behind ∙ e);
+            follows_on = e;
+            because = k.because ∙ ap (λ t. Unexpected (first_of t) TheEnd) (following ∙ e);
             flag = k.committed;
             place = subst (IsAt fault.pos.line fault.pos.column) (append-nil new.passed ∙ (ap (λ v. v.passed) passes.is ∙ sym at)) k.place;
           }
@@ -95,7 +95,7 @@ module _ {T A U : Type 0} (types_at : Text → Outcome T) (attr : Text → Outco
 
   -- the operation, but not what has to follow it
   pub misses_whole : (fault : ParseFault A) → whole mid.stream ≡ whole old.stream → UnlessMemory (MissesEnd attr mid) fault → UnlessMemory (MissesWholeAny types_at attr old) fault
-  misses_whole fault same (inl starved) = inl starved
+  misses_whole fault same (inl ran_out) = inl ran_out
   misses_whole fault same (inr (wrong_section noted f)) = inr (no_root (any.no_section op mid tree noted f))
   misses_whole fault same (inr (not_ended rest is e)) = inr (more_left op mid tree rest is (subst (λ text. ExpectsEnd text rest fault) same e))
 

@@ -12,7 +12,7 @@ use Rattle.irtext_graph.specs.declared.object.Operation.{Operation}
 use Rattle.irtext_parse_state.specs.States.{marks_of}
 use Rattle.irtext_parse_state.specs.declared.parsable.state.StateStream.{StateStream}
 use Rattle.irtext_grammar.specs.Contexts.Formats.{format_of}
-use Rattle.irtext_grammar.specs.Contexts.Held.{whole, StandsAt}
+use Rattle.irtext_grammar.specs.Contexts.Held.{whole, IsPosition}
 use Rattle.irtext_grammar.specs.Names.History.{State, going, failed}
 use Rattle.irtext_grammar.specs.Names.Script.{Failure, Path}
 use Rattle.irtext_parse_spec.specs.Promises.Section.{Moves, indices_of}
@@ -34,7 +34,7 @@ module _ {T A : Type 0} (types_at : Text → Outcome T) (attr : Text → Outcome
   -- or a mark, whatever follows in the text. An index is marked twice also if it was marked earlier.
   pub data HasRegionFault (old : StreamView) (fault : ParseFault A) : Type 0 where
     no_brace : begins_region old.rest ≡ false → fault_of fault.cause ≡ Unexpected (first_of old.rest) (Word (codes "{")) → IsAt fault.pos.line fault.pos.column old.passed → fault.committed ≡ false → HasRegionFault old fault
-    at_text : begins_region old.rest ≡ true → (cause : Fault) (place : ℕ) → fault_of fault.cause ≡ cause → StandsAt (whole old) place fault.pos → fault.committed ≡ true
+    at_text : begins_region old.rest ≡ true → (cause : Fault) (place : ℕ) → fault_of fault.cause ≡ cause → IsPosition (whole old) place fault.pos → fault.committed ≡ true
         → ((path : ℕ → Path) → (st : State) × (region_at dialects types_at attr (naming (format_of dialects) path) true old.rest (going (start_with earlier)) ≡ Stopped (going st) cause place)) → HasRegionFault old fault
     by_names : begins_region old.rest ≡ true → (f : Failure Text ℕ) → IsOf (whole old) f fault → fault.committed ≡ true
         → ((path : ℕ → Path) → EndsIn (failed f) (region_at dialects types_at attr (naming (format_of dialects) path) true old.rest (going (start_with earlier)))) → HasRegionFault old fault

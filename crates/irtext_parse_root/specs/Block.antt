@@ -3,7 +3,7 @@ use Rattle.std.specs.Prelude.{◌≡◌, ℕ, cond, List, [], ◌∷◌, Option,
 use Rattle.std.specs.Map.{lookup}
 use Rattle.irtext_base.specs.Text.{Text}
 use Rattle.irtext_base.specs.Answers.{Outcome, Read, Refuses}
-use Rattle.irtext_base.specs.Stream.{StreamView, behind, after_failure}
+use Rattle.irtext_base.specs.Stream.{StreamView, after_taken, after_failure}
 use Rattle.irtext_base.specs.Locations.{AttrView}
 use Rattle.irtext_base.specs.declared.base.attributes.AttrObj.{AttrObj}
 use Rattle.irtext_base.specs.declared.parsable.fault.ParseFault.{ParseFault}
@@ -26,7 +26,7 @@ module _ {T A : Type 0} (types_at : Text → Outcome T) (attr : Text → Outcome
   pub data MissesBlock (old new : StreamView) (fault : ParseFault A) : Type 0 where
     no_header : Refuses itself replaced (head_at types_at attr old.rest) old fault new → MissesBlock old new fault
     by_header : (head : Head ℕ T A) (taken rest : Text) → head_at types_at attr old.rest ≡ Read head taken rest
-        → new ≡ after_failure (behind old taken rest) → FailsOutside marks (whole old) head fault → MissesBlock old new fault
+        → new ≡ after_failure (after_taken old taken rest) → FailsOutside marks (whole old) head fault → MissesBlock old new fault
 
 -- ---- between functions
 -- the key of the first entry whose attribute is not allowed under its key in a block's dictionary

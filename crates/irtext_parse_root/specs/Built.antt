@@ -20,7 +20,7 @@ use Rattle.irtext_parse_spec.specs.Tracks.{Made, noted, HasChild, HoldsMade}
 use Rattle.irtext_parse_root.specs.Carried.{marks_in_blocks, marks_so_far, AreCarried}
 use Rattle.irtext_parse_root.specs.Here.{Base, outermost, within}
 use Rattle.irtext_parse_root.specs.Levels.{Level, ats_of}
-use Rattle.irtext_parse_root.specs.Told.{Did, did_leave, all_done}
+use Rattle.irtext_parse_root.specs.Recorded.{Did, did_leave, all_done}
 
 module _ {T A : Type 0} where
   -- what is built before anything is parsed: nothing; or the region, without blocks

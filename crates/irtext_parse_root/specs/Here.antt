@@ -34,29 +34,29 @@ module _ {T A : Type 0} (names : List Text) (text : Text) (ctx : ContextView T A
 
 module _ {T A : Type 0} (base : Base) where
   -- an operation is in the open block, or is what is parsed
-  abbrev pub StandsInBlock : Ptr Operation → List (Level T A) → Type 0
-  StandsInBlock p [] = base ≡ outermost p
-  StandsInBlock p (at_block k ∷ ls) = ⊤
-  StandsInBlock p (_ ∷ ls) = ⊥
+  abbrev pub IsInBlock : Ptr Operation → List (Level T A) → Type 0
+  IsInBlock p [] = base ≡ outermost p
+  IsInBlock p (at_block k ∷ ls) = ⊤
+  IsInBlock p (_ ∷ ls) = ⊥
 
   -- a region is in the open operation, which is isolated or not as stated, or is what is parsed
-  abbrev pub StandsInOperation : List (Text × Table) → Ptr Region → Bool → List (Level T A) → Type 0
-  StandsInOperation dialects r iso [] = base ≡ within r
-  StandsInOperation dialects r iso (at_operation b o own ∷ ls) = iso ≡ isolated dialects o.id
-  StandsInOperation dialects r iso (_ ∷ ls) = ⊥
+  abbrev pub IsInOperation : List (Text × Table) → Ptr Region → Bool → List (Level T A) → Type 0
+  IsInOperation dialects r iso [] = base ≡ within r
+  IsInOperation dialects r iso (at_operation b o own ∷ ls) = iso ≡ isolated dialects o.id
+  IsInOperation dialects r iso (_ ∷ ls) = ⊥
 
   -- a block is the last one of the open region
-  abbrev pub StandsInRegion : Ptr BasicBlock → List (Level T A) → Type 0
-  StandsInRegion k (at_region r iso place last ∷ ls) = last ≡ Some k
-  StandsInRegion k _ = ⊥
+  abbrev pub IsInRegion : Ptr BasicBlock → List (Level T A) → Type 0
+  IsInRegion k (at_region r iso place last ∷ ls) = last ≡ Some k
+  IsInRegion k _ = ⊥
 
   -- each open frame is nested in the next one, and in each region a scope of values is open, given the number of those that are open
   -- outside
   abbrev pub Nest : List (Text × Table) → ℕ → List (Level T A) → Type 0
   Nest dialects v [] = ⊤
-  Nest dialects v (at_operation b o own ∷ ls) = StandsInBlock b.op ls × Nest dialects v ls
-  Nest dialects v (at_region r iso place last ∷ ls) = StandsInOperation dialects r.region iso ls × (0 < isolated_in (at_region r iso place last ∷ ls) + v) × Nest dialects v ls
-  Nest dialects v (at_block b ∷ ls) = StandsInRegion b.block ls × Nest dialects v ls
+  Nest dialects v (at_operation b o own ∷ ls) = IsInBlock b.op ls × Nest dialects v ls
+  Nest dialects v (at_region r iso place last ∷ ls) = IsInOperation dialects r.region iso ls × (0 < isolated_in (at_region r iso place last ∷ ls) + v) × Nest dialects v ls
+  Nest dialects v (at_block b ∷ ls) = IsInRegion b.block ls × Nest dialects v ls
 
   -- The next frame and those that wait are the open frames, the innermost first. This many scopes of values and of labels are open
   -- outside.

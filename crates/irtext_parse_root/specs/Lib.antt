@@ -10,8 +10,8 @@ pub mod Nested
 pub mod Parses
 pub mod Region
 pub mod Results
-pub mod Stands
-pub mod Told
+pub mod OperationFollows
+pub mod Recorded
 pub mod Turned
 pub mod Turns
 pub mod Under

@@ -24,7 +24,7 @@ use Rattle.irtext_parse_spec.specs.Reached.{Advanced, Stopped, operation_at}
 use Rattle.irtext_parse_spec.specs.Resume.{EndsIn}
 use Rattle.irtext_parse_spec.specs.Building.{building, nothing_open, finished}
 use Rattle.irtext_parse_spec.specs.Tracks.{HoldsMade}
-use Rattle.irtext_parse_nested.specs.Items.{Names, Made, StandsAs, IsFailure, IsTextFault, doing}
+use Rattle.irtext_parse_nested.specs.Items.{Names, Made, MachineAgrees, IsFailure, IsTextFault, doing}
 use Rattle.irtext_parse_nested.specs.Located.{IsLocated}
 use Rattle.irtext_parse_root.specs.Carried.{marks_in, AreCarried, Falls}
 
@@ -37,8 +37,8 @@ module _ {T A U : Type 0} (types_at : Reader T) (attr : Reader (AttrView A)) whe
     pub moves : Moves old.stream new.stream
     pub builds : operation_at old.state.ctx.now.dialects types_at attr (building (format_of old.state.ctx.now.dialects)) true old.stream.rest nothing_open ≡ Advanced tt (finished tree) new.stream.rest
     pub made : Made
-    pub runs : (path : ℕ → Path) (items : Made) (o : Outcome) → StandsAs path items [] before old.state o
-        → (z : Outcome) × StandsAs path (made ++ items) [] names new.state z × (operation_at old.state.ctx.now.dialects types_at attr (doing old.state.ctx.now.dialects path) true old.stream.rest o ≡ Advanced tt z new.stream.rest)
+    pub runs : (path : ℕ → Path) (items : Made) (o : Outcome) → MachineAgrees path items [] before old.state o
+        → (z : Outcome) × MachineAgrees path (made ++ items) [] names new.state z × (operation_at old.state.ctx.now.dialects types_at attr (doing old.state.ctx.now.dialects path) true old.stream.rest o ≡ Advanced tt z new.stream.rest)
     pub objects : List Object
     pub holds : HoldsMade (IsLocated old.state.src (whole old.stream)) old.state.ctx.now new.state.ctx.now made objects [] (Some p) (finished tree)
     pub falls : Falls (length old.stream.rest) made (length new.stream.rest)
@@ -50,8 +50,8 @@ module _ {T A U : Type 0} (types_at : Reader T) (attr : Reader (AttrView A)) whe
   -- committed, unless it is a fault of the text and no operation comes next.
   pub data RefusesNested (before : Names) (old : StateStream T A U) (fault : ParseFault A) : Type 0 where
     at_text : (cause : Fault) (place : ℕ) → IsTextFault (whole old.stream) cause place fault → fault.committed ≡ is_committed (led_at old.state.ctx.now.dialects old.stream.rest)
-        → ((path : ℕ → Path) (items : Made) (o : Outcome) → StandsAs path items [] before old.state o
+        → ((path : ℕ → Path) (items : Made) (o : Outcome) → MachineAgrees path items [] before old.state o
         → (st : State) × (operation_at old.state.ctx.now.dialects types_at attr (doing old.state.ctx.now.dialects path) true old.stream.rest o ≡ Stopped (going st) cause place)) → RefusesNested before old fault
     by_names : (failure : Failure) → IsFailure (whole old.stream) failure fault
-        → ((path : ℕ → Path) (items : Made) (o : Outcome) → StandsAs path items [] before old.state o
+        → ((path : ℕ → Path) (items : Made) (o : Outcome) → MachineAgrees path items [] before old.state o
         → EndsIn (failed failure) (operation_at old.state.ctx.now.dialects types_at attr (doing old.state.ctx.now.dialects path) true old.stream.rest o)) → RefusesNested before old fault

@@ -27,14 +27,14 @@ use Rattle.irtext_parse_spec.specs.Readers.Streams.{KeepsRest}
 use Rattle.irtext_parse_spec.specs.Resume as theory
 use Rattle.irtext_parse_spec.specs.Resume.{Goes, StoppedAt, EndsIn}
 use Rattle.irtext_parse_nested.specs.Ends.{GainsMarks}
-use Rattle.irtext_parse_nested.specs.Items.{Names, Pledge, StandsAs, IsFailure, IsTextFault, IsSound, KeepsLive, Made, ActsWith, doing}
+use Rattle.irtext_parse_nested.specs.Items.{Names, Pledge, MachineAgrees, IsFailure, IsTextFault, IsSound, KeepsLive, Made, ActsWith, doing}
 use Rattle.irtext_parse_nested.specs.Located.{IsLocated}
 use Rattle.irtext_parse_root.specs.declared.frames.Frame.{Frame}
 use Rattle.irtext_parse_root.specs.Built.{Built}
 use Rattle.irtext_parse_root.specs.Carried.{Falls}
 use Rattle.irtext_parse_root.specs.Here.{AreHere, Base, IsHere}
 use Rattle.irtext_parse_root.specs.Levels.{Level, next_of, waiting, pledges_of, left_to_do, AreAllNew}
-use Rattle.irtext_parse_root.specs.Told.{Did, told, all_done}
+use Rattle.irtext_parse_root.specs.Recorded.{Did, recorder, all_done}
 
 -- ---- names, stream and context after a step
 -- each region that was live is live, and has the same parent
@@ -82,7 +82,7 @@ module _ {T A U : Type 0} (types_at : Reader T) (attr : Reader (AttrView A)) (di
   pub record Turned (ls : List (Level T A)) (before : Names) (old : StateStream T A U) (later : List (Level T A)) (names : Names) (new : StateStream T A U) : Type 0 where
     pub did : List (Did T A)
     pub made : Made
-    pub goes : Goes dialects types_at attr told (next_of ls) (waiting ls) [] old.stream.rest (next_of later) (waiting later) did new.stream.rest
+    pub goes : Goes dialects types_at attr recorder (next_of ls) (waiting ls) [] old.stream.rest (next_of later) (waiting later) did new.stream.rest
     pub acts : ActsWith made (λ path. all_done (doing dialects path) did) before old.state (pledges_of ls) names new.state (pledges_of later)
     pub stays : RegionsStay old.state.ctx.now new.state.ctx.now
     pub falls : Falls (length old.stream.rest) made (length new.stream.rest)
@@ -95,11 +95,11 @@ module _ {T A U : Type 0} (types_at : Reader T) (attr : Reader (AttrView A)) (di
 -- text.
 pub data Faulted {T A U : Type 0} (types_at : Reader T) (attr : Reader (AttrView A)) (dialects : List (Text × Table)) (ls : List (Level T A)) (before : Names) (old : StateStream T A U) (fault : ParseFault A) : Type 0 where
   at_text : (did : List (Did T A)) (made : Made) (names : Names) (mid : code.State T A U) (still : List Pledge) (cause : Fault) (place : ℕ)
-      → StoppedAt dialects types_at attr told (next_of ls) (waiting ls) [] old.stream.rest did cause place
+      → StoppedAt dialects types_at attr recorder (next_of ls) (waiting ls) [] old.stream.rest did cause place
       → ActsWith made (λ path. all_done (doing dialects path) did) before old.state (pledges_of ls) names mid still
       → IsTextFault (whole old.stream) cause place fault → Faulted types_at attr dialects ls before old fault
   by_names : (failure : Failure) → IsFailure (whole old.stream) failure fault
-      → ((path : ℕ → Path) (items : Made) (more : List Pledge) (o : Outcome) → StandsAs path items (more ++ pledges_of ls) before old.state o
+      → ((path : ℕ → Path) (items : Made) (more : List Pledge) (o : Outcome) → MachineAgrees path items (more ++ pledges_of ls) before old.state o
       → EndsIn (failed failure) (theory.whole dialects types_at attr (doing dialects path) (next_of ls) (waiting ls) o old.stream.rest)) → Faulted types_at attr dialects ls before old fault
 
 -- the last of the waiting frames was removed, if there was one

@@ -27,12 +27,12 @@ use Rattle.irtext_parse_spec.specs.Promises.Section.{Moves}
 use Rattle.irtext_parse_spec.specs.Reached.{Advanced, Stopped, begins_region, region_at}
 use Rattle.irtext_parse_spec.specs.Resume.{EndsIn}
 use Rattle.irtext_promises.specs.Alone.{IsOutermost}
-use Rattle.irtext_parse_nested.specs.Items.{Names, Made, StandsAs, IsFailure, IsTextFault, IsSound, doing}
+use Rattle.irtext_parse_nested.specs.Items.{Names, Made, MachineAgrees, IsFailure, IsTextFault, IsSound, doing}
 use Rattle.irtext_parse_nested.specs.Located.{IsLocated}
 use Rattle.irtext_parse_root.specs.Built.{HoldsRegion}
 use Rattle.irtext_parse_root.specs.Carried.{Falls}
 use Rattle.irtext_parse_root.specs.Here.{within}
-use Rattle.irtext_parse_root.specs.Told.{Did, did_enter, told}
+use Rattle.irtext_parse_root.specs.Recorded.{Did, did_enter, recorder}
 
 -- whether the operation is isolated from above
 abbrev pub IsolatedAs : {T A : Type 0} → ContextView T A → Ptr Operation → Bool → Type 0
@@ -47,11 +47,11 @@ module _ {T A U : Type 0} (types_at : Reader T) (attr : Reader (AttrView A)) whe
     pub isolation : IsolatedAs old.state.ctx.now op iso
     pub moves : Moves old.stream new.stream
     pub did : List (Did T A)
-    pub tells : region_at old.state.ctx.now.dialects types_at attr told iso old.stream.rest [] ≡ Advanced tt (did ++ did_enter iso ∷ []) new.stream.rest
+    pub tells : region_at old.state.ctx.now.dialects types_at attr recorder iso old.stream.rest [] ≡ Advanced tt (did ++ did_enter iso ∷ []) new.stream.rest
     pub made : Made
     pub mid : StateStream T A U
-    pub runs : (path : ℕ → Path) (items : Made) (o : Outcome) → StandsAs path items [] before old.state o
-        → (z : Outcome) × StandsAs path (made ++ items) [] names mid.state z × (region_at old.state.ctx.now.dialects types_at attr (doing old.state.ctx.now.dialects path) iso old.stream.rest o ≡ Advanced tt z new.stream.rest)
+    pub runs : (path : ℕ → Path) (items : Made) (o : Outcome) → MachineAgrees path items [] before old.state o
+        → (z : Outcome) × MachineAgrees path (made ++ items) [] names mid.state z × (region_at old.state.ctx.now.dialects types_at attr (doing old.state.ctx.now.dialects path) iso old.stream.rest o ≡ Advanced tt z new.stream.rest)
     pub falls : Falls (length old.stream.rest) made (length new.stream.rest)
     pub marks : List (ℕ × Item)
     pub noted : marks_of new.state ≡ marks_of old.state ++ marks
@@ -68,10 +68,10 @@ module _ {T A U : Type 0} (types_at : Reader T) (attr : Reader (AttrView A)) whe
     no_region : begins_region old.stream.rest ≡ false → fault_of fault.cause ≡ Unexpected (first_of old.stream.rest) (Word (codes "{")) → fault.committed ≡ false → IsAt fault.pos.line fault.pos.column old.stream.passed
         → FaultUnder iso before old fault
     at_text : begins_region old.stream.rest ≡ true → (cause : Fault) (place : ℕ) → IsTextFault (whole old.stream) cause place fault → fault.committed ≡ true
-        → ((path : ℕ → Path) (items : Made) (o : Outcome) → StandsAs path items [] before old.state o
+        → ((path : ℕ → Path) (items : Made) (o : Outcome) → MachineAgrees path items [] before old.state o
         → (st : State) × (region_at old.state.ctx.now.dialects types_at attr (doing old.state.ctx.now.dialects path) iso old.stream.rest o ≡ Stopped (going st) cause place)) → FaultUnder iso before old fault
     by_names : begins_region old.stream.rest ≡ true → (failure : Failure) → IsFailure (whole old.stream) failure fault
-        → ((path : ℕ → Path) (items : Made) (o : Outcome) → StandsAs path items [] before old.state o
+        → ((path : ℕ → Path) (items : Made) (o : Outcome) → MachineAgrees path items [] before old.state o
         → EndsIn (failed failure) (region_at old.state.ctx.now.dialects types_at attr (doing old.state.ctx.now.dialects path) iso old.stream.rest o)) → FaultUnder iso before old fault
 
   -- The operation is not isolated and no scope of values is open: then the fault says so, at the operation's position, whatever the text

@@ -13,12 +13,12 @@ use Rattle.irtext_graph.specs.declared.arena.Ptr.{Ptr}
 use Rattle.irtext_graph.specs.declared.object.Operation.{Operation}
 use Rattle.irtext_parse_state.specs.declared.parsable.state.StateStream.{StateStream}
 use Rattle.irtext_grammar.specs.Contexts.Formats.{isolated}
-use Rattle.irtext_grammar.specs.Contexts.Held.{whole, StandsAt}
+use Rattle.irtext_grammar.specs.Contexts.Held.{whole, IsPosition}
 use Rattle.irtext_grammar.specs.Grammar.Marked.{reads_root}
 use Rattle.irtext_grammar.specs.Grammar.Section.{Entry}
 use Rattle.irtext_grammar.specs.Grammar.Tree.{Tree}
 use Rattle.irtext_grammar.specs.Names.Acts.{failures_of}
-use Rattle.irtext_parse_spec.specs.Promises.Supported.{supported, location_standing}
+use Rattle.irtext_parse_spec.specs.Promises.Supported.{supported, location_verdict}
 use Rattle.irtext_parse_spec.specs.Readers.Streams.{itself, replaced}
 use Rattle.irtext_promises.specs.Promises.{BuildsRoot, RefusesRoot}
 
@@ -39,10 +39,10 @@ pub record EndsAfter {T A U : Type 0} (IsParsed : StateStream T A U → StateStr
 pub record ExpectsEnd {A : Type 0} (text rest : Text) (fault : ParseFault A) : Type 0 where
   pub more : ℕ
   pub left : Text
-  pub stands : after_space rest ≡ more ∷ left
+  pub follows_on : after_space rest ≡ more ∷ left
   pub because : fault_of fault.cause ≡ Unexpected (Some more) TheEnd
   pub flag : fault.committed ≡ true
-  pub place : StandsAt text (length (more ∷ left)) fault.pos
+  pub place : IsPosition text (length (more ∷ left)) fault.pos
 
 module _ {T A U : Type 0} (types : Texts T) (owns : Texts A) (types_at : Text → Outcome T) (attr : Text → Outcome (AttrView A)) where
   -- a root was parsed, and only white space was left after it, which was consumed
@@ -55,7 +55,7 @@ module _ {T A U : Type 0} (types : Texts T) (owns : Texts A) (types_at : Text �
     pub tree : Tree ℕ T A
     pub entries : List (Entry ℕ A (Written A))
     pub rest : Text
-    pub reads : reads_root (supported old.state.ctx.now.dialects types owns) (location_standing attr) tree entries old.stream.rest rest
+    pub reads : reads_root (supported old.state.ctx.now.dialects types owns) (location_verdict attr) tree entries old.stream.rest rest
     pub resolves : failures_of (isolated old.state.ctx.now.dialects) tree entries ≡ []
     pub more : ExpectsEnd (whole old.stream) rest fault
 

@@ -18,17 +18,17 @@ use irtext_parse_pieces::steps::step_at;
 pub struct Next {
     pub coming: Coming,
     pub isolated: bool,
-    pub behind: usize,
+    pub following: usize,
 }
 
 /// Nothing of the operation is left but its end.
 fn ended(step: usize) -> Next
-    ensures { result ≡ record { coming = comes.End; isolated = false; behind = step } }
+    ensures { result ≡ record { coming = comes.End; isolated = false; following = step } }
 {
     Next {
         coming: Coming::End,
         isolated: false,
-        behind: step,
+        following: step,
     }
 }
 
@@ -44,8 +44,8 @@ pub(crate) fn next_turn<T: IrText<A>, A: AttrText<A>>(
     ensures next { IsNext ctx.now.dialects begun.now result.coming }
     ensures isolated { result.coming ≢ comes.End → result.isolated ≡ isolated ctx.now.dialects
         (id_of begun.now.id) }
-    ensures behind { IsSome (slice_get (steps_in ctx.now.dialects (id_of begun.now.id)) begun.now.step)
-        → result.behind ≡ begun.now.step + 1 }
+    ensures following { IsSome (slice_get (steps_in ctx.now.dialects (id_of begun.now.id)) begun.now.step)
+        → result.following ≡ begun.now.step + 1 }
 {
     if begun.steps <= begun.step {
         return ended(begun.step);
@@ -54,7 +54,7 @@ pub(crate) fn next_turn<T: IrText<A>, A: AttrText<A>>(
         return Next {
             coming,
             isolated: begun.isolated,
-            behind: begun.step + 1,
+            following: begun.step + 1,
         };
     }
     let Some(info) = ctx.op_info(&begun.id) else {
@@ -64,7 +64,7 @@ pub(crate) fn next_turn<T: IrText<A>, A: AttrText<A>>(
         Some(step) => Next {
             coming: kind_of(step),
             isolated: info.isolated,
-            behind: begun.step + 1,
+            following: begun.step + 1,
         },
         None => ended(begun.step),
     }

@@ -20,7 +20,7 @@ ghost use Rattle.irtext_graph.specs.Graph.{Appends, CanInsert, MakesRegion, IsLi
 ghost use Rattle.irtext_graph.specs.declared.object.Object.TheVariants.{TheOperation, TheRegion};
 ghost use Rattle.irtext_scopes.specs.Tracker.{entered};
 ghost use Rattle.irtext_names.specs.Tied.{MatchesGraph};
-ghost use Rattle.irtext_parse_spec.specs.Promises.Section.{IsStarved};
+ghost use Rattle.irtext_parse_spec.specs.Promises.Section.{IsOutOfMemory};
 ghost use Rattle.irtext_parse_nested.specs.Read.{BeginsRegion, RefusesRegion};
 
 use crate::frames::Frame;
@@ -144,7 +144,7 @@ fn region_made<T: IrText<A>, A: AttrText<A>, U>(
     ensures stream { OnOk result (s.new.stream ≡ s.old.stream) }
     ensures makes { IfOk result (λ r. MakesRegion s.old.state.ctx.now.graph s.new.state.ctx.now.graph r) }
     ensures with_it { s.new.state.ctx.now ≡ with_graph s.old.state.ctx.now s.new.state.ctx.now.graph }
-    ensures starved { IfErr result IsStarved }
+    ensures ran_out { IfErr result IsOutOfMemory }
     ensures kept { (m : ℕ) → m ≤ s.old.state.ctx.now.graph.made → KeepsOlder m s.old.state.ctx.now
         s.new.state.ctx.now }
 {
@@ -213,7 +213,7 @@ fn region_placed<T: IrText<A>, A: AttrText<A>, U>(
         (TheOperation op) (TheRegion region)) }
     ensures with_it { s.new.state.ctx.now ≡ with_graph s.old.state.ctx.now s.new.state.ctx.now.graph }
     ensures unchanged { OnErr result (s.new.state.ctx.now ≡ s.old.state.ctx.now) }
-    ensures starved { IfErr result IsStarved }
+    ensures ran_out { IfErr result IsOutOfMemory }
 {
     let ctx = &mut *s.state.ctx;
     match region.insert_at_back(op, ctx) {
@@ -234,7 +234,7 @@ pub fn region_parse<T: IrText<A>, A: AttrText<A>, U>(
 ) -> ParseResult<Ptr<Region>, A>
     requires fine { s.old.stream.failed ≡ false }
     requires sound { IsSound s.old.state.ctx.now.graph.made names.old s.old.state }
-    requires stands { IsSome (operation s.old.state.ctx.now op) }
+    requires alive { IsSome (operation s.old.state.ctx.now op) }
     ensures lent { s.new.state.ctx.ghost_name ≡ s.old.state.ctx.ghost_name }
     ensures read { IfOk result (λ r. ReadsUnder T.IrText.reading (attr_at A.IrText.reading) op names.old s.old
         r names.new s.new) }

@@ -14,14 +14,14 @@ use irtext_base::text::{AttrText, IrText};
 use irtext_context::base::{Operation, Ptr};
 use irtext_parse_section::section::section_parse;
 use irtext_parse_state::parsable::StateStream;
-use irtext_tokens::irfmt::faults::stands_at;
+use irtext_tokens::irfmt::faults::current_position;
 
 /// Returns the error for a stream that has already failed, at its current position.
 pub(crate) fn failed_fault<S: CharStream, A>(stream: &S) -> ParseFault<A>
     ensures { FailedRefusal (S.view stream.now) result (S.view stream.now) }
 {
     ParseFault {
-        pos: stands_at(stream),
+        pos: current_position(stream),
         cause: Cause::StreamFailed,
         committed: true,
     }

@@ -1,7 +1,7 @@
 //! White space, and whether another operation of a block comes next.
 ghost use Rattle.std.specs.Prelude.{◌≡◌, true, false};
 ghost use Rattle.irtext_base.specs.Text.{after_space};
-ghost use Rattle.irtext_parse_root.specs.Stands.{one_stands, text_there, PassesTo};
+ghost use Rattle.irtext_parse_root.specs.OperationFollows.{operation_follows, text_there, PassesTo};
 
 use irtext_base::parsable::{CharStream, Class, TextStream};
 use irtext_tokens::irfmt::faults::{begins, next_is};
@@ -15,18 +15,18 @@ pub(crate) fn space_parse(stream: &mut TextStream)
 }
 
 /// Consumes white space, and returns whether an operation begins after it.
-fn first_stands(stream: &mut TextStream) -> bool
+fn skip_to_first(stream: &mut TextStream) -> bool
     ensures passes { PassesTo (after_space stream.old.rest) stream.old stream.new }
-    ensures stands { result ≡ one_stands true stream.old.rest }
+    ensures follows_on { result ≡ operation_follows true stream.old.rest }
 {
     space_parse(stream);
     begins(stream, Class::Beginning) || next_is(stream, '=')
 }
 
 /// Consumes white space and, if `;` comes next, the `;` and the white space after it. Returns whether there was a `;`.
-fn semicolon_stands(stream: &mut TextStream) -> bool
+fn skip_to_next(stream: &mut TextStream) -> bool
     ensures passes { PassesTo (text_there false stream.old.rest) stream.old stream.new }
-    ensures stands { result ≡ one_stands false stream.old.rest }
+    ensures follows_on { result ≡ operation_follows false stream.old.rest }
 {
     space_parse(stream);
     if !next_is(stream, ';') {
@@ -38,13 +38,13 @@ fn semicolon_stands(stream: &mut TextStream) -> bool
 }
 
 /// Consumes what precedes the next operation of a block, and returns whether there is one. `first` says whether it is the block's first.
-pub(crate) fn another_stands(stream: &mut TextStream, first: bool) -> bool
+pub(crate) fn skip_to_operation(stream: &mut TextStream, first: bool) -> bool
     ensures passes { PassesTo (text_there first stream.old.rest) stream.old stream.new }
-    ensures stands { result ≡ one_stands first stream.old.rest }
+    ensures follows_on { result ≡ operation_follows first stream.old.rest }
 {
     if first {
-        first_stands(stream)
+        skip_to_first(stream)
     } else {
-        semicolon_stands(stream)
+        skip_to_next(stream)
     }
 }

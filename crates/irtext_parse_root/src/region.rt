@@ -49,7 +49,7 @@ fn alone_parse<T: IrText<A>, A: AttrText<A>, U>(
     parent: Ptr<Operation>,
 ) -> ParseResult<Ptr<Region>, A>
     requires fine { s.old.stream.failed ≡ false }
-    requires stands { IsSome (operation s.old.state.ctx.now parent) }
+    requires alive { IsSome (operation s.old.state.ctx.now parent) }
     ensures lent { s.new.state.ctx.ghost_name ≡ s.old.state.ctx.ghost_name }
     ensures undone { CanUndo s.old result s.new }
     ensures answers { AnswersRegion T.IrText.own A.IrText.own parent s.old result s.new }

@@ -20,7 +20,7 @@ use irtext_base::text::{AttrText, IrText};
 use irtext_context::base::{Operation, Ptr};
 use irtext_graph::held::HasGraph;
 use irtext_parse_state::parsable::{State, StateStream};
-use irtext_tokens::irfmt::faults::{fail_at, out_of_memory, stands_at};
+use irtext_tokens::irfmt::faults::{current_position, fail_at, out_of_memory};
 
 /// How many results an operation of the state's context has.
 fn result_count<T: IrText<A>, A: AttrText<A>, U>(
@@ -42,7 +42,7 @@ fn count_fault<A>(stream: &mut TextStream, results: usize, names: usize) -> Pars
     ensures place { IsAt result.pos.line result.pos.column stream.old.passed }
     ensures refused { Refusal stream.old result stream.new }
 {
-    let pos = stands_at(stream);
+    let pos = current_position(stream);
     fail_at(stream, pos, Cause::ResultCount { results, names })
 }
 

@@ -12,7 +12,7 @@ ghost use Rattle.irtext_parse_root.specs.declared.frames.Frame.TheVariants as fr
 
 use crate::coming::{Next, next_turn};
 use crate::frames::{Frame, Waiting};
-use crate::passing::{another_stands, space_parse};
+use crate::passing::{skip_to_operation, space_parse};
 use crate::turns::{begin, end, enter, go_on, head, leave};
 use irtext_base::parsable::ParseResult;
 use irtext_base::text::{AttrText, IrText};
@@ -37,7 +37,7 @@ fn coming_here<T: IrText<A>, A: AttrText<A>, U>(
     ensures next { IsNext state.now.ctx.now.dialects begun.now result.coming }
     ensures isolated { result.coming ≢ comes.End → result.isolated ≡ formats.isolated
         state.now.ctx.now.dialects (id_of begun.now.id) }
-    ensures behind { result.coming ≢ comes.End → result.behind ≡ begun.now.step + 1 }
+    ensures following { result.coming ≢ comes.End → result.following ≡ begun.now.step + 1 }
 {
     next_turn(state.ctx, begun)
 }
@@ -78,12 +78,12 @@ fn region_step<T: IrText<A>, A: AttrText<A>, U>(
     frames: &mut Waiting,
     begun: BegunOperation,
     isolated: bool,
-    behind: usize,
+    following: usize,
 ) -> ParseResult<Option<Frame>, A>
     requires ready { AreReady (framed.Operation begun) frames.old names.old s.old }
     requires next { IsNext s.old.state.ctx.now.dialects begun comes.Region }
     requires isolated { isolated ≡ formats.isolated s.old.state.ctx.now.dialects (id_of begun.id) }
-    requires behind { behind ≡ begun.step + 1 }
+    requires following { following ≡ begun.step + 1 }
     ensures lent { s.new.state.ctx.ghost_name ≡ s.old.state.ctx.ghost_name }
     ensures steps { Steps T.IrText.reading (attr_at A.IrText.reading) (framed.Operation begun)
         frames.old names.old
@@ -92,7 +92,7 @@ fn region_step<T: IrText<A>, A: AttrText<A>, U>(
     let op = begun.op;
     space_parse(&mut s.stream);
     let region = enter(s, names, op, isolated)?;
-    let waits = at_step(begun, behind);
+    let waits = at_step(begun, following);
     let Ok(()) = frames.push(Frame::Operation(waits)) else {
         return Err(out_of_memory(&mut s.stream));
     };
@@ -106,12 +106,12 @@ fn regions_step<T: IrText<A>, A: AttrText<A>, U>(
     frames: &mut Waiting,
     begun: BegunOperation,
     isolated: bool,
-    behind: usize,
+    following: usize,
 ) -> ParseResult<Option<Frame>, A>
     requires ready { AreReady (framed.Operation begun) frames.old names.old s.old }
     requires next { IsNext s.old.state.ctx.now.dialects begun comes.Regions }
     requires isolated { isolated ≡ formats.isolated s.old.state.ctx.now.dialects (id_of begun.id) }
-    requires behind { behind ≡ begun.step + 1 }
+    requires following { following ≡ begun.step + 1 }
     ensures lent { s.new.state.ctx.ghost_name ≡ s.old.state.ctx.ghost_name }
     ensures steps { Steps T.IrText.reading (attr_at A.IrText.reading) (framed.Operation begun)
         frames.old names.old
@@ -119,7 +119,7 @@ fn regions_step<T: IrText<A>, A: AttrText<A>, U>(
 {
     space_parse(&mut s.stream);
     if !next_is(&s.stream, '{') {
-        return Ok(Some(Frame::Operation(at_step(begun, behind))));
+        return Ok(Some(Frame::Operation(at_step(begun, following))));
     }
     let region = enter(s, names, begun.op, isolated)?;
     let Ok(()) = frames.push(Frame::Operation(begun)) else {
@@ -162,8 +162,8 @@ fn operation_step<T: IrText<A>, A: AttrText<A>, U>(
     let next = coming_here(&s.state, &begun);
     match next.coming {
         Coming::Piece => piece_step(s, names, frames, begun),
-        Coming::Region => region_step(s, names, frames, begun, next.isolated, next.behind),
-        Coming::Regions => regions_step(s, names, frames, begun, next.isolated, next.behind),
+        Coming::Region => region_step(s, names, frames, begun, next.isolated, next.following),
+        Coming::Regions => regions_step(s, names, frames, begun, next.isolated, next.following),
         Coming::End => end_step(s, names, frames, begun),
     }
 }
@@ -208,7 +208,7 @@ fn block_step<T: IrText<A>, A: AttrText<A>, U>(
         frames.old names.old
         s.old result names.new s.new frames.new }
 {
-    if !another_stands(&mut s.stream, block.first) {
+    if !skip_to_operation(&mut s.stream, block.first) {
         return Ok(frames.pop());
     }
     let begun = begin(s, names, keys, Some(block.block))?;

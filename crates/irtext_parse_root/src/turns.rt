@@ -63,7 +63,7 @@ pub(crate) fn go_on<T: IrText<A>, A: AttrText<A>, U>(
 ) -> ParseResult<(), A>
     requires fine { s.old.stream.failed ≡ false }
     requires sound { IsSoundOnce names.old s.old.state }
-    requires stands { IsSome (operation s.old.state.ctx.now begun.old.op) }
+    requires alive { IsSome (operation s.old.state.ctx.now begun.old.op) }
     requires step { IsNext s.old.state.ctx.now.dialects begun.old comes.Piece }
     requires begun { (o : OpenOperation T A) × (step : Step) × (ss : List Step) × IsBegun names.old.names
         (whole s.old.stream)
@@ -92,7 +92,7 @@ pub(crate) fn end<T: IrText<A>, A: AttrText<A>, U>(
 ) -> ParseResult<(), A>
     requires fine { s.old.stream.failed ≡ false }
     requires sound { IsSoundOnce names.old s.old.state }
-    requires stands { IsSome (operation s.old.state.ctx.now begun.now.op) }
+    requires alive { IsSome (operation s.old.state.ctx.now begun.now.op) }
     requires counts { length (results s.old.state.ctx.now.graph begun.now.op) ≡ begun.now.results }
     requires known { AreKnown (length names.old.names) (numbers_of begun.now.names) }
     requires begun { (o : OpenOperation T A) × IsBegun names.old.names (whole s.old.stream)
@@ -121,7 +121,7 @@ pub(crate) fn enter<T: IrText<A>, A: AttrText<A>, U>(
 ) -> ParseResult<BegunRegion, A>
     requires fine { s.old.stream.failed ≡ false }
     requires sound { IsSoundOnce names.old s.old.state }
-    requires stands { IsSome (operation s.old.state.ctx.now op) }
+    requires alive { IsSome (operation s.old.state.ctx.now op) }
     ensures lent { s.new.state.ctx.ghost_name ≡ s.old.state.ctx.ghost_name }
     ensures enters { IfOk result (λ r. Enters T.IrText.reading (attr_at A.IrText.reading) names.old s.old op
         isolated r names.new s.new) }

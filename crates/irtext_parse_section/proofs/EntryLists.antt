@@ -243,8 +243,8 @@ none_there (Some x) e = absurd (true≢false e)
 
 module _ {A : Type 0} (attr : Text → Outcome (AttrView A)) (rules : ℕ → Rule A) where
   -- what follows an entry's head
-  abbrev behind_head : Mark ℕ → Text → Outcome (Entry ℕ A (Written A))
-  behind_head m t = cond (begins_given t) (mapped (λ g. of_item m g.0 g.1) (given_at attr (rules m.index) t)) (mapped (of_once m) (attribute_at attr t))
+  abbrev after_head : Mark ℕ → Text → Outcome (Entry ℕ A (Written A))
+  after_head m t = cond (begins_given t) (mapped (λ g. of_item m g.0 g.1) (given_at attr (rules m.index) t)) (mapped (of_once m) (attribute_at attr t))
 
   chosen : (b : Bool) (m n : Mark ℕ) (x : Option (Written A)) (ps : List (Name ℕ × section.Item ℕ A)) (u more rest : Text) → begins_given u ≡ b
       → cond b (mapped (λ g. of_item n g.0 g.1) (given_at attr (rules n.index) u)) (mapped (of_once n) (attribute_at attr u)) ≡ Read (of_item m x ps) more rest → (begins_given u ≡ true) × (n ≡ m)
@@ -253,7 +253,7 @@ module _ {A : Type 0} (attr : Text → Outcome (AttrView A)) (rules : ℕ → Ru
 
   item_passes : (test : ℕ → Bool) (m : Mark ℕ) (x : Option (Written A)) (ps : List (Name ℕ × section.Item ℕ A)) (text taken rest : Text) → entry_at attr test rules text ≡ Read (of_item m x ps) taken rest → test m.index ≡ true
   item_passes test m x ps text taken rest e =
-      let a = followed_read (tested test (entry_head_at text)) behind_head (of_item m x ps) taken rest e in
+      let a = followed_read (tested test (entry_head_at text)) after_head (of_item m x ps) taken rest e in
       let c = chosen (begins_given a.middle) m a.value x ps a.middle a.more rest refl a.second in
       ap (λ (n : Mark ℕ). test n.index) (sym c.1) ∙ tested_passes test (entry_head_at text) a.value a.front a.middle a.first c.0
 

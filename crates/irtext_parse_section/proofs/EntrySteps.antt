@@ -35,24 +35,24 @@ use Rattle.irtext_parse_section.specs.declared.said.ReadEntry.TheVariants as rea
 use Rattle.irtext_parse_section.proofs.HeadSteps.{a_mark}
 
 -- what follows the head
-abbrev behind_head : {A : Type 0} → (Text → Outcome (AttrView A)) → (ℕ → Rule A) → Mark ℕ → Text → Outcome (Entry ℕ A (Written A))
-behind_head attr rules m t = cond (begins_given t) (mapped (λ g. of_item m g.0 g.1) (given_at attr (rules m.index) t)) (mapped (of_once m) (attribute_at attr t))
+abbrev after_head : {A : Type 0} → (Text → Outcome (AttrView A)) → (ℕ → Rule A) → Mark ℕ → Text → Outcome (Entry ℕ A (Written A))
+after_head attr rules m t = cond (begins_given t) (mapped (λ g. of_item m g.0 g.1) (given_at attr (rules m.index) t)) (mapped (of_once m) (attribute_at attr t))
 
 module _ {A : Type 0} (attr : Text → Outcome (AttrView A)) (test : ℕ → Bool) (marks : List (ℕ × Item)) where
   -- there is no head
   pub entry_unread : {Means : ReadEntry A → Entry ℕ A (Written A) → Type 0} {old new : StreamView} {fault : ParseFault A} → MustMean {Y = EntryHead} itself replaced (IsHead (whole old)) (λ t. tested test (entry_head_at t)) old (Err fault) new
       → MustMean itself replaced Means (entry_at attr test (rules_of marks)) old (Err fault) new
-  entry_unread h = must_refuse alone (first_refused alone {sees = λ _. of_once (a_mark 0 0) (ident [])} (behind_head attr (rules_of marks)) h.read)
+  entry_unread h = must_refuse alone (first_refused alone {sees = λ _. of_once (a_mark 0 0) (ident [])} (after_head attr (rules_of marks)) h.read)
 
   module _ {old mid : StreamView} {head : EntryHead} (h : MustMean {A = A} itself replaced (IsHead (whole old)) (λ t. tested test (entry_head_at t)) old (Ok head) mid) where
-    behind : Passed alone (entry_at attr test (rules_of marks)) (behind_head attr (rules_of marks) (h.meant head)) old mid
-    behind = first alone (behind_head attr (rules_of marks)) h.read
+    following : Passed alone (entry_at attr test (rules_of marks)) (after_head attr (rules_of marks) (h.meant head)) old mid
+    following = first alone (after_head attr (rules_of marks)) h.read
 
-    once_behind : begins_given mid.rest ≡ false → Passed alone (entry_at attr test (rules_of marks)) (λ t. mapped (of_once (h.meant head)) (attribute_at attr t)) old mid
-    once_behind e = turned alone (λ t. mapped (of_once (h.meant head)) (attribute_at attr t)) (rw e refl) behind
+    once_after : begins_given mid.rest ≡ false → Passed alone (entry_at attr test (rules_of marks)) (λ t. mapped (of_once (h.meant head)) (attribute_at attr t)) old mid
+    once_after e = turned alone (λ t. mapped (of_once (h.meant head)) (attribute_at attr t)) (rw e refl) following
 
-    item_behind : begins_given mid.rest ≡ true → Passed alone (entry_at attr test (rules_of marks)) (λ t. mapped (λ g. of_item (h.meant head) g.0 g.1) (given_at attr (rules_of marks (h.meant head).index) t)) old mid
-    item_behind e = turned alone (λ t. mapped (λ g. of_item (h.meant head) g.0 g.1) (given_at attr (rules_of marks (h.meant head).index) t)) (rw e refl) behind
+    item_following : begins_given mid.rest ≡ true → Passed alone (entry_at attr test (rules_of marks)) (λ t. mapped (λ g. of_item (h.meant head) g.0 g.1) (given_at attr (rules_of marks (h.meant head).index) t)) old mid
+    item_following e = turned alone (λ t. mapped (λ g. of_item (h.meant head) g.0 g.1) (given_at attr (rules_of marks (h.meant head).index) t)) (rw e refl) following
 
     -- an attribute that is written once was parsed
     pub once_there : {new : StreamView} (paths : List (List ℕ)) (a : AttrObj A) → begins_given mid.rest ≡ false → MustRead {A = A} itself replaced attribute_of (attribute_at attr) mid (Ok a) new
@@ -62,13 +62,13 @@ module _ {A : Type 0} (attr : Text → Outcome (AttrView A)) (test : ℕ → Boo
         record {
           meant = λ _. of_once m (attribute_of a);
           means = (h.means.indexed, refl);
-          read = last_seen alone (λ (x : ReadEntry A). of_once m (attribute_of a)) (of_once m) (read.OfOnce head.mark.index a) refl (once_behind e) r;
+          read = last_seen alone (λ (x : ReadEntry A). of_once m (attribute_of a)) (of_once m) (read.OfOnce head.mark.index a) refl (once_after e) r;
         }
 
     -- none was
     pub once_refused : {Means : ReadEntry A → Entry ℕ A (Written A) → Type 0} {new : StreamView} {fault : ParseFault A} → begins_given mid.rest ≡ false → MustRead {Y = AttrObj A} itself replaced attribute_of (attribute_at attr) mid (Err fault) new
         → MustMean itself replaced Means (entry_at attr test (rules_of marks)) old (Err fault) new
-    once_refused e r = must_refuse alone (refuses_seen alone {sees = λ _. of_once (a_mark 0 0) (ident [])} (of_once (h.meant head)) (once_behind e) r)
+    once_refused e r = must_refuse alone (refuses_seen alone {sees = λ _. of_once (a_mark 0 0) (ident [])} (of_once (h.meant head)) (once_after e) r)
 
     module _ (item : Item) (carries : lookup (same_index head.mark.index) marks ≡ Some item) where
       carried : lookup (same_index (h.meant head).index) marks ≡ Some item
@@ -87,7 +87,7 @@ module _ {A : Type 0} (attr : Text → Outcome (AttrView A)) (test : ℕ → Boo
           record {
             meant = λ _. of_item m v.0 v.1;
             means = (h.means.indexed, record { item = carried; known = k.means.known; location = k.means.location; pairs = subst (λ t. ArePairs t g.1 v.1) (must_whole alone h.read) k.means.pairs });
-            read = last_seen alone (λ (x : ReadEntry A). of_item m v.0 v.1) (λ g. of_item m g.0 g.1) (read.OfItem head.mark.index (record { item = item; location = g.0; pairs = g.1 })) refl (item_behind e)
+            read = last_seen alone (λ (x : ReadEntry A). of_item m v.0 v.1) (λ g. of_item m g.0 g.1) (read.OfItem head.mark.index (record { item = item; location = g.0; pairs = g.1 })) refl (item_following e)
                 (subst (λ r. MustRead {A = A} itself replaced k.meant (given_at attr r) mid (Ok g) new) its_rule k.read);
           }
 
@@ -96,5 +96,5 @@ module _ {A : Type 0} (attr : Text → Outcome (AttrView A)) (test : ℕ → Boo
           → MustMean {Y = Option (Location A) × Vec (Key × GivenAttr A) Global} itself replaced (IsGivenOver paths (whole mid)) (given_at attr (rule_for (is_block item))) mid (Err fault) new
           → MustMean itself replaced Means (entry_at attr test (rules_of marks)) old (Err fault) new
       item_refused {new = new} {fault = fault} paths e k =
-          must_refuse alone (refuses_seen alone {sees = λ _. of_once (a_mark 0 0) (ident [])} (λ g. of_item (h.meant head) g.0 g.1) (item_behind e)
+          must_refuse alone (refuses_seen alone {sees = λ _. of_once (a_mark 0 0) (ident [])} (λ g. of_item (h.meant head) g.0 g.1) (item_following e)
           (subst (λ r. MustRead {Y = Option (Location A) × Vec (Key × GivenAttr A) Global} itself replaced k.meant (given_at attr r) mid (Err fault) new) its_rule k.read))

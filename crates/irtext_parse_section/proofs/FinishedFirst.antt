@@ -39,16 +39,16 @@ block_attributes_at c p = option_map (λ b. b.attributes) (block c p)
 
 module _ {T A : Type 0} (a b : ContextView T A) where
   module _ (p : Ptr Operation) (h : OperationData A → OperationData A) (e : EditsOperation a b p h) where
-    stands_in : (x : OperationEntry T A) (o : Option (OperationData A)) → is_some (option_map (view_of {T = T} {A = A} x.content.content.results x.content.children) (option_map h o)) ≡ is_some (option_map (view_of {T = T} {A = A} x.content.content.results x.content.children) o)
-    stands_in x None = refl
-    stands_in x (Some d) = refl
+    is_live_in : (x : OperationEntry T A) (o : Option (OperationData A)) → is_some (option_map (view_of {T = T} {A = A} x.content.content.results x.content.children) (option_map h o)) ≡ is_some (option_map (view_of {T = T} {A = A} x.content.content.results x.content.children) o)
+    is_live_in x None = refl
+    is_live_in x (Some d) = refl
 
     -- whatever edit is made of an operation's data, the same operations are live
-    pub operation_stands : (q : Ptr Operation) → is_some (operation b q) ≡ is_some (operation a q)
-    operation_stands q = edited_same a.graph.operations b.graph.operations p (with_data (option_map h)) (λ s. is_some (option_and_then (operation_of {T = T} {A = A}) s)) (λ x. stands_in x x.content.content.data_of) e.graph.operations q
+    pub operation_is_live : (q : Ptr Operation) → is_some (operation b q) ≡ is_some (operation a q)
+    operation_is_live q = edited_same a.graph.operations b.graph.operations p (with_data (option_map h)) (λ s. is_some (option_and_then (operation_of {T = T} {A = A}) s)) (λ x. is_live_in x x.content.content.data_of) e.graph.operations q
 
-    pub block_beside_stands : (q : Ptr BasicBlock) → block b q ≡ block a q
-    block_beside_stands q = ap (λ s. option_map (block_of {T = T} {A = A}) (get s q)) e.graph.blocks
+    pub block_beside_same : (q : Ptr BasicBlock) → block b q ≡ block a q
+    block_beside_same q = ap (λ s. option_map (block_of {T = T} {A = A}) (get s q)) e.graph.blocks
 
     module _ (plain : (x : OperationData A) → (h x).attributes ≡ x.attributes) where
       same_in : (x : OperationEntry T A) (o : Option (OperationData A)) → option_map (λ (op : OperationView T A). op.attributes) (option_map (view_of {T = T} {A = A} x.content.content.results x.content.children) (option_map h o)) ≡ option_map (λ (op : OperationView T A). op.attributes) (option_map (view_of {T = T} {A = A} x.content.content.results x.content.children) o)
@@ -59,11 +59,11 @@ module _ {T A : Type 0} (a b : ContextView T A) where
       same_attributes q = edited_same a.graph.operations b.graph.operations p (with_data (option_map h)) (λ s. option_map (λ (op : OperationView T A). op.attributes) (option_and_then (operation_of {T = T} {A = A}) s)) (λ x. same_in x x.content.content.data_of) e.graph.operations q
 
   module _ (p : Ptr BasicBlock) (h : BlockData A → BlockData A) (e : EditsBlock a b p h) where
-    pub block_stands : (q : Ptr BasicBlock) → is_some (block b q) ≡ is_some (block a q)
-    block_stands q = edited_same a.graph.blocks b.graph.blocks p (with_block h) (λ s. is_some (option_map (block_of {T = T} {A = A}) s)) (λ x. refl) e.graph.blocks q
+    pub block_is_live : (q : Ptr BasicBlock) → is_some (block b q) ≡ is_some (block a q)
+    block_is_live q = edited_same a.graph.blocks b.graph.blocks p (with_block h) (λ s. is_some (option_map (block_of {T = T} {A = A}) s)) (λ x. refl) e.graph.blocks q
 
-    pub operation_beside_stands : (q : Ptr Operation) → operation b q ≡ operation a q
-    operation_beside_stands q = ap (λ s. option_and_then (operation_of {T = T} {A = A}) (get s q)) e.graph.operations
+    pub operation_beside_same : (q : Ptr Operation) → operation b q ≡ operation a q
+    operation_beside_same q = ap (λ s. option_and_then (operation_of {T = T} {A = A}) (get s q)) e.graph.operations
 
     module _ (plain : (x : BlockData A) → (h x).attributes ≡ x.attributes) where
       pub same_block_attributes : (q : Ptr BasicBlock) → block_attributes_at b q ≡ block_attributes_at a q
@@ -81,12 +81,12 @@ module _ {A : Type 0} (content : List (Text × Attribute A)) where
 
 module _ {T A : Type 0} (content : List (Text × Attribute A)) where
   module _ (a b m c : ContextView T A) (p : Ptr Operation) (k : StoresOperation p content a b) (same : attributes_at m p ≡ attributes_at a p) where
-    pub stored_behind : EditsOperation m c p (with_attributes k.left) → StoresOperation p content m c
-    stored_behind e = record { left = k.left; edits = e; stored = into_same content (λ v. v.attributes) (λ v. v.attributes) k.left (operation a p) (operation m p) same k.stored }
+    pub stored_after : EditsOperation m c p (with_attributes k.left) → StoresOperation p content m c
+    stored_after e = record { left = k.left; edits = e; stored = into_same content (λ v. v.attributes) (λ v. v.attributes) k.left (operation a p) (operation m p) same k.stored }
 
   module _ (a b m c : ContextView T A) (p : Ptr BasicBlock) (k : StoresBlock p content a b) (same : block_attributes_at m p ≡ block_attributes_at a p) where
-    pub block_stored_behind : EditsBlock m c p (with_block_attributes k.left) → StoresBlock p content m c
-    block_stored_behind e = record { left = k.left; edits = e; stored = into_same content (λ v. v.attributes) (λ v. v.attributes) k.left (block a p) (block m p) same k.stored }
+    pub block_stored_after : EditsBlock m c p (with_block_attributes k.left) → StoresBlock p content m c
+    block_stored_after e = record { left = k.left; edits = e; stored = into_same content (λ v. v.attributes) (λ v. v.attributes) k.left (block a p) (block m p) same k.stored }
 
 -- ---- one step of each
 -- the branch that is taken
@@ -124,20 +124,20 @@ module _ {T A : Type 0} (content : List (Text × Attribute A)) (n : Option Text)
       go : (t : Bool) → is_some (operation a p) ≡ t → cond t (StoresOperation p content a b) (b ≡ a) → (m : ContextView T A) × EditsOperation a m q h × Stores content (item.Operation p) n m c
       go true f k =
           let s = operations_swapped a b c p q (with_attributes k.left) h k.edits e (plain.commutes k.left) in
-          (s.0, s.1, taken_true _ (is_some (operation s.0 p)) (operation_stands a s.0 q h s.1 p ∙ f) (stored_behind content a b s.0 c p k (same_attributes a s.0 q h s.1 plain.keeps p) s.2))
+          (s.0, s.1, taken_true _ (is_some (operation s.0 p)) (operation_is_live a s.0 q h s.1 p ∙ f) (stored_after content a b s.0 c p k (same_attributes a s.0 q h s.1 plain.keeps p) s.2))
       go false f k =
           let d : EditsOperation a c q h = subst (λ z. EditsOperation z c q h) k e in
-          (c, d, taken_false _ (is_some (operation c p)) (operation_stands a c q h d p ∙ f) refl)
+          (c, d, taken_false _ (is_some (operation c p)) (operation_is_live a c q h d p ∙ f) refl)
   operation_passes (item.Block p) q h plain a b c r e = go (is_some (block a p)) refl r
     where
       go : (t : Bool) → is_some (block a p) ≡ t → cond t (StoresBlock p (no_label content) a b × (n ≡ label_in None content)) (b ≡ a) → (m : ContextView T A) × EditsOperation a m q h × Stores content (item.Block p) n m c
       go true f (k, l) =
           let s = operation_first a b c p q (with_block_attributes k.left) h k.edits e in
-          let same = block_beside_stands a s.0 q h s.1 p in
-          (s.0, s.1, taken_true _ (is_some (block s.0 p)) (ap is_some same ∙ f) (block_stored_behind (no_label content) a b s.0 c p k (ap (option_map (λ b. b.attributes)) same) s.2, l))
+          let same = block_beside_same a s.0 q h s.1 p in
+          (s.0, s.1, taken_true _ (is_some (block s.0 p)) (ap is_some same ∙ f) (block_stored_after (no_label content) a b s.0 c p k (ap (option_map (λ b. b.attributes)) same) s.2, l))
       go false f k =
           let d : EditsOperation a c q h = subst (λ z. EditsOperation z c q h) k e in
-          (c, d, taken_false _ (is_some (block c p)) (ap is_some (block_beside_stands a c q h d p) ∙ f) refl)
+          (c, d, taken_false _ (is_some (block c p)) (ap is_some (block_beside_same a c q h d p) ∙ f) refl)
 
   -- the same for one of a block
   block_passes : (x : Item) (q : Ptr BasicBlock) (h : BlockData A → BlockData A) → IsPlainBlock h → (a b c : ContextView T A) → Stores content x n a b → EditsBlock b c q h → (m : ContextView T A) × EditsBlock a m q h × Stores content x n m c
@@ -146,44 +146,44 @@ module _ {T A : Type 0} (content : List (Text × Attribute A)) (n : Option Text)
       go : (t : Bool) → is_some (operation a p) ≡ t → cond t (StoresOperation p content a b) (b ≡ a) → (m : ContextView T A) × EditsBlock a m q h × Stores content (item.Operation p) n m c
       go true f k =
           let s = block_first a b c p q (with_attributes k.left) h k.edits e in
-          let same = operation_beside_stands a s.0 q h s.1 p in
-          (s.0, s.1, taken_true _ (is_some (operation s.0 p)) (ap is_some same ∙ f) (stored_behind content a b s.0 c p k (ap (option_map (λ op. op.attributes)) same) s.2))
+          let same = operation_beside_same a s.0 q h s.1 p in
+          (s.0, s.1, taken_true _ (is_some (operation s.0 p)) (ap is_some same ∙ f) (stored_after content a b s.0 c p k (ap (option_map (λ op. op.attributes)) same) s.2))
       go false f k =
           let d : EditsBlock a c q h = subst (λ z. EditsBlock z c q h) k e in
-          (c, d, taken_false _ (is_some (operation c p)) (ap is_some (operation_beside_stands a c q h d p) ∙ f) refl)
+          (c, d, taken_false _ (is_some (operation c p)) (ap is_some (operation_beside_same a c q h d p) ∙ f) refl)
   block_passes (item.Block p) q h plain a b c r e = go (is_some (block a p)) refl r
     where
       go : (t : Bool) → is_some (block a p) ≡ t → cond t (StoresBlock p (no_label content) a b × (n ≡ label_in None content)) (b ≡ a) → (m : ContextView T A) × EditsBlock a m q h × Stores content (item.Block p) n m c
       go true f (k, l) =
           let s = blocks_swapped a b c p q (with_block_attributes k.left) h k.edits e (plain.commutes k.left) in
-          (s.0, s.1, taken_true _ (is_some (block s.0 p)) (block_stands a s.0 q h s.1 p ∙ f) (block_stored_behind (no_label content) a b s.0 c p k (same_block_attributes a s.0 q h s.1 plain.keeps p) s.2, l))
+          (s.0, s.1, taken_true _ (is_some (block s.0 p)) (block_is_live a s.0 q h s.1 p ∙ f) (block_stored_after (no_label content) a b s.0 c p k (same_block_attributes a s.0 q h s.1 plain.keeps p) s.2, l))
       go false f k =
           let d : EditsBlock a c q h = subst (λ z. EditsBlock z c q h) k e in
-          (c, d, taken_false _ (is_some (block c p)) (block_stands a c q h d p ∙ f) refl)
+          (c, d, taken_false _ (is_some (block c p)) (block_is_live a c q h d p ∙ f) refl)
 
   -- putting attributes into one item does not change which objects are live
   operation_there : (x : Item) (a b : ContextView T A) → Stores content x n a b → (q : Ptr Operation) → is_some (operation b q) ≡ is_some (operation a q)
   operation_there (item.Operation p) a b r q = go (is_some (operation a p)) r
     where
       go : (t : Bool) → cond t (StoresOperation p content a b) (b ≡ a) → is_some (operation b q) ≡ is_some (operation a q)
-      go true k = operation_stands a b p (with_attributes k.left) k.edits q
+      go true k = operation_is_live a b p (with_attributes k.left) k.edits q
       go false e = ap (λ z. is_some (operation z q)) e
   operation_there (item.Block p) a b r q = go (is_some (block a p)) r
     where
       go : (t : Bool) → cond t (StoresBlock p (no_label content) a b × (n ≡ label_in None content)) (b ≡ a) → is_some (operation b q) ≡ is_some (operation a q)
-      go true (k, l) = ap is_some (operation_beside_stands a b p (with_block_attributes k.left) k.edits q)
+      go true (k, l) = ap is_some (operation_beside_same a b p (with_block_attributes k.left) k.edits q)
       go false e = ap (λ z. is_some (operation z q)) e
 
   block_there : (x : Item) (a b : ContextView T A) → Stores content x n a b → (q : Ptr BasicBlock) → is_some (block b q) ≡ is_some (block a q)
   block_there (item.Operation p) a b r q = go (is_some (operation a p)) r
     where
       go : (t : Bool) → cond t (StoresOperation p content a b) (b ≡ a) → is_some (block b q) ≡ is_some (block a q)
-      go true k = ap is_some (block_beside_stands a b p (with_attributes k.left) k.edits q)
+      go true k = ap is_some (block_beside_same a b p (with_attributes k.left) k.edits q)
       go false e = ap (λ z. is_some (block z q)) e
   block_there (item.Block p) a b r q = go (is_some (block a p)) r
     where
       go : (t : Bool) → cond t (StoresBlock p (no_label content) a b × (n ≡ label_in None content)) (b ≡ a) → is_some (block b q) ≡ is_some (block a q)
-      go true (k, l) = block_stands a b p (with_block_attributes k.left) k.edits q
+      go true (k, l) = block_is_live a b p (with_block_attributes k.left) k.edits q
       go false e = ap (λ z. is_some (block z q)) e
 
   -- a location of an operation comes before attributes of an item
@@ -239,15 +239,15 @@ module _ {T A : Type 0} (content : List (Text × Attribute A)) (n : Option Text)
       stored_in m true e h = h
       stored_in m false e h = absurd (cc)
 
-      located_stands : (l : Option (Location A)) (m : ContextView T A) → LocatesOperation p l a m → is_some (operation m p) ≡ is_some (operation a p)
-      located_stands None m h = ap (λ z. is_some (operation z p)) h
-      located_stands (Some l) m h = operation_stands a m p (with_loc l) h p
+      located_is_live : (l : Option (Location A)) (m : ContextView T A) → LocatesOperation p l a m → is_some (operation m p) ≡ is_some (operation a p)
+      located_is_live None m h = ap (λ z. is_some (operation z p)) h
+      located_is_live (Some l) m h = operation_is_live a m p (with_loc l) h p
 
       go : (t : Bool) → is_some (operation a p) ≡ t → cond t (StoresOperation p content a b) (b ≡ a)
           → cond t ((mid : ContextView T A) × LocatesOperation p l a mid × StoresOperation p content mid c) (c ≡ a)
       go true e k =
           let s = location_passes (item.Operation p) p l a b c r (inner (is_some (operation b p)) (operation_there (item.Operation p) a b r p ∙ e) f) in
-          (s.0, s.1, stored_in s.0 (is_some (operation s.0 p)) (located_stands l s.0 s.1 ∙ e) s.2)
+          (s.0, s.1, stored_in s.0 (is_some (operation s.0 p)) (located_is_live l s.0 s.1 ∙ e) s.2)
       go false e k = none (is_some (operation b p)) (operation_there (item.Operation p) a b r p ∙ e) f ∙ k
   gives_both (item.Block p) l a b c r f = go (is_some (block a p)) refl r
     where
@@ -263,14 +263,14 @@ module _ {T A : Type 0} (content : List (Text × Attribute A)) (n : Option Text)
       stored_in m d true e h = h.0
       stored_in m d false e h = absurd (cc)
 
-      located_stands : (l : Option (Location A)) (m : ContextView T A) → LocatesBlock p l a m → is_some (block m p) ≡ is_some (block a p)
-      located_stands None m h = ap (λ z. is_some (block z p)) h
-      located_stands (Some l) m h = block_stands a m p (with_block_loc l) h p
+      located_is_live : (l : Option (Location A)) (m : ContextView T A) → LocatesBlock p l a m → is_some (block m p) ≡ is_some (block a p)
+      located_is_live None m h = ap (λ z. is_some (block z p)) h
+      located_is_live (Some l) m h = block_is_live a m p (with_block_loc l) h p
 
       go : (t : Bool) → is_some (block a p) ≡ t → cond t (StoresBlock p (no_label content) a b × (n ≡ label_in None content)) (b ≡ a)
           → cond t ((mid last : ContextView T A) × LocatesBlock p l a mid × StoresBlock p (no_label content) mid last × LabelsBlock p (label_in None content) last c) (c ≡ a)
       go true e (k, same) =
           let h = inner (is_some (block b p)) (block_there (item.Block p) a b r p ∙ e) f in
           let s = block_location_passes (item.Block p) p l a b h.0 r h.1 in
-          (s.0, h.0, s.1, stored_in s.0 h.0 (is_some (block s.0 p)) (located_stands l s.0 s.1 ∙ e) s.2, subst (λ z. LabelsBlock p z h.0 c) same h.2)
+          (s.0, h.0, s.1, stored_in s.0 h.0 (is_some (block s.0 p)) (located_is_live l s.0 s.1 ∙ e) s.2, subst (λ z. LabelsBlock p z h.0 c) same h.2)
       go false e k = none (is_some (block b p)) (block_there (item.Block p) a b r p ∙ e) f ∙ k

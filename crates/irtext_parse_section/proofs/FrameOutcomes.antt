@@ -10,7 +10,7 @@ use Rattle.irtext_base.specs.Locations.{AttrView, LocationOf, fused, named, call
 use Rattle.irtext_base.specs.Paths.{Written}
 use Rattle.irtext_tokens.specs.Infix.{Reader}
 use Rattle.irtext_tokens.specs.Tokens.{text_at}
-use Rattle.irtext_parse_spec.specs.Readers.Locations.{WrittenRow, begins_source, begins_location, name_at, place_at, metadata_at, behind_location, row_of, row_at, more_at, fused_at, named_at, call_site_at, kind_at, location_within, more_within, location_at}
+use Rattle.irtext_parse_spec.specs.Readers.Locations.{WrittenRow, begins_source, begins_location, name_at, place_at, metadata_at, after_location, row_of, row_at, more_at, fused_at, named_at, call_site_at, kind_at, location_within, more_within, location_at}
 use Rattle.irtext_parse_spec.specs.Readers.NewPaths.{joined_rows}
 use Rattle.irtext_parse_spec.specs.Readers.Positions.{space_at, spaced_at}
 use Rattle.irtext_parse_spec.specs.Readers.RestLengths.{LeavesNoMore}
@@ -18,7 +18,7 @@ use Rattle.irtext_parse_spec.proofs.Readers.Steps.{prefixed-prefixed, mapped_is_
 use Rattle.irtext_parse_spec.proofs.Locations.Begins.{is_missing, none_begins, one_begins}
 use Rattle.irtext_parse_spec.proofs.Locations.Bounds.{kind_same, more_same, within_enough}
 use Rattle.irtext_parse_spec.proofs.Locations.LocationRests.{within_location}
-use Rattle.irtext_parse_section.specs.Frames.{FrameOf, for_name, for_callee, for_caller, for_row, ProgressOf, whole, inside, with_one, behind_at, call_site_head_at, row_opening_at, fused_opening_at, opening_at, further_at, frame_rest, progress_rest}
+use Rattle.irtext_parse_section.specs.Frames.{FrameOf, for_name, for_callee, for_caller, for_row, ProgressOf, whole, inside, with_one, after_at, call_site_head_at, row_opening_at, fused_opening_at, opening_at, further_at, frame_rest, progress_rest}
 
 -- ---- outcomes
 -- what follows characters that were taken is required already
@@ -143,21 +143,21 @@ module _ {A : Type 0} (attr : Reader (AttrView A)) (no_more : LeavesNoMore attr)
   abbrev next_in : Option (AttrView A) → WrittenRow A → Unit {0} → Text → Outcome (Written A)
   next_in m row u text = followed (location_at attr text) (in_row m row)
 
-  abbrev behind_comma : (Written A → Text → Outcome (WrittenRow A)) → Unit {0} → Text → Outcome (WrittenRow A)
-  behind_comma k u text = followed (space_at text) (λ _ t. followed (location_at attr t) k)
+  abbrev after_comma : (Written A → Text → Outcome (WrittenRow A)) → Unit {0} → Text → Outcome (WrittenRow A)
+  after_comma k u text = followed (space_at text) (λ _ t. followed (location_at attr t) k)
 
   -- if `,` follows, the list goes on
   comma_goes_on : (m : Option (AttrView A)) (row : WrittenRow A) (l : Written A) (text : Text)
-      → followed (followed (text_at (codes ",") text) (behind_comma (behind_location (location_at attr) (further_at attr)))) (λ ls t. ends_row m row (location l ls) t)
+      → followed (followed (text_at (codes ",") text) (after_comma (after_location (location_at attr) (further_at attr)))) (λ ls t. ends_row m row (location l ls) t)
       ≡ followed (text_at (codes ",") text) (λ _ t. followed (space_at t) (next_in m (with_one row l)))
   comma_goes_on m row l text =
-      followed_followed (text_at (codes ",") text) (behind_comma (behind_location (location_at attr) (further_at attr))) (λ ls t. ends_row m row (location l ls) t)
+      followed_followed (text_at (codes ",") text) (after_comma (after_location (location_at attr) (further_at attr))) (λ ls t. ends_row m row (location l ls) t)
       ∙ followed_as (text_at (codes ",") text) _ (λ _ t. followed (space_at t) (next_in m (with_one row l))) (λ _ t.
-      followed_followed (space_at t) (λ _ u. followed (location_at attr u) (behind_location (location_at attr) (further_at attr))) (λ ls v. ends_row m row (location l ls) v)
+      followed_followed (space_at t) (λ _ u. followed (location_at attr u) (after_location (location_at attr) (further_at attr))) (λ ls v. ends_row m row (location l ls) v)
       ∙ followed_as (space_at t) _ (next_in m (with_one row l)) (λ _ u.
-      followed_followed (location_at attr u) (behind_location (location_at attr) (further_at attr)) (λ ls v. ends_row m row (location l ls) v)
+      followed_followed (location_at attr u) (after_location (location_at attr) (further_at attr)) (λ ls v. ends_row m row (location l ls) v)
       ∙ followed_as (location_at attr u) _ (in_row m (with_one row l)) (λ k v.
-      followed_as (behind_location (location_at attr) (further_at attr) k v) (λ ls w. ends_row m row (location l ls) w) (ends_row m (with_one row l)) (λ ls w.
+      followed_as (after_location (location_at attr) (further_at attr) k v) (λ ls w. ends_row m row (location l ls) w) (ends_row m (with_one row l)) (λ ls w.
       ap (λ r. mapped (λ _. fused m r) (text_at (codes "]") w)) (sym (joined_one row ls l))))))
 
   -- the list goes on, or it ends
@@ -171,7 +171,7 @@ module _ {A : Type 0} (attr : Reader (AttrView A)) (no_more : LeavesNoMore attr)
   row_steps m row l text true e =
       let comma : Outcome (ProgressOf (Option (List ℕ)) A) = followed (text_at (codes ",") text) (λ _ t. mapped (λ _. inside (for_row m (with_one row l))) (space_at t)) in
       let bracket : Outcome (ProgressOf (Option (List ℕ)) A) = mapped (λ _. whole (fused m (with_one row l))) (text_at (codes "]") text) in
-      let more : Outcome (WrittenRow A) = followed (text_at (codes ",") text) (behind_comma (behind_location (location_at attr) (further_at attr))) in
+      let more : Outcome (WrittenRow A) = followed (text_at (codes ",") text) (after_comma (after_location (location_at attr) (further_at attr))) in
       ap demanded (followed_mapped (location l) (further_at attr text) (ends_row m row)
       ∙ (ap (λ o. followed o (λ ls t. ends_row m row (location l ls) t)) (further_is text ∙ ap (λ b. cond b more (Read no_location [] text)) e)
       ∙ (comma_goes_on m row l text
@@ -181,46 +181,46 @@ module _ {A : Type 0} (attr : Reader (AttrView A)) (no_more : LeavesNoMore attr)
   row_steps m row l text false e =
       let comma : Outcome (ProgressOf (Option (List ℕ)) A) = followed (text_at (codes ",") text) (λ _ t. mapped (λ _. inside (for_row m (with_one row l))) (space_at t)) in
       let bracket : Outcome (ProgressOf (Option (List ℕ)) A) = mapped (λ _. whole (fused m (with_one row l))) (text_at (codes "]") text) in
-      let more : Outcome (WrittenRow A) = followed (text_at (codes ",") text) (behind_comma (behind_location (location_at attr) (further_at attr))) in
+      let more : Outcome (WrittenRow A) = followed (text_at (codes ",") text) (after_comma (after_location (location_at attr) (further_at attr))) in
       ap demanded (followed_mapped (location l) (further_at attr text) (ends_row m row)
       ∙ ap (λ o. followed o (λ ls t. ends_row m row (location l ls) t)) (further_is text ∙ ap (λ b. cond b more (Read no_location [] text)) e))
       ∙ (demanded_none (mapped (λ _. fused m (with_one row l)) (text_at (codes "]") text))
       ∙ ap demanded (sym (word_ends (text_at (codes "]") text) (fused m (with_one row l))) ∙ ap (λ b. followed (cond b comma bracket) rest_of) (sym e)))
 
   -- after a location in a frame, a step is the first part of all that is left of the frame
-  pub behind_is : (f : FrameOf (Option (List ℕ)) A) (l : Written A) (text : Text) → demanded (frame_rest attr f l text) ≡ demanded (followed (behind_at f l text) rest_of)
-  behind_is (for_name name) l text = ap demanded (sym (word_ends (text_at (codes ")") text) (named name l)))
-  behind_is for_callee l text = ap demanded (sym (followed_mapped (λ _. inside (for_caller l)) (spaced_at (codes "at") text) rest_of))
-  behind_is (for_caller callee) l text = ap demanded (sym (word_ends (spaced_at (codes ")") text) (call_site callee l)))
-  behind_is (for_row m row) l text =
+  pub after_holds : (f : FrameOf (Option (List ℕ)) A) (l : Written A) (text : Text) → demanded (frame_rest attr f l text) ≡ demanded (followed (after_at f l text) rest_of)
+  after_holds (for_name name) l text = ap demanded (sym (word_ends (text_at (codes ")") text) (named name l)))
+  after_holds for_callee l text = ap demanded (sym (followed_mapped (λ _. inside (for_caller l)) (spaced_at (codes "at") text) rest_of))
+  after_holds (for_caller callee) l text = ap demanded (sym (word_ends (spaced_at (codes ")") text) (call_site callee l)))
+  after_holds (for_row m row) l text =
       ap demanded (row_rest m row l text
       ∙ (followed_alike (space_at text) (spaced_further m row l) (λ u t. followed (row_step m (with_one row l) u t) rest_of) (λ _ t. row_steps m row l t (begins (the 44) t) refl)
       ∙ sym (followed_followed (space_at text) (row_step m (with_one row l)) rest_of)))
 
   -- ---- a location up to the first one nested in it
   -- what follows the list of a fused location
-  abbrev behind_row : Option (AttrView A) → WrittenRow A → Text → Outcome (Written A)
-  behind_row m ls text = mapped (λ _. fused m ls) (text_at (codes "]") text)
+  abbrev after_row : Option (AttrView A) → WrittenRow A → Text → Outcome (Written A)
+  after_row m ls text = mapped (λ _. fused m ls) (text_at (codes "]") text)
 
   -- the first location of a list, and those after it
   row_opens : (m : Option (AttrView A)) (text : Text) (b : Bool) → begins begins_location text ≡ b
-      → demanded (followed (row_at (location_at attr) (further_at attr) text) (behind_row m)) ≡ demanded (followed (row_opening_at m text) rest_of)
+      → demanded (followed (row_at (location_at attr) (further_at attr) text) (after_row m)) ≡ demanded (followed (row_opening_at m text) rest_of)
   row_opens m text true e =
       let first : is_missing (location_at attr text) ≡ false = one_begins attr (length text) text (le_refl (length text)) e in
       let ended : Outcome (ProgressOf (Option (List ℕ)) A) = mapped (λ _. whole (fused m no_location)) (text_at (codes "]") text) in
-      ap (λ o. demanded (followed o (behind_row m))) (there (location_at attr text) first)
-      ∙ (ap demanded (followed_followed (location_at attr text) (behind_location (location_at attr) (further_at attr)) (behind_row m))
+      ap (λ o. demanded (followed o (after_row m))) (there (location_at attr text) first)
+      ∙ (ap demanded (followed_followed (location_at attr text) (after_location (location_at attr) (further_at attr)) (after_row m))
       ∙ (sym (demanded_none (followed (location_at attr text) (frame_rest attr (for_row m no_location))))
       ∙ ap (λ b. demanded (followed (cond b (Read (inside (for_row m no_location)) [] text) ended) rest_of)) (sym e)))
     where
-      there : (o : Outcome (Written A)) → is_missing o ≡ false → row_of (location_at attr) (further_at attr) o text ≡ followed o (behind_location (location_at attr) (further_at attr))
+      there : (o : Outcome (Written A)) → is_missing o ≡ false → row_of (location_at attr) (further_at attr) o text ≡ followed o (after_location (location_at attr) (further_at attr))
       there (Read l taken rest) h = refl
       there (Missing cause) h = absurd (true≢false h)
       there (Bad cause upto) h = refl
   row_opens m text false e =
       let ended : Outcome (ProgressOf (Option (List ℕ)) A) = mapped (λ _. whole (fused m no_location)) (text_at (codes "]") text) in
-      ap (λ o. demanded (followed (row_of (location_at attr) (further_at attr) o text) (behind_row m))) (none_begins attr (length text) text e)
-      ∙ (demanded_none (behind_row m no_location text)
+      ap (λ o. demanded (followed (row_of (location_at attr) (further_at attr) o text) (after_row m))) (none_begins attr (length text) text e)
+      ∙ (demanded_none (after_row m no_location text)
       ∙ ap demanded (sym (word_ends (text_at (codes "]") text) (fused m no_location)) ∙ ap (λ b. followed (cond b (Read (inside (for_row m no_location)) [] text) ended) rest_of) (sym e)))
 
   -- several locations as one
@@ -230,7 +230,7 @@ module _ {A : Type 0} (attr : Reader (AttrView A)) (no_more : LeavesNoMore attr)
       followed_as (space_at t) _ (λ _ u. followed (followed (metadata_at attr u) opened) rest_of) (λ _ u.
       followed_as (metadata_at attr u) _ (λ m v. followed (opened m v) rest_of) (λ m v.
       followed_as (text_at (codes "[") v) _ (λ _ w. followed (followed (space_at w) (λ _ x. row_opening_at m x)) rest_of) (λ _ w.
-      followed_alike (space_at w) (λ _ x. followed (row_at (location_at attr) (further_at attr) x) (behind_row m)) (λ _ x. followed (row_opening_at m x) rest_of) (λ _ x. row_opens m x (begins begins_location x) refl)
+      followed_alike (space_at w) (λ _ x. followed (row_at (location_at attr) (further_at attr) x) (after_row m)) (λ _ x. followed (row_opening_at m x) rest_of) (λ _ x. row_opens m x (begins begins_location x) refl)
       ∙ sym (followed_followed (space_at w) (λ _ x. row_opening_at m x) rest_of))
       ∙ sym (followed_followed (text_at (codes "[") v) (λ _ w. followed (space_at w) (λ _ x. row_opening_at m x)) rest_of))
       ∙ sym (followed_followed (metadata_at attr u) opened rest_of))

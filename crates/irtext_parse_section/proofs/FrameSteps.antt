@@ -7,7 +7,7 @@ use Rattle.irtext_base.specs.Text.{Text, begins, front, after}
 use Rattle.irtext_base.specs.Reading.{the}
 use Rattle.irtext_base.specs.Stream.{StreamView}
 use Rattle.irtext_base.specs.Faults.{Fault}
-use Rattle.irtext_base.specs.Answers.{Outcome, Read, Missing, Bad, Takes, StarvesHere, Starves, Refuses, Gives, Answers, demanded, prefixed, mapped, followed, unless_failed}
+use Rattle.irtext_base.specs.Answers.{Outcome, Read, Missing, Bad, Takes, RunsOutHere, RunsOut, Refuses, Gives, Answers, demanded, prefixed, mapped, followed, unless_failed}
 use Rattle.irtext_base.specs.Locations.{AttrView, LocationOf, fused, named, call_site, LocationsOf, no_location, location, location_view, attr_view_in, in_row, sourced, row_sourced}
 use Rattle.irtext_base.specs.Moves.{all_kept, row_kept}
 use Rattle.irtext_base.specs.Own.{Sincere}
@@ -33,15 +33,15 @@ use Rattle.irtext_parse_spec.specs.Readers.Streams.{itself, replaced}
 use Rattle.irtext_parse_spec.proofs.Readers.Answered.{answered}
 use Rattle.irtext_parse_spec.proofs.Readers.Honest.{honest_title, honest_nothing}
 use Rattle.irtext_parse_spec.proofs.Readers.PlainStream.{alone}
-use Rattle.irtext_parse_spec.proofs.Readers.Steps.{mapped_is_followed, Passed, starts, turned, more, more_seen, first, last, spaced, refuses, starved, ends, mapped_followed, mapped_mapped}
+use Rattle.irtext_parse_spec.proofs.Readers.Steps.{mapped_is_followed, Passed, starts, turned, more, more_seen, first, last, spaced, refuses, ran_out, ends, mapped_followed, mapped_mapped}
 use Rattle.irtext_parse_spec.proofs.Locations.LocationRests.{within_metadata}
 use Rattle.irtext_parse_spec.proofs.Locations.RestLengths.{Within, ◌then◌, ◌so◌, seen, within_either, within_honest, leaves_read, leaves_missing, leaves_bad, leaves_prefixed, leaves_followed, leaves_honest, leaves_word}
 use Rattle.irtext_parse_section.specs.declared.location.frame.Frame.{Frame}
 use Rattle.irtext_parse_section.specs.declared.location.frame.Frame.TheVariants as frame
 use Rattle.irtext_parse_section.specs.declared.location.frame.Progress.{Progress}
 use Rattle.irtext_parse_section.specs.declared.location.frame.Progress.TheVariants as progress
-use Rattle.irtext_parse_section.specs.Frames.{FrameOf, for_name, for_callee, for_caller, for_row, ProgressOf, whole, inside, frame_view, progress_view, frame_sourced, progress_sourced, frame_over, progress_over, frame_known, progress_known, known_progress, frame_kept, progress_kept, with_one, row_end_at, row_behind_at, behind_at, row_opening_at, fused_opening_at, opening_at, frame_rest, progress_rest, resumed, left_of}
-use Rattle.irtext_parse_section.proofs.FrameOutcomes.{demanded_followed, followed_as, followed_followed, demanded_none, prefixed_demanded, at_any, behind_is, opening_is}
+use Rattle.irtext_parse_section.specs.Frames.{FrameOf, for_name, for_callee, for_caller, for_row, ProgressOf, whole, inside, frame_view, progress_view, frame_sourced, progress_sourced, frame_over, progress_over, frame_known, progress_known, known_progress, frame_kept, progress_kept, with_one, row_end_at, row_after_at, after_at, row_opening_at, fused_opening_at, opening_at, frame_rest, progress_rest, resumed, left_of}
+use Rattle.irtext_parse_section.proofs.FrameOutcomes.{demanded_followed, followed_as, followed_followed, demanded_none, prefixed_demanded, at_any, after_holds, opening_is}
 
 -- ---- one step of the code
 module _ {A : Type 0} where
@@ -82,29 +82,29 @@ module _ {A : Type 0} where
 
   module _ (m : Option (AttrView A)) (row : LocationsOf Source A) {old mid : StreamView} (fine : old.failed ≡ false) (space : Takes itself replaced (front is_whitespace old.rest) (after is_whitespace old.rest) old mid) where
     -- `,` before one more location, or the bracket
-    abbrev behind_space : Unit {0} → Text → Outcome (ProgressOf Source A)
-    behind_space u text = cond (begins (the 44) text) (followed (text_at (codes ",") text) (λ _ t. mapped (λ _. inside (for_row m row)) (space_at t))) (mapped (λ _. whole (fused m row)) (text_at (codes "]") text))
+    abbrev after_spaces : Unit {0} → Text → Outcome (ProgressOf Source A)
+    after_spaces u text = cond (begins (the 44) text) (followed (text_at (codes ",") text) (λ _ t. mapped (λ _. inside (for_row m row)) (space_at t))) (mapped (λ _. whole (fused m row)) (text_at (codes "]") text))
 
-    spaced_row : Passed alone (row_behind_at m row) (behind_space tt) old mid
-    spaced_row = spaced alone behind_space (starts alone (row_behind_at m row) (λ t. followed (space_at t) behind_space) old fine refl) space
+    spaced_row : Passed alone (row_after_at m row) (after_spaces tt) old mid
+    spaced_row = spaced alone after_spaces (starts alone (row_after_at m row) (λ t. followed (space_at t) after_spaces) old fine refl) space
 
-    pub row_goes_on : begins (the 44) mid.rest ≡ true → Passed alone (row_behind_at m row) (λ t. followed (text_at (codes ",") t) (λ _ u. mapped (λ _. inside (for_row m row)) (space_at u))) old mid
+    pub row_goes_on : begins (the 44) mid.rest ≡ true → Passed alone (row_after_at m row) (λ t. followed (text_at (codes ",") t) (λ _ u. mapped (λ _. inside (for_row m row)) (space_at u))) old mid
     row_goes_on b =
         turned alone (λ t. followed (text_at (codes ",") t) (λ _ u. mapped (λ _. inside (for_row m row)) (space_at u)))
         (ap (λ z. cond z (followed (text_at (codes ",") mid.rest) (λ _ u. mapped (λ _. inside (for_row m row)) (space_at u))) (mapped (λ _. whole (fused m row)) (text_at (codes "]") mid.rest))) b) spaced_row
 
-    pub row_ends : begins (the 44) mid.rest ≡ false → Passed alone (row_behind_at m row) (row_end_at m row) old mid
+    pub row_ends : begins (the 44) mid.rest ≡ false → Passed alone (row_after_at m row) (row_end_at m row) old mid
     row_ends b =
         turned alone (row_end_at m row)
         (ap (λ z. cond z (followed (text_at (codes ",") mid.rest) (λ _ u. mapped (λ _. inside (for_row m row)) (space_at u))) (mapped (λ _. whole (fused m row)) (text_at (codes "]") mid.rest))) b) spaced_row
 
 -- out of memory for a call site after its bracket
-pub caller_starves : {A B : Type 0} (f : FrameOf Source A) (callee caller : LocationOf Source A) {old mid new : StreamView} {fault : ParseFault B} → f ≡ for_caller callee → old.failed ≡ false
-    → MustRead {A = B} {Y = Unit {0}} itself replaced (λ u. u) (spaced_at (codes ")")) old (Ok tt) mid → StarvesHere itself replaced mid fault new → MustRead {Y = Progress A} itself replaced progress_view (behind_at f caller) old (Err fault) new
-caller_starves f callee caller {old = old} {new = new} {fault = fault} e fine h k =
+pub caller_runs_out : {A B : Type 0} (f : FrameOf Source A) (callee caller : LocationOf Source A) {old mid new : StreamView} {fault : ParseFault B} → f ≡ for_caller callee → old.failed ≡ false
+    → MustRead {A = B} {Y = Unit {0}} itself replaced (λ u. u) (spaced_at (codes ")")) old (Ok tt) mid → RunsOutHere itself replaced mid fault new → MustRead {Y = Progress A} itself replaced progress_view (after_at f caller) old (Err fault) new
+caller_runs_out f callee caller {old = old} {new = new} {fault = fault} e fine h k =
     let ends_site : Text → Outcome (ProgressOf Source _) = λ t. mapped (λ _. whole (call_site callee caller)) (spaced_at (codes ")") t) in
-    subst (λ z. MustRead itself replaced progress_view (behind_at z caller) old (Err fault) new) (sym e)
-    (starved alone (more_seen alone (λ _. whole (call_site callee caller)) (starts alone ends_site ends_site old fine refl) h) k)
+    subst (λ z. MustRead itself replaced progress_view (after_at z caller) old (Err fault) new) (sym e)
+    (ran_out alone (more_seen alone (λ _. whole (call_site callee caller)) (starts alone ends_site ends_site old fine refl) h) k)
 
 -- ---- over other sources
 cond_natural : {X Y : Type 0} (see : X → Y) (b : Bool) (o p : Outcome X) (q r : Outcome Y) → mapped see o ≡ q → mapped see p ≡ r → mapped see (cond b o p) ≡ cond b q r
@@ -120,7 +120,7 @@ module _ {S R A : Type 0} (see : S → R) where
   row_one no_location l = refl
   row_one (location k row) l = ap (location (sourced see k)) (row_one row l)
 
-  row_natural : (m : Option (AttrView A)) (row : LocationsOf S A) (text : Text) → mapped (progress_sourced see) (row_behind_at m row text) ≡ row_behind_at m (row_sourced see row) text
+  row_natural : (m : Option (AttrView A)) (row : LocationsOf S A) (text : Text) → mapped (progress_sourced see) (row_after_at m row text) ≡ row_after_at m (row_sourced see row) text
   row_natural m row text =
       mapped_followed (progress_sourced see) (space_at text) step
       ∙ followed_as (space_at text) (λ u t. mapped (progress_sourced see) (step u t)) (λ _ t. cond (begins (the 44) t) (followed (text_at (codes ",") t) (λ _ u. mapped (λ _. inside (for_row m (row_sourced see row))) (space_at u))) (mapped (λ _. whole (fused m (row_sourced see row))) (text_at (codes "]") t)))
@@ -133,11 +133,11 @@ module _ {S R A : Type 0} (see : S → R) where
       step u t = cond (begins (the 44) t) (followed (text_at (codes ",") t) (λ _ u. mapped (λ _. inside (for_row m row)) (space_at u))) (mapped (λ _. whole (fused m row)) (text_at (codes "]") t))
 
   -- what follows a location is the same over other sources
-  behind_natural : (f : FrameOf S A) (l : LocationOf S A) (text : Text) → mapped (progress_sourced see) (behind_at f l text) ≡ behind_at (frame_sourced see f) (sourced see l) text
-  behind_natural (for_name name) l text = word_natural (text_at (codes ")") text) (whole (named name l))
-  behind_natural for_callee l text = word_natural (spaced_at (codes "at") text) (inside (for_caller l))
-  behind_natural (for_caller callee) l text = word_natural (spaced_at (codes ")") text) (whole (call_site callee l))
-  behind_natural (for_row m row) l text = row_natural m (with_one row l) text ∙ ap (λ r. row_behind_at m r text) (row_one row l)
+  after_natural : (f : FrameOf S A) (l : LocationOf S A) (text : Text) → mapped (progress_sourced see) (after_at f l text) ≡ after_at (frame_sourced see f) (sourced see l) text
+  after_natural (for_name name) l text = word_natural (text_at (codes ")") text) (whole (named name l))
+  after_natural for_callee l text = word_natural (spaced_at (codes "at") text) (inside (for_caller l))
+  after_natural (for_caller callee) l text = word_natural (spaced_at (codes ")") text) (whole (call_site callee l))
+  after_natural (for_row m row) l text = row_natural m (with_one row l) text ∙ ap (λ r. row_after_at m r text) (row_one row l)
 
   module _ (attr : Reader (AttrView A)) where
     first_natural : (m : Option (AttrView A)) (text : Text) → mapped (progress_sourced see) (row_opening_at m text) ≡ row_opening_at m text
@@ -202,11 +202,11 @@ module _ {S A : Type 0} where
   IsNext (for_caller callee) l p = whole (call_site callee l) ≡ p
   IsNext (for_row m row) l p = (inside (for_row m (with_one row l)) ≡ p) ⊎ (whole (fused m (with_one row l)) ≡ p)
 
-  behind_says : (f : FrameOf S A) (l : LocationOf S A) (text : Text) → Says (IsNext f l) (behind_at f l text)
-  behind_says (for_name name) l text = says_word (text_at (codes ")") text) (whole (named name l)) refl
-  behind_says for_callee l text = says_word (spaced_at (codes "at") text) (inside (for_caller l)) refl
-  behind_says (for_caller callee) l text = says_word (spaced_at (codes ")") text) (whole (call_site callee l)) refl
-  behind_says (for_row m row) l text =
+  after_says : (f : FrameOf S A) (l : LocationOf S A) (text : Text) → Says (IsNext f l) (after_at f l text)
+  after_says (for_name name) l text = says_word (text_at (codes ")") text) (whole (named name l)) refl
+  after_says for_callee l text = says_word (spaced_at (codes "at") text) (inside (for_caller l)) refl
+  after_says (for_caller callee) l text = says_word (spaced_at (codes ")") text) (whole (call_site callee l)) refl
+  after_says (for_row m row) l text =
       says_followed {Q = IsNext (for_row m row) l} (space_at text) (λ _ t. cond (begins (the 44) t) (followed (text_at (codes ",") t) (λ _ u. mapped (λ _. inside (for_row m (with_one row l))) (space_at u))) (mapped (λ _. whole (fused m (with_one row l))) (text_at (codes "]") t)))
       (λ _ t. says_either {Q = IsNext (for_row m row) l} (begins (the 44) t) _ _
       (says_followed {Q = IsNext (for_row m row) l} (text_at (codes ",") t) (λ _ u. mapped (λ _. inside (for_row m (with_one row l))) (space_at u)) (λ _ u. says_word {Q = IsNext (for_row m row) l} (space_at u) (inside (for_row m (with_one row l))) (inl refl)))
@@ -320,8 +320,8 @@ module _ {A : Type 0} where
 
 -- ---- results
 module _ {B X V : Type 0} (k : X → V) (old new : StreamView) where
-  refuses_so : (b : Bool) (o : Outcome X) (p : Outcome V) (fault : ParseFault B) → mapped k o ≡ p → Starves itself replaced old fault new ⊎ Refuses itself replaced (demanded (unless_failed b o)) old fault new
-      → Starves itself replaced old fault new ⊎ Refuses itself replaced (demanded (unless_failed b p)) old fault new
+  refuses_so : (b : Bool) (o : Outcome X) (p : Outcome V) (fault : ParseFault B) → mapped k o ≡ p → RunsOut itself replaced old fault new ⊎ Refuses itself replaced (demanded (unless_failed b o)) old fault new
+      → RunsOut itself replaced old fault new ⊎ Refuses itself replaced (demanded (unless_failed b p)) old fault new
   refuses_so b o p fault e (inl h) = inl h
   refuses_so true o p fault e (inr h) = inr h
   refuses_so false (Read x taken rest) p fault e (inr h) = absurd h
@@ -341,8 +341,8 @@ seen_so {see = see} k {f = f} g {old = old} {new = new} (Ok y) s e h = record { 
 seen_so k {f = f} g {old = old} {new = new} (Err fault) s e h = record { answers = refuses_so k old new old.failed (f old.rest) (g old.rest) fault e h.answers }
 
 -- if the first part is an error, all is
-first_so : {B X V : Type 0} (old new : StreamView) (fault : ParseFault B) (b : Bool) (o : Outcome X) (p : Outcome V) (k : X → Text → Outcome V) → p ≡ followed o k → Starves itself replaced old fault new ⊎ Refuses itself replaced (demanded (unless_failed b o)) old fault new
-    → Starves itself replaced old fault new ⊎ Refuses itself replaced (demanded (unless_failed b p)) old fault new
+first_so : {B X V : Type 0} (old new : StreamView) (fault : ParseFault B) (b : Bool) (o : Outcome X) (p : Outcome V) (k : X → Text → Outcome V) → p ≡ followed o k → RunsOut itself replaced old fault new ⊎ Refuses itself replaced (demanded (unless_failed b o)) old fault new
+    → RunsOut itself replaced old fault new ⊎ Refuses itself replaced (demanded (unless_failed b p)) old fault new
 first_so old new fault b o p k e (inl h) = inl h
 first_so old new fault true o p k e (inr h) = inr h
 first_so old new fault false (Read x taken rest) p k e (inr h) = absurd h
@@ -391,11 +391,11 @@ module _ {A : Type 0} (attr : Reader (AttrView A)) (no_more : LeavesNoMore attr)
       ∙ resumed_followed (frames ++ f ∷ []) (opening_at attr text) (λ p t. progress_rest attr p t))
 
   -- what follows the location inside a frame
-  step_behind : (frames : List (FrameOf (Option (List ℕ)) A)) (f : FrameOf (Option (List ℕ)) A) (l : Written A) (text : Text) → demanded (left_in (frames ++ f ∷ []) (whole l) text) ≡ demanded (followed (behind_at f l text) (left_in frames))
-  step_behind frames f l text =
+  step_after : (frames : List (FrameOf (Option (List ℕ)) A)) (f : FrameOf (Option (List ℕ)) A) (l : Written A) (text : Text) → demanded (left_in (frames ++ f ∷ []) (whole l) text) ≡ demanded (followed (after_at f l text) (left_in frames))
+  step_after frames f l text =
       ap demanded (resumed_pushed frames f (Read l [] text))
-      ∙ (resumed_alike frames (prefixed [] (frame_rest attr f l text)) (followed (behind_at f l text) (λ p t. progress_rest attr p t)) (demanded_none (frame_rest attr f l text) ∙ behind_is attr no_more f l text)
-      ∙ ap demanded (resumed_followed frames (behind_at f l text) (λ p t. progress_rest attr p t)))
+      ∙ (resumed_alike frames (prefixed [] (frame_rest attr f l text)) (followed (after_at f l text) (λ p t. progress_rest attr p t)) (demanded_none (frame_rest attr f l text) ∙ after_holds attr no_more f l text)
+      ∙ ap demanded (resumed_followed frames (after_at f l text) (λ p t. progress_rest attr p t)))
 
   -- what was parsed so far, and where: the open frames and how far the innermost was parsed, over the paths that are kept now
   pub record SoFar (before : List (List ℕ)) (old : StreamView) (paths : List (List ℕ)) (frames : List (Frame A)) (p : Progress A) (now : StreamView) : Type 0 where
@@ -421,9 +421,9 @@ module _ {A : Type 0} (attr : Reader (AttrView A)) (no_more : LeavesNoMore attr)
 
   module _ {before paths : List (List ℕ)} {old now : StreamView} (frames : List (Frame A)) where
     -- out of memory at the stream's position
-    pub starves_so_far : {B : Type 0} {p : Progress A} (other : List (List ℕ)) {new : StreamView} {fault : ParseFault B} → SoFar before old paths frames p now → StarvesHere itself replaced now fault new
+    pub runs_out_so_far : {B : Type 0} {p : Progress A} (other : List (List ℕ)) {new : StreamView} {fault : ParseFault B} → SoFar before old paths frames p now → RunsOutHere itself replaced now fault new
         → MustRead itself replaced (location_over other) (location_at attr) old (Err fault) new
-    starves_so_far other s h = starved alone s.passed h
+    runs_out_so_far other s h = ran_out alone s.passed h
 
     -- the stream has not failed
     pub fine_so_far : {p : Progress A} → SoFar before old paths frames p now → now.failed ≡ false
@@ -453,34 +453,34 @@ module _ {A : Type 0} (attr : Reader (AttrView A)) (no_more : LeavesNoMore attr)
       not_opened h = refuses alone (left_in (frames_over other (frames ++ f ∷ []))) at_opening h.read
 
     module _ (f : Frame A) {l : Location A} (s : SoFar before old paths (frames ++ f ∷ []) (progress.Whole l) now) where
-      at_behind : Passed alone (location_at attr) (λ t. followed (behind_at (frame_over paths f) (location_over paths l) t) (left_in (frames_over paths frames))) old now
-      at_behind = turned_alike (λ t. followed (behind_at (frame_over paths f) (location_over paths l) t) (left_in (frames_over paths frames)))
-          (ap (λ z. demanded (left_in z (whole (location_over paths l)) now.rest)) (over_pushed paths frames f) ∙ step_behind (frames_over paths frames) (frame_over paths f) (location_over paths l) now.rest) s.passed
+      at_after : Passed alone (location_at attr) (λ t. followed (after_at (frame_over paths f) (location_over paths l) t) (left_in (frames_over paths frames))) old now
+      at_after = turned_alike (λ t. followed (after_at (frame_over paths f) (location_over paths l) t) (left_in (frames_over paths frames)))
+          (ap (λ z. demanded (left_in z (whole (location_over paths l)) now.rest)) (over_pushed paths frames f) ∙ step_after (frames_over paths frames) (frame_over paths f) (location_over paths l) now.rest) s.passed
 
-      over_paths : {B : Type 0} {new : StreamView} (r : Result (Progress A) (ParseFault B)) → MustRead itself replaced progress_view (behind_at (frame_view f) (location_view l)) now r new
-          → MustRead itself replaced (progress_over paths) (behind_at (frame_over paths f) (location_over paths l)) now r new
-      over_paths r h = seen_so (progress_sourced (path_of paths)) (behind_at (frame_over paths f) (location_over paths l)) r (λ y. refl) (behind_natural (path_of paths) (frame_view f) (location_view l) now.rest) h
+      over_paths : {B : Type 0} {new : StreamView} (r : Result (Progress A) (ParseFault B)) → MustRead itself replaced progress_view (after_at (frame_view f) (location_view l)) now r new
+          → MustRead itself replaced (progress_over paths) (after_at (frame_over paths f) (location_over paths l)) now r new
+      over_paths r h = seen_so (progress_sourced (path_of paths)) (after_at (frame_over paths f) (location_over paths l)) r (λ y. refl) (after_natural (path_of paths) (frame_view f) (location_view l) now.rest) h
 
       -- what follows the location inside a frame was parsed
-      pub came_behind : {B : Type 0} {p : Progress A} {new : StreamView} → MustRead {A = B} itself replaced progress_view (behind_at (frame_view f) (location_view l)) now (Ok p) new → SoFar before old paths frames p new
-      came_behind {B = B} {p = p} {new = new} h =
+      pub came_after : {B : Type 0} {p : Progress A} {new : StreamView} → MustRead {A = B} itself replaced progress_view (after_at (frame_view f) (location_view l)) now (Ok p) new → SoFar before old paths frames p new
+      came_after {B = B} {p = p} {new = new} h =
           let o = known_popped (length paths) frames f s.open_known in
-          let m : MustRead {A = B} itself replaced (progress_over paths) (behind_at (frame_over paths f) (location_over paths l)) now (Ok p) new = over_paths (Ok p) h in
+          let m : MustRead {A = B} itself replaced (progress_over paths) (after_at (frame_over paths f) (location_over paths l)) now (Ok p) new = over_paths (Ok p) h in
           let a = answered h in
           let b = answered m in
           record {
             open_known = o.0;
-            known = next_known (length paths) (frame_view f) (location_view l) (progress_view p) ((behind_says (frame_view f) (location_view l) now.rest).by (progress_view p) a.taken new.rest a.is) o.1 s.known;
-            passed = more alone (left_in (frames_over paths frames)) at_behind m;
+            known = next_known (length paths) (frame_view f) (location_view l) (progress_view p) ((after_says (frame_view f) (location_view l) now.rest).by (progress_view p) a.taken new.rest a.is) o.1 s.known;
+            passed = more alone (left_in (frames_over paths frames)) at_after m;
             kept = s.kept ∙ (ap (λ z. all_kept (frames_kept before z) (location_over paths l)) (over_pushed paths frames f)
                 ∙ (ap (λ z. all_kept z (location_over paths l)) (kept_pushed before (frames_over paths frames) (frame_over paths f))
-                ∙ sym (next_kept (frames_kept before (frames_over paths frames)) (frame_over paths f) (location_over paths l) (progress_over paths p) ((behind_says (frame_over paths f) (location_over paths l) now.rest).by (progress_over paths p) b.taken new.rest b.is))));
+                ∙ sym (next_kept (frames_kept before (frames_over paths frames)) (frame_over paths f) (location_over paths l) (progress_over paths p) ((after_says (frame_over paths f) (location_over paths l) now.rest).by (progress_over paths p) b.taken new.rest b.is))));
           }
 
       -- it was an error
-      pub not_behind : {B : Type 0} (other : List (List ℕ)) {new : StreamView} {fault : ParseFault B} → MustRead {A = B} itself replaced progress_view (behind_at (frame_view f) (location_view l)) now (Err fault) new
+      pub nothing_after : {B : Type 0} (other : List (List ℕ)) {new : StreamView} {fault : ParseFault B} → MustRead {A = B} itself replaced progress_view (after_at (frame_view f) (location_view l)) now (Err fault) new
           → MustRead itself replaced (location_over other) (location_at attr) old (Err fault) new
-      not_behind other {fault = fault} h = refuses alone (left_in (frames_over paths frames)) at_behind (over_paths (Err fault) h)
+      nothing_after other {fault = fault} h = refuses alone (left_in (frames_over paths frames)) at_after (over_paths (Err fault) h)
 
     -- nothing is open, and all was parsed
     pub all_read : {B : Type 0} {l : Location A} → length frames ≡ 0 → SoFar before old paths frames (progress.Whole l) now → MustReadOver {A = B} known_location location_over (location_at attr) paths old (Ok l) now
@@ -547,11 +547,11 @@ spaced_leaves b c w text h =
     leaves_followed b _ _ (leaves_word b c w t i) (λ _ u j. leaves_honest honest_space b u j))
 
 module _ {S A : Type 0} where
-  behind_leaves : (f : FrameOf S A) (l : LocationOf S A) (b : ℕ) (text : Text) → length text ≤ suc b → Leaves b (behind_at f l text)
-  behind_leaves (for_name name) l b text h = leaves_seen b _ _ (leaves_word b 41 [] text h)
-  behind_leaves for_callee l b text h = leaves_seen b _ _ (spaced_leaves b 97 (codes "t") text h)
-  behind_leaves (for_caller callee) l b text h = leaves_seen b _ _ (spaced_leaves b 41 [] text h)
-  behind_leaves (for_row m row) l b text h =
+  after_leaves : (f : FrameOf S A) (l : LocationOf S A) (b : ℕ) (text : Text) → length text ≤ suc b → Leaves b (after_at f l text)
+  after_leaves (for_name name) l b text h = leaves_seen b _ _ (leaves_word b 41 [] text h)
+  after_leaves for_callee l b text h = leaves_seen b _ _ (spaced_leaves b 97 (codes "t") text h)
+  after_leaves (for_caller callee) l b text h = leaves_seen b _ _ (spaced_leaves b 41 [] text h)
+  after_leaves (for_row m row) l b text h =
       leaves_then (suc b) b (space_at text) step (leaves_honest honest_space (suc b) text h) (λ _ t i.
       leaves_cond b (begins (the 44) t) (followed (text_at (codes ",") t) comma) (mapped (λ _. whole (fused m (with_one row l))) (text_at (codes "]") t))
       (λ _. leaves_followed b (text_at (codes ",") t) comma (leaves_word b 44 [] t i) (λ _ u j. leaves_seen b (λ _. inside (for_row m (with_one row l))) (space_at u) (leaves_honest honest_space b u j)))
@@ -563,15 +563,15 @@ module _ {S A : Type 0} where
       step : Unit {0} → Text → Outcome (ProgressOf S A)
       step u t = cond (begins (the 44) t) (followed (text_at (codes ",") t) comma) (mapped (λ _. whole (fused m (with_one row l))) (text_at (codes "]") t))
 
-  behind_none : (f : FrameOf S A) (l : LocationOf S A) (p : ProgressOf S A) (taken rest : Text) → behind_at f l [] ≡ Read p taken rest → ⊥
-  behind_none (for_name name) l p taken rest e = absurd (cc e)
-  behind_none for_callee l p taken rest e = absurd (cc e)
-  behind_none (for_caller callee) l p taken rest e = absurd (cc e)
-  behind_none (for_row m row) l p taken rest e = absurd (cc e)
+  after_none : (f : FrameOf S A) (l : LocationOf S A) (p : ProgressOf S A) (taken rest : Text) → after_at f l [] ≡ Read p taken rest → ⊥
+  after_none (for_name name) l p taken rest e = absurd (cc e)
+  after_none for_callee l p taken rest e = absurd (cc e)
+  after_none (for_caller callee) l p taken rest e = absurd (cc e)
+  after_none (for_row m row) l p taken rest e = absurd (cc e)
 
-  behind_shorter : (f : FrameOf S A) (l : LocationOf S A) (text : Text) (p : ProgressOf S A) (taken rest : Text) → behind_at f l text ≡ Read p taken rest → length rest < length text
-  behind_shorter f l [] p taken rest e = absurd (behind_none f l p taken rest e)
-  behind_shorter f l (c ∷ text) p taken rest e = let h = (behind_leaves f l (length text) (c ∷ text) (le_refl (suc (length text)))).by p taken rest e in omega (arith, h)
+  after_is_shorter : (f : FrameOf S A) (l : LocationOf S A) (text : Text) (p : ProgressOf S A) (taken rest : Text) → after_at f l text ≡ Read p taken rest → length rest < length text
+  after_is_shorter f l [] p taken rest e = absurd (after_none f l p taken rest e)
+  after_is_shorter f l (c ∷ text) p taken rest e = let h = (after_leaves f l (length text) (c ∷ text) (le_refl (suc (length text)))).by p taken rest e in omega (arith, h)
 
 module _ {A : Type 0} (attr : Reader (AttrView A)) (no_more : LeavesNoMore attr) where
   fused_within : (b : ℕ) → Within b (space_at ▷ metadata_at attr ▶ λ m. word (codes "[") ▷ space_at ▷ row_opening_at {S = Option (List ℕ)} m)
@@ -598,8 +598,8 @@ module _ {A : Type 0} (attr : Reader (AttrView A)) (no_more : LeavesNoMore attr)
   opened_shorter {paths = paths} {old = old} {new = new} {p = p} n h = let a = answered h.read in opening_shorter old.rest (progress_over paths p) a.taken new.rest n a.is
 
 -- what follows a location takes a character
-pub behind_less : {A B : Type 0} (f : FrameOf Source A) (l : LocationOf Source A) {old new : StreamView} {p : Progress A} → MustRead {A = B} itself replaced progress_view (behind_at f l) old (Ok p) new → length new.rest < length old.rest
-behind_less f l {old = old} {new = new} {p = p} h = let a = answered h in behind_shorter f l old.rest (progress_view p) a.taken new.rest a.is
+pub after_less : {A B : Type 0} (f : FrameOf Source A) (l : LocationOf Source A) {old new : StreamView} {p : Progress A} → MustRead {A = B} itself replaced progress_view (after_at f l) old (Ok p) new → length new.rest < length old.rest
+after_less f l {old = old} {new = new} {p = p} h = let a = answered h in after_is_shorter f l old.rest (progress_view p) a.taken new.rest a.is
 
 -- a place is opened and parsed at once
 pub place_opens : {A B : Type 0} (attr : Reader (AttrView A)) {paths : List (List ℕ)} {old new : StreamView} {l : Location A} → begins begins_source old.rest ≡ true → MustReadOver {A = B} known_location location_over place_at paths old (Ok l) new

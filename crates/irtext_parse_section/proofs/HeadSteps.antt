@@ -4,10 +4,10 @@ use Rattle.std.specs.Map.{lookup}
 use Rattle.irtext_base.specs.Text.{Text}
 use Rattle.irtext_base.specs.Stream.{StreamView}
 use Rattle.irtext_base.specs.Faults.{Fault, UnknownIndex}
-use Rattle.irtext_base.specs.Answers.{Outcome, Read, Missing, Bad, Takes, Starves, Commits, Refuses, Gives, demanded, unless_failed}
+use Rattle.irtext_base.specs.Answers.{Outcome, Read, Missing, Bad, Takes, RunsOut, Commits, Refuses, Gives, demanded, unless_failed}
 use Rattle.irtext_base.specs.declared.parsable.fault.ParseFault.{ParseFault}
-use Rattle.irtext_base.proofs.Compose.{takes_stands, stands_failed, refuses_mapped_demanded}
-use Rattle.irtext_stream.specs.Places.{StandsBehind}
+use Rattle.irtext_base.proofs.Compose.{takes_same_stream, same_stream_failed, refuses_mapped_demanded}
+use Rattle.irtext_stream.specs.Places.{IsPlaceAfter}
 use Rattle.irtext_stream.specs.declared.position.Place.{Place}
 use Rattle.irtext_context.specs.declared.base.item.Item.{Item}
 use Rattle.irtext_parse_state.specs.States.{same_index}
@@ -81,27 +81,27 @@ module _ (test : ℕ → Bool) where
 
 module _ {A : Type 0} where
   -- a fault at an earlier place of the text is one of what was parsed from there
-  pub refused_there : (cause : Fault) (place : Place) (old mid new : StreamView) (fault : ParseFault A) (t r : Text) → Takes itself replaced t r old mid → StandsBehind place old.passed → RefusesAt itself replaced cause place mid fault new → Commits itself replaced cause [] old fault new
+  pub refused_there : (cause : Fault) (place : Place) (old mid new : StreamView) (fault : ParseFault A) (t r : Text) → Takes itself replaced t r old mid → IsPlaceAfter place old.passed → RefusesAt itself replaced cause place mid fault new → Commits itself replaced cause [] old fault new
   refused_there cause place old mid new fault t r k p h = record {
     because = h.because;
     committed = h.committed;
-    place = h.position (old.passed ++ []) old.rest (rw append-nil (set_within alone old mid (takes_stands itself replaced alone.view_at alone.at_at old mid t r k))) (rw append-nil p);
-    left = stands_failed itself replaced alone.view_at alone.at_at old.failed old mid new (takes_stands itself replaced alone.view_at alone.at_at old mid t r k) h.left;
+    place = h.position (old.passed ++ []) old.rest (rw append-nil (set_within alone old mid (takes_same_stream itself replaced alone.view_at alone.at_at old mid t r k))) (rw append-nil p);
+    left = same_stream_failed itself replaced alone.view_at alone.at_at old.failed old mid new (takes_same_stream itself replaced alone.view_at alone.at_at old mid t r k) h.left;
   }
 
   module _ (test : ℕ → Bool) where
     fails : (b : Bool) (o : Outcome (Mark ℕ)) (x : Mark ℕ) (place : Place) (old mid new : StreamView) (fault : ParseFault A) → Gives itself replaced (demanded (unless_failed b o)) old x mid → begins_given mid.rest ≡ true → test x.index ≡ false
-        → StandsBehind place old.passed → RefusesAt itself replaced (UnknownIndex x.index) place mid fault new → Starves itself replaced old fault new ⊎ Refuses itself replaced (demanded (unless_failed b (tested test o))) old fault new
+        → IsPlaceAfter place old.passed → RefusesAt itself replaced (UnknownIndex x.index) place mid fault new → RunsOut itself replaced old fault new ⊎ Refuses itself replaced (demanded (unless_failed b (tested test o))) old fault new
     fails true o x place old mid new fault h e f p k = absurd h
     fails false (Read m t r) x place old mid new fault h e f p k =
         let g : begins_given r ≡ true = subst (λ z. begins_given z ≡ true) (ap (λ (v : StreamView). v.rest) h.1.is) e in
         let j : test m.index ≡ false = subst (λ (m : Mark ℕ). test m.index ≡ false) h.0 f in
         let b : (begins_given r && not (test m.index)) ≡ true = ap₂ (λ y z. y && not z) g j in
-        subst (λ z. Starves itself replaced old fault new ⊎ Refuses itself replaced (demanded (cond z (Bad (UnknownIndex m.index) []) (Read m t r))) old fault new) (sym b) (inr (subst (λ (m : Mark ℕ). Commits itself replaced (UnknownIndex m.index) [] old fault new) h.0 (refused_there (UnknownIndex x.index) place old mid new fault t r h.1 p k)))
+        subst (λ z. RunsOut itself replaced old fault new ⊎ Refuses itself replaced (demanded (cond z (Bad (UnknownIndex m.index) []) (Read m t r))) old fault new) (sym b) (inr (subst (λ (m : Mark ℕ). Commits itself replaced (UnknownIndex m.index) [] old fault new) h.0 (refused_there (UnknownIndex x.index) place old mid new fault t r h.1 p k)))
     fails false (Missing cause) x place old mid new fault h e f p k = absurd h
     fails false (Bad cause upto) x place old mid new fault h e f p k = absurd h
 
-    unread : (b : Bool) (o : Outcome (Mark ℕ)) (old new : StreamView) (fault : ParseFault A) → Starves itself replaced old fault new ⊎ Refuses itself replaced (demanded (unless_failed b o)) old fault new → Starves itself replaced old fault new ⊎ Refuses itself replaced (demanded (unless_failed b (tested test o))) old fault new
+    unread : (b : Bool) (o : Outcome (Mark ℕ)) (old new : StreamView) (fault : ParseFault A) → RunsOut itself replaced old fault new ⊎ Refuses itself replaced (demanded (unless_failed b o)) old fault new → RunsOut itself replaced old fault new ⊎ Refuses itself replaced (demanded (unless_failed b (tested test o))) old fault new
     unread b o old new fault (inl h) = inl h
     unread true o old new fault (inr h) = inr h
     unread false (Read x t q) old new fault (inr h) = absurd h
@@ -126,7 +126,7 @@ module _ {A : Type 0} where
 
     -- an item's entry goes on, but its index fails
     pub head_fails : {old mid new : StreamView} {mark : ReadMark} {fault : ParseFault A} → MustMean {A = A} itself replaced (IsMark (whole old)) entry_head_at old (Ok mark) mid → begins_given mid.rest ≡ true → test mark.index ≡ false
-        → StandsBehind mark.at old.passed → RefusesAt itself replaced (UnknownIndex mark.index) mark.at mid fault new
+        → IsPlaceAfter mark.at old.passed → RefusesAt itself replaced (UnknownIndex mark.index) mark.at mid fault new
         → MustMean {A = A} itself replaced (IsHead (whole old)) (λ t. tested test (entry_head_at t)) old (Err fault) new
     head_fails {old = old} {mid = mid} {new = new} {mark = mark} {fault = fault} h e f p k =
         record {

@@ -42,9 +42,9 @@ front_none : {X : Type 0} (xs ys : List X) → xs ++ ys ≡ [] → xs ≡ []
 front_none [] ys e = refl
 front_none (x ∷ xs) ys e = absurd (cc e)
 
-behind_none : {X : Type 0} (xs ys : List X) → xs ++ ys ≡ [] → ys ≡ []
-behind_none [] ys e = e
-behind_none (x ∷ xs) ys e = absurd (cc e)
+after_none : {X : Type 0} (xs ys : List X) → xs ++ ys ≡ [] → ys ≡ []
+after_none [] ys e = e
+after_none (x ∷ xs) ys e = absurd (cc e)
 
 among_still : (i k : ℕ) (xs : List ℕ) → is_among i xs ≡ true → is_among i (xs ++ k ∷ []) ≡ true
 among_still i k [] e = absurd (true≢false (sym e))
@@ -100,7 +100,7 @@ module _ {A : Type 0} (marks : List (ℕ × Item)) (rules : ℕ → Rule A) (x :
       let pairs = wrong_pairs (rules m.index) ps in
       let more = wrong_entries (indices_of marks) rules (before ++ m.index ∷ []) es in (
         λ c. index_new (indices_of marks) before m (front_none first (pairs ++ more) e) (subst (λ i. is_among i before ≡ true) (sym (only m.index c)) f),
-        avoids_later k only (before ++ m.index ∷ []) es (among_still k m.index before f) (behind_none pairs more (behind_none first (pairs ++ more) e)),
+        avoids_later k only (before ++ m.index ∷ []) es (among_still k m.index before f) (after_none pairs more (after_none first (pairs ++ more) e)),
       )
 
 -- ---- a label
@@ -241,7 +241,7 @@ module _ {T A : Type 0} (marks : List (ℕ × Item)) (rules : ℕ → Rule A) (p
         next = before ++ m.index ∷ []
 
         later : wrong_entries (indices_of marks) rules next es ≡ []
-        later = behind_none (wrong_pairs (rules m.index) ps) (wrong_entries (indices_of marks) rules next es) (behind_none (wrong_index (indices_of marks) before m) (wrong_pairs (rules m.index) ps ++ wrong_entries (indices_of marks) rules next es) fine)
+        later = after_none (wrong_pairs (rules m.index) ps) (wrong_entries (indices_of marks) rules next es) (after_none (wrong_index (indices_of marks) before m) (wrong_pairs (rules m.index) ps ++ wrong_entries (indices_of marks) rules next es) fine)
 
         given : List (Text × Attribute A)
         given = flat_map (resolved all) ps

@@ -5,7 +5,7 @@ use Rattle.std.specs.Char.{is_whitespace}
 use Rattle.irtext_base.specs.Text.{Text, begins, front, after}
 use Rattle.irtext_base.specs.Reading.{the}
 use Rattle.irtext_base.specs.Stream.{StreamView}
-use Rattle.irtext_base.specs.Answers.{Outcome, Takes, StarvesHere}
+use Rattle.irtext_base.specs.Answers.{Outcome, Takes, RunsOutHere}
 use Rattle.irtext_base.specs.Locations.{AttrView}
 use Rattle.irtext_base.specs.Paths.{Written}
 use Rattle.irtext_base.specs.declared.base.attributes.AttrObj.{AttrObj}
@@ -33,7 +33,7 @@ use Rattle.irtext_parse_section.specs.declared.said.ItemEntry.{ItemEntry}
 use Rattle.irtext_parse_section.specs.declared.said.ReadEntry.{ReadEntry}
 use Rattle.irtext_parse_section.specs.declared.said.ReadEntry.TheVariants as read
 use Rattle.irtext_parse_section.proofs.EntryLists.{test_same, entry_more, entry_fresh}
-use Rattle.irtext_parse_section.proofs.LoopText.{text_begins, text_ends, text_starved_here, text_refused, text_starved, entry_shorter, text_more}
+use Rattle.irtext_parse_section.proofs.LoopText.{text_begins, text_ends, text_ran_out_here, text_refused, text_ran_out, entry_shorter, text_more}
 
 -- what a call promises if it returned no error
 pub unless_err : {X E P : Type 0} (r : Result X E) → is_err r ≡ false → OnOk r P → P
@@ -96,8 +96,8 @@ module _ {T A U : Type 0} (attr : Text → Outcome (AttrView A)) where
     same_whole = takes_whole alone old.stream now.stream h.so_far.moves.taken now.stream.rest h.so_far.moves.takes
 
     -- out of memory after them
-    pub starved_so_far : {E : Type 0} {Means : Entries A → List (Entry ℕ A (Written A)) → Type 0} {new : StreamView} {fault : ParseFault E} → StarvesHere itself replaced now.stream fault new → MustMean itself replaced Means (all_of old) old.stream (Err fault) new
-    starved_so_far s = must_refuse alone (text_starved_here attr (indices_of marks) (rules_of marks) h.so_far (λ _. []) s)
+    pub ran_out_so_far : {E : Type 0} {Means : Entries A → List (Entry ℕ A (Written A)) → Type 0} {new : StreamView} {fault : ParseFault E} → RunsOutHere itself replaced now.stream fault new → MustMean itself replaced Means (all_of old) old.stream (Err fault) new
+    ran_out_so_far s = must_refuse alone (text_ran_out_here attr (indices_of marks) (rules_of marks) h.so_far (λ _. []) s)
 
     -- these are all
     pub all_entries : {E : Type 0} (all : Entries A) → items_of all ≡ entries.items → once_of all ≡ entries.once → begins (the 33) now.stream.rest ≡ false
@@ -139,8 +139,8 @@ module _ {T A U : Type 0} (attr : Text → Outcome (AttrView A)) where
         read_there = moved mid.state.ctx.now.paths (Ok e) mid.stream k
 
         -- it was parsed, and then out of memory
-        pub entries_starved : {F : Type 0} {Means : Entries A → List (Entry ℕ A (Written A)) → Type 0} {new : StreamView} {fault : ParseFault F} → StarvesHere itself replaced mid.stream fault new → MustMean itself replaced Means (all_of old) old.stream (Err fault) new
-        entries_starved s = must_refuse alone (text_starved attr (indices_of marks) (rules_of marks) h.so_far go (may_follow marks entries.seen) same_test read_there.read (λ _. []) s)
+        pub entries_ran_out : {F : Type 0} {Means : Entries A → List (Entry ℕ A (Written A)) → Type 0} {new : StreamView} {fault : ParseFault F} → RunsOutHere itself replaced mid.stream fault new → MustMean itself replaced Means (all_of old) old.stream (Err fault) new
+        entries_ran_out s = must_refuse alone (text_ran_out attr (indices_of marks) (rules_of marks) h.so_far go (may_follow marks entries.seen) same_test read_there.read (λ _. []) s)
 
         module _ (new : StreamView) (left : Takes itself replaced (front is_whitespace mid.stream.rest) (after is_whitespace mid.stream.rest) mid.stream new) where
           -- it was parsed, and recorded after the others

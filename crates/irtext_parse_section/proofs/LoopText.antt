@@ -4,13 +4,13 @@ use Rattle.std.specs.Char.{is_whitespace}
 use Rattle.irtext_base.specs.Text.{Text, begins, front, after}
 use Rattle.irtext_base.specs.Reading.{the}
 use Rattle.irtext_base.specs.Stream.{StreamView}
-use Rattle.irtext_base.specs.Answers.{Outcome, Read, Takes, StarvesHere, followed}
+use Rattle.irtext_base.specs.Answers.{Outcome, Read, Takes, RunsOutHere, followed}
 use Rattle.irtext_base.specs.Locations.{AttrView}
 use Rattle.irtext_base.specs.Paths.{Written}
 use Rattle.irtext_base.specs.declared.parsable.fault.ParseFault.{ParseFault}
 use Rattle.irtext_tokens.specs.MustRead.{MustRead}
 use Rattle.irtext_tokens.specs.Tokens.{space_at}
-use Rattle.irtext_tokens.proofs.Steps.{alone, Passed, starts, turned, more, spaced, ends, refuses, starved}
+use Rattle.irtext_tokens.proofs.Steps.{alone, Passed, starts, turned, more, spaced, ends, refuses, ran_out}
 use Rattle.irtext_grammar.specs.Grammar.Section.{Entry}
 use Rattle.irtext_grammar.specs.Names.Acts.{Rule}
 use Rattle.irtext_parse_spec.specs.Readers.Streams.{itself, replaced}
@@ -30,12 +30,12 @@ module _ {A : Type 0} (attr : Text → Outcome (AttrView A)) (marks : List ℕ) 
   all_at t = entries_after attr marks rules (length t) [] t
 
   -- what follows an entry's white space
-  abbrev behind_space : ℕ → List (Entry ℕ A (Written A)) → Entry ℕ A (Written A) → Unit {0} → Text → Outcome (List (Entry ℕ A (Written A)))
-  behind_space n found e u t = entries_after attr marks rules n (found ++ e ∷ []) t
+  abbrev after_spaces : ℕ → List (Entry ℕ A (Written A)) → Entry ℕ A (Written A) → Unit {0} → Text → Outcome (List (Entry ℕ A (Written A)))
+  after_spaces n found e u t = entries_after attr marks rules n (found ++ e ∷ []) t
 
   -- what follows an entry
-  abbrev behind_entry : ℕ → List (Entry ℕ A (Written A)) → Entry ℕ A (Written A) → Text → Outcome (List (Entry ℕ A (Written A)))
-  behind_entry n found e t = followed (space_at t) (behind_space n found e)
+  abbrev after_entry : ℕ → List (Entry ℕ A (Written A)) → Entry ℕ A (Written A) → Text → Outcome (List (Entry ℕ A (Written A)))
+  after_entry n found e t = followed (space_at t) (after_spaces n found e)
 
   -- where no `!` follows, there are no more entries
   entries_end : (n : ℕ) (found : List (Entry ℕ A (Written A))) (text : Text) → begins (the 33) text ≡ false → entries_after attr marks rules n found text ≡ Read found [] text
@@ -43,7 +43,7 @@ module _ {A : Type 0} (attr : Text → Outcome (AttrView A)) (marks : List ℕ) 
   entries_end (suc n) found text e = rw e refl
 
   -- where one follows, there is an entry
-  entries_go_on : (n : ℕ) (found : List (Entry ℕ A (Written A))) (text : Text) → begins (the 33) text ≡ true → entries_after attr marks rules (suc n) found text ≡ followed (entry_at attr (may_have marks found) rules text) (behind_entry n found)
+  entries_go_on : (n : ℕ) (found : List (Entry ℕ A (Written A))) (text : Text) → begins (the 33) text ≡ true → entries_after attr marks rules (suc n) found text ≡ followed (entry_at attr (may_have marks found) rules text) (after_entry n found)
   entries_go_on n found text e = rw e refl
 
   -- an entry and its white space consume at least one character
@@ -70,35 +70,35 @@ module _ {A : Type 0} (attr : Text → Outcome (AttrView A)) (marks : List ℕ) 
     text_ends sees y e stop = ends alone sees y (turned alone (λ t. Read (sees y) [] t) (entries_end h.room found now.rest stop ∙ ap (λ z. Read z [] now.rest) (sym e)) so_far)
 
     -- out of memory after them
-    pub text_starved_here : {X F : Type 0} {new : StreamView} {fault : ParseFault F} (sees : X → List (Entry ℕ A (Written A))) → StarvesHere itself replaced now fault new → MustRead itself replaced sees all_at old (Err fault) new
-    text_starved_here sees s = starved alone {sees = sees} so_far s
+    pub text_ran_out_here : {X F : Type 0} {new : StreamView} {fault : ParseFault F} (sees : X → List (Entry ℕ A (Written A))) → RunsOutHere itself replaced now fault new → MustRead itself replaced sees all_at old (Err fault) new
+    text_ran_out_here sees s = ran_out alone {sees = sees} so_far s
 
     module _ (go : begins (the 33) now.rest ≡ true) (test : ℕ → Bool) (same : (j : ℕ) → test j ≡ may_have marks found j) where
       room_left : (k : ℕ) × (h.room ≡ suc k)
       room_left = some_left h.room now.rest go h.enough
 
       -- an entry is to be parsed, by this test of its index
-      to_entry : Passed alone all_at (λ t. followed (entry_at attr test rules t) (behind_entry room_left.0 found)) old now
-      to_entry = turned alone (λ t. followed (entry_at attr test rules t) (behind_entry room_left.0 found))
+      to_entry : Passed alone all_at (λ t. followed (entry_at attr test rules t) (after_entry room_left.0 found)) old now
+      to_entry = turned alone (λ t. followed (entry_at attr test rules t) (after_entry room_left.0 found))
           (ap (λ n. entries_after attr marks rules n found now.rest) room_left.1 ∙ (entries_go_on room_left.0 found now.rest go
-          ∙ ap (λ (test : ℕ → Bool). followed (entry_at attr test rules now.rest) (behind_entry room_left.0 found)) (λ i j. sym (same j) i)))
+          ∙ ap (λ (test : ℕ → Bool). followed (entry_at attr test rules now.rest) (after_entry room_left.0 found)) (λ i j. sym (same j) i)))
           so_far
 
       -- it is an error
       pub text_refused : {X Y E : Type 0} {see : Y → Entry ℕ A (Written A)} {new : StreamView} {fault : ParseFault E} (sees : X → List (Entry ℕ A (Written A))) → MustRead itself replaced see (entry_at attr test rules) now (Err fault) new → MustRead itself replaced sees all_at old (Err fault) new
-      text_refused sees k = refuses alone {sees = sees} (behind_entry room_left.0 found) to_entry k
+      text_refused sees k = refuses alone {sees = sees} (after_entry room_left.0 found) to_entry k
 
       module _ {Y E : Type 0} {see : Y → Entry ℕ A (Written A)} {mid : StreamView} {y : Y} (k : MustRead {A = E} itself replaced see (entry_at attr test rules) now (Ok y) mid) where
-        to_space : Passed alone all_at (behind_entry room_left.0 found (see y)) old mid
-        to_space = more alone (behind_entry room_left.0 found) to_entry k
+        to_space : Passed alone all_at (after_entry room_left.0 found (see y)) old mid
+        to_space = more alone (after_entry room_left.0 found) to_entry k
 
         -- out of memory after it
-        pub text_starved : {X F : Type 0} {new : StreamView} {fault : ParseFault F} (sees : X → List (Entry ℕ A (Written A))) → StarvesHere itself replaced mid fault new → MustRead itself replaced sees all_at old (Err fault) new
-        text_starved sees s = starved alone {sees = sees} to_space s
+        pub text_ran_out : {X F : Type 0} {new : StreamView} {fault : ParseFault F} (sees : X → List (Entry ℕ A (Written A))) → RunsOutHere itself replaced mid fault new → MustRead itself replaced sees all_at old (Err fault) new
+        text_ran_out sees s = ran_out alone {sees = sees} to_space s
 
         module _ {new : StreamView} (s : Takes itself replaced (front is_whitespace mid.rest) (after is_whitespace mid.rest) mid new) where
           -- it was parsed, and the white space after it consumed
           pub text_more : TextSoFar attr marks rules old new (found ++ see y ∷ [])
           text_more =
-              let p = spaced alone (behind_space room_left.0 found (see y)) to_space s in
+              let p = spaced alone (after_spaces room_left.0 found (see y)) to_space s in
               record { fine = h.fine; moves = record { taken = p.taken; takes = p.takes }; room = room_left.0; enough = omega (arith, entry_shorter test k s, h.enough, room_left.1); completes = p.so_far }

@@ -6,12 +6,12 @@ use Rattle.irtext_base.specs.Text.{Text, begins, front, after}
 use Rattle.irtext_base.specs.Reading.{the}
 use Rattle.irtext_base.specs.Faults.{ReservedKey}
 use Rattle.irtext_base.specs.Stream.{StreamView}
-use Rattle.irtext_base.specs.Answers.{Outcome, Read, Missing, Bad, Takes, Starves, Commits, Refuses, Answers, mapped, unless_failed}
+use Rattle.irtext_base.specs.Answers.{Outcome, Read, Missing, Bad, Takes, RunsOut, Commits, Refuses, Answers, mapped, unless_failed}
 use Rattle.irtext_base.specs.Locations.{AttrView}
 use Rattle.irtext_base.specs.declared.base.attributes.AttrObj.{AttrObj}
 use Rattle.irtext_base.specs.declared.parsable.fault.ParseFault.{ParseFault}
 use Rattle.irtext_base.proofs.Compose.{refuses_mapped_demanded}
-use Rattle.irtext_stream.specs.Places.{StandsBehind}
+use Rattle.irtext_stream.specs.Places.{IsPlaceAfter}
 use Rattle.irtext_stream.specs.declared.position.Place.{Place}
 use Rattle.irtext_tokens.specs.Demanded.{index_at}
 use Rattle.irtext_tokens.specs.ListOutcomes.{items_after, separated_at}
@@ -28,9 +28,9 @@ use Rattle.irtext_parse_pieces.specs.declared.entries.Key.{Key}
 use Rattle.irtext_parse_pieces.specs.declared.marks.ReadMark.{ReadMark}
 use Rattle.irtext_parse_pieces.proofs.Listings.{list_some}
 use Rattle.irtext_parse_pieces.proofs.Meanings.{takes_whole, may_whole}
-use Rattle.irtext_parse_spec.specs.Entries.{item_at, pair_at, may_stand, kept}
+use Rattle.irtext_parse_spec.specs.Entries.{item_at, pair_at, is_allowed, kept}
 use Rattle.irtext_parse_section.proofs.HeadSteps.{refused_there}
-use Rattle.irtext_parse_section.specs.Said.{stands_under, IsGiven, IsPair, Allows, MustPairs, PairsBehind}
+use Rattle.irtext_parse_section.specs.Said.{is_allowed_under, IsGiven, IsPair, Allows, MustPairs, PairsAfter}
 use Rattle.irtext_parse_section.specs.declared.said.GivenAttr.{GivenAttr}
 use Rattle.irtext_parse_section.specs.declared.said.GivenAttr.TheVariants as given
 
@@ -48,13 +48,13 @@ module _ {A : Type 0} (attr : Text → Outcome (AttrView A)) where
   item_is_index text b = rw b (mapped_mapped reference (λ i. record { place = length text; index = i }) (reference_of (length text)) (index_at text) (λ i. refl))
 
   -- an index was parsed after `!`
-  pub reference_there : {old new : StreamView} (mark : ReadMark) → begins (the 33) old.rest ≡ true → MustRead {A = A} itself replaced (λ n. n) index_at old (Ok mark.index) new → StandsBehind mark.at old.passed
+  pub reference_there : {old new : StreamView} (mark : ReadMark) → begins (the 33) old.rest ≡ true → MustRead {A = A} itself replaced (λ n. n) index_at old (Ok mark.index) new → IsPlaceAfter mark.at old.passed
       → MustMean {A = A} itself replaced (IsGiven (whole old)) (item_at attr) old (Ok (given.Reference mark)) new
   reference_there {old = old} mark b h p =
       let place = length old.rest in
       record {
         meant = λ _. reference_of place mark.index;
-        means = record { indexed = refl; place = record { passed = old.passed; rest = old.rest; same = refl; stands = p; counts = refl } };
+        means = record { indexed = refl; place = record { passed = old.passed; rest = old.rest; same = refl; positioned = p; counts = refl } };
         read = record { answers = rw (item_is_index old.rest b) (seen_alone alone {A = A} (λ (m : GivenAttr A). reference_of place mark.index) (reference_of place) (given.Reference mark) refl h).answers };
       }
 
@@ -82,26 +82,26 @@ module _ {A : Type 0} (attr : Text → Outcome (AttrView A)) where
 -- ---- keys that are kept
 module _ {A : Type 0} (rule : Rule A) where
   -- a parsed pair is allowed exactly if the pair that it represents is
-  pub stands_same : (text : Text) (p : Key × GivenAttr A) (x : Name ℕ × Item ℕ A) → IsPair text p x → stands_under rule p.0.name p.1 ≡ may_stand rule x
-  stands_same text (key, given.Direct a) (n, direct b) h = ap₂ rule h.0.named h.1
-  stands_same text (key, given.Direct a) (n, reference m) h = absurd h.1
-  stands_same text (key, given.Reference m) (n, direct b) h = absurd h.1
-  stands_same text (key, given.Reference m) (n, reference k) h = refl
+  pub allowed_same : (text : Text) (p : Key × GivenAttr A) (x : Name ℕ × Item ℕ A) → IsPair text p x → is_allowed_under rule p.0.name p.1 ≡ is_allowed rule x
+  allowed_same text (key, given.Direct a) (n, direct b) h = ap₂ rule h.0.named h.1
+  allowed_same text (key, given.Direct a) (n, reference m) h = absurd h.1
+  allowed_same text (key, given.Reference m) (n, direct b) h = absurd h.1
+  allowed_same text (key, given.Reference m) (n, reference k) h = refl
 
-  unread : (o : Outcome (Name ℕ × Item ℕ A)) (old new : StreamView) (fault : ParseFault A) → Starves itself replaced old fault new ⊎ Refuses itself replaced o old fault new → Starves itself replaced old fault new ⊎ Refuses itself replaced (kept rule o) old fault new
+  unread : (o : Outcome (Name ℕ × Item ℕ A)) (old new : StreamView) (fault : ParseFault A) → RunsOut itself replaced old fault new ⊎ Refuses itself replaced o old fault new → RunsOut itself replaced old fault new ⊎ Refuses itself replaced (kept rule o) old fault new
   unread o old new fault (inl h) = inl h
   unread (Read x t q) old new fault (inr h) = absurd h
   unread (Missing cause) old new fault (inr h) = inr h
   unread (Bad cause upto) old new fault (inr h) = inr h
 
   module _ (meant : Key × GivenAttr A → Name ℕ × Item ℕ A) where
-    keeps : (text : Text) (o : Outcome (Name ℕ × Item ℕ A)) (place : Place) (a : Result (Key × GivenAttr A) (ParseFault A)) (old mid new : StreamView) (r : Result (Key × GivenAttr A) (ParseFault A)) → StandsBehind place old.passed
+    keeps : (text : Text) (o : Outcome (Name ℕ × Item ℕ A)) (place : Place) (a : Result (Key × GivenAttr A) (ParseFault A)) (old mid new : StreamView) (r : Result (Key × GivenAttr A) (ParseFault A)) → IsPlaceAfter place old.passed
         → ((p : Key × GivenAttr A) → a ≡ Ok p → IsPair text p (meant p)) → Answers itself replaced meant o old a mid → Allows rule place a mid r new → Answers itself replaced meant (kept rule o) old r new
     keeps text (Read x t q) place (Ok p) old mid new (Ok d) at m h k =
-        let b : may_stand rule x ≡ true = subst (λ x. may_stand rule x ≡ true) h.0 (sym (stands_same text p (meant p) (m p refl)) ∙ k.0) in
+        let b : is_allowed rule x ≡ true = subst (λ x. is_allowed rule x ≡ true) h.0 (sym (allowed_same text p (meant p) (m p refl)) ∙ k.0) in
         rw b (rw k.1 h.0, rw k.2 h.1)
     keeps text (Read x t q) place (Ok p) old mid new (Err fault) at m h k =
-        let b : may_stand rule x ≡ false = subst (λ x. may_stand rule x ≡ false) h.0 (sym (stands_same text p (meant p) (m p refl)) ∙ k.0) in
+        let b : is_allowed rule x ≡ false = subst (λ x. is_allowed rule x ≡ false) h.0 (sym (allowed_same text p (meant p) (m p refl)) ∙ k.0) in
         let name : p.0.name ≡ x.0.text = (m p refl).0.named ∙ ap (λ x. x.0.text) h.0 in
         rw b (inr (subst (λ n. Commits itself replaced (ReservedKey n) [] old fault new) name (refused_there (ReservedKey p.0.name) place old mid new fault t q h.1 at k.1)))
     keeps text (Missing cause) place (Ok p) old mid new r at m h k = absurd h
@@ -128,7 +128,7 @@ module _ {A : Type 0} (rule : Rule A) where
   if_ok text meant (Err fault) h = tt
 
   -- a pair that was parsed is kept, or its key is reserved; one that was not parsed is the same error
-  pub may_keep : {raw : Text → Outcome (Name ℕ × Item ℕ A)} {old mid new : StreamView} (place : Place) (a r : Result (Key × GivenAttr A) (ParseFault A)) → MayMean itself replaced (IsPair (whole old)) raw old a mid → StandsBehind place old.passed → Allows rule place a mid r new
+  pub may_keep : {raw : Text → Outcome (Name ℕ × Item ℕ A)} {old mid new : StreamView} (place : Place) (a r : Result (Key × GivenAttr A) (ParseFault A)) → MayMean itself replaced (IsPair (whole old)) raw old a mid → IsPlaceAfter place old.passed → Allows rule place a mid r new
       → MayMean itself replaced (IsPair (whole old)) (λ t. kept rule (raw t)) old r new
   may_keep {raw = raw} {old = old} {mid = mid} {new = new} place a r h p k =
       let m = meant_of (whole old) h.meant a h.means in
@@ -141,7 +141,7 @@ module _ {A : Type 0} (rule : Rule A) where
 module _ {A : Type 0} (item : Text → Outcome (Name ℕ × Item ℕ A)) where
   -- there is a first pair, and what follows it
   pub list_pairs : {old mid new last : StreamView} {first : Key × GivenAttr A} {r : Result _ (ParseFault A)} → MayMean {A = A} itself replaced (IsPair (whole old)) item old (Ok first) mid → Takes itself replaced (front is_whitespace mid.rest) (after is_whitespace mid.rest) mid new
-      → PairsBehind item first new r last → MustPairs (separated_at 44 item) old r last
+      → PairsAfter item first new r last → MustPairs (separated_at 44 item) old r last
   list_pairs {old = old} {mid = mid} {new = new} {last = last} {first = n} {r = r} h k rest =
       let e : whole new ≡ whole old = takes_whole alone mid new (front is_whitespace mid.rest) (after is_whitespace mid.rest) k ∙ may_whole alone h.read in
       list_some alone item h.read k (λ fine. subst (λ t. MustMean itself replaced (λ v ps. Each (IsPair t) v.items ps) (λ t. items_after 44 item (length t) (h.meant n ∷ []) t) new r last) e (rest (h.meant n) (subst (λ t. IsPair t n (h.meant n)) (sym e) h.means) fine))

@@ -18,7 +18,7 @@ use Rattle.irtext_parse_spec.specs.Readers.NewPaths.{MustReadOver, MustReadWithi
 use Rattle.irtext_parse_spec.specs.Readers.Positions.{spaced_at, position_at}
 use Rattle.irtext_parse_spec.specs.Readers.Streams.{itself, replaced}
 use Rattle.irtext_parse_spec.proofs.Locations.Begins.{is_place}
-use Rattle.irtext_parse_section.specs.Plain.{behind_source_at}
+use Rattle.irtext_parse_section.specs.Plain.{after_source_at}
 use Rattle.irtext_parse_section.proofs.Plain.{gets_must}
 
 chars_memory : chars (codes "<in-memory>") ≡ codes "<in-memory>"
@@ -33,10 +33,10 @@ memory_comes {A} old mid fine h =
     record { answers = (gets_must {A = A} source_at old mid None fine g).answers }
 
 -- a source was parsed, and its line and column come next
-pub source_passed : {A Y : Type 0} {see : Y → Option (List ℕ)} {old mid : StreamView} {y : Y} → MustRead {A = A} itself replaced see source_at old (Ok y) mid → Passed alone {V = Written A} place_at (λ t. mapped (src_pos (see y)) (behind_source_at t)) old mid
+pub source_passed : {A Y : Type 0} {see : Y → Option (List ℕ)} {old mid : StreamView} {y : Y} → MustRead {A = A} itself replaced see source_at old (Ok y) mid → Passed alone {V = Written A} place_at (λ t. mapped (src_pos (see y)) (after_source_at t)) old mid
 source_passed {see = see} {mid = mid} {y = y} h =
     let s = see y in
-    turned alone (λ t. mapped (src_pos s) (behind_source_at t)) (sym (mapped_followed (src_pos s) (spaced_at (codes ":") mid.rest) (λ _ u. position_at u)))
+    turned alone (λ t. mapped (src_pos s) (after_source_at t)) (sym (mapped_followed (src_pos s) (spaced_at (codes ":") mid.rest) (λ _ u. position_at u)))
     (first alone (λ s t. followed (spaced_at (codes ":") t) (λ _ u. mapped (src_pos s) (position_at u))) h)
 
 -- where a source begins, a location is a place

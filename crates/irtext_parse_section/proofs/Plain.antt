@@ -10,11 +10,11 @@ use Rattle.std.specs.Prelude.{FitsSigned, ◌<◌, ◌^◌}
 use Rattle.std.specs.Int.{w32}
 use Rattle.std.specs.Char.{is_ascii_digit, is_whitespace}
 use Rattle.irtext_base.specs.Text.{Text, begins, front, after}
-use Rattle.irtext_base.specs.Stream.{StreamView, behind}
+use Rattle.irtext_base.specs.Stream.{StreamView, after_taken}
 use Rattle.irtext_stream.specs.Stream.{Comes}
 use Rattle.irtext_base.specs.Answers.{Outcome, Read, Missing, Bad, Takes, Gives, SameStream, demanded, followed, mapped, prefixed, unless_failed}
 use Rattle.irtext_base.proofs.Characters.{and_left, and_right, word_no_space}
-use Rattle.irtext_base.proofs.Compose.{takes_more, takes_stands, stands_after}
+use Rattle.irtext_base.proofs.Compose.{takes_more, takes_same_stream, same_stream_after}
 use Rattle.irtext_base.proofs.Numbers.{digit_in_word}
 use Rattle.irtext_tokens.specs.Infix.{Reader}
 use Rattle.irtext_tokens.specs.Integers.{signed_below, within}
@@ -25,7 +25,7 @@ use Rattle.irtext_tokens.proofs.Spelling.{prefixed-prefixed}
 use Rattle.irtext_parse_spec.specs.Readers.Positions.{spaced_at, labelled_at}
 use Rattle.irtext_parse_spec.specs.Readers.Streams.{itself, replaced}
 use Rattle.irtext_stream.specs.declared.position.SourcePosition.{SourcePosition}
-use Rattle.irtext_parse_section.specs.Plain.{TakesDigits, TakesNumber, DigitsBehind, NumberBehind, Looks, Gets, line_at, column_at, behind_source_at}
+use Rattle.irtext_parse_section.specs.Plain.{TakesDigits, TakesNumber, DigitsAfter, NumberAfter, Looks, Gets, line_at, column_at, after_source_at}
 
 no_sign : (c : ℕ) → is_ascii_digit c ≡ true → is_sign c ≡ false
 no_sign c e = grind (arith, nat_tests)
@@ -67,13 +67,13 @@ still s = record { seen = s; is = refl; fails = refl; same = refl }
 
 -- characters were taken
 pub taken : {old new : StreamView} (t r : Text) → Takes itself replaced t r old new → SameStream itself replaced old.failed old new
-taken {old = old} {new = new} t r k = takes_stands itself replaced alone.view_at alone.at_at old new t r k
+taken {old = old} {new = new} t r k = takes_same_stream itself replaced alone.view_at alone.at_at old new t r k
 
 -- the stream is over the same text, after characters that were taken
 pub further : {old mid new : StreamView} (t r : Text) → Takes itself replaced t r old mid → SameStream itself replaced mid.failed mid new → SameStream itself replaced old.failed old new
 further {old = old} {mid = mid} {new = new} t r k h =
     let f : mid.failed ≡ old.failed = ap (λ v. v.failed) k.is in
-    subst (λ b. SameStream itself replaced b old new) f (stands_after itself replaced alone.view_at alone.at_at mid.failed old mid new t r k h)
+    subst (λ b. SameStream itself replaced b old new) f (same_stream_after itself replaced alone.view_at alone.at_at mid.failed old mid new t r k h)
 
 line_read : (text : Text) (z : ℤ) (t r : Text) → begins is_ascii_digit text ≡ true → integer_at text ≡ Read z t r → line_at (codes ": line: " ++ text) ≡ Read z (codes ": line: " ++ t) r
 line_read text z t r b e = let s = no_space text b in rw (s.0, s.1, e) refl
@@ -82,30 +82,30 @@ column_read : (text : Text) (z : ℤ) (t r : Text) → begins is_ascii_digit tex
 column_read text z t r b e = let s = no_space text b in rw (s.0, s.1, e) refl
 
 -- a label was consumed, and characters after it
-pub behind_label : {X : Type 0} (reader : Reader X) (label t r : Text) (x : X) (old mid new : StreamView) (rest : Text) → old.rest ≡ label ++ rest → mid ≡ behind old label rest → reader (label ++ rest) ≡ Read x (label ++ t) r → Takes itself replaced t r mid new → Gets reader old new x
-behind_label reader label t r x old mid new rest e m is k =
+pub after_label : {X : Type 0} (reader : Reader X) (label t r : Text) (x : X) (old mid new : StreamView) (rest : Text) → old.rest ≡ label ++ rest → mid ≡ after_taken old label rest → reader (label ++ rest) ≡ Read x (label ++ t) r → Takes itself replaced t r mid new → Gets reader old new x
+after_label reader label t r x old mid new rest e m is k =
     let v : mid.rest ≡ rest = ap (λ v. v.rest) m in
-    let j : Takes itself replaced label mid.rest old mid = record { is = m ∙ ap (λ r. behind old label r) (sym v); same = ap (λ r. label ++ r) v ∙ sym e } in
+    let j : Takes itself replaced label mid.rest old mid = record { is = m ∙ ap (λ r. after_taken old label r) (sym v); same = ap (λ r. label ++ r) v ∙ sym e } in
     subst (λ u. Gives itself replaced (reader u) old x new) (sym e) (subst (λ o. Gives itself replaced o old x new) (sym is) (refl, takes_more itself replaced alone.view_at alone.at_at old mid new label mid.rest t r j k))
 
 -- a label was consumed, and a number after it
 labelled : (reader : Reader ℤ) (label : Text) → ((text : Text) (z : ℤ) (t r : Text) → begins is_ascii_digit text ≡ true → integer_at text ≡ Read z t r → reader (label ++ text) ≡ Read z (label ++ t) r)
-    → (old mid new : StreamView) (rest : Text) (z : ℤ) → old.rest ≡ label ++ rest → mid ≡ behind old label rest → TakesNumber integer_at mid z new → Gets reader old new z
+    → (old mid new : StreamView) (rest : Text) (z : ℤ) → old.rest ≡ label ++ rest → mid ≡ after_taken old label rest → TakesNumber integer_at mid z new → Gets reader old new z
 labelled reader label reads old mid new rest z e m n =
     let v : mid.rest ≡ rest = ap (λ v. v.rest) m in
     let is = subst (λ u. reader (label ++ u) ≡ Read z (label ++ front is_ascii_digit mid.rest) (after is_ascii_digit mid.rest)) v (reads mid.rest z (front is_ascii_digit mid.rest) (after is_ascii_digit mid.rest) n.some n.is) in
-    behind_label reader label (front is_ascii_digit mid.rest) (after is_ascii_digit mid.rest) z old mid new rest e m is n.takes
+    after_label reader label (front is_ascii_digit mid.rest) (after is_ascii_digit mid.rest) z old mid new rest e m is n.takes
 
 -- one value was parsed, and another after it
-gives_behind : {Y : Type 0} (o : Outcome Y) (t r : Text) (old mid new : StreamView) (y : Y) → Takes itself replaced t r old mid → Gives itself replaced o mid y new → Gives itself replaced (prefixed t o) old y new
-gives_behind (Read z u q) t r old mid new y k h = (h.0, takes_more itself replaced alone.view_at alone.at_at old mid new t r u q k h.1)
-gives_behind (Missing cause) t r old mid new y k h = absurd h
-gives_behind (Bad cause upto) t r old mid new y k h = absurd h
+gives_after : {Y : Type 0} (o : Outcome Y) (t r : Text) (old mid new : StreamView) (y : Y) → Takes itself replaced t r old mid → Gives itself replaced o mid y new → Gives itself replaced (prefixed t o) old y new
+gives_after (Read z u q) t r old mid new y k h = (h.0, takes_more itself replaced alone.view_at alone.at_at old mid new t r u q k h.1)
+gives_after (Missing cause) t r old mid new y k h = absurd h
+gives_after (Bad cause upto) t r old mid new y k h = absurd h
 
 gives_both : {X Y : Type 0} (o : Outcome X) (k : X → Text → Outcome Y) (old mid new : StreamView) (x : X) (y : Y) → Gives itself replaced o old x mid → Gives itself replaced (k x mid.rest) mid y new → Gives itself replaced (followed o k) old y new
 gives_both (Read z t r) k old mid new x y g h =
     let v : mid.rest ≡ r = ap (λ w. w.rest) g.1.is in
-    gives_behind (k z r) t r old mid new y g.1 (subst (λ w. Gives itself replaced (k w r) mid y new) g.0 (subst (λ u. Gives itself replaced (k x u) mid y new) v h))
+    gives_after (k z r) t r old mid new y g.1 (subst (λ w. Gives itself replaced (k w r) mid y new) g.0 (subst (λ u. Gives itself replaced (k x u) mid y new) v h))
 gives_both (Missing cause) k old mid new x y g h = absurd g
 gives_both (Bad cause upto) k old mid new x y g h = absurd g
 
@@ -129,11 +129,11 @@ abbrev at_line : ℤ → ℤ → SourcePosition
 at_line line column = record { line = line; column = column }
 
 -- a line and a column were parsed
-pub position_taken : (old mid new : StreamView) (line column : ℤ) → Gets line_at old mid line → Gets column_at mid new column → Gets behind_source_at old new (at_line line column)
+pub position_taken : (old mid new : StreamView) (line column : ℤ) → Gets line_at old mid line → Gets column_at mid new column → Gets after_source_at old new (at_line line column)
 position_taken old mid new line column g h =
     let last : ℤ → Text → Outcome SourcePosition = λ n t. followed (spaced_at (codes ",") t) (λ _ u. mapped (at_line n) (labelled_at (codes "column") u)) in
     let one : mapped (at_line line) (column_at mid.rest) ≡ last line mid.rest = mapped_followed (at_line line) (spaced_at (codes ",") mid.rest) (λ _ u. labelled_at (codes "column") u) in
-    let all : followed (line_at old.rest) last ≡ behind_source_at old.rest = followed_twice (spaced_at (codes ":") old.rest) (λ _ t. labelled_at (codes "line") t) last in
+    let all : followed (line_at old.rest) last ≡ after_source_at old.rest = followed_twice (spaced_at (codes ":") old.rest) (λ _ t. labelled_at (codes "line") t) last in
     subst (λ o. Gives itself replaced o old (at_line line column) new) all (gives_both (line_at old.rest) last old mid new line (at_line line column) g (subst (λ o. Gives itself replaced o mid (at_line line column) new) one (mapped_gives (at_line line) (column_at mid.rest) mid new column h)))
 
 gives_demanded : {X : Type 0} (o : Outcome X) (old new : StreamView) (x : X) → Gives itself replaced o old x new → Gives itself replaced (demanded o) old x new
@@ -169,12 +169,12 @@ fits_signed n z e =
     ] refl e
 
 -- a text was consumed, and digits after it are looked for
-pub digits_looks : (before : Text) (old mid new : StreamView) (r : Option ℕ) → Comes before old (λ v. mid ≡ v) → Looks (λ n. TakesDigits mid n new) mid r new → Looks (DigitsBehind before old new) old r new
+pub digits_looks : (before : Text) (old mid new : StreamView) (r : Option ℕ) → Comes before old (λ v. mid ≡ v) → Looks (λ n. TakesDigits mid n new) mid r new → Looks (DigitsAfter before old new) old r new
 digits_looks before old mid new (Some n) h d = record { mid = mid; comes = h; digits = d }
 digits_looks before old mid new None h s = further before h.0 (record { is = h.2; same = sym h.1 }) s
 
 -- the integer of these digits, or none that fits
-pub number_looks : (before : Text) (old new : StreamView) (n : ℕ) (r : Option ℤ) → DigitsBehind before old new n → option_map (λ (z : ℤ). z) r ≡ within (signed_below 32) false n → Looks (NumberBehind before old new) old r new
+pub number_looks : (before : Text) (old new : StreamView) (n : ℕ) (r : Option ℤ) → DigitsAfter before old new n → option_map (λ (z : ℤ). z) r ≡ within (signed_below 32) false n → Looks (NumberAfter before old new) old r new
 number_looks before old new n (Some z) t e = record { mid = t.mid; comes = t.comes; number = integer_taken n z t.digits (sym e); fits = fits_signed n z (sym e) }
 number_looks before old new n None t e = let rest = t.mid.rest in further before t.comes.0 (record { is = t.comes.2; same = sym t.comes.1 }) (taken (front is_ascii_digit rest) (after is_ascii_digit rest) t.digits.takes)
 
@@ -190,14 +190,14 @@ pub chars_ascii : (text : Text) → list_all (λ c. nat_lt c 128) text ≡ true 
 chars_ascii text e = chars-IsAscii text (ascii_tested text e)
 
 -- a label was consumed, and a number after it
-labelled_behind : (reader : Reader ℤ) (label : Text) → list_all (λ c. nat_lt c 128) label ≡ true → ((text : Text) (z : ℤ) (t r : Text) → begins is_ascii_digit text ≡ true → integer_at text ≡ Read z t r → reader (label ++ text) ≡ Read z (label ++ t) r)
-    → (old new : StreamView) (z : ℤ) → NumberBehind (chars label) old new z → Gets reader old new z
-labelled_behind reader label ascii reads old new z n =
+labelled_after : (reader : Reader ℤ) (label : Text) → list_all (λ c. nat_lt c 128) label ≡ true → ((text : Text) (z : ℤ) (t r : Text) → begins is_ascii_digit text ≡ true → integer_at text ≡ Read z t r → reader (label ++ text) ≡ Read z (label ++ t) r)
+    → (old new : StreamView) (z : ℤ) → NumberAfter (chars label) old new z → Gets reader old new z
+labelled_after reader label ascii reads old new z n =
     let k : Comes label old (λ v. n.mid ≡ v) = subst (λ t. Comes t old (λ v. n.mid ≡ v)) (chars_ascii label ascii) n.comes in
     labelled reader label reads old n.mid new k.0 z k.1 k.2 n.number
 
-pub line_behind : (old new : StreamView) (z : ℤ) → NumberBehind (chars (codes ": line: ")) old new z → Gets line_at old new z
-line_behind = labelled_behind line_at (codes ": line: ") refl line_read
+pub line_after : (old new : StreamView) (z : ℤ) → NumberAfter (chars (codes ": line: ")) old new z → Gets line_at old new z
+line_after = labelled_after line_at (codes ": line: ") refl line_read
 
-pub column_behind : (old new : StreamView) (z : ℤ) → NumberBehind (chars (codes ", column: ")) old new z → Gets column_at old new z
-column_behind = labelled_behind column_at (codes ", column: ") refl column_read
+pub column_after : (old new : StreamView) (z : ℤ) → NumberAfter (chars (codes ", column: ")) old new z → Gets column_at old new z
+column_after = labelled_after column_at (codes ", column: ") refl column_read

@@ -4,7 +4,7 @@ use Rattle.std.specs.Global.{Global}
 use Rattle.std.specs.Str.{chars}
 use Rattle.std.specs.Char.{is_ascii_digit, is_whitespace}
 use Rattle.irtext_base.specs.Text.{Text, front, after}
-use Rattle.irtext_base.specs.Stream.{StreamView, behind}
+use Rattle.irtext_base.specs.Stream.{StreamView, after_taken}
 use Rattle.irtext_stream.specs.Stream.{Comes}
 use Rattle.irtext_base.specs.Answers.{Outcome, Read, Missing, Bad, Takes, Gives, prefixed, mapped, followed}
 use Rattle.irtext_base.specs.Locations.{AttrView}
@@ -15,30 +15,30 @@ use Rattle.irtext_parse_spec.specs.Readers.Streams.{itself, replaced}
 use Rattle.irtext_grammar.specs.Names.Acts.{Rule}
 use Rattle.irtext_parse_pieces.specs.declared.entries.Key.{Key}
 use Rattle.irtext_parse_spec.specs.Entries.{pairs_at}
-use Rattle.irtext_parse_section.specs.Plain.{TakesDigits, DigitsBehind, SpaceBehind, Gets}
-use Rattle.irtext_parse_section.proofs.Plain.{number_taken, behind_label, gets_must, chars_ascii}
+use Rattle.irtext_parse_section.specs.Plain.{TakesDigits, DigitsAfter, SpaceAfter, Gets}
+use Rattle.irtext_parse_section.proofs.Plain.{number_taken, after_label, gets_must, chars_ascii}
 use Rattle.irtext_parse_section.specs.Entries.{location_end_at}
 use Rattle.irtext_parse_section.specs.Said.{MustPairs}
 use Rattle.irtext_parse_section.specs.declared.said.GivenAttr.{GivenAttr}
 
 -- `!` was consumed, and digits after it
-pub index_taken : (old mid new : StreamView) (rest : Text) (n : ℕ) → old.rest ≡ codes "!" ++ rest → mid ≡ behind old (codes "!") rest → TakesDigits mid n new → Gets index_at old new n
+pub index_taken : (old mid new : StreamView) (rest : Text) (n : ℕ) → old.rest ≡ codes "!" ++ rest → mid ≡ after_taken old (codes "!") rest → TakesDigits mid n new → Gets index_at old new n
 index_taken old mid new rest n e m d =
     let t = number_taken n d in
     let v : mid.rest ≡ rest = ap (λ v. v.rest) m in
-    behind_label index_at (codes "!") (front is_ascii_digit mid.rest) (after is_ascii_digit mid.rest) n old mid new rest e m (rw (← v) (ap (prefixed (codes "!")) t.is)) t.takes
+    after_label index_at (codes "!") (front is_ascii_digit mid.rest) (after is_ascii_digit mid.rest) n old mid new rest e m (rw (← v) (ap (prefixed (codes "!")) t.is)) t.takes
 
 -- ` = ` was consumed, and white space after it
-pub equals_taken : (old mid new : StreamView) (rest : Text) → old.rest ≡ codes " = " ++ rest → mid ≡ behind old (codes " = ") rest → Takes itself replaced (front is_whitespace mid.rest) (after is_whitespace mid.rest) mid new → Gets (spaced_at (codes "=")) old new tt
+pub equals_taken : (old mid new : StreamView) (rest : Text) → old.rest ≡ codes " = " ++ rest → mid ≡ after_taken old (codes " = ") rest → Takes itself replaced (front is_whitespace mid.rest) (after is_whitespace mid.rest) mid new → Gets (spaced_at (codes "=")) old new tt
 equals_taken old mid new rest e m t =
     let v : mid.rest ≡ rest = ap (λ v. v.rest) m in
-    behind_label (spaced_at (codes "=")) (codes " = ") (front is_whitespace mid.rest) (after is_whitespace mid.rest) tt old mid new rest e m (rw v refl) t
+    after_label (spaced_at (codes "=")) (codes " = ") (front is_whitespace mid.rest) (after is_whitespace mid.rest) tt old mid new rest e m (rw v refl) t
 
 -- `], ` was consumed, and white space after it
-pub end_taken : (old mid new : StreamView) (rest : Text) → old.rest ≡ codes "], " ++ rest → mid ≡ behind old (codes "], ") rest → Takes itself replaced (front is_whitespace mid.rest) (after is_whitespace mid.rest) mid new → Gets location_end_at old new tt
+pub end_taken : (old mid new : StreamView) (rest : Text) → old.rest ≡ codes "], " ++ rest → mid ≡ after_taken old (codes "], ") rest → Takes itself replaced (front is_whitespace mid.rest) (after is_whitespace mid.rest) mid new → Gets location_end_at old new tt
 end_taken old mid new rest e m t =
     let v : mid.rest ≡ rest = ap (λ v. v.rest) m in
-    behind_label location_end_at (codes "], ") (front is_whitespace mid.rest) (after is_whitespace mid.rest) tt old mid new rest e m (rw v refl) t
+    after_label location_end_at (codes "], ") (front is_whitespace mid.rest) (after is_whitespace mid.rest) tt old mid new rest e m (rw v refl) t
 
 -- no pairs are between the brackets
 pub no_pairs : {A : Type 0} (attr : Text → Outcome (AttrView A)) (rule : Rule A) (rest : Text) → pairs_at attr rule (codes "[]" ++ rest) ≡ Read [] (codes "[]") rest
@@ -46,19 +46,19 @@ unfolding pairs_at word_at
 no_pairs attr rule rest = refl
 
 -- `!` was consumed, and digits after it
-pub index_behind : (old new : StreamView) (n : ℕ) → DigitsBehind (chars (codes "!")) old new n → Gets index_at old new n
-index_behind old new n d =
+pub index_after : (old new : StreamView) (n : ℕ) → DigitsAfter (chars (codes "!")) old new n → Gets index_at old new n
+index_after old new n d =
     let k : Comes (codes "!") old (λ v. d.mid ≡ v) = subst (λ t. Comes t old (λ v. d.mid ≡ v)) (chars_ascii (codes "!") refl) d.comes in
     index_taken old d.mid new k.0 n k.1 k.2 d.digits
 
 -- ` = ` and white space were passed
-pub equals_comes : (old new : StreamView) → SpaceBehind (chars (codes " = ")) old new → Gets (spaced_at (codes "=")) old new tt
+pub equals_comes : (old new : StreamView) → SpaceAfter (chars (codes " = ")) old new → Gets (spaced_at (codes "=")) old new tt
 equals_comes old new s =
     let k : Comes (codes " = ") old (λ v. s.mid ≡ v) = subst (λ t. Comes t old (λ v. s.mid ≡ v)) (chars_ascii (codes " = ") refl) s.comes in
     equals_taken old s.mid new k.0 k.1 k.2 s.space
 
 -- `], ` and white space were passed
-pub end_comes : (old new : StreamView) → SpaceBehind (chars (codes "], ")) old new → Gets location_end_at old new tt
+pub end_comes : (old new : StreamView) → SpaceAfter (chars (codes "], ")) old new → Gets location_end_at old new tt
 end_comes old new s =
     let k : Comes (codes "], ") old (λ v. s.mid ≡ v) = subst (λ t. Comes t old (λ v. s.mid ≡ v)) (chars_ascii (codes "], ") refl) s.comes in
     end_taken old s.mid new k.0 k.1 k.2 s.space

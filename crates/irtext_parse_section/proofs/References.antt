@@ -8,14 +8,14 @@ use Rattle.irtext_base.specs.Text.{Text}
 use Rattle.irtext_base.specs.Format.{Id, Format}
 use Rattle.irtext_base.specs.Faults.{Fault}
 use Rattle.irtext_base.specs.Stream.{StreamView}
-use Rattle.irtext_base.specs.Answers.{Outcome, Read, Missing, Bad, Takes, Starves, Commits, Refuses, Gives, demanded, unless_failed}
+use Rattle.irtext_base.specs.Answers.{Outcome, Read, Missing, Bad, Takes, RunsOut, Commits, Refuses, Gives, demanded, unless_failed}
 use Rattle.irtext_base.specs.Locations.{AttrView}
 use Rattle.irtext_base.specs.Own.{Texts, Lawful, Sincere, texts_of}
 use Rattle.irtext_base.specs.Paths.{Written}
 use Rattle.irtext_base.specs.declared.base.attributes.AttrObj.{AttrObj}
 use Rattle.irtext_base.specs.declared.parsable.fault.ParseFault.{ParseFault}
-use Rattle.irtext_base.proofs.Compose.{takes_stands, stands_failed, starves_behind}
-use Rattle.irtext_stream.specs.Places.{StandsBehind}
+use Rattle.irtext_base.proofs.Compose.{takes_same_stream, same_stream_failed, runs_out_after}
+use Rattle.irtext_stream.specs.Places.{IsPlaceAfter}
 use Rattle.irtext_stream.specs.declared.position.Place.{Place}
 use Rattle.irtext_context.specs.declared.base.item.Item.{Item}
 use Rattle.irtext_tokens.specs.AttrTexts.{attr_at}
@@ -44,7 +44,7 @@ use Rattle.irtext_parse_spec.proofs.Claims.{wrong, wrongs, references_fail}
 use Rattle.irtext_parse_spec.proofs.Entries.{entries_read}
 use Rattle.irtext_parse_spec.proofs.Given.{splits_spaced}
 use Rattle.irtext_parse_spec.proofs.Lawful.{splits_attr}
-use Rattle.irtext_parse_spec.proofs.Places.{EntryNear, StandsNear, late_near, entries_near}
+use Rattle.irtext_parse_spec.proofs.Places.{EntryNear, IsWithin, late_near, entries_near}
 use Rattle.irtext_parse_section.specs.Checked.{Wrong, reference_wrong, pair_wrong, pairs_wrong, items_wrong, RefusesFirst}
 use Rattle.irtext_parse_section.specs.Entries.{AreItems, AreOnce}
 use Rattle.irtext_parse_section.specs.Said.{rule_for, rule_of_item, rules_of, is_block, IsPair}
@@ -128,7 +128,7 @@ module _ {T A : Type 0} (types : Texts T) (reading : Text → Outcome A) (writte
   no_formats : Id → Option Format
   no_formats id = None
 
-  pub references_near : (text : Text) (es : List (Entry ℕ A (Written A))) (taken rest : Text) → entries_at (attr_at reading) marks rules text ≡ Read es taken rest → single.Each (StandsNear (length text)) (wrong_references rules es)
+  pub references_near : (text : Text) (es : List (Entry ℕ A (Written A))) (taken rest : Text) → entries_at (attr_at reading) marks rules text ≡ Read es taken rest → single.Each (IsWithin (length text)) (wrong_references rules es)
   references_near text es taken rest e =
       let cut = splits_attr reading sincere in
       let words = lawful_needs_word reading written lawful in
@@ -136,7 +136,7 @@ module _ {T A : Type 0} (types : Texts T) (reading : Text → Outcome A) (writte
       let split = splits_spaced (attr_at reading) cut (codes "outlined_attributes:") text a.value a.front a.middle a.first in
       let k = entries_read types reading written no_formats sincere.reads words cut marks rules (length a.middle) [] es a.middle a.more rest (omega arith) a.second in
       let near = entries_near types reading written no_formats sincere.reads words cut (length text) k.es a.middle rest (omega (arith, ap length split, length-append a.front a.middle)) k.reads in
-      subst (single.Each (StandsNear (length text))) (sym (references_fail rules es)) (late_near (length text) rules es es (subst (λ es. single.Each (EntryNear (length text)) es) (sym k.whole) near))
+      subst (single.Each (IsWithin (length text))) (sym (references_fail rules es)) (late_near (length text) rules es es (subst (λ es. single.Each (EntryNear (length text)) es) (sym k.whole) near))
 
 -- ---- a section whose entries were parsed
 same_front : (a b c d : Text) → a ++ b ≡ c ++ d → length b ≡ length d → a ≡ c
@@ -146,12 +146,12 @@ same_front (x ∷ a) b [] d e l = absurd (omega (arith, ap length e, l, length-a
 same_front (x ∷ a) b (y ∷ c) d e l = let f : x ≡ y = cc e in let g : a ++ b ≡ c ++ d = cc e in ap₂ ◌∷◌ f (same_front a b c d g l)
 
 -- a place of the text is after this many of its characters
-stands_there : (first text : Text) (place : Place) (left : ℕ) → left ≤ length text → Leaves (first ++ text) place left → StandsBehind place (first ++ take (length text - left) text)
-stands_there first text place left near l =
+place_is_there : (first text : Text) (place : Place) (left : ℕ) → left ≤ length text → Leaves (first ++ text) place left → IsPlaceAfter place (first ++ take (length text - left) text)
+place_is_there first text place left near l =
     let n = length text - left in
     let all : (first ++ take n text) ++ drop n text ≡ first ++ text = append_assoc first (take n text) (drop n text) ∙ ap (λ z. first ++ z) (take-append-drop n text) in
     let same : l.passed ≡ first ++ take n text = same_front l.passed l.rest (first ++ take n text) (drop n text) (l.same ∙ sym all) (omega (arith, l.counts, length-drop n text, near)) in
-    subst (StandsBehind place) same l.stands
+    subst (IsPlaceAfter place) same l.positioned
 
 module _ {X : Type 0} where
   read_gives : (b : Bool) (o : Outcome X) (x : X) (t : Text) (old new : StreamView) → b ≡ false → o ≡ Read x t new.rest → Takes itself replaced t new.rest old new → Gives itself replaced (demanded (unless_failed b o)) old x new
@@ -161,8 +161,8 @@ module _ {X : Type 0} where
   bad_refuses b o cause u old new fault f e k = subst (λ b. Refuses itself replaced (demanded (unless_failed b o)) old fault new) (sym f) (subst (λ o. Refuses itself replaced (demanded o) old fault new) (sym e) k)
 
 module _ {A X E : Type 0} (rules : ℕ → Rule A) where
-  unread : (text : Text) (b : Bool) (o : Outcome (List (Entry ℕ A X))) (old new : StreamView) (fault : ParseFault E) → Starves itself replaced old fault new ⊎ Refuses itself replaced (demanded (unless_failed b o)) old fault new
-      → Starves itself replaced old fault new ⊎ Refuses itself replaced (demanded (unless_failed b (referred rules text o))) old fault new
+  unread : (text : Text) (b : Bool) (o : Outcome (List (Entry ℕ A X))) (old new : StreamView) (fault : ParseFault E) → RunsOut itself replaced old fault new ⊎ Refuses itself replaced (demanded (unless_failed b o)) old fault new
+      → RunsOut itself replaced old fault new ⊎ Refuses itself replaced (demanded (unless_failed b (referred rules text o))) old fault new
   unread text b o old new fault (inl h) = inl h
   unread text true o old new fault (inr h) = inr h
   unread text false (Read x t r) old new fault (inr h) = absurd h
@@ -199,29 +199,29 @@ module _ {A Y E : Type 0} (attr : Text → Outcome (AttrView A)) (marks : List �
         no_other (f ∷ fs) h = absurd h
 
     -- the first that is wrong is the error
-    pub section_wrong : {Other : Y → List (Entry ℕ A (Written A)) → Type 0} {new : StreamView} {fault : ParseFault E} (ws : List Wrong) → single.Each (StandsNear (length old.rest)) (wrong_references rules found) → Each (IsWrong (whole old)) ws (wrong_references rules found)
+    pub section_wrong : {Other : Y → List (Entry ℕ A (Written A)) → Type 0} {new : StreamView} {fault : ParseFault E} (ws : List Wrong) → single.Each (IsWithin (length old.rest)) (wrong_references rules found) → Each (IsWrong (whole old)) ws (wrong_references rules found)
         → RefusesFirst ws mid fault new → MustMean itself replaced Other (section_at attr marks rules) old (Err fault) new
     section_wrong {new = new} {fault = fault} ws near same h =
         must_refuse alone {see = k.meant} (record { answers = go (wrong_references rules found) refl near ws same h })
       where
-        stays : (f : Failure Text ℕ) (w : Wrong) → StandsNear (length old.rest) f → IsWrong (whole old) w f → RefusesAt itself replaced (fault_for w.cause) w.at mid fault new → Commits itself replaced (fault_for f.cause) (upto old.rest f.at) old fault new
+        stays : (f : Failure Text ℕ) (w : Wrong) → IsWithin (length old.rest) f → IsWrong (whole old) w f → RefusesAt itself replaced (fault_for w.cause) w.at mid fault new → Commits itself replaced (fault_for f.cause) (upto old.rest f.at) old fault new
         stays f w n i r =
             let place : n.place ≡ i.place = cc (sym n.at ∙ i.at) in
             let left = length old.rest - i.place in
             let all : (old.passed ++ take left old.rest) ++ drop left old.rest ≡ old.passed ++ old.rest = append_assoc old.passed (take left old.rest) (drop left old.rest) ∙ ap (λ z. old.passed ++ z) (take-append-drop left old.rest) in
-            let s = takes_stands itself replaced alone.view_at alone.at_at old mid all_read.taken mid.rest all_read.takes in
+            let s = takes_same_stream itself replaced alone.view_at alone.at_at old mid all_read.taken mid.rest all_read.takes in
             subst (λ p. Commits itself replaced (fault_for f.cause) (upto old.rest p) old fault new) (sym i.at) (record {
               because = r.because ∙ ap fault_for i.cause;
               committed = r.committed;
-              place = r.position (old.passed ++ take left old.rest) (drop left old.rest) (all ∙ set_within alone old mid s) (stands_there old.passed old.rest w.at i.place (omega (arith, n.near, place)) i.leaves);
-              left = stands_failed itself replaced alone.view_at alone.at_at old.failed old mid new s r.left;
+              place = r.position (old.passed ++ take left old.rest) (drop left old.rest) (all ∙ set_within alone old mid s) (place_is_there old.passed old.rest w.at i.place (omega (arith, n.near, place)) i.leaves);
+              left = same_stream_failed itself replaced alone.view_at alone.at_at old.failed old mid new s r.left;
             })
 
-        go : (fs : List (Failure Text ℕ)) → wrong_references rules found ≡ fs → single.Each (StandsNear (length old.rest)) fs → (ws : List Wrong) → Each (IsWrong (whole old)) ws fs → RefusesFirst ws mid fault new
-            → Starves itself replaced old fault new ⊎ Refuses itself replaced (demanded (unless_failed old.failed (section_at attr marks rules old.rest))) old fault new
+        go : (fs : List (Failure Text ℕ)) → wrong_references rules found ≡ fs → single.Each (IsWithin (length old.rest)) fs → (ws : List Wrong) → Each (IsWrong (whole old)) ws fs → RefusesFirst ws mid fault new
+            → RunsOut itself replaced old fault new ⊎ Refuses itself replaced (demanded (unless_failed old.failed (section_at attr marks rules old.rest))) old fault new
         go [] e n [] i h = absurd h
         go [] e n (w ∷ ws) i h = absurd i
         go (f ∷ fs) e n [] i h = absurd h
-        go (f ∷ fs) e n (w ∷ ws) i (inl s) = inl (starves_behind itself replaced alone.view_at alone.at_at old mid new all_read.taken mid.rest fault all_read.fine all_read.takes s)
+        go (f ∷ fs) e n (w ∷ ws) i (inl s) = inl (runs_out_after itself replaced alone.view_at alone.at_at old mid new all_read.taken mid.rest fault all_read.fine all_read.takes s)
         go (f ∷ fs) e n (w ∷ ws) i (inr r) =
             inr (bad_refuses old.failed (section_at attr marks rules old.rest) (fault_for f.cause) (upto old.rest f.at) old new fault all_read.fine (looked_at (f ∷ fs) e) (stays f w n.0 i.0 r))

@@ -2,7 +2,7 @@
 use Rattle.std.proofs.Common.{◌≡◌, ℕ, Bool, true, false, List, [], Ok, refl, sym, ap, subst}
 use Rattle.irtext_base.specs.Text.{Text}
 use Rattle.irtext_base.specs.Stream.{StreamView}
-use Rattle.irtext_base.specs.Answers.{Outcome, Read, StarvesHere}
+use Rattle.irtext_base.specs.Answers.{Outcome, Read, RunsOutHere}
 use Rattle.irtext_base.specs.Locations.{AttrView}
 use Rattle.irtext_base.specs.Paths.{Written}
 use Rattle.irtext_base.specs.declared.parsable.fault.ParseFault.{ParseFault}
@@ -12,7 +12,7 @@ use Rattle.irtext_graph.specs.Back.{IsClosedBelow}
 use Rattle.irtext_parse_state.specs.States.{marks_of}
 use Rattle.irtext_parse_state.specs.declared.parsable.state.StateStream.{StateStream}
 use Rattle.irtext_grammar.specs.Grammar.Section.{Entry}
-use Rattle.irtext_parse_spec.specs.Promises.Section.{indices_of, IsStarved, Moves}
+use Rattle.irtext_parse_spec.specs.Promises.Section.{indices_of, IsOutOfMemory, Moves}
 use Rattle.irtext_parse_spec.specs.Readers.NewPaths.{AddsPaths}
 use Rattle.irtext_parse_spec.specs.Readers.Refusals.{CommittedRefusal}
 use Rattle.irtext_parse_spec.specs.Readers.Streams.{itself, replaced}
@@ -32,12 +32,12 @@ pub adds_closed : {T A : Type 0} (mark : ℕ) (old new : ContextView T A) → Ad
 adds_closed {T} {A} mark old new a h = subst (λ g. IsClosedBelow mark g) (sym (ap (λ (c : ContextView T A). c.graph) a.rest)) h
 
 -- out of memory after what was parsed
-pub starved_refusal : {A : Type 0} {old mid new : StreamView} {fault : ParseFault A} → StarvesHere itself replaced mid fault new → CommittedRefusal old fault new
-starved_refusal h = record { committed = h.committed; fails = ap (λ v. v.failed) h.left; failed = λ f. absurd (cc (h.because)) }
+pub ran_out_refusal : {A : Type 0} {old mid new : StreamView} {fault : ParseFault A} → RunsOutHere itself replaced mid fault new → CommittedRefusal old fault new
+ran_out_refusal h = record { committed = h.committed; fails = ap (λ v. v.failed) h.left; failed = λ f. absurd (cc (h.because)) }
 
 -- out of memory
-pub starved_there : {A : Type 0} {mid new : StreamView} {fault : ParseFault A} → StarvesHere itself replaced mid fault new → IsStarved fault
-starved_there h = record { because = h.because; flag = h.committed }
+pub ran_out_there : {A : Type 0} {mid new : StreamView} {fault : ParseFault A} → RunsOutHere itself replaced mid fault new → IsOutOfMemory fault
+ran_out_there h = record { because = h.because; flag = h.committed }
 
 -- whichever a test says
 pub either_way : {P : Type 0} (t : Bool) → (t ≡ true → P) → (t ≡ false → P) → P

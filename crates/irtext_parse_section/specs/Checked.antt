@@ -3,7 +3,7 @@ use Rattle.std.specs.Prelude.{◌≡◌, ◌⊎◌, ℕ, Bool, cond, List, [], �
 use Rattle.std.specs.Map.{lookup}
 use Rattle.irtext_base.specs.Text.{Text}
 use Rattle.irtext_base.specs.Stream.{StreamView}
-use Rattle.irtext_base.specs.Answers.{StarvesHere}
+use Rattle.irtext_base.specs.Answers.{RunsOutHere}
 use Rattle.irtext_base.specs.declared.base.attributes.AttrObj.{AttrObj}
 use Rattle.irtext_base.specs.declared.parsable.fault.ParseFault.{ParseFault}
 use Rattle.irtext_stream.specs.declared.position.Place.{Place}
@@ -44,12 +44,12 @@ module _ {A : Type 0} where
 
   -- an allocation failed, or the key is reserved, and the fault is at the key
   abbrev pub ReservesAt : Key → StreamView → ParseFault A → StreamView → Type 0
-  ReservesAt key old fault new = StarvesHere itself replaced old fault new ⊎ RefusesAt itself replaced (fault_for (ReservedKey key.name)) key.at old fault new
+  ReservesAt key old fault new = RunsOutHere itself replaced old fault new ⊎ RefusesAt itself replaced (fault_for (ReservedKey key.name)) key.at old fault new
 
   -- an allocation failed, or the fault is the first of these
   abbrev pub RefusesFirst : List Wrong → StreamView → ParseFault A → StreamView → Type 0
   RefusesFirst [] old fault new = ⊥
-  RefusesFirst (w ∷ ws) old fault new = StarvesHere itself replaced old fault new ⊎ RefusesAt itself replaced (fault_for w.cause) w.at old fault new
+  RefusesFirst (w ∷ ws) old fault new = RunsOutHere itself replaced old fault new ⊎ RefusesAt itself replaced (fault_for w.cause) w.at old fault new
 
   -- nothing is wrong, and the stream is unchanged; or the fault is the first of these, unless an allocation failed
   abbrev pub Checks : List Wrong → StreamView → Result ⊤ (ParseFault A) → StreamView → Type 0

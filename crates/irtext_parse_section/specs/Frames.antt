@@ -15,7 +15,7 @@ use Rattle.irtext_tokens.specs.AttrTexts.{attr_at}
 use Rattle.irtext_tokens.specs.Infix.{Reader, nothing, either, ◌▷◌, ◌▶◌, ◌⇒◌}
 use Rattle.irtext_tokens.specs.MustRead.{MustRead}
 use Rattle.irtext_tokens.specs.Tokens.{word}
-use Rattle.irtext_parse_spec.specs.Readers.Locations.{WrittenRow, begins_source, begins_location, name_at, place_at, metadata_at, behind_location, location_at, more_within}
+use Rattle.irtext_parse_spec.specs.Readers.Locations.{WrittenRow, begins_source, begins_location, name_at, place_at, metadata_at, after_location, location_at, more_within}
 use Rattle.irtext_parse_spec.specs.Readers.NewPaths.{MustReadOver, joined_rows}
 use Rattle.irtext_parse_spec.specs.Readers.Positions.{space_at, spaced_at}
 use Rattle.irtext_parse_spec.specs.Readers.Streams.{itself, replaced}
@@ -116,17 +116,17 @@ module _ {S A : Type 0} where
   row_end_at metadata row = word (codes "]") ⇒ λ _. whole (fused metadata row)
 
   -- after the list so far: `,` before one more location, or the end
-  abbrev pub row_behind_at : Option (AttrView A) → LocationsOf S A → Reader (ProgressOf S A)
-  row_behind_at metadata row = space_at ▷ either (begins (the 44))
+  abbrev pub row_after_at : Option (AttrView A) → LocationsOf S A → Reader (ProgressOf S A)
+  row_after_at metadata row = space_at ▷ either (begins (the 44))
       (word (codes ",") ▷ space_at ⇒ λ _. inside (for_row metadata row))
       (row_end_at metadata row)
 
   -- what follows a location inside of a frame, up to the end of the frame's location or to its next location
-  abbrev pub behind_at : FrameOf S A → LocationOf S A → Reader (ProgressOf S A)
-  behind_at (for_name name) l = word (codes ")") ⇒ λ _. whole (named name l)
-  behind_at for_callee l = spaced_at (codes "at") ⇒ λ _. inside (for_caller l)
-  behind_at (for_caller callee) l = spaced_at (codes ")") ⇒ λ _. whole (call_site callee l)
-  behind_at (for_row metadata row) l = row_behind_at metadata (with_one row l)
+  abbrev pub after_at : FrameOf S A → LocationOf S A → Reader (ProgressOf S A)
+  after_at (for_name name) l = word (codes ")") ⇒ λ _. whole (named name l)
+  after_at for_callee l = spaced_at (codes "at") ⇒ λ _. inside (for_caller l)
+  after_at (for_caller callee) l = spaced_at (codes ")") ⇒ λ _. whole (call_site callee l)
+  after_at (for_row metadata row) l = row_after_at metadata (with_one row l)
 
   -- the first location of a list comes next, or the list is empty
   abbrev pub row_opening_at : Option (AttrView A) → Reader (ProgressOf S A)
@@ -157,7 +157,7 @@ module _ {A : Type 0} (attr : Reader (AttrView A)) where
   frame_rest (for_name name) l = word (codes ")") ⇒ λ _. named name l
   frame_rest for_callee l = spaced_at (codes "at") ▷ location_at attr ▶ λ caller. spaced_at (codes ")") ⇒ λ _. call_site l caller
   frame_rest (for_caller callee) l = spaced_at (codes ")") ⇒ λ _. call_site callee l
-  frame_rest (for_row metadata row) l = behind_location (location_at attr) further_at l ▶ λ ls. word (codes "]") ⇒ λ _. fused metadata (joined_rows row ls)
+  frame_rest (for_row metadata row) l = after_location (location_at attr) further_at l ▶ λ ls. word (codes "]") ⇒ λ _. fused metadata (joined_rows row ls)
 
   -- what is left of a location that was parsed so far
   abbrev pub progress_rest : ProgressOf (Option (List ℕ)) A → Reader (Written A)
@@ -180,8 +180,8 @@ module _ {A : Type 0} where
   ReadsProgress = MustRead itself replaced progress_view
 
   -- the same for what follows a location inside of a frame
-  abbrev pub ReadsBehind : Frame A → Location A → StreamView → Result (Progress A) (ParseFault A) → StreamView → Type 0
-  ReadsBehind f l = ReadsProgress (behind_at (frame_view f) (location_view l))
+  abbrev pub ReadsAfter : Frame A → Location A → StreamView → Result (Progress A) (ParseFault A) → StreamView → Type 0
+  ReadsAfter f l = ReadsProgress (after_at (frame_view f) (location_view l))
 
   -- a location is parsed up to the first location inside of it, with these paths
   abbrev pub ReadsOpening : (Text → Outcome A) → List (List ℕ) → StreamView → Result (Progress A) (ParseFault A) → StreamView → Type 0

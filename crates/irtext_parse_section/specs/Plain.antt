@@ -44,20 +44,20 @@ Finds outcome old new x = (old.failed ≡ false) × Gets outcome old new x
 
 module _ (before : Text) (old new : StreamView) where
   -- a text was consumed, and the digits right after it
-  pub record DigitsBehind (n : ℕ) : Type 0 where
+  pub record DigitsAfter (n : ℕ) : Type 0 where
     pub mid : StreamView
     pub comes : Comes before old (λ v. mid ≡ v)
     pub digits : TakesDigits mid n new
 
   -- a text was consumed, and a number right after it that fits 32 bits with a sign
-  pub record NumberBehind (z : ℤ) : Type 0 where
+  pub record NumberAfter (z : ℤ) : Type 0 where
     pub mid : StreamView
     pub comes : Comes before old (λ v. mid ≡ v)
     pub number : TakesNumber integer_at mid z new
     pub fits : FitsSigned w32 z
 
   -- the stream had not failed, and a text was consumed, and the white space after it
-  pub record SpaceBehind : Type 0 where
+  pub record SpaceAfter : Type 0 where
     pub fine : old.failed ≡ false
     pub mid : StreamView
     pub comes : Comes before old (λ v. mid ≡ v)
@@ -72,5 +72,5 @@ abbrev pub column_at : Reader ℤ
 column_at = spaced_at (codes ",") ▷ labelled_at (codes "column")
 
 -- `:`, a line and a column
-abbrev pub behind_source_at : Reader SourcePosition
-behind_source_at = spaced_at (codes ":") ▷ position_at
+abbrev pub after_source_at : Reader SourcePosition
+after_source_at = spaced_at (codes ":") ▷ position_at

@@ -48,9 +48,9 @@ abbrev pub rules_of : {A : Type 0} → List (ℕ × Item) → ℕ → Rule A
 rules_of marks i = rule_of_item (lookup (same_index i) marks)
 
 -- an attribute in the entry is allowed under its key; a reference always is
-abbrev pub stands_under : {A : Type 0} → Rule A → Text → GivenAttr A → Bool
-stands_under rule key (given.Direct a) = rule key (attribute_of a)
-stands_under rule key (given.Reference m) = true
+abbrev pub is_allowed_under : {A : Type 0} → Rule A → Text → GivenAttr A → Bool
+is_allowed_under rule key (given.Direct a) = rule key (attribute_of a)
+is_allowed_under rule key (given.Reference m) = true
 
 -- what was parsed under a key represents what is given there
 abbrev pub IsGiven : {A : Type 0} → Text → GivenAttr A → section.Item ℕ A → Type 0
@@ -66,8 +66,8 @@ IsPair text read pair = IsKey text read.0 pair.0 × IsGiven text read.1 pair.1
 module _ {A : Type 0} where
   -- The result is the same if its attribute is allowed under its key; otherwise the key is reserved, and the fault is at this place.
   abbrev pub Allows : Rule A → Place → Result (Key × GivenAttr A) (ParseFault A) → StreamView → Result (Key × GivenAttr A) (ParseFault A) → StreamView → Type 0
-  Allows rule place (Ok p) old (Ok q) new = (stands_under rule p.0.name p.1 ≡ true) × (q ≡ p) × (new ≡ old)
-  Allows rule place (Ok p) old (Err fault) new = (stands_under rule p.0.name p.1 ≡ false) × RefusesAt itself replaced (ReservedKey p.0.name) place old fault new
+  Allows rule place (Ok p) old (Ok q) new = (is_allowed_under rule p.0.name p.1 ≡ true) × (q ≡ p) × (new ≡ old)
+  Allows rule place (Ok p) old (Err fault) new = (is_allowed_under rule p.0.name p.1 ≡ false) × RefusesAt itself replaced (ReservedKey p.0.name) place old fault new
   Allows rule place (Err first) old (Ok q) new = ⊥
   Allows rule place (Err first) old (Err fault) new = (fault ≡ first) × (new ≡ old)
 
@@ -84,6 +84,6 @@ module _ {A : Type 0} where
   BracketedPairs reading of_block old result new = MustPairs (pairs_at (attr_at reading) (rule_for of_block)) old result new
 
   -- given a first pair, the result is the list of pairs that continues it, or its fault
-  abbrev pub PairsBehind : (Text → Outcome (Name ℕ × section.Item ℕ A)) → Key × GivenAttr A → StreamView → Result (Vec (Key × GivenAttr A) Global) (ParseFault A) → StreamView → Type 0
-  PairsBehind item first old result new = (pair : Name ℕ × section.Item ℕ A) → IsPair (whole old) first pair → old.failed ≡ false
+  abbrev pub PairsAfter : (Text → Outcome (Name ℕ × section.Item ℕ A)) → Key × GivenAttr A → StreamView → Result (Vec (Key × GivenAttr A) Global) (ParseFault A) → StreamView → Type 0
+  PairsAfter item first old result new = (pair : Name ℕ × section.Item ℕ A) → IsPair (whole old) first pair → old.failed ≡ false
       → MustPairs (λ t. items_after 44 item (length t) (pair ∷ []) t) old result new

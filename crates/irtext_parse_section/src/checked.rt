@@ -3,7 +3,7 @@ ghost use Rattle.std.specs.Prelude.{◌≡◌, option_copied, nat_eq};
 ghost use Rattle.std.specs.Map.{lookup};
 ghost use Rattle.irtext_parse_section.specs.Checked.{pair_wrong, pairs_wrong, items_wrong, ReservesAt, Checks};
 
-use crate::rules::{is_block, may_stand};
+use crate::rules::{is_allowed, is_block};
 use crate::said::{GivenAttr, ItemEntry, Once, ReadPair};
 use irtext_base::base::AttrObj;
 use irtext_base::parsable::{CharStream, ParseFault, ParseResult, TextStream};
@@ -45,7 +45,7 @@ fn pair_checked<A: Drop>(
     let Some(attr) = written_once(once, mark.index) else {
         return Err(refuse_at(stream, mark.at, Cause::UnknownPrintOnce(mark.index)));
     };
-    if may_stand(of_block, &pair.0.name, attr) {
+    if is_allowed(of_block, &pair.0.name, attr) {
         return Ok(());
     }
     Err(reserved(stream, &pair.0))

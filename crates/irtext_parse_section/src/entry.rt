@@ -4,7 +4,7 @@ ghost use Rattle.std.specs.Map.{lookup};
 ghost use Rattle.irtext_tokens.specs.AttrTexts.{attr_at};
 ghost use Rattle.irtext_tokens.specs.Demanded.{spaced_at, index_at};
 ghost use Rattle.irtext_tokens.specs.MustRead.{MustRead};
-ghost use Rattle.irtext_stream.specs.Places.{StandsBehind};
+ghost use Rattle.irtext_stream.specs.Places.{IsPlaceAfter};
 ghost use Rattle.irtext_parse_state.specs.States.{same_index, marks_of};
 ghost use Rattle.irtext_parse_spec.specs.Readers.Marks.{may_follow};
 ghost use Rattle.irtext_parse_spec.specs.Readers.NewPaths.{AddsOnlyPaths};
@@ -17,7 +17,7 @@ ghost use Rattle.irtext_parse_section.specs.Said.{rules_of};
 ghost use Rattle.irtext_parse_section.specs.Entries.{IsHead, GoesOn, IsEntry, entry_kept, next_item, earlier_indices};
 
 use crate::given::given_parse;
-use crate::location::plain::{digits_behind, spaced_there};
+use crate::location::plain::{digits_after, spaced_there};
 use crate::rules::is_block;
 use crate::said::{ItemEntry, ReadEntry};
 use irtext_base::parsable::{CharStream, ParseResult, TextStream};
@@ -59,7 +59,7 @@ fn index_there(stream: &mut TextStream) -> Option<usize>
         return None;
     }
     let place = stream.position();
-    match digits_behind(stream, "!") {
+    match digits_after(stream, "!") {
         Some(index) => Some(index as usize),
         None => {
             stream.reset(place);
@@ -113,7 +113,7 @@ fn equals_read<A>(stream: &mut TextStream) -> ParseResult<(), A>
 fn index_parse<A>(stream: &mut TextStream) -> ParseResult<ReadMark, A>
     ensures read { MustMean itself replaced (IsMark (whole stream.old)) entry_head_at stream.old result
         stream.new }
-    ensures at { IfOk result (λ mark. StandsBehind mark.at stream.old.passed) }
+    ensures at { IfOk result (λ mark. IsPlaceAfter mark.at stream.old.passed) }
 {
     let at = stream.position();
     let index = index_read(stream)?;

@@ -5,9 +5,9 @@ ghost use Rattle.irtext_tokens.specs.ListOutcomes.{separated_at};
 ghost use Rattle.irtext_parse_spec.specs.Readers.Streams.{itself, replaced};
 ghost use Rattle.irtext_parse_pieces.specs.Named.{MayMean, MustMean, whole};
 ghost use Rattle.irtext_parse_spec.specs.Entries.{item_at, pair_at, kept};
-ghost use Rattle.irtext_parse_section.specs.Said.{rule_for, IsGiven, IsPair, Allows, MustPairs, BracketedPairs, PairsBehind};
+ghost use Rattle.irtext_parse_section.specs.Said.{rule_for, IsGiven, IsPair, Allows, MustPairs, BracketedPairs, PairsAfter};
 
-use crate::rules::stands_under;
+use crate::rules::is_allowed_under;
 use crate::said::{GivenAttr, ReadPair};
 use irtext_base::parsable::{CharStream, ParseResult, Place, TextStream};
 use irtext_base::result::Cause;
@@ -67,7 +67,7 @@ fn allowed<A: AttrText<A>>(
         Ok(pair) => pair,
         Err(fault) => return Err(fault),
     };
-    if !stands_under(of_block, &key.name, &given) {
+    if !is_allowed_under(of_block, &key.name, &given) {
         return Err(refuse_at(stream, at, Cause::ReservedKey(key.name)));
     }
     Ok((key, given))
@@ -107,7 +107,7 @@ fn more_pairs<A: AttrText<A>>(
     keys: &mut Keys,
     first: ReadPair<A>,
 ) -> ParseResult<Vec<ReadPair<A>>, A>
-    ensures { PairsBehind (λ t. kept (rule_for of_block) (pair_at (attr_at A.IrText.reading) t)) first
+    ensures { PairsAfter (λ t. kept (rule_for of_block) (pair_at (attr_at A.IrText.reading) t)) first
         stream.old result stream.new }
 {
     let mut found = match pushed(Vec::new(stream.allocator()), first) {

@@ -3,7 +3,7 @@ ghost use Rattle.std.specs.Prelude.{◌≡◌};
 ghost use Rattle.irtext_base.specs.Format.{same_text, given_names_key, block_label_key};
 ghost use Rattle.irtext_grammar.specs.Contexts.Held.{attribute_of};
 ghost use Rattle.irtext_grammar.specs.Names.Acts.{is_given, is_label, may_hold};
-ghost use Rattle.irtext_parse_section.specs.Said.{rule_for, stands_under, is_block};
+ghost use Rattle.irtext_parse_section.specs.Said.{rule_for, is_allowed_under, is_block};
 
 use crate::said::GivenAttr;
 use irtext_base::base::{AttrObj, Identifier};
@@ -59,7 +59,7 @@ fn may_hold<A>(key: &Identifier, attr: &AttrObj<A>) -> bool
 }
 
 /// Whether an attribute is allowed under a key, in the entry of a block or of an operation.
-pub(crate) fn may_stand<A>(of_block: bool, key: &Identifier, attr: &AttrObj<A>) -> bool
+pub(crate) fn is_allowed<A>(of_block: bool, key: &Identifier, attr: &AttrObj<A>) -> bool
     ensures { result ≡ rule_for of_block key.now (attribute_of attr.now) }
 {
     if !may_hold(key, attr) {
@@ -72,11 +72,11 @@ pub(crate) fn may_stand<A>(of_block: bool, key: &Identifier, attr: &AttrObj<A>) 
 }
 
 /// The same for what an entry gives under the key. A reference is allowed, since its attribute is not known yet.
-pub(crate) fn stands_under<A>(of_block: bool, key: &Identifier, given: &GivenAttr<A>) -> bool
-    ensures { result ≡ stands_under (rule_for of_block) key.now given.now }
+pub(crate) fn is_allowed_under<A>(of_block: bool, key: &Identifier, given: &GivenAttr<A>) -> bool
+    ensures { result ≡ is_allowed_under (rule_for of_block) key.now given.now }
 {
     match given {
-        GivenAttr::Direct(attr) => may_stand(of_block, key, attr),
+        GivenAttr::Direct(attr) => is_allowed(of_block, key, attr),
         GivenAttr::Reference(_) => true,
     }
 }

@@ -1,11 +1,11 @@
 //! The parser of the section after a root.
 ghost use Rattle.std.specs.Prelude.{◌≡◌, ◌⊎◌, ℕ, true, false, [], IfErr, OnOk, OnErr};
-ghost use Rattle.irtext_base.specs.Answers.{StarvesHere};
+ghost use Rattle.irtext_base.specs.Answers.{RunsOutHere};
 ghost use Rattle.irtext_context.specs.Context.{KeepsOlder};
 ghost use Rattle.irtext_graph.specs.Back.{IsClosedBelow};
 ghost use Rattle.irtext_tokens.specs.AttrTexts.{attr_at};
 ghost use Rattle.irtext_parse_state.specs.States.{marks_of};
-ghost use Rattle.irtext_parse_spec.specs.Promises.Section.{indices_of, IsStarved, Faults};
+ghost use Rattle.irtext_parse_spec.specs.Promises.Section.{indices_of, IsOutOfMemory, Faults};
 ghost use Rattle.irtext_parse_spec.specs.Promises.Supported.{RefusedAs};
 ghost use Rattle.irtext_parse_spec.specs.Readers.NewPaths.{AddsPaths, AddsOnlyPaths};
 ghost use Rattle.irtext_parse_spec.specs.Readers.Refusals.{CommittedRefusal};
@@ -88,7 +88,7 @@ pub fn section_given<T: IrText<A>, A: AttrText<A>, U>(
     ensures rest { KeepsRest s.old.state s.new.state }
     ensures stream { OnOk result (s.new.stream ≡ s.old.stream) }
     ensures fresh { OnOk result (marks_of s.new.state ≡ []) }
-    ensures starved { IfErr result (λ fault. StarvesHere itself replaced s.old.stream fault s.new.stream) }
+    ensures ran_out { IfErr result (λ fault. RunsOutHere itself replaced s.old.stream fault s.new.stream) }
     ensures marks { OnErr result (marks_of s.new.state ≡ marks_of s.old.state) }
     ensures kept { KeepsOthers (items_of entries) s.old.state.ctx.now s.new.state.ctx.now }
     ensures closed { StaysClosed s.old.state.ctx.now s.new.state.ctx.now }
@@ -124,7 +124,7 @@ pub fn section_parse<T: IrText<A>, A: AttrText<A>, U>(
         → KeepsOlder mark s.old.state.ctx.now s.new.state.ctx.now }
     ensures closed { (mark : ℕ) → IsClosedBelow mark s.old.state.ctx.now.graph → IsClosedBelow mark
         s.new.state.ctx.now.graph }
-    ensures adds { IfErr result (λ fault. IsStarved fault ⊎ AddsPaths s.old.state.ctx.now
+    ensures adds { IfErr result (λ fault. IsOutOfMemory fault ⊎ AddsPaths s.old.state.ctx.now
         s.new.state.ctx.now) }
     ensures unchanged { (mark : ℕ) → (earlier ≡ false → AreNewer mark s.old.state.ctx.now
         (marks_of s.old.state)) →

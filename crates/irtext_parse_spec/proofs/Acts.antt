@@ -23,26 +23,26 @@ use Rattle.irtext_parse_spec.proofs.Kept.{there_still, uses_kept, regions_kept, 
 
 -- ---- one after another
 module _ {T A : Type 0} (IsLocation : Object → ℕ → Location A → Type 0) (c : ContextView T A) (whole : List Object) where
-  regions_behind : (ps qs : List (Ptr Region)) (rs more : Regions (Op ℕ T A) (Head ℕ T A) (Brace ℕ)) → RegionsHold IsLocation c whole ps rs → RegionsHold IsLocation c whole qs more
+  regions_appended : (ps qs : List (Ptr Region)) (rs more : Regions (Op ℕ T A) (Head ℕ T A) (Brace ℕ)) → RegionsHold IsLocation c whole ps rs → RegionsHold IsLocation c whole qs more
       → RegionsHold IsLocation c whole (ps ++ qs) (append_regions rs more)
-  regions_behind [] qs no_regions more h k = k
-  regions_behind [] qs (forest.region brace bs rs) more h k = absurd h
-  regions_behind (p ∷ ps) qs no_regions more h k = absurd h
-  regions_behind (p ∷ ps) qs (forest.region brace bs rs) more (i, v, h) k = (i, v, regions_behind ps qs rs more h k)
+  regions_appended [] qs no_regions more h k = k
+  regions_appended [] qs (forest.region brace bs rs) more h k = absurd h
+  regions_appended (p ∷ ps) qs no_regions more h k = absurd h
+  regions_appended (p ∷ ps) qs (forest.region brace bs rs) more (i, v, h) k = (i, v, regions_appended ps qs rs more h k)
 
-  blocks_behind : (ps qs : List (Ptr BasicBlock)) (bs more : Blocks (Op ℕ T A) (Head ℕ T A) (Brace ℕ)) → BlocksHold IsLocation c whole ps bs → BlocksHold IsLocation c whole qs more
+  blocks_appended : (ps qs : List (Ptr BasicBlock)) (bs more : Blocks (Op ℕ T A) (Head ℕ T A) (Brace ℕ)) → BlocksHold IsLocation c whole ps bs → BlocksHold IsLocation c whole qs more
       → BlocksHold IsLocation c whole (ps ++ qs) (append_blocks bs more)
-  blocks_behind [] qs no_blocks more h k = k
-  blocks_behind [] qs (forest.block head os bs) more h k = absurd h
-  blocks_behind (p ∷ ps) qs no_blocks more h k = absurd h
-  blocks_behind (p ∷ ps) qs (forest.block head os bs) more (i, v, h) k = (i, v, blocks_behind ps qs bs more h k)
+  blocks_appended [] qs no_blocks more h k = k
+  blocks_appended [] qs (forest.block head os bs) more h k = absurd h
+  blocks_appended (p ∷ ps) qs no_blocks more h k = absurd h
+  blocks_appended (p ∷ ps) qs (forest.block head os bs) more (i, v, h) k = (i, v, blocks_appended ps qs bs more h k)
 
-  operations_behind : (ps qs : List (Ptr Operation)) (os more : Operations (Op ℕ T A) (Head ℕ T A) (Brace ℕ)) → OperationsHold IsLocation c whole ps os → OperationsHold IsLocation c whole qs more
+  operations_appended : (ps qs : List (Ptr Operation)) (os more : Operations (Op ℕ T A) (Head ℕ T A) (Brace ℕ)) → OperationsHold IsLocation c whole ps os → OperationsHold IsLocation c whole qs more
       → OperationsHold IsLocation c whole (ps ++ qs) (append_operations os more)
-  operations_behind [] qs no_operations more h k = k
-  operations_behind [] qs (forest.operation o rs os) more h k = absurd h
-  operations_behind (p ∷ ps) qs no_operations more h k = absurd h
-  operations_behind (p ∷ ps) qs (forest.operation o rs os) more (i, v, h) k = (i, v, operations_behind ps qs os more h k)
+  operations_appended [] qs no_operations more h k = k
+  operations_appended [] qs (forest.operation o rs os) more h k = absurd h
+  operations_appended (p ∷ ps) qs no_operations more h k = absurd h
+  operations_appended (p ∷ ps) qs (forest.operation o rs os) more (i, v, h) k = (i, v, operations_appended ps qs os more h k)
 
 -- ---- objects that are unchanged
 module _ {T A : Type 0} (IsLocation : Object → ℕ → Location A → Type 0) (old new : ContextView T A) (whole : List Object) (ats : List (OpenAt T A)) (root : Option (Ptr Operation)) (b : Building T A)
@@ -78,9 +78,9 @@ module _ {T A : Type 0} (c : ContextView T A) where
   first_within k os o (inr j) there = absurd j
 
   -- one object was created
-  behind_new : (n k : Object) (os : List Object) → (IsThere c n → ⊥) → (o : Object) → Among o (n ∷ k ∷ []) → IsThere c o → Among o (k ∷ os)
-  behind_new n k os is_new o (inl e) there = absurd (is_new (subst (λ z. IsThere c z) e there))
-  behind_new n k os is_new o (inr i) there = first_within k os o i there
+  after_new : (n k : Object) (os : List Object) → (IsThere c n → ⊥) → (o : Object) → Among o (n ∷ k ∷ []) → IsThere c o → Among o (k ∷ os)
+  after_new n k os is_new o (inl e) there = absurd (is_new (subst (λ z. IsThere c z) e there))
+  after_new n k os is_new o (inr i) there = first_within k os o i there
 
   -- an object that was present is not one that was created
   not_new : (n : Object) → (IsThere c n → ⊥) → (o : Object) → IsThere c o → Among o (n ∷ []) → ⊥
@@ -88,9 +88,9 @@ module _ {T A : Type 0} (c : ContextView T A) where
   not_new n is_new o there (inr i) = i
 
   -- an object that was present and is among `os` is neither the created one nor the changed one, if the changed one is not among `os`
-  not_behind : (n k o : Object) (os : List Object) → (IsThere c n → ⊥) → (Among k os → ⊥) → Among o os → IsThere c o → Among o (n ∷ k ∷ []) → ⊥
-  not_behind n k o os is_new apart i there (inl e) = is_new (subst (λ z. IsThere c z) e there)
-  not_behind n k o os is_new apart i there (inr j) = is_none_of k o os apart i j
+  nothing_after : (n k o : Object) (os : List Object) → (IsThere c n → ⊥) → (Among k os → ⊥) → Among o os → IsThere c o → Among o (n ∷ k ∷ []) → ⊥
+  nothing_after n k o os is_new apart i there (inl e) = is_new (subst (λ z. IsThere c z) e there)
+  nothing_after n k o os is_new apart i there (inr j) = is_none_of k o os apart i j
 
 -- an object besides is there
 besides_there : {T A : Type 0} (c : ContextView T A) (k : Object) (os : List Object) → IsThere c k → ((o : Object) → Among o os → IsThere c o) → (o : Object) → Among o (k ∷ os) → IsThere c o
@@ -275,7 +275,7 @@ module _ {T A : Type 0} (IsLocation : Object → ℕ → Location A → Type 0) 
     is = f.is;
     done = f.done ++ b ∷ [];
     blocks = f.blocks ∙ sym (append-nil (f.done ++ b ∷ []));
-    hold = blocks_behind IsLocation c whole f.done (b ∷ []) bs (forest.block last.0 last.1 no_blocks) f.hold (block_whole b last.0 last.1 i k);
+    hold = blocks_appended IsLocation c whole f.done (b ∷ []) bs (forest.block last.0 last.1 no_blocks) f.hold (block_whole b last.0 last.1 i k);
   }
 
   -- an operation whose last region became complete
@@ -289,7 +289,7 @@ module _ {T A : Type 0} (IsLocation : Object → ℕ → Location A → Type 0) 
     uses = f.uses;
     done = f.done ++ r ∷ [];
     regions = f.regions ∙ sym (append-nil (f.done ++ r ∷ []));
-    hold = regions_behind IsLocation c whole f.done (r ∷ []) rs (forest.region (shown place) bs no_regions) f.hold (region_whole r place bs i k);
+    hold = regions_appended IsLocation c whole f.done (r ∷ []) rs (forest.region (shown place) bs no_regions) f.hold (region_whole r place bs i k);
   }
 
   -- a block whose last operation became complete
@@ -302,7 +302,7 @@ module _ {T A : Type 0} (IsLocation : Object → ℕ → Location A → Type 0) 
     has = f.has;
     done = f.done ++ p ∷ [];
     operations = f.operations ∙ sym (append-nil (f.done ++ p ∷ []));
-    hold = operations_behind IsLocation c whole f.done (p ∷ []) os (forest.operation (with_mark mark o) rs no_operations) f.hold (operation_whole p o mark rs i k);
+    hold = operations_appended IsLocation c whole f.done (p ∷ []) os (forest.operation (with_mark mark o) rs no_operations) f.hold (operation_whole p o mark rs i k);
   }
 
 module _ {T A : Type 0} (IsLocation : Object → ℕ → Location A → Type 0) (old new : ContextView T A) (whole : List Object) (root : Option (Ptr Operation)) (formats : Id → Option Format) where
@@ -330,10 +330,10 @@ module _ {T A : Type 0} (IsLocation : Object → ℕ → Location A → Type 0) 
   uses_in_block r b ats p own parts built h came g s =
       let opens = region_under r (Some b) ∷ ats in
       let but = TheOperation p ∷ TheBlock b ∷ [] in
-      let within = behind_new old (TheOperation p) (TheBlock b) (TheRegion r ∷ open_objects ats) came.is_new in
+      let within = after_new old (TheOperation p) (TheBlock b) (TheRegion r ∷ open_objects ats) came.is_new in
       let same = whole_spared IsLocation old new whole opens root built h but s within in
       let apart = apart_head (TheBlock b) (TheRegion r ∷ open_objects ats) h.apart in
-      let others = λ (o : Object) (i : Among o (TheRegion r ∷ open_objects ats)). open_spared IsLocation old new whole opens root built h but s o (inr i) (not_behind old (TheOperation p) (TheBlock b) o (TheRegion r ∷ open_objects ats) came.is_new apart i (h.open_there o (inr i))) in
+      let others = λ (o : Object) (i : Among o (TheRegion r ∷ open_objects ats)). open_spared IsLocation old new whole opens root built h but s o (inr i) (nothing_after old (TheOperation p) (TheBlock b) o (TheRegion r ∷ open_objects ats) came.is_new apart i (h.open_there o (inr i))) in
       let was = h.open_there (TheBlock b) (inl refl) in
       let there : IsThere new (TheBlock b) = (subst IsSome (sym g.gains) (some_map (with_last_operation p) (block old b) was.0), subst IsSome (sym g.stays) was.1) in
       record {
@@ -356,10 +356,10 @@ module _ {T A : Type 0} (IsLocation : Object → ℕ → Location A → Type 0) 
   enters_operation iso p own ats r built h came g s =
       let opens = operation_under p own ∷ ats in
       let but = TheRegion r ∷ TheOperation p ∷ [] in
-      let within = behind_new old (TheRegion r) (TheOperation p) (open_objects ats) came.is_new in
+      let within = after_new old (TheRegion r) (TheOperation p) (open_objects ats) came.is_new in
       let same = whole_spared IsLocation old new whole opens root built h but s within in
       let apart = apart_head (TheOperation p) (open_objects ats) h.apart in
-      let others = λ (o : Object) (i : Among o (open_objects ats)). open_spared IsLocation old new whole opens root built h but s o (inr i) (not_behind old (TheRegion r) (TheOperation p) o (open_objects ats) came.is_new apart i (h.open_there o (inr i))) in
+      let others = λ (o : Object) (i : Among o (open_objects ats)). open_spared IsLocation old new whole opens root built h but s o (inr i) (nothing_after old (TheRegion r) (TheOperation p) o (open_objects ats) came.is_new apart i (h.open_there o (inr i))) in
       let there : IsThere new (TheOperation p) = subst IsSome (sym g.gains) (some_map (with_last_region r) (operation old p) (h.open_there (TheOperation p) (inl refl))) in
       record {
         are_open = (
@@ -381,10 +381,10 @@ module _ {T A : Type 0} (IsLocation : Object → ℕ → Location A → Type 0) 
   heads_first r ats b head built h came g s =
       let opens = region_under r None ∷ ats in
       let but = TheBlock b ∷ TheRegion r ∷ [] in
-      let within = behind_new old (TheBlock b) (TheRegion r) (open_objects ats) came.is_new in
+      let within = after_new old (TheBlock b) (TheRegion r) (open_objects ats) came.is_new in
       let same = whole_spared IsLocation old new whole opens root built h but s within in
       let apart = apart_head (TheRegion r) (open_objects ats) h.apart in
-      let others = λ (o : Object) (i : Among o (open_objects ats)). open_spared IsLocation old new whole opens root built h but s o (inr i) (not_behind old (TheBlock b) (TheRegion r) o (open_objects ats) came.is_new apart i (h.open_there o (inr i))) in
+      let others = λ (o : Object) (i : Among o (open_objects ats)). open_spared IsLocation old new whole opens root built h but s o (inr i) (nothing_after old (TheBlock b) (TheRegion r) o (open_objects ats) came.is_new apart i (h.open_there o (inr i))) in
       let there : IsThere new (TheRegion r) = subst IsSome (sym g.gains) (some_map (with_last_block b) (region old r) (h.open_there (TheRegion r) (inl refl))) in
       record {
         are_open = heads_first_open IsLocation old new whole same r b head ats built.unfinished came g others h.are_open;
@@ -427,17 +427,17 @@ block_ended (region_so_far bs last ∷ outer) = region_so_far (whole_blocks bs l
 block_ended others = others
 
 -- it ends where the next begins, and where its region ends
-pub begins_behind : {T A : Type 0} (head : Head ℕ T A) (us : List (Unfinished T A)) → block_begun head (block_ended us) ≡ block_begun head us
-begins_behind head [] = refl
-begins_behind head (region_so_far bs last ∷ us) = refl
-begins_behind head (operation_so_far at id rs ∷ us) = refl
-begins_behind head (but_its_mark o rs ∷ us) = refl
+pub begins_after_end : {T A : Type 0} (head : Head ℕ T A) (us : List (Unfinished T A)) → block_begun head (block_ended us) ≡ block_begun head us
+begins_after_end head [] = refl
+begins_after_end head (region_so_far bs last ∷ us) = refl
+begins_after_end head (operation_so_far at id rs ∷ us) = refl
+begins_after_end head (but_its_mark o rs ∷ us) = refl
 
-pub ends_behind : {T A : Type 0} (place : ℕ) (us : List (Unfinished T A)) → region_ended place (block_ended us) ≡ region_ended place us
-ends_behind place [] = refl
-ends_behind place (region_so_far bs last ∷ us) = refl
-ends_behind place (operation_so_far at id rs ∷ us) = refl
-ends_behind place (but_its_mark o rs ∷ us) = refl
+pub ends_after : {T A : Type 0} (place : ℕ) (us : List (Unfinished T A)) → region_ended place (block_ended us) ≡ region_ended place us
+ends_after place [] = refl
+ends_after place (region_so_far bs last ∷ us) = refl
+ends_after place (operation_so_far at id rs ∷ us) = refl
+ends_after place (but_its_mark o rs ∷ us) = refl
 
 module _ {T A : Type 0} (IsLocation : Object → ℕ → Location A → Type 0) (c : ContextView T A) (whole : List Object) where
   -- one object more is whole

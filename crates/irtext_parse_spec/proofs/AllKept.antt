@@ -56,27 +56,27 @@ next_place Q n before here i low = go (i == n) refl
 module _ {T A : Type 0} (ctx : ContextView T A) where
   -- all operations
   pub every_operation : ((place : ℕ) → place < length ctx.graph.operations.cells → KeepsOperationAt ctx place) → (p : Ptr Operation) (view : OperationView T A) → operation ctx p ≡ Some view → IsKept ctx view
-  every_operation each p view stands = go (get ctx.graph.operations p) refl stands
+  every_operation each p view alive = go (get ctx.graph.operations p) refl alive
     where
       go : (o : Option (Entry _)) → get ctx.graph.operations p ≡ o → option_and_then operation_of o ≡ Some view → IsKept ctx view
       go None t q = absurd (cc)
-      go (Some e) t q = subst (λ o. IfSome o (λ (p : Ptr Operation). (view : OperationView T A) → operation ctx p ≡ Some view → IsKept ctx view)) (pointer_back ctx.graph.operations p e t) (each p.index (place_below ctx.graph.operations p e t)) view stands
+      go (Some e) t q = subst (λ o. IfSome o (λ (p : Ptr Operation). (view : OperationView T A) → operation ctx p ≡ Some view → IsKept ctx view)) (pointer_back ctx.graph.operations p e t) (each p.index (place_below ctx.graph.operations p e t)) view alive
 
   -- all blocks
   pub every_block : ((place : ℕ) → place < length ctx.graph.blocks.cells → KeepsBlockAt ctx place) → (p : Ptr BasicBlock) (view : BlockView T A) → block ctx p ≡ Some view → (p.index < 2 ^ 32) × (p.generation < 2 ^ 32) × IsKeptBlock ctx view
-  every_block each p view stands = go (get ctx.graph.blocks p) refl stands
+  every_block each p view alive = go (get ctx.graph.blocks p) refl alive
     where
       go : (o : Option (Entry _)) → get ctx.graph.blocks p ≡ o → option_map block_of o ≡ Some view → (p.index < 2 ^ 32) × (p.generation < 2 ^ 32) × IsKeptBlock ctx view
       go None t q = absurd (cc)
       go (Some e) t q =
           let r = subst (λ o. IfSome o (λ (p : Ptr BasicBlock). (p.index < 2 ^ 32) × (p.generation < 2 ^ 32) × ((view : BlockView T A) → block ctx p ≡ Some view → IsKeptBlock ctx view))) (pointer_back ctx.graph.blocks p e t) (each p.index (place_below ctx.graph.blocks p e t)) in
-          (r.0, r.1, r.2 view stands)
+          (r.0, r.1, r.2 view alive)
 
   -- all that a context keeps
   pub every_part : KeepsCounters ctx.graph → ((place : ℕ) → place < length ctx.graph.operations.cells → KeepsOperationAt ctx place) → ((place : ℕ) → place < length ctx.graph.blocks.cells → KeepsBlockAt ctx place) → KeepsAll ctx
   every_part counters operations blocks = record {
     counters = counters;
     operations = every_operation operations;
-    blocks = λ b view stands. let r = every_block blocks b view stands in r.2;
-    places = λ b view stands. let r = every_block blocks b view stands in (r.0, r.1);
+    blocks = λ b view alive. let r = every_block blocks b view alive in r.2;
+    places = λ b view alive. let r = every_block blocks b view alive in (r.0, r.1);
   }

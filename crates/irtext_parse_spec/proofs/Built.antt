@@ -88,11 +88,11 @@ module _ {T A : Type 0} where
       ∙ (each_builds fs rs h.1 at id (append_regions done (region (shown place) bs no_regions)) outer t
       ∙ ap (λ z. in_operation at id z outer t) (regions_push done (shown place) bs rs))
 
-  enough_behind : (ps : List (Part ℕ T A)) (rs : Regions (Op ℕ T A) (Head ℕ T A) (Brace ℕ)) → Enough ps rs → Enough (region_parts ps) rs
-  enough_behind [] rs h = h
-  enough_behind (tree.piece p ∷ ps) rs h = enough_behind ps rs h
-  enough_behind (tree.region i ∷ ps) rs h = h
-  enough_behind (tree.regions ∷ ps) rs h = h
+  enough_after : (ps : List (Part ℕ T A)) (rs : Regions (Op ℕ T A) (Head ℕ T A) (Brace ℕ)) → Enough ps rs → Enough (region_parts ps) rs
+  enough_after [] rs h = h
+  enough_after (tree.piece p ∷ ps) rs h = enough_after ps rs h
+  enough_after (tree.region i ∷ ps) rs h = h
+  enough_after (tree.regions ∷ ps) rs h = h
 
 module _ {T A : Type 0} (formats : Id → Option Format) (isolated : Id → Bool) where
   abbrev does : Actions T A (Building T A)
@@ -122,7 +122,7 @@ module _ {T A : Type 0} (formats : Id → Option Format) (isolated : Id → Bool
   operation_builds o fs rs ((f, known, is), enough) h b =
       let ps = parts_of o.body in
       let body : body_of (formats o.id) ps ≡ o.body = ap (λ z. body_of z ps) known ∙ body_by_format f o.body is in
-      ap (λ z. does.marks o.mark (does.closes o.place o.names o.id ps z)) (parts_build o.place o.id (region_parts ps) fs rs (enough_behind ps rs enough) h o.place o.id no_regions b.unfinished b.tree)
+      ap (λ z. does.marks o.mark (does.closes o.place o.names o.id ps z)) (parts_build o.place o.id (region_parts ps) fs rs (enough_after ps rs enough) h o.place o.id no_regions b.unfinished b.tree)
       ∙ ap (λ z. operation_added (with_mark o.mark (unmarked o.place o.names o.id z)) rs b.unfinished b.tree) body
 
   region_builds : (iso : Bool) (place : ℕ) (bs : Blocks (Op ℕ T A) (Head ℕ T A) (Brace ℕ)) (inside : Building T A → Building T A)

@@ -11,7 +11,7 @@ use Rattle.irtext_grammar.specs.Names.Acts.{Rule, item_acts, entry_acts, referen
 use Rattle.irtext_grammar.specs.Names.Resolves.{indices}
 use Rattle.irtext_grammar.specs.Spelling.Spellable.{Each}
 use Rattle.irtext_parse_spec.specs.Entries.{wrong_references}
-use Rattle.irtext_parse_spec.specs.Agrees.{behind_root, refused}
+use Rattle.irtext_parse_spec.specs.Agrees.{after_root, refused}
 
 -- ---- claims
 -- the act is a claim
@@ -82,19 +82,19 @@ module _ {A X : Type 0} where
     wrong_entries before (of_once m a ∷ es) = wrong_entries before es
 
     entries_fail : (before : List ℕ) (es : List (Entry ℕ A X)) (k : Script Text ℕ)
-        → failures same_text (behind_root marks before) (does_all (flat_map (entry_acts rules) es) k) ≡ wrong_entries before es ++ failures same_text (behind_root marks (before ++ indices es)) k
-    entries_fail before [] k = ap (λ z. failures same_text (behind_root marks z) k) (sym (append-nil before))
+        → failures same_text (after_root marks before) (does_all (flat_map (entry_acts rules) es) k) ≡ wrong_entries before es ++ failures same_text (after_root marks (before ++ indices es)) k
+    entries_fail before [] k = ap (λ z. failures same_text (after_root marks z) k) (sym (append-nil before))
     entries_fail before (of_once m a ∷ es) k = entries_fail before es k
     entries_fail before (of_item m x ps ∷ es) k =
         let acts = flat_map (item_acts (rules m.index)) ps in
         let more = flat_map (entry_acts rules) es in
         let next = before ++ m.index ∷ [] in
-        let last = failures same_text (behind_root marks (before ++ (m.index ∷ indices es))) k in
-        let scopes : (behind_root marks before ⊳ record nothing { entries = m.index ∷ [] }) ≡ behind_root marks next = ap (λ z. behind_root z next) (append-nil marks) in
-        let inner : failures same_text (behind_root marks next) (does_all (acts ++ more) k) ≡ wrong_pairs (rules m.index) ps ++ (wrong_entries next es ++ last) =
-        ap (failures same_text (behind_root marks next)) (does_both acts more k)
-        ∙ (claims_fail (behind_root marks next) acts (does_all more k) (item_claims (rules m.index) ps)
-        ∙ ap (λ z. wrong_pairs (rules m.index) ps ++ z) (entries_fail next es k ∙ ap (λ z. wrong_entries next es ++ failures same_text (behind_root marks z) k) (append_assoc before (m.index ∷ []) (indices es)))) in
+        let last = failures same_text (after_root marks (before ++ (m.index ∷ indices es))) k in
+        let scopes : (after_root marks before ⊳ record nothing { entries = m.index ∷ [] }) ≡ after_root marks next = ap (λ z. after_root z next) (append-nil marks) in
+        let inner : failures same_text (after_root marks next) (does_all (acts ++ more) k) ≡ wrong_pairs (rules m.index) ps ++ (wrong_entries next es ++ last) =
+        ap (failures same_text (after_root marks next)) (does_both acts more k)
+        ∙ (claims_fail (after_root marks next) acts (does_all more k) (item_claims (rules m.index) ps)
+        ∙ ap (λ z. wrong_pairs (rules m.index) ps ++ z) (entries_fail next es k ∙ ap (λ z. wrong_entries next es ++ failures same_text (after_root marks z) k) (append_assoc before (m.index ∷ []) (indices es)))) in
         ap (λ z. wrong_index marks before m ++ z) (ap (λ s. failures same_text s (does_all (acts ++ more) k)) scopes ∙ (inner ∙ sym (append_assoc (wrong_pairs (rules m.index) ps) (wrong_entries next es) last)))
         ∙ sym (append_assoc (wrong_index marks before m) (wrong_pairs (rules m.index) ps ++ wrong_entries next es) last)
 
@@ -117,6 +117,6 @@ module _ {A X : Type 0} where
   pub refused_parts : (marks : List ℕ) (rules : ℕ → Rule A) (es : List (Entry ℕ A X)) → refused marks rules es ≡ wrong_entries marks rules [] es ++ wrong_references rules es
   refused_parts marks rules es =
       let late = flat_map (late_acts rules es) es in
-      ap (failures same_text (behind_root marks [])) (does_both (flat_map (entry_acts rules) es) late done)
+      ap (failures same_text (after_root marks [])) (does_both (flat_map (entry_acts rules) es) late done)
       ∙ (entries_fail marks rules [] es (does_all late done)
-      ∙ ap (λ z. wrong_entries marks rules [] es ++ z) (claims_fail (behind_root marks (indices es)) late done (late_claims rules es es) ∙ (append-nil (wrongs late) ∙ sym (references_fail rules es))))
+      ∙ ap (λ z. wrong_entries marks rules [] es ++ z) (claims_fail (after_root marks (indices es)) late done (late_claims rules es es) ∙ (append-nil (wrongs late) ∙ sym (references_fail rules es))))

@@ -28,7 +28,7 @@ use Rattle.irtext_grammar.specs.Grammar.Forest.{Regions, region, Blocks, Operati
 use Rattle.irtext_grammar.specs.Grammar.Forest as forest
 use Rattle.irtext_grammar.specs.Graphs.Closed.{Thing, a_value, a_block, same_thing, uses_of_values, uses_of_blocks, use_if, use_block_if, defined_results, defined_arguments, directives_script, body_script, op_script, graph_regions, graph_blocks, graph_operations, graph_script}
 use Rattle.irtext_grammar.specs.Graphs.Graph.{Graph, GraphOp, GraphBlock, Printing}
-use Rattle.irtext_grammar.specs.Graphs.StandsFor.{made, Distinct}
+use Rattle.irtext_grammar.specs.Graphs.Represents.{made, Distinct}
 use Rattle.irtext_grammar.specs.Names.Acts.{all_of}
 use Rattle.irtext_grammar.specs.Names.Script as script
 use Rattle.irtext_grammar.specs.Names.Script.{Path, Script, done, does_all}

@@ -32,7 +32,7 @@ use Rattle.irtext_graph.specs.declared.object.Site.TheVariants.{AtOperand, AtSuc
 use Rattle.irtext_graph.specs.Regions.{with_child}
 use Rattle.irtext_graph.specs.Data.{with_data}
 use Rattle.irtext_graph.specs.Store.{object_of, get}
-use Rattle.irtext_graph.proofs.Nests.{some_eq, told}
+use Rattle.irtext_graph.proofs.Nests.{some_eq, same_or_other}
 use Rattle.irtext_graph.proofs.Same.{object_tells}
 use Rattle.irtext_graph.proofs.Frames.{map_same, option_same, block_same, region_same, operation_same}
 use Rattle.irtext_grammar.specs.Contexts.Held.{entries_of}
@@ -45,7 +45,7 @@ use Rattle.irtext_graph.proofs.Stores.{inserted_new, same_views}
 -- an object is among others, or is not
 pub among_or_not : (o : Object) (os : List Object) → Among o os ⊎ (Among o os → ⊥)
 among_or_not o [] = inr (λ i. i)
-among_or_not o (k ∷ os) = elim (told object_tells o k) [
+among_or_not o (k ∷ os) = elim (same_or_other object_tells o k) [
   | inl e ↦ inl (inl e)
   | inr n ↦ elim (among_or_not o os) [ inl i ↦ inl (inr i) | inr m ↦ inr (λ i. elim i [ inl e ↦ n e | inr j ↦ m j ]) ]
 ]

@@ -31,7 +31,7 @@ use Rattle.irtext_parse_spec.proofs.Joins.Tokens.{splits_space}
 use Rattle.irtext_parse_spec.specs.Exact.{NeedsWord}
 use Rattle.irtext_parse_spec.specs.Heads.{mark_at}
 use Rattle.irtext_parse_spec.proofs.Exact.Attributes.{exact_attribute}
-use Rattle.irtext_parse_spec.proofs.Exact.Combined.{split_behind}
+use Rattle.irtext_parse_spec.proofs.Exact.Combined.{split_after_front}
 use Rattle.irtext_parse_spec.proofs.Exact.Names.{exact_mark}
 use Rattle.irtext_parse_spec.specs.Entries.{begins_given, tested, entry_head_at, given_at, entry_at, may_have, entries_after}
 use Rattle.irtext_parse_spec.specs.Agrees.{StopsAt, ReadOrStops}
@@ -106,7 +106,7 @@ module _ {T A : Type 0} (types : Texts T) (reading : Text → Outcome A) (writte
         end = s.0;
         equals = s.1;
         left = s.2;
-        split = split_behind text a.front a.middle a.more rest taken k.1 (splits_spaced attr cut (codes "=") a.middle b.0 a.more rest b.1) a.whole;
+        split = split_after_front text a.front a.middle a.more rest taken k.1 (splits_spaced attr cut (codes "=") a.middle b.0 a.more rest b.1) a.whole;
       }
 
   head_found : (text : Text) (m : Mark ℕ) (mid end : Text) → reads.mark l m text mid → literal (codes "=") (after_space mid) end → (taken : Text) × (entry_head_at text ≡ Read m taken (after_space end))
@@ -142,7 +142,7 @@ module _ {T A : Type 0} (types : Texts T) (reading : Text → Outcome A) (writte
             let read : An (of_item m k.0.0 k.0.1) text rest = (h.mid, h.marks, (h.end, h.equals, subst (λ t. (section.located l (own_location reading) k.0.0 ▹ bracketed l (own_location reading) k.0.1) t rest) (sym h.left) g.0)) in
             let right : wrong_entry test rules (of_item m k.0.0 k.0.1) ≡ [] = rw (passes (begins_given middle) (test m.index) f t) g.2 in (
               subst (λ e. An e text rest) k.2 read,
-              split_behind text front middle more rest taken h.split g.1 whole,
+              split_after_front text front middle more rest taken h.split g.1 whole,
               subst (λ e. wrong_entry test rules e ≡ []) k.2 right,
             )
         go m front middle more whole t h false f is =
@@ -150,7 +150,7 @@ module _ {T A : Type 0} (types : Texts T) (reading : Text → Outcome A) (writte
             let g = (exact_attribute types reading written formats splits).read middle k.0 more rest k.1 in
             let read : An (of_once m k.0) text rest = (h.mid, h.marks, (h.end, h.equals, subst (λ t. reads.attribute l k.0 t rest) (sym h.left) g.0)) in (
               subst (λ e. An e text rest) k.2 read,
-              split_behind text front middle more rest taken h.split g.1 whole,
+              split_after_front text front middle more rest taken h.split g.1 whole,
               subst (λ e. wrong_entry test rules e ≡ []) k.2 refl,
             )
 
@@ -215,17 +215,17 @@ module _ {T A : Type 0} (types : Texts T) (reading : Text → Outcome A) (writte
 
   -- ---- entries, one after another
   module _ (marks : List ℕ) (rules : ℕ → Rule A) where
-    abbrev test_behind : List (Entry ℕ A (Written A)) → ℕ → Bool
-    test_behind earlier = may_have marks earlier
+    abbrev test_after : List (Entry ℕ A (Written A)) → ℕ → Bool
+    test_after earlier = may_have marks earlier
 
     -- what is wrong with entries is what is wrong with the first, and then with the others
     wrong_step : (earlier : List (Entry ℕ A (Written A))) (e : Entry ℕ A (Written A)) (es : List (Entry ℕ A (Written A)))
-        → wrong_entries marks rules (indices earlier) (e ∷ es) ≡ wrong_entry (test_behind earlier) rules e ++ wrong_entries marks rules (indices (earlier ++ e ∷ [])) es
+        → wrong_entries marks rules (indices earlier) (e ∷ es) ≡ wrong_entry (test_after earlier) rules e ++ wrong_entries marks rules (indices (earlier ++ e ∷ [])) es
     wrong_step earlier (of_item m x ps) es =
         let next : indices (earlier ++ of_item m x ps ∷ []) ≡ indices earlier ++ m.index ∷ [] = flat_both _ earlier (of_item m x ps ∷ []) in
         let e : Entry ℕ A (Written A) = of_item m x ps in
         sym (append_assoc (wrong_index marks (indices earlier) m) (wrong_pairs (rules m.index) ps) (wrong_entries marks rules (indices earlier ++ m.index ∷ []) es))
-        ∙ ap (λ z. wrong_entry (test_behind earlier) rules e ++ wrong_entries marks rules z es) (sym next)
+        ∙ ap (λ z. wrong_entry (test_after earlier) rules e ++ wrong_entries marks rules z es) (sym next)
     wrong_step earlier (of_once m a) es =
         let next : indices (earlier ++ of_once m a ∷ []) ≡ indices earlier = flat_both _ earlier (of_once m a ∷ []) ∙ append-nil (indices earlier) in
         ap (λ z. wrong_entries marks rules z es) (sym next)
@@ -260,22 +260,22 @@ module _ {T A : Type 0} (types : Texts T) (reading : Text → Outcome A) (writte
     entries_read (suc n) earlier all text taken rest i e = go (begins (the 33) text) refl (entries_read n) e
       where
         go : (b : Bool) → begins (the 33) text ≡ b → ((earlier all : List (Entry ℕ A (Written A))) (text taken rest : Text) → length text ≤ n → entries_after attr marks rules n earlier text ≡ Read all taken rest → EntriesRead earlier all text taken rest)
-            → cond b (followed (entry_at attr (test_behind earlier) rules text) (entry_next n earlier)) (Read earlier [] text) ≡ Read all taken rest → EntriesRead earlier all text taken rest
+            → cond b (followed (entry_at attr (test_after earlier) rules text) (entry_next n earlier)) (Read earlier [] text) ≡ Read all taken rest → EntriesRead earlier all text taken rest
         go false f again e = none_read earlier all text taken rest f e
         go true f again e =
-            let a = followed_read (entry_at attr (test_behind earlier) rules text) (entry_next n earlier) all taken rest e in
+            let a = followed_read (entry_at attr (test_after earlier) rules text) (entry_next n earlier) all taken rest e in
             let b = followed_read (space_at a.middle) (more_next n earlier a.value) all a.more rest a.second in
-            let r = entry_read (test_behind earlier) rules text a.value a.front a.middle a.first in
+            let r = entry_read (test_after earlier) rules text a.value a.front a.middle a.first in
             let spaced : after_space a.middle ≡ b.middle = cc b.first in
-            let less = less_left (entry_at attr (test_behind earlier) rules text) a.value a.front a.middle text (grows_entry attr (test_behind earlier) rules text) a.first r.1 in
+            let less = less_left (entry_at attr (test_after earlier) rules text) a.value a.front a.middle text (grows_entry attr (test_after earlier) rules text) a.first r.1 in
             let enough : length b.middle ≤ n = omega (arith, i, less, shorter_space a.middle, ap length spaced) in
             let k = again (earlier ++ a.value ∷ []) all b.middle b.more rest enough b.second in
-            let behind : a.more ++ rest ≡ a.middle = split_behind a.middle b.front b.middle b.more rest a.more (splits_space a.middle b.value b.front b.middle b.first) k.split b.whole in
+            let following : a.more ++ rest ≡ a.middle = split_after_front a.middle b.front b.middle b.more rest a.more (splits_space a.middle b.value b.front b.middle b.first) k.split b.whole in
             record {
               es = a.value ∷ k.es;
               whole = k.whole ∙ append_assoc earlier (a.value ∷ []) k.es;
               reads = (a.middle, r.0, subst (λ t. repeated (the 33) (map An k.es) t rest) (sym spaced) k.reads);
-              split = split_behind text a.front a.middle a.more rest taken r.1 behind a.whole;
+              split = split_after_front text a.front a.middle a.more rest taken r.1 following a.whole;
               fine = wrong_step earlier a.value k.es ∙ ap₂ ◌++◌ r.2 k.fine;
             }
 
@@ -293,40 +293,40 @@ module _ {T A : Type 0} (types : Texts T) (reading : Text → Outcome A) (writte
     entries_found zero earlier [] text rest i (f, e) = inl (refl, ([], ap₂ (λ z t. Read z [] t) (sym (append-nil earlier)) (sym e)))
     entries_found (suc n) earlier [] text rest i (f, e) = inl (refl, ([], rw f (ap₂ (λ z t. Read z [] t) (sym (append-nil earlier)) (sym e))))
     entries_found zero earlier (e ∷ es) text rest i (mid, r, more) = absurd (something text (entry_begins e text mid r) i)
-    entries_found (suc n) earlier (e ∷ es) text rest i (mid, r, more) = so (entry_found (test_behind earlier) rules text e mid r) (λ enough. entries_found n (earlier ++ e ∷ []) es (after_space mid) rest enough more)
+    entries_found (suc n) earlier (e ∷ es) text rest i (mid, r, more) = so (entry_found (test_after earlier) rules text e mid r) (λ enough. entries_found n (earlier ++ e ∷ []) es (after_space mid) rest enough more)
       where
         begun : begins (the 33) text ≡ true
         begun = entry_begins e text mid r
 
-        step : wrong_entries marks rules (indices earlier) (e ∷ es) ≡ wrong_entry (test_behind earlier) rules e ++ wrong_entries marks rules (indices (earlier ++ e ∷ [])) es
+        step : wrong_entries marks rules (indices earlier) (e ∷ es) ≡ wrong_entry (test_after earlier) rules e ++ wrong_entries marks rules (indices (earlier ++ e ∷ [])) es
         step = wrong_step earlier e es
 
-        behind : (taken : Text) → entry_at attr (test_behind earlier) rules text ≡ Read e taken mid → wrong_entry (test_behind earlier) rules e ≡ []
+        following : (taken : Text) → entry_at attr (test_after earlier) rules text ≡ Read e taken mid → wrong_entry (test_after earlier) rules e ≡ []
             → ReadOrStops (after_space mid) (entries_after attr marks rules n (earlier ++ e ∷ []) (after_space mid)) ((earlier ++ e ∷ []) ++ es) rest (wrong_entries marks rules (indices (earlier ++ e ∷ [])) es)
             → ReadOrStops text (entries_after attr marks rules (suc n) earlier text) (earlier ++ e ∷ es) rest (wrong_entries marks rules (indices earlier) (e ∷ es))
-        behind taken is fine (inl w) =
+        following taken is fine (inl w) =
             let all : (earlier ++ e ∷ []) ++ es ≡ earlier ++ e ∷ es = append_assoc earlier (e ∷ []) es in
             inl (
               step ∙ ap₂ ◌++◌ fine w.0,
               (
                 taken ++ (front is_whitespace mid ++ w.1.0),
-                rw begun (followed-read (entry_at attr (test_behind earlier) rules text) (entry_next n earlier) e (earlier ++ e ∷ es) taken mid (front is_whitespace mid ++ w.1.0) rest is
+                rw begun (followed-read (entry_at attr (test_after earlier) rules text) (entry_next n earlier) e (earlier ++ e ∷ es) taken mid (front is_whitespace mid ++ w.1.0) rest is
                     (followed-read (space_at mid) (more_next n earlier e) tt (earlier ++ e ∷ es) (front is_whitespace mid) (after_space mid) w.1.0 rest refl (w.1.1 ∙ ap (λ z. Read z w.1.0 rest) all))),
               ),
             )
-        behind taken is fine (inr w) =
+        following taken is fine (inr w) =
             let inner = stops_second (more_next n earlier e) (space_at mid) tt (front is_whitespace mid) (after_space mid) mid refl (front_after is_whitespace mid) w in
-            let split = (entry_read (test_behind earlier) rules text e taken mid is).1 in
-            let whole : StopsAt text (followed (entry_at attr (test_behind earlier) rules text) (entry_next n earlier)) (wrong_entries marks rules (indices (earlier ++ e ∷ [])) es) = stops_second (entry_next n earlier) (entry_at attr (test_behind earlier) rules text) e taken mid text is split inner in
+            let split = (entry_read (test_after earlier) rules text e taken mid is).1 in
+            let whole : StopsAt text (followed (entry_at attr (test_after earlier) rules text) (entry_next n earlier)) (wrong_entries marks rules (indices (earlier ++ e ∷ [])) es) = stops_second (entry_next n earlier) (entry_at attr (test_after earlier) rules text) e taken mid text is split inner in
             inr (stops_as (wrong_entries marks rules (indices (earlier ++ e ∷ [])) es) (wrong_entries marks rules (indices earlier) (e ∷ es)) (step ∙ ap (λ z. z ++ wrong_entries marks rules (indices (earlier ++ e ∷ [])) es) fine) (rw begun whole))
 
-        so : ReadOrStops text (entry_at attr (test_behind earlier) rules text) e mid (wrong_entry (test_behind earlier) rules e)
+        so : ReadOrStops text (entry_at attr (test_after earlier) rules text) e mid (wrong_entry (test_after earlier) rules e)
             → (length (after_space mid) ≤ n → ReadOrStops (after_space mid) (entries_after attr marks rules n (earlier ++ e ∷ []) (after_space mid)) ((earlier ++ e ∷ []) ++ es) rest (wrong_entries marks rules (indices (earlier ++ e ∷ [])) es))
             → ReadOrStops text (entries_after attr marks rules (suc n) earlier text) (earlier ++ e ∷ es) rest (wrong_entries marks rules (indices earlier) (e ∷ es))
         so (inl w) again =
-            let split = (entry_read (test_behind earlier) rules text e w.1.0 mid w.1.1).1 in
-            let less = less_left (entry_at attr (test_behind earlier) rules text) e w.1.0 mid text (grows_entry attr (test_behind earlier) rules text) w.1.1 split in
-            behind w.1.0 w.1.1 w.0 (again (omega (arith, i, less, shorter_space mid)))
+            let split = (entry_read (test_after earlier) rules text e w.1.0 mid w.1.1).1 in
+            let less = less_left (entry_at attr (test_after earlier) rules text) e w.1.0 mid text (grows_entry attr (test_after earlier) rules text) w.1.1 split in
+            following w.1.0 w.1.1 w.0 (again (omega (arith, i, less, shorter_space mid)))
         so (inr w) again =
-            let whole : StopsAt text (followed (entry_at attr (test_behind earlier) rules text) (entry_next n earlier)) (wrong_entry (test_behind earlier) rules e) = stops_first (entry_next n earlier) w in
-            inr (stops_before (wrong_entry (test_behind earlier) rules e) (wrong_entries marks rules (indices (earlier ++ e ∷ [])) es) (wrong_entries marks rules (indices earlier) (e ∷ es)) step (rw begun whole))
+            let whole : StopsAt text (followed (entry_at attr (test_after earlier) rules text) (entry_next n earlier)) (wrong_entry (test_after earlier) rules e) = stops_first (entry_next n earlier) w in
+            inr (stops_before (wrong_entry (test_after earlier) rules e) (wrong_entries marks rules (indices (earlier ++ e ∷ [])) es) (wrong_entries marks rules (indices earlier) (e ∷ es)) step (rw begun whole))

@@ -16,23 +16,23 @@ use Rattle.irtext_grammar.specs.Grammar.Tree.{Name, Mark}
 use Rattle.irtext_grammar.specs.Names.Acts.{Rule}
 use Rattle.irtext_grammar.specs.Names.Script as script
 use Rattle.irtext_grammar.specs.Names.Script.{Cause, Failure}
-use Rattle.irtext_parse_spec.specs.Readers.Locations.{WrittenRow, behind_location, row_of, row_at, location_at}
+use Rattle.irtext_parse_spec.specs.Readers.Locations.{WrittenRow, after_location, row_of, row_at, location_at}
 use Rattle.irtext_parse_spec.specs.Readers.Directives.{attribute_at}
 use Rattle.irtext_parse_spec.specs.Readers.Section.{entry_location_at}
 use Rattle.irtext_parse_spec.proofs.Readers.Honest.{Keeps, keeps_within}
 use Rattle.irtext_parse_spec.proofs.Readers.NeverFailed.{NotFailed, Fine, fine_honest, fine_read, fine_bad, fine_either, fine_prefixed, fine_followed, fine_mapped, fine_separated}
 use Rattle.irtext_parse_spec.specs.Heads.{name_at, mark_at}
-use Rattle.irtext_parse_spec.specs.Entries.{item_at, pair_at, may_stand, kept, begins_given, tested, entry_head_at, pairs_at, given_at, entry_at, may_have, fault_for, upto, wrong_references, unless_wrong, referred, entries_after, entries_at, section_at}
+use Rattle.irtext_parse_spec.specs.Entries.{item_at, pair_at, is_allowed, kept, begins_given, tested, entry_head_at, pairs_at, given_at, entry_at, may_have, fault_for, upto, wrong_references, unless_wrong, referred, entries_after, entries_at, section_at}
 
 -- a parser of which each outcome is fine
 record AllFine {X : Type 0} (f : Reader X) : Type 0 where
   pub fine : (text : Text) → Fine (f text)
 
-fine_row : {A : Type 0} (inner : Reader (Written A)) (more : Reader (WrittenRow A)) → AllFine inner → ((w : Written A) → AllFine (behind_location inner more w)) → AllFine (row_at inner more)
+fine_row : {A : Type 0} (inner : Reader (Written A)) (more : Reader (WrittenRow A)) → AllFine inner → ((w : Written A) → AllFine (after_location inner more w)) → AllFine (row_at inner more)
 fine_row inner more h k = record { fine = λ text. go (inner text) text (h.fine text) }
   where
     go : (o : Outcome (Written _)) (text : Text) → Fine o → Fine (row_of inner more o text)
-    go (Read w t r) text i = fine_prefixed t (behind_location inner more w r) ((k w).fine r)
+    go (Read w t r) text i = fine_prefixed t (after_location inner more w r) ((k w).fine r)
     go (Missing cause) text i = fine_read _ _ _
     go (Bad cause upto) text i = fine_bad cause upto i.spares
 
@@ -72,7 +72,7 @@ fine_tested test (Missing cause) h = h
 fine_tested test (Bad cause upto) h = h
 
 fine_kept : {A : Type 0} (rule : Rule A) (o : Outcome (Name ℕ × Item ℕ A)) → Fine o → Fine (kept rule o)
-fine_kept rule (Read p taken rest) h = fine_either (may_stand rule p) _ _ h (fine_bad _ _ (λ e. cc e))
+fine_kept rule (Read p taken rest) h = fine_either (is_allowed rule p) _ _ h (fine_bad _ _ (λ e. cc e))
 fine_kept rule (Missing cause) h = h
 fine_kept rule (Bad cause upto) h = h
 

@@ -7,7 +7,7 @@ use Rattle.irtext_base.specs.Reading.{Reading, ◌▹◌, the}
 use Rattle.irtext_base.specs.Format.{Id, Format}
 use Rattle.irtext_base.specs.Answers.{Outcome, Read, Missing, Bad, mapped, followed}
 use Rattle.irtext_base.specs.Locations.{AttrView}
-use Rattle.irtext_base.specs.Own.{Texts, Language, Standing, language, texts_of, found, standing}
+use Rattle.irtext_base.specs.Own.{Texts, Language, Verdict, language, texts_of, found, verdict}
 use Rattle.irtext_base.specs.Paths.{Written}
 use Rattle.irtext_base.proofs.Sincere.{Of}
 use Rattle.irtext_tokens.specs.AttrTexts.{attr_at}
@@ -19,7 +19,7 @@ use Rattle.irtext_grammar.specs.Grammar.Section as section
 use Rattle.irtext_grammar.specs.Grammar.Section.{Item}
 use Rattle.irtext_grammar.specs.Grammar.Tree.{Name}
 use Rattle.irtext_grammar.specs.Names.Acts.{Rule}
-use Rattle.irtext_parse_spec.specs.Readers.Locations.{WrittenRow, behind_location, row_of, row_at, location_at}
+use Rattle.irtext_parse_spec.specs.Readers.Locations.{WrittenRow, after_location, row_of, row_at, location_at}
 use Rattle.irtext_parse_spec.specs.Readers.Section.{entry_location_at}
 use Rattle.irtext_parse_spec.proofs.Joins.Answers.{Splits, followed_read, followed-read, mapped_read, splits_followed, splits_mapped}
 use Rattle.irtext_parse_spec.proofs.Joins.Section.{spaced_read, spaced_found}
@@ -48,12 +48,12 @@ cuts_either {X} {f} {g} test h k = record { splits = λ text x taken rest e. go 
     go text false x taken rest e = k.splits text x taken rest e
 
 module _ {A : Type 0} (inner : Reader (Written A)) (more : Reader (WrittenRow A)) where
-  cuts_row : Cuts inner → ((w : Written A) → Cuts (behind_location inner more w)) → Cuts (row_at inner more)
+  cuts_row : Cuts inner → ((w : Written A) → Cuts (after_location inner more w)) → Cuts (row_at inner more)
   cuts_row h k = record { splits = λ text x taken rest e. go text (inner text) refl x taken rest e }
     where
       go : (text : Text) (o : Outcome (Written A)) → inner text ≡ o → (x : WrittenRow A) (taken rest : Text) → row_of inner more o text ≡ Read x taken rest → taken ++ rest ≡ text
       go text (Read w t r) is x taken rest e =
-          splits_followed inner (behind_location inner more) h.splits (λ w. (k w).splits) text x taken rest (ap (λ o. followed o (behind_location inner more)) is ∙ e)
+          splits_followed inner (after_location inner more) h.splits (λ w. (k w).splits) text x taken rest (ap (λ o. followed o (after_location inner more)) is ∙ e)
       go text (Missing cause) is x taken rest e = let f : [] ≡ taken = cc e in let g : text ≡ rest = cc e in ap₂ ◌++◌ (sym f) (sym g)
       go text (Bad cause upto) is x taken rest e = absurd (cc e)
 
@@ -71,10 +71,10 @@ pub splits_location : {A : Type 0} (attr : Text → Outcome (AttrView A)) → Sp
 splits_location attr h text x taken rest e = (keeps_within cuts_keeps (record { splits = h }) (length text)).splits text x taken rest e
 
 -- the outcome, as the grammar uses it, is a value only if the parser succeeded
-standing_found : {X : Type 0} (o : Outcome X) (x : X) (rest : Text) → standing o ≡ found x rest → (taken : Text) × (o ≡ Read x taken rest)
-standing_found (Read y a r) x rest e = (a, ap₂ (λ y r. Read y a r) (cc e) (cc e))
-standing_found (Missing cause) x rest e = absurd (cc e)
-standing_found (Bad cause upto) x rest e = absurd (cc e)
+verdict_found : {X : Type 0} (o : Outcome X) (x : X) (rest : Text) → verdict o ≡ found x rest → (taken : Text) × (o ≡ Read x taken rest)
+verdict_found (Read y a r) x rest e = (a, ap₂ (λ y r. Read y a r) (cc e) (cc e))
+verdict_found (Missing cause) x rest e = absurd (cc e)
+verdict_found (Bad cause upto) x rest e = absurd (cc e)
 
 module _ {A : Type 0} (attr : Text → Outcome (AttrView A)) (cut : Splits attr) where
   -- ---- an entry's location: what its parser does, step by step
@@ -90,8 +90,8 @@ module _ {A : Type 0} (attr : Text → Outcome (AttrView A)) (cut : Splits attr)
   abbrev place_next : Unit {0} → Text → Outcome (Option (Written A))
   place_next _ text = followed (location_at attr text) bracket_next
 
-  abbrev behind_at : Unit {0} → Text → Outcome (Option (Written A))
-  behind_at _ text = followed (space_at text) place_next
+  abbrev after_at : Unit {0} → Text → Outcome (Option (Written A))
+  after_at _ text = followed (space_at text) place_next
 
   pub splits_spaced : (w : Text) → Splits (spaced_at w)
   splits_spaced w = splits_followed space_at (λ _ t. followed (text_at w t) (λ _ u. space_at u)) splits_space (λ _. splits_followed (text_at w) (λ _ u. space_at u) (splits_text w) (λ _. splits_space))
@@ -100,24 +100,24 @@ module _ {A : Type 0} (attr : Text → Outcome (AttrView A)) (cut : Splits attr)
   pub splits_entry_location : Splits (entry_location_at attr)
   splits_entry_location text x taken rest e = go (begins (the 64) text) e
     where
-      some : Splits (λ t. followed (text_at (codes "@[") t) behind_at)
-      some = splits_followed (text_at (codes "@[")) behind_at (splits_text (codes "@[")) (λ _. splits_followed space_at place_next splits_space
+      some : Splits (λ t. followed (text_at (codes "@[") t) after_at)
+      some = splits_followed (text_at (codes "@[")) after_at (splits_text (codes "@[")) (λ _. splits_followed space_at place_next splits_space
           (λ _. splits_followed (location_at attr) bracket_next (splits_location attr cut) (λ w. splits_followed (spaced_at (codes "]")) (comma_next w) (splits_spaced (codes "]"))
           (λ _. splits_followed (text_at (codes ",")) (last_next w) (splits_text (codes ",")) (λ _. splits_mapped (λ _. Some w) space_at splits_space)))))
 
-      go : (b : Bool) → cond b (followed (text_at (codes "@[") text) behind_at) (Read None [] text) ≡ Read x taken rest → taken ++ rest ≡ text
+      go : (b : Bool) → cond b (followed (text_at (codes "@[") text) after_at) (Read None [] text) ≡ Read x taken rest → taken ++ rest ≡ text
       go true e = some text x taken rest e
       go false e = let f : [] ≡ taken = cc e in let g : text ≡ rest = cc e in ap₂ ◌++◌ (sym f) (sym g)
 
-  module _ {T : Type 0} (L : Language ℕ T A) (loc : Text → Standing (Written A)) (stands : (text : Text) → loc text ≡ standing (location_at attr text)) where
+  module _ {T : Type 0} (L : Language ℕ T A) (loc : Text → Verdict (Written A)) (agreed : (text : Text) → loc text ≡ verdict (location_at attr text)) where
     -- the location's text, without white space before it
     located_read : (text : Text) (x : Option (Written A)) (taken rest : Text) → after_space text ≡ text → entry_location_at attr text ≡ Read x taken rest
         → (m : Text) × section.located L loc x text m × (after_space m ≡ rest)
     located_read text x taken rest tight e = go (begins (the 64) text) refl e
       where
-        some : followed (text_at (codes "@[") text) behind_at ≡ Read x taken rest → (m : Text) × section.located L loc x text m × (after_space m ≡ rest)
+        some : followed (text_at (codes "@[") text) after_at ≡ Read x taken rest → (m : Text) × section.located L loc x text m × (after_space m ≡ rest)
         some e =
-            let a = followed_read (text_at (codes "@[") text) behind_at x taken rest e in
+            let a = followed_read (text_at (codes "@[") text) after_at x taken rest e in
             let b = followed_read (space_at a.middle) place_next x a.more rest a.second in
             let c = followed_read (location_at attr b.middle) bracket_next x b.more rest b.second in
             let d = followed_read (spaced_at (codes "]") c.middle) (comma_next c.value) x c.more rest c.second in
@@ -132,25 +132,25 @@ module _ {A : Type 0} (attr : Text → Outcome (AttrView A)) (cut : Splits attr)
                 text_read (codes "@[") text a.front a.middle a.first,
                 (
                   c.middle,
-                  ap loc at_place ∙ (stands b.middle ∙ ap standing c.first),
+                  ap loc at_place ∙ (agreed b.middle ∙ ap verdict c.first),
                   (s.0, s.1, s.2 ∙ text_read (codes ",") d.middle g.front g.middle g.first),
                 ),
               ),
               at_end,
             )
 
-        go : (b : Bool) → begins (the 64) text ≡ b → cond b (followed (text_at (codes "@[") text) behind_at) (Read None [] text) ≡ Read x taken rest → (m : Text) × section.located L loc x text m × (after_space m ≡ rest)
+        go : (b : Bool) → begins (the 64) text ≡ b → cond b (followed (text_at (codes "@[") text) after_at) (Read None [] text) ≡ Read x taken rest → (m : Text) × section.located L loc x text m × (after_space m ≡ rest)
         go true f e = some e
         go false f e = let g : None ≡ x = cc e in let h : text ≡ rest = cc e in (text, subst (λ x. section.located L loc x text text) g (f, refl), tight ∙ h)
 
     pub located_found : (text : Text) (x : Option (Written A)) (m : Text) → after_space text ≡ text → section.located L loc x text m → (taken : Text) × (entry_location_at attr text ≡ Read x taken (after_space m))
     located_found text None m tight (f, e) = ([], rw f (ap (Read None []) (sym tight ∙ ap after_space (sym e))))
     located_found text (Some x) m tight (t, a, (u, b, (v, c, d))) =
-        let p = standing_found (location_at attr (after_space t)) x u (sym (stands (after_space t)) ∙ b) in
+        let p = verdict_found (location_at attr (after_space t)) x u (sym (agreed (after_space t)) ∙ b) in
         let s = spaced_found (codes "]") u v c in
         let f : begins (the 64) text ≡ true = ap (begins (the 64)) a in (
           codes "@[" ++ (front is_whitespace t ++ (p.0 ++ (s.0 ++ (codes "," ++ front is_whitespace m)))),
-          rw f (followed-read (text_at (codes "@[") text) behind_at tt (Some x) (codes "@[") t (front is_whitespace t ++ (p.0 ++ (s.0 ++ (codes "," ++ front is_whitespace m)))) (after_space m) (text-literal (codes "@[") text t a)
+          rw f (followed-read (text_at (codes "@[") text) after_at tt (Some x) (codes "@[") t (front is_whitespace t ++ (p.0 ++ (s.0 ++ (codes "," ++ front is_whitespace m)))) (after_space m) (text-literal (codes "@[") text t a)
               (followed-read (space_at t) place_next tt (Some x) (front is_whitespace t) (after_space t) (p.0 ++ (s.0 ++ (codes "," ++ front is_whitespace m))) (after_space m) refl
               (followed-read (location_at attr (after_space t)) bracket_next x (Some x) p.0 u (s.0 ++ (codes "," ++ front is_whitespace m)) (after_space m) p.1
               (followed-read (spaced_at (codes "]") u) (comma_next x) tt (Some x) s.0 (after_space v) (codes "," ++ front is_whitespace m) (after_space m) s.1

@@ -20,13 +20,13 @@ use Rattle.irtext_grammar.proofs.Grammar.Placed as placed
 use Rattle.irtext_grammar.proofs.Grammar.Unique as unique
 use Rattle.irtext_grammar.proofs.Grammar.Lenient.{lenient, lenient_reads, bare_all_shown}
 use Rattle.irtext_grammar.proofs.Graphs.WrittenSpellable.{written_fine_at}
-use Rattle.irtext_grammar.proofs.Sections.BehindRoot.{section_behind}
-use Rattle.irtext_parse_spec.specs.Promises.Supported.{location_standing}
+use Rattle.irtext_grammar.proofs.Sections.AfterRoot.{section_after}
+use Rattle.irtext_parse_spec.specs.Promises.Supported.{location_verdict}
 use Rattle.irtext_parse_spec.specs.Back.{IsTextOf}
 use Rattle.irtext_parse_spec.proofs.Lengths.{small_marks}
 
 pub limited_refused : {T A : Type 0} (types : Texts T) (owns : Texts A) → Lawful T types → Lawful A owns → Unreserved A owns → (attr : Text → Outcome (AttrView A)) (C : Printing T A) (isolated : Id → Bool) (g : Graph T A) (width n : ℕ) (limit : Limit) (t rest : Text) (tree : Tree ℕ T A) (entries : List (Entry ℕ A (Written A)))
-    → IsTextOf types owns attr C isolated g width n limit t → (AllShown (written C limit g) → ⊥) → reads_root (language types owns C.format_of) (location_standing attr) tree entries t rest → ⊥
+    → IsTextOf types owns attr C isolated g width n limit t → (AllShown (written C limit g) → ⊥) → reads_root (language types owns C.format_of) (location_verdict attr) tree entries t rest → ⊥
 limited_refused types owns types_law owns_law unreserved attr C isolated x width n limit t u tree entries printed left a =
     let strict = language types owns C.format_of in
     let l = unplaced types owns C.format_of in
@@ -35,7 +35,7 @@ limited_refused types owns types_law owns_law unreserved attr C isolated x width
     let z = spelled l width n y ++ (e ++ []) in
     let few = subst (λ (z : List ℕ). length z < 2 ^ 64) printed.is printed.few in
     let fine = written_fine_at C isolated (lenient l) (λ i. refl) limit (inr (λ f. refl)) x printed.kept.given printed.kept.label printed.kept.own printed.kept.inside (small_marks l C limit x width n few) printed.fits printed.kept.small in
-    let r = back.root_reads_back (lenient l) types_law owns_law unreserved (λ p t. tt) width n y (e ++ []) fine (section_behind C isolated (lenient l) (λ i. refl) limit x [] printed.fits (record { ends = inl refl; one = λ e. inl refl })) in
+    let r = back.root_reads_back (lenient l) types_law owns_law unreserved (λ p t. tt) width n y (e ++ []) fine (section_after C isolated (lenient l) (λ i. refl) limit x [] printed.fits (record { ends = inl refl; one = λ e. inl refl })) in
     let q = placed.placed (lenient strict) length (λ t. refl) y z r.0 r.1 in
     let whole = printed.is ∙ ap (λ s. spelled l width n y ++ s) (sym (append-nil e)) in
     let b = lenient_reads strict (λ t u k. k) tree z a.0 (subst (λ v. reads strict tree v a.0) whole a.1) in

@@ -11,7 +11,7 @@ use Rattle.irtext_base.specs.Faults.{Fault}
 use Rattle.irtext_base.specs.Faults as fault
 use Rattle.irtext_base.specs.Answers.{Outcome, Read, Missing, Bad, mapped, followed}
 use Rattle.irtext_base.specs.Locations.{AttrView}
-use Rattle.irtext_base.specs.Own.{Texts, Language, Standing, language, texts_of, found, missing}
+use Rattle.irtext_base.specs.Own.{Texts, Language, Verdict, language, texts_of, found, missing}
 use Rattle.irtext_base.specs.Paths.{Written}
 use Rattle.irtext_base.proofs.Along.{front_after}
 use Rattle.irtext_base.proofs.Characters.{and_left, and_right}
@@ -26,7 +26,7 @@ use Rattle.irtext_grammar.specs.Grammar.Tree as tree
 use Rattle.irtext_grammar.specs.Grammar.Tree.{Name, Attribute}
 use Rattle.irtext_grammar.specs.Names.Acts.{Rule}
 use Rattle.irtext_grammar.specs.Names.Script.{ReservedKey}
-use Rattle.irtext_parse_spec.specs.Promises.Supported.{location_standing}
+use Rattle.irtext_parse_spec.specs.Promises.Supported.{location_verdict}
 use Rattle.irtext_parse_spec.specs.Readers.Directives.{attribute_at}
 use Rattle.irtext_parse_spec.proofs.Joins.Answers.{Splits, followed_read, followed-read, mapped_read, splits_followed, splits_mapped}
 use Rattle.irtext_parse_spec.proofs.Joins.Lists.{Items, list_read, list_tight, list_found, ListFound, all_fine, one_stops, Stop, splits_separated}
@@ -37,7 +37,7 @@ use Rattle.irtext_parse_spec.proofs.Exact.Attributes.{exact_attribute, no_word_t
 use Rattle.irtext_parse_spec.proofs.Exact.Combined.{exact_keyed}
 use Rattle.irtext_parse_spec.proofs.Exact.Listed.{Starts, starts_so}
 use Rattle.irtext_parse_spec.proofs.Exact.Names.{exact_name, exact_mark, starts_name}
-use Rattle.irtext_parse_spec.specs.Entries.{item_at, pair_at, may_stand, kept, pairs_at}
+use Rattle.irtext_parse_spec.specs.Entries.{item_at, pair_at, is_allowed, kept, pairs_at}
 use Rattle.irtext_parse_spec.specs.Agrees.{StopsAt, ReadOrStops}
 use Rattle.irtext_parse_spec.proofs.Claims.{wrong_pairs}
 use Rattle.irtext_parse_spec.proofs.Stops.{stops_first, stops_second}
@@ -45,17 +45,17 @@ use Rattle.irtext_parse_spec.proofs.Stops.{stops_first, stops_second}
 -- ---- a key that is kept
 module _ {A : Type 0} (rule : Rule A) where
   -- a pair that parses is one whose attribute is allowed under its key
-  kept_read : (o : Outcome (Name ℕ × Item ℕ A)) (p : Name ℕ × Item ℕ A) (taken rest : Text) → kept rule o ≡ Read p taken rest → (o ≡ Read p taken rest) × (may_stand rule p ≡ true)
-  kept_read (Read q a r) p taken rest e = go (may_stand rule q) refl e
+  kept_read : (o : Outcome (Name ℕ × Item ℕ A)) (p : Name ℕ × Item ℕ A) (taken rest : Text) → kept rule o ≡ Read p taken rest → (o ≡ Read p taken rest) × (is_allowed rule p ≡ true)
+  kept_read (Read q a r) p taken rest e = go (is_allowed rule q) refl e
     where
-      go : (b : Bool) → may_stand rule q ≡ b → cond b (Read q a r) (Bad (fault.ReservedKey q.0.text) []) ≡ Read p taken rest → (Read q a r ≡ Read p taken rest) × (may_stand rule p ≡ true)
-      go true f e = (e, let g : q ≡ p = cc e in ap (may_stand rule) (sym g) ∙ f)
+      go : (b : Bool) → is_allowed rule q ≡ b → cond b (Read q a r) (Bad (fault.ReservedKey q.0.text) []) ≡ Read p taken rest → (Read q a r ≡ Read p taken rest) × (is_allowed rule p ≡ true)
+      go true f e = (e, let g : q ≡ p = cc e in ap (is_allowed rule) (sym g) ∙ f)
       go false f e = absurd (cc e)
   kept_read (Missing cause) p taken rest e = absurd (cc e)
   kept_read (Bad cause upto) p taken rest e = absurd (cc e)
 
   kept_missing : (o : Outcome (Name ℕ × Item ℕ A)) (cause : Fault) → kept rule o ≡ Missing cause → o ≡ Missing cause
-  kept_missing (Read q a r) cause e = go (may_stand rule q) e
+  kept_missing (Read q a r) cause e = go (is_allowed rule q) e
     where
       go : (b : Bool) → cond b (Read q a r) (Bad (fault.ReservedKey q.0.text) []) ≡ Missing cause → Read q a r ≡ Missing cause
       go true e = e
@@ -64,29 +64,29 @@ module _ {A : Type 0} (rule : Rule A) where
   kept_missing (Bad c upto) cause e = absurd (cc e)
 
   -- pairs that are all allowed have no failures
-  pub fine_pairs : (ps : List (Name ℕ × Item ℕ A)) → list_all (may_stand rule) ps ≡ true → wrong_pairs rule ps ≡ []
+  pub fine_pairs : (ps : List (Name ℕ × Item ℕ A)) → list_all (is_allowed rule) ps ≡ true → wrong_pairs rule ps ≡ []
   fine_pairs [] h = refl
   fine_pairs ((n, direct a) ∷ ps) h =
-      let f : rule n.text a ≡ true = and_left (rule n.text a) (list_all (may_stand rule) ps) h in
-      rw f (fine_pairs ps (and_right (rule n.text a) (list_all (may_stand rule) ps) h))
+      let f : rule n.text a ≡ true = and_left (rule n.text a) (list_all (is_allowed rule) ps) h in
+      rw f (fine_pairs ps (and_right (rule n.text a) (list_all (is_allowed rule) ps) h))
   fine_pairs ((n, reference m) ∷ ps) h = fine_pairs ps h
 
   -- after pairs that are allowed, the first failing pair is the first failure of all
-  first_wrong : (before behind : List (Name ℕ × Item ℕ A)) (p : Name ℕ × Item ℕ A) → list_all (may_stand rule) before ≡ true → may_stand rule p ≡ false
-      → wrong_pairs rule (before ++ p ∷ behind) ≡ record { cause = ReservedKey p.0.text; at = Some p.0.place } ∷ wrong_pairs rule behind
-  first_wrong [] behind (n, direct a) h f = rw f refl
-  first_wrong [] behind (n, reference m) h f = absurd (true≢false f)
-  first_wrong ((n, direct a) ∷ before) behind p h f =
-      let g : rule n.text a ≡ true = and_left (rule n.text a) (list_all (may_stand rule) before) h in
-      rw g (first_wrong before behind p (and_right (rule n.text a) (list_all (may_stand rule) before) h) f)
-  first_wrong ((n, reference m) ∷ before) behind p h f = first_wrong before behind p h f
+  first_wrong : (before following : List (Name ℕ × Item ℕ A)) (p : Name ℕ × Item ℕ A) → list_all (is_allowed rule) before ≡ true → is_allowed rule p ≡ false
+      → wrong_pairs rule (before ++ p ∷ following) ≡ record { cause = ReservedKey p.0.text; at = Some p.0.place } ∷ wrong_pairs rule following
+  first_wrong [] following (n, direct a) h f = rw f refl
+  first_wrong [] following (n, reference m) h f = absurd (true≢false f)
+  first_wrong ((n, direct a) ∷ before) following p h f =
+      let g : rule n.text a ≡ true = and_left (rule n.text a) (list_all (is_allowed rule) before) h in
+      rw g (first_wrong before following p (and_right (rule n.text a) (list_all (is_allowed rule) before) h) f)
+  first_wrong ((n, reference m) ∷ before) following p h f = first_wrong before following p h f
 
 -- a location, as the grammar parses one with these attributes
-abbrev pub own_location : {A : Type 0} → (Text → Outcome A) → Text → Standing (Written A)
-own_location reading = location_standing (attr_at reading)
+abbrev pub own_location : {A : Type 0} → (Text → Outcome A) → Text → Verdict (Written A)
+own_location reading = location_verdict (attr_at reading)
 
 -- pairs between brackets
-abbrev pub bracketed : {T A : Type 0} → Language ℕ T A → (Text → Standing (Written A)) → List (Name ℕ × Item ℕ A) → Reading
+abbrev pub bracketed : {T A : Type 0} → Language ℕ T A → (Text → Verdict (Written A)) → List (Name ℕ × Item ℕ A) → Reading
 bracketed L loc ps = literal (codes "[") ▹ separated 44 reads.no_word (map (section.pair L loc) ps) ▹ literal (codes "]")
 
 module _ {T A : Type 0} (types : Texts T) (reading : Text → Outcome A) (written : A → Text) (formats : Id → Option Format) (splits : Splits reading) (words : NeedsWord reading) where
@@ -96,7 +96,7 @@ module _ {T A : Type 0} (types : Texts T) (reading : Text → Outcome A) (writte
   abbrev attr : Text → Outcome (AttrView A)
   attr = attr_at reading
 
-  abbrev loc : Text → Standing (Written A)
+  abbrev loc : Text → Verdict (Written A)
   loc = own_location reading
 
   -- an attribute begins as a word does
@@ -158,7 +158,7 @@ module _ {T A : Type 0} (types : Texts T) (reading : Text → Outcome A) (writte
       reading = section.pair l loc;
       missing = reads.no_word;
       see = λ p. p;
-      allowed = may_stand rule;
+      allowed = is_allowed rule;
       wrong = λ p. fault.ReservedKey p.0.text;
       splits = λ text p taken rest e. (exact_pair.read text p taken rest (kept_read rule (pair_at attr text) p taken rest e).0).1;
       reads = λ text p taken rest e.
@@ -213,8 +213,8 @@ module _ {T A : Type 0} (types : Texts T) (reading : Text → Outcome A) (writte
     list_stops : (ps : List (Name ℕ × Item ℕ A)) (text : Text) (o : Outcome (List (Name ℕ × Item ℕ A))) → Stop 44 pairs_of ps text o → StopsAt text o (wrong_pairs rule ps)
     list_stops ps text o k = record {
       first = record { cause = ReservedKey k.first.0.text; at = Some k.first.0.place };
-      others = wrong_pairs rule k.behind;
-      is = ap (wrong_pairs rule) k.whole ∙ first_wrong rule k.before k.behind k.first k.fine k.refused;
+      others = wrong_pairs rule k.following;
+      is = ap (wrong_pairs rule) k.whole ∙ first_wrong rule k.before k.following k.first k.fine k.refused;
       upto = k.upto;
       stop = k.stop;
       splits = k.splits;

@@ -45,30 +45,30 @@ EntryNear b (of_item m x ps) = AreNear b ps
 EntryNear b (of_once m a) = ⊤
 
 -- the place of a failure is at most this far from the end
-pub record StandsNear (b : ℕ) (f : Failure Text ℕ) : Type 0 where
+pub record IsWithin (b : ℕ) (f : Failure Text ℕ) : Type 0 where
   pub place : ℕ
   pub at : f.at ≡ Some place
   pub near : place ≤ b
 
 module _ (b : ℕ) where
-  claimed_near : (c : Bool) (f : Failure Text ℕ) (fs : List (Failure Text ℕ)) → StandsNear b f → Each (StandsNear b) fs → Each (StandsNear b) (cond c [] (f ∷ []) ++ fs)
+  claimed_near : (c : Bool) (f : Failure Text ℕ) (fs : List (Failure Text ℕ)) → IsWithin b f → Each (IsWithin b) fs → Each (IsWithin b) (cond c [] (f ∷ []) ++ fs)
   claimed_near true f fs h k = k
   claimed_near false f fs h k = (h, k)
 
   module _ {A X : Type 0} where
-    references_near : (rule : Rule A) (all : List (Entry ℕ A X)) (ps : List (Name ℕ × Item ℕ A)) → AreNear b ps → Each (StandsNear b) (wrongs (flat_map (reference_acts rule all) ps))
+    references_near : (rule : Rule A) (all : List (Entry ℕ A X)) (ps : List (Name ℕ × Item ℕ A)) → AreNear b ps → Each (IsWithin b) (wrongs (flat_map (reference_acts rule all) ps))
     references_near rule all [] h = tt
     references_near rule all ((n, direct a) ∷ ps) h = references_near rule all ps h.1
     references_near rule all ((n, reference m) ∷ ps) h =
         claimed_near (is_some (shared_attribute m.index all)) _ _ (record { place = m.place; at = refl; near = h.0.1 })
         (claimed_near (keeps_if rule n.text (shared_attribute m.index all)) _ _ (record { place = n.place; at = refl; near = h.0.0 }) (references_near rule all ps h.1))
 
-    pub late_near : (rules : ℕ → Rule A) (all es : List (Entry ℕ A X)) → Each (EntryNear b) es → Each (StandsNear b) (wrongs (flat_map (late_acts rules all) es))
+    pub late_near : (rules : ℕ → Rule A) (all es : List (Entry ℕ A X)) → Each (EntryNear b) es → Each (IsWithin b) (wrongs (flat_map (late_acts rules all) es))
     late_near rules all [] h = tt
     late_near rules all (of_once m a ∷ es) h = late_near rules all es h.1
     late_near rules all (of_item m x ps ∷ es) h =
-        subst (Each (StandsNear b)) (sym (flat_both wrong (flat_map (reference_acts (rules m.index) all) ps) (flat_map (late_acts rules all) es)))
-        (each_both (StandsNear b) (wrongs (flat_map (reference_acts (rules m.index) all) ps)) (wrongs (flat_map (late_acts rules all) es)) (references_near (rules m.index) all ps h.0) (late_near rules all es h.1))
+        subst (Each (IsWithin b)) (sym (flat_both wrong (flat_map (reference_acts (rules m.index) all) ps) (flat_map (late_acts rules all) es)))
+        (each_both (IsWithin b) (wrongs (flat_map (reference_acts (rules m.index) all) ps)) (wrongs (flat_map (late_acts rules all) es)) (references_near (rules m.index) all ps h.0) (late_near rules all es h.1))
 
 -- ---- what is parsed leaves no more than its text
 split_near : (taken rest text : Text) → taken ++ rest ≡ text → length rest ≤ length text

@@ -15,8 +15,8 @@ use Rattle.irtext_grammar.specs.Graphs.Closed.{FitsFormat, FitRegions, FitBlocks
 use Rattle.irtext_grammar.specs.Graphs.Graph.{Graph, GraphOp, GraphBlock, Printing}
 use Rattle.irtext_grammar.specs.Graphs.Regained.{Named}
 use Rattle.irtext_grammar.specs.Graphs.ReservedKeys.{KeepsRule, OpKeepsKeys, BlockKeepsKeys}
-use Rattle.irtext_grammar.specs.Graphs.Same.{stood, stood_regions, stood_blocks, stood_operations}
-use Rattle.irtext_grammar.specs.Graphs.StandsFor.{Distinct, StandsForOp, StandsForBlock, StandsFor}
+use Rattle.irtext_grammar.specs.Graphs.Same.{resolved_root, resolved_regions, resolved_blocks, resolved_operations}
+use Rattle.irtext_grammar.specs.Graphs.Represents.{Distinct, RepresentsOp, RepresentsBlock, Represents}
 use Rattle.irtext_grammar.specs.Names.Acts.{failures_of, section_acts, rule_of, may_hold, block_may_hold}
 use Rattle.irtext_grammar.specs.Names.Scopes.{Fact}
 use Rattle.irtext_grammar.specs.Names.Script.{Path, done, does_all}
@@ -26,7 +26,7 @@ use Rattle.irtext_grammar.proofs.Grammar.WholeTree.{whole}
 use Rattle.irtext_grammar.proofs.Graphs.BuiltNamed.{built_named, built_kept, no_results, no_operands, no_successors, isolated_if}
 use Rattle.irtext_grammar.proofs.Graphs.FitsFormat.{and_left, and_right}
 use Rattle.irtext_grammar.proofs.Graphs.Links.{all_there}
-use Rattle.irtext_grammar.proofs.Graphs.StandsClosed.{stands_closed}
+use Rattle.irtext_grammar.proofs.Graphs.RepresentsClosed.{represents_closed}
 use Rattle.irtext_grammar.proofs.Names.ResolvedRoot.{resolves}
 use Rattle.irtext_parse_spec.specs.RootParts.{HasNoLabel}
 use Rattle.irtext_parse_spec.specs.Back.{ClosedRoot}
@@ -80,19 +80,19 @@ module _ {P T A X : Type 0} (L : Language P T A) (none : NoneLeftOut L) (C : Pri
 
   mutual
     regions_accepted : (v : Facts) (w : List (Fact Text)) (p q : Path) (i j : ℕ) (a b : Bool) (rs : Regions (GraphOp T A) (GraphBlock T A) ⊤) (xs : Regions (Op P T A) (Head P T A) (Brace P)) → FitRegions C isolated rs
-        → MatchRegions StandsForOp StandsForBlock (λ r s. ⊤) (stood_regions C isolated v p i a rs) (built_regions isolated first es w q j b xs) → AllRegions (KnownAccepted L) (λ h. ⊤) (λ r. ⊤) xs
+        → MatchRegions RepresentsOp RepresentsBlock (λ r s. ⊤) (resolved_regions C isolated v p i a rs) (built_regions isolated first es w q j b xs) → AllRegions (KnownAccepted L) (λ h. ⊤) (λ r. ⊤) xs
     regions_accepted v w p q i j a b rs no_regions f m = tt
     regions_accepted v w p q i j a b no_regions (region y ys xs) f m = absurd m
     regions_accepted v w p q i j a b (region r bs rs) (region y ys xs) f m = (tt, blocks_accepted _ _ _ _ (i ∷ p) (j ∷ q) 0 0 bs ys f.0 m.1, regions_accepted v w p q (suc i) (suc j) a b rs xs f.1 m.2)
 
     blocks_accepted : (v u : Facts) (w l : List (Fact Text)) (p q : Path) (i j : ℕ) (bs : Blocks (GraphOp T A) (GraphBlock T A) ⊤) (xs : Blocks (Op P T A) (Head P T A) (Brace P)) → FitBlocks C isolated bs
-        → MatchBlocks StandsForOp StandsForBlock (λ r s. ⊤) (stood_blocks C isolated v u p i bs) (built_blocks isolated first es w l q j xs) → AllBlocks (KnownAccepted L) (λ h. ⊤) (λ r. ⊤) xs
+        → MatchBlocks RepresentsOp RepresentsBlock (λ r s. ⊤) (resolved_blocks C isolated v u p i bs) (built_blocks isolated first es w l q j xs) → AllBlocks (KnownAccepted L) (λ h. ⊤) (λ r. ⊤) xs
     blocks_accepted v u w l p q i j bs no_blocks f m = tt
     blocks_accepted v u w l p q i j no_blocks (block h ys xs) f m = absurd m
     blocks_accepted v u w l p q i j (block b os bs) (block h ys xs) f m = (tt, operations_accepted v u w l (i ∷ p) (j ∷ q) 0 0 os ys f.0 m.1, blocks_accepted v u w l p q (suc i) (suc j) bs xs f.1 m.2)
 
     operations_accepted : (v u : Facts) (w l : List (Fact Text)) (p q : Path) (i j : ℕ) (os : Operations (GraphOp T A) (GraphBlock T A) ⊤) (xs : Operations (Op P T A) (Head P T A) (Brace P)) → FitOperations C isolated os
-        → MatchOperations StandsForOp StandsForBlock (λ r s. ⊤) (stood_operations C isolated v u p i os) (built_operations isolated first es w l q j xs) → AllOperations (KnownAccepted L) (λ h. ⊤) (λ r. ⊤) xs
+        → MatchOperations RepresentsOp RepresentsBlock (λ r s. ⊤) (resolved_operations C isolated v u p i os) (built_operations isolated first es w l q j xs) → AllOperations (KnownAccepted L) (λ h. ⊤) (λ r. ⊤) xs
     operations_accepted v u w l p q i j os no_operations f m = tt
     operations_accepted v u w l p q i j no_operations (operation x ys xs) f m = absurd m
     operations_accepted v u w l p q i j (operation o rs os) (operation x ys xs) f m = (
@@ -102,7 +102,7 @@ module _ {P T A X : Type 0} (L : Language P T A) (none : NoneLeftOut L) (C : Pri
     )
 
   -- the formats in a parsed tree are accepted, if a root that represents the tree fits
-  all_accepted : (t : Tree P T A) (g : Graph T A) → Fit C isolated g → StandsFor (stood C isolated g) (build isolated first es t) → AllAccepted L t
+  all_accepted : (t : Tree P T A) (g : Graph T A) → Fit C isolated g → Represents (resolved_root C isolated g) (build isolated first es t) → AllAccepted L t
   all_accepted t g f s = (
     accepted_at L C formats isolated g.own t.own (length (regions_list g.regions)) f.0 s.0.shape.id,
     regions_accepted [] [] [] [] 0 0 (isolated g.own.id) (isolated t.own.id) g.regions t.regions f.1 s.1,
@@ -111,14 +111,14 @@ module _ {P T A X : Type 0} (L : Language P T A) (none : NoneLeftOut L) (C : Pri
 module _ {P T A X : Type 0} (L : Language P T A) (none : NoneLeftOut L) (C : Printing T A) (formats : (i : Id) → L.format_of i ≡ C.format_of i) (isolated : Id → Bool) (first : P → X) where
   -- a root that was parsed and fits is closed, and all that can have a name has one
   pub closed_where_read : (t : Tree P T A) (es : List (Entry P A X)) (g : Graph T A) (source rest : Text) → reads L t source rest → failures_of isolated t es ≡ []
-      → StandsFor (stood C isolated g) (build isolated first es t) → Distinct C isolated g → Fit C isolated g → ClosedRoot C isolated g × Named C g
+      → Represents (resolved_root C isolated g) (build isolated first es t) → Distinct C isolated g → Fit C isolated g → ClosedRoot C isolated g × Named C g
   closed_where_read t es g source rest r e s d fit =
       let f = formed_read L none t source rest (all_accepted L none C formats isolated first es t g fit s) r in
       let q = resolves isolated t es (whole L none t source rest r) e in
       let h = all_there isolated first es t f (does_all (section_acts (rule_of t) es) done) e in
       let keys = built_kept C isolated first es g t s f q in (
         record {
-          closed = stands_closed C isolated g (build isolated first es t) s h d (no_results C isolated first es g t s f q) (no_operands C isolated first es g t s f q) (no_successors C isolated first es g t s f q) (isolated_if C isolated first es g t s f q);
+          closed = represents_closed C isolated g (build isolated first es t) s h d (no_results C isolated first es g t s f q) (no_operands C isolated first es g t s f q) (no_successors C isolated first es g t s f q) (isolated_if C isolated first es g t s f q);
           fits = fit;
           unlabelled = regions_free g.regions keys.1;
         },

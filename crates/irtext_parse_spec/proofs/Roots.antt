@@ -32,7 +32,7 @@ use Rattle.irtext_graph.specs.declared.object.Value.{Value}
 use Rattle.irtext_graph.specs.declared.object.Value.TheVariants.{Result, Argument}
 use Rattle.irtext_grammar.specs.Contexts.Formats.{isolated}
 use Rattle.irtext_grammar.specs.Contexts.Held.{entries_of, attribute_of}
-use Rattle.irtext_grammar.specs.Contexts.Nested.{NamedValue, name_in, given_at, attributes_in, named_from, standing, numbered_as, typed_number, named_results, named_arguments, values_of, given_to, label_of, printing_over, number_of, place_of, seen_operation, seen_block, seen_regions, seen_blocks, seen_operations, seen_root, within}
+use Rattle.irtext_grammar.specs.Contexts.Nested.{NamedValue, name_in, given_at, attributes_in, named_from, if_live, numbered_as, typed_number, named_results, named_arguments, values_of, given_to, label_of, printing_over, number_of, place_of, seen_operation, seen_block, seen_regions, seen_blocks, seen_operations, seen_root, within}
 use Rattle.irtext_grammar.specs.Grammar.Forest.{Regions, no_regions, region, Blocks, no_blocks, Operations, no_operations, AllRegions, AllBlocks, AllOperations}
 use Rattle.irtext_grammar.specs.Grammar.Forest as forest
 use Rattle.irtext_grammar.specs.Grammar.Tree.{Attribute}
@@ -49,7 +49,7 @@ use Rattle.irtext_parse_spec.specs.ContextParts.{KeepsAll}
 use Rattle.irtext_parse_spec.specs.RootParts.{HasNoLabel, KeptRoot}
 use Rattle.irtext_parse_spec.proofs.Distinct.{distinct_under}
 use Rattle.irtext_parse_spec.specs.Promises.PrintedBack.{locations}
-use Rattle.irtext_parse_spec.specs.Promises.Supported.{location_standing}
+use Rattle.irtext_parse_spec.specs.Promises.Supported.{location_verdict}
 use Rattle.irtext_parse_spec.proofs.RoundTrips.KeptBack.{location_reads}
 use Rattle.irtext_tokens.specs.AttrTexts.{attr_at}
 
@@ -175,8 +175,8 @@ same_generation : (g : ℕ) → (g == g) ≡ true
 same_generation g = grind (arith, nat_tests)
 
 -- the object at a place is live under the pointer of that place
-stands_at : {X : Type 0} (cells : List (Cell X)) (i : ℕ) (c : Cell X) → slice_get cells i ≡ Some c → object_in (slice_get cells i) c.generation ≡ c.object
-stands_at cells i c e = ap (λ o. object_in o c.generation) e ∙ ap (λ b. cond b c.object None) (same_generation c.generation)
+cell_is_live : {X : Type 0} (cells : List (Cell X)) (i : ℕ) (c : Cell X) → slice_get cells i ≡ Some c → object_in (slice_get cells i) c.generation ≡ c.object
+cell_is_live cells i c e = ap (λ o. object_in o c.generation) e ∙ ap (λ b. cond b c.object None) (same_generation c.generation)
 
 -- ---- numbers
 
@@ -228,32 +228,32 @@ module _ {T A : Type 0} (ctx : ContextView T A) (kept : KeepsAll ctx) where
 
   -- ---- names
 
-  results_named : (i : ℕ) (c : Cell (Node BasicBlock Region (OperationContent (Option (OperationData A)) (Option T)))) → slice_get ctx.graph.operations.cells i ≡ Some c → Each NamedFine (standing named_results c.object)
+  results_named : (i : ℕ) (c : Cell (Node BasicBlock Region (OperationContent (Option (OperationData A)) (Option T)))) → slice_get ctx.graph.operations.cells i ≡ Some c → Each NamedFine (if_live named_results c.object)
   results_named i c e = go c.object refl
     where
       fine : (x : Entry (Node BasicBlock Region (OperationContent (Option (OperationData A)) (Option T)))) → c.object ≡ Some x → (d : Option (OperationData A)) → x.content.content.data_of ≡ d → Each EntryHasIdentifiers (entries_of (attributes_in d))
       fine x q None t = tt
       fine x q (Some held) t =
           (kept.operations (pointer i c.generation) (view_of x.content.content.results x.content.children held)
-          (ap (option_and_then operation_of) (stands_at ctx.graph.operations.cells i c e ∙ q) ∙ ap (option_map (view_of x.content.content.results x.content.children)) t)).attributes
+          (ap (option_and_then operation_of) (cell_is_live ctx.graph.operations.cells i c e ∙ q) ∙ ap (option_map (view_of x.content.content.results x.content.children)) t)).attributes
 
-      go : (o : Option (Entry (Node BasicBlock Region (OperationContent (Option (OperationData A)) (Option T))))) → c.object ≡ o → Each NamedFine (standing named_results o)
+      go : (o : Option (Entry (Node BasicBlock Region (OperationContent (Option (OperationData A)) (Option T))))) → c.object ≡ o → Each NamedFine (if_live named_results o)
       go None q = tt
       go (Some x) q = names_from (attributes_in x.content.content.data_of) (fine x q x.content.content.data_of refl) 0 x.content.content.results
 
-  arguments_named : (i : ℕ) (c : Cell (Node Region Operation (BlockContent (BlockData A) (Option T)))) → slice_get ctx.graph.blocks.cells i ≡ Some c → Each NamedFine (standing named_arguments c.object)
+  arguments_named : (i : ℕ) (c : Cell (Node Region Operation (BlockContent (BlockData A) (Option T)))) → slice_get ctx.graph.blocks.cells i ≡ Some c → Each NamedFine (if_live named_arguments c.object)
   arguments_named i c e = go c.object refl
     where
-      go : (o : Option (Entry (Node Region Operation (BlockContent (BlockData A) (Option T))))) → c.object ≡ o → Each NamedFine (standing named_arguments o)
+      go : (o : Option (Entry (Node Region Operation (BlockContent (BlockData A) (Option T))))) → c.object ≡ o → Each NamedFine (if_live named_arguments o)
       go None q = tt
       go (Some x) q =
-          names_from x.content.content.data_of.attributes (kept.blocks (pointer i c.generation) (block_of x) (ap (option_map block_of) (stands_at ctx.graph.blocks.cells i c e ∙ q))).attributes 0 x.content.content.arguments
+          names_from x.content.content.data_of.attributes (kept.blocks (pointer i c.generation) (block_of x) (ap (option_map block_of) (cell_is_live ctx.graph.blocks.cells i c e ∙ q))).attributes 0 x.content.content.arguments
 
   -- the name that is given to any value
   given_identifier : (n : ℕ) (name : Text) → given_to ctx n ≡ Some name → IsIdentifier name
   given_identifier n name e =
-      let all = each_both NamedFine (flat_map (λ c. standing named_results c.object) ctx.graph.operations.cells) (flat_map (λ c. standing named_arguments c.object) ctx.graph.blocks.cells)
-      (flat_each NamedFine (λ c. standing named_results c.object) ctx.graph.operations.cells results_named) (flat_each NamedFine (λ c. standing named_arguments c.object) ctx.graph.blocks.cells arguments_named) in
+      let all = each_both NamedFine (flat_map (λ c. if_live named_results c.object) ctx.graph.operations.cells) (flat_map (λ c. if_live named_arguments c.object) ctx.graph.blocks.cells)
+      (flat_each NamedFine (λ c. if_live named_results c.object) ctx.graph.operations.cells results_named) (flat_each NamedFine (λ c. if_live named_arguments c.object) ctx.graph.blocks.cells arguments_named) in
       identifier_given (given_to ctx n) name (numbered_fine n (values_of ctx) all) e
 
   -- the label of any block
@@ -294,10 +294,10 @@ module _ {T A : Type 0} (ctx : ContextView T A) (kept : KeepsAll ctx) where
     }
 
     abbrev HeldOp : GraphOp T A → Type 0
-    HeldOp o = Held (location_standing (attr_at reading)) (locations text_of) o.location o.attributes
+    HeldOp o = Held (location_verdict (attr_at reading)) (locations text_of) o.location o.attributes
 
     abbrev HeldBlock : GraphBlock T A → Type 0
-    HeldBlock h = Held (location_standing (attr_at reading)) (locations text_of) h.location h.attributes
+    HeldBlock h = Held (location_verdict (attr_at reading)) (locations text_of) h.location h.attributes
 
     op_held : (p : Ptr Operation) (view : OperationView T A) → operation ctx p ≡ Some view → HeldOp (seen_operation text_of ctx p view)
     op_held p view e = let k = kept.operations p view e in (location_reads reading text_of lawful sincere unreserved ctx.paths view.loc k.fits k.holds, k.differ)

@@ -19,14 +19,14 @@ use Rattle.irtext_grammar.specs.Spelling.Spellable.{Each}
 use Rattle.irtext_parse_spec.proofs.Joins.Answers.{Splits, followed_read, followed-read}
 use Rattle.irtext_parse_spec.proofs.Joins.Section.{spaced_read, spaced_found}
 use Rattle.irtext_parse_spec.specs.Exact.{NeedsWord}
-use Rattle.irtext_parse_spec.proofs.Exact.Combined.{split_behind}
+use Rattle.irtext_parse_spec.proofs.Exact.Combined.{split_after_front}
 use Rattle.irtext_parse_spec.specs.Entries.{fault_for, upto, wrong_references, unless_wrong, referred, entries_after, entries_at, section_at}
 use Rattle.irtext_parse_spec.specs.Agrees.{StopsAt, ReadOrStops, refused}
 use Rattle.irtext_parse_spec.proofs.Claims.{wrong_entries, references_fail, refused_parts}
 use Rattle.irtext_parse_spec.proofs.Entries.{entries_read, entries_found}
 use Rattle.irtext_parse_spec.proofs.Given.{splits_spaced}
-use Rattle.irtext_parse_spec.proofs.Places.{EntryNear, StandsNear, late_near, entries_near}
-use Rattle.irtext_parse_spec.proofs.Stops.{stops_before, stops_as, stops_behind, stops_second}
+use Rattle.irtext_parse_spec.proofs.Places.{EntryNear, IsWithin, late_near, entries_near}
+use Rattle.irtext_parse_spec.proofs.Stops.{stops_before, stops_as, stops_after, stops_second}
 use Rattle.irtext_parse_spec.proofs.Pairs.{own_location}
 
 -- ---- references
@@ -42,12 +42,12 @@ module _ {A X : Type 0} (rules : ℕ → Rule A) where
 
   -- entries that were parsed from a text, with places in it, are returned, or the text is bad at the first reference that fails
   referred_found : (text : Text) (o : Outcome (List (Entry ℕ A X))) (es : List (Entry ℕ A X)) (taken rest : Text) → o ≡ Read es taken rest → Each (EntryNear (length text)) es → ReadOrStops text (referred rules text o) es rest (wrong_references rules es)
-  referred_found text o es taken rest e near = go (wrong_references rules es) refl (subst (Each (StandsNear (length text))) (sym (references_fail rules es)) (late_near (length text) rules es es near))
+  referred_found text o es taken rest e near = go (wrong_references rules es) refl (subst (Each (IsWithin (length text))) (sym (references_fail rules es)) (late_near (length text) rules es es near))
     where
-      go : (ws : List (Failure Text ℕ)) → wrong_references rules es ≡ ws → Each (StandsNear (length text)) (wrong_references rules es) → ReadOrStops text (referred rules text o) es rest (wrong_references rules es)
+      go : (ws : List (Failure Text ℕ)) → wrong_references rules es ≡ ws → Each (IsWithin (length text)) (wrong_references rules es) → ReadOrStops text (referred rules text o) es rest (wrong_references rules es)
       go [] w h = inl (w, (taken, ap (referred rules text) e ∙ ap (λ ws. unless_wrong text ws (Read es taken rest)) w))
       go (f ∷ fs) w h =
-          let k : StandsNear (length text) f = (subst (Each (StandsNear (length text))) w h).0 in
+          let k : IsWithin (length text) f = (subst (Each (IsWithin (length text))) w h).0 in
           let n = length text - k.place in
           inr (record {
             first = f;
@@ -80,7 +80,7 @@ module _ {T A : Type 0} (types : Texts T) (reading : Text → Outcome A) (writte
         let s = spaced_read (codes "outlined_attributes:") text a.front a.middle a.first in
         let k = entries_read types reading written formats splits words cut marks rules (length a.middle) [] es a.middle a.more rest (omega arith) a.second in (
           (s.0, s.1, subst (λ t. repeated (the 33) (map (section.entry l (own_location reading)) es) t rest) (sym s.2) (subst (λ fs. repeated (the 33) (map (section.entry l (own_location reading)) fs) a.middle rest) (sym k.whole) k.reads)),
-          split_behind text a.front a.middle a.more rest taken (splits_spaced attr cut (codes "outlined_attributes:") text a.value a.front a.middle a.first) k.split a.whole,
+          split_after_front text a.front a.middle a.more rest taken (splits_spaced attr cut (codes "outlined_attributes:") text a.value a.front a.middle a.first) k.split a.whole,
           refused_parts marks rules es ∙ ap₂ ◌++◌ (ap (wrong_entries marks rules []) k.whole ∙ k.fine) r.1,
         )
 
@@ -110,5 +110,5 @@ module _ {T A : Type 0} (types : Texts T) (reading : Text → Outcome A) (writte
             late w.0 (referred_found rules text (entries_at attr marks rules text) es (h.0 ++ w.1.0) rest all near)
         go (inr s) =
             let inner : StopsAt text (entries_at attr marks rules text) (wrong_entries marks rules [] es) = stops_second all_next (spaced_at (codes "outlined_attributes:") text) tt h.0 (after_space m) text h.1 split s in
-            let outer : StopsAt text (section_at attr marks rules text) (wrong_entries marks rules [] es) = stops_behind [] text text refl (λ cause u b. ap (referred rules text) b) inner in
+            let outer : StopsAt text (section_at attr marks rules text) (wrong_entries marks rules [] es) = stops_after [] text text refl (λ cause u b. ap (referred rules text) b) inner in
             inr (stops_before (wrong_entries marks rules [] es) (wrong_references rules es) (refused marks rules es) parts outer)

@@ -127,9 +127,9 @@ module _ {S U : Type 0} (see : S → U) where
     pub seen_more : (n : ℕ) (text : Text) (s : S) → seen_as see (more_by f n text s) ≡ more_by g n text (see s)
     seen_more zero text s = refl
     seen_more (suc n) text s =
-        let behind = after_space (without_first text) in
+        let following = after_space (without_first text) in
         seen_if (begins (the 59) text) _ _ _ _
-        (seen_came (f behind s) (g behind (see s)) (λ _ t rest. more_by f n (after_space rest) t) (λ _ t rest. more_by g n (after_space rest) t) (h.at behind s) (λ _ t rest. seen_more n (after_space rest) t)) refl
+        (seen_came (f following s) (g following (see s)) (λ _ t rest. more_by f n (after_space rest) t) (λ _ t rest. more_by g n (after_space rest) t) (h.at following s) (λ _ t rest. seen_more n (after_space rest) t)) refl
 
     -- the operations of a block
     pub seen_operations : (text : Text) (s : S) → seen_as see (operations_by f text s) ≡ operations_by g text (see s)

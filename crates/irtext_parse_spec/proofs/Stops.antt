@@ -25,8 +25,8 @@ pub stops_as : {X : Type 0} {text : Text} {o : Outcome X} (fs gs : List (Failure
 stops_as fs gs e s = record { first = s.first; others = s.others; is = e ∙ s.is; upto = s.upto; stop = s.stop; splits = s.splits; at = s.at; bad = s.bad }
 
 -- what is bad at a position is bad in the whole text, after the characters before that position
-pub stops_behind : {X Y : Type 0} (front mid text : Text) {o : Outcome X} {p : Outcome Y} {fs : List (Failure Text ℕ)} → front ++ mid ≡ text → ((cause : Fault) (upto : Text) → o ≡ Bad cause upto → p ≡ Bad cause (front ++ upto)) → StopsAt mid o fs → StopsAt text p fs
-stops_behind front mid text e h s = record {
+pub stops_after : {X Y : Type 0} (front mid text : Text) {o : Outcome X} {p : Outcome Y} {fs : List (Failure Text ℕ)} → front ++ mid ≡ text → ((cause : Fault) (upto : Text) → o ≡ Bad cause upto → p ≡ Bad cause (front ++ upto)) → StopsAt mid o fs → StopsAt text p fs
+stops_after front mid text e h s = record {
   first = s.first;
   others = s.others;
   is = s.is;
@@ -39,12 +39,12 @@ stops_behind front mid text e h s = record {
 
 -- the first of two parsers finds a bad text
 pub stops_first : {X Y : Type 0} (next : X → Text → Outcome Y) {text : Text} {o : Outcome X} {fs : List (Failure Text ℕ)} → StopsAt text o fs → StopsAt text (followed o next) fs
-stops_first next {text} s = stops_behind [] text text refl (λ cause upto e. ap (λ o. followed o next) e) s
+stops_first next {text} s = stops_after [] text text refl (λ cause upto e. ap (λ o. followed o next) e) s
 
 -- the second of two parsers finds a bad text
 pub stops_second : {X Y : Type 0} (next : X → Text → Outcome Y) (o : Outcome X) (x : X) (front mid text : Text) {fs : List (Failure Text ℕ)} → o ≡ Read x front mid → front ++ mid ≡ text → StopsAt mid (next x mid) fs → StopsAt text (followed o next) fs
-stops_second next o x front mid text e split s = stops_behind front mid text split (λ cause upto b. ap (λ o. followed o next) e ∙ ap (prefixed front) b) s
+stops_second next o x front mid text e split s = stops_after front mid text split (λ cause upto b. ap (λ o. followed o next) e ∙ ap (prefixed front) b) s
 
 -- what is bad is bad however it would be seen
 pub stops_seen : {X Y : Type 0} (see : X → Y) {text : Text} {o : Outcome X} {fs : List (Failure Text ℕ)} → StopsAt text o fs → StopsAt text (mapped see o) fs
-stops_seen see {text} s = stops_behind [] text text refl (λ cause upto e. ap (mapped see) e) s
+stops_seen see {text} s = stops_after [] text text refl (λ cause upto e. ap (mapped see) e) s

@@ -14,13 +14,13 @@ use Rattle.irtext_grammar.specs.Graphs.Graph.{Graph, Printing}
 use Rattle.irtext_grammar.specs.Graphs.Identifiers.{HasIdentifiers}
 use Rattle.irtext_grammar.specs.Graphs.Regained.{Named, EqualOp, EqualBlock}
 use Rattle.irtext_grammar.specs.Graphs.RoundTrip.{ComesBack}
-use Rattle.irtext_grammar.specs.Graphs.Same.{Locations, UpToFillings, SameOp, SameBlock, stood}
+use Rattle.irtext_grammar.specs.Graphs.Same.{Locations, UpToFillings, SameOp, SameBlock, resolved_root}
 use Rattle.irtext_grammar.specs.Names.Acts.{failures_of}
 use Rattle.irtext_grammar.specs.Spelling.Section.{text}
 use Rattle.irtext_grammar.proofs.Graphs.Regained.{regained}
 use Rattle.irtext_grammar.proofs.RoundTrips.WholeRoot.{comes_back, each_comes_back}
 use Rattle.irtext_parse_spec.specs.Promises.PrintedBack.{locations}
-use Rattle.irtext_parse_spec.specs.Promises.Supported.{location_standing}
+use Rattle.irtext_parse_spec.specs.Promises.Supported.{location_verdict}
 use Rattle.irtext_tokens.specs.AttrTexts.{attr_at}
 use Rattle.irtext_parse_spec.specs.Back.{ClosedRoot, IsTextOf, ReadsAs, HeldBack, HeldWhole}
 use Rattle.irtext_parse_spec.proofs.Lengths.{small_section, small_marks}
@@ -51,17 +51,17 @@ module _ {T A : Type 0} (types : Texts T) (reading : Text → Outcome A) (text_o
     }
 
     -- the text parses as a tree and entries that build an equal root
-    back : ComesBack types owns (location_standing attr) K first C isolated g width n
+    back : ComesBack types owns (location_verdict attr) K first C isolated g width n
     back =
-        comes_back types owns types_law owns_law unreserved (location_standing attr) K first position C sound reflexive isolated g width n names root.fits printed.kept.small (printed.kept.keys root.unlabelled) printed.kept.held root.closed
+        comes_back types owns types_law owns_law unreserved (location_verdict attr) K first position C sound reflexive isolated g width n names root.fits printed.kept.small (printed.kept.keys root.unlabelled) printed.kept.held root.closed
         (small_section (unplaced types owns C.format_of) C g width n few)
 
     -- whatever the text parses as resolves, and builds an equal root
-    each_back : (tree : Tree ℕ T A) (entries : List (Entry ℕ A (Written A))) (rest : Text) → reads_root (language types owns C.format_of) (location_standing attr) tree entries t rest
-        → (after_space rest ≡ []) × (failures_of isolated tree entries ≡ []) × UpToFillings K (stood C isolated g) (build isolated first entries tree)
+    each_back : (tree : Tree ℕ T A) (entries : List (Entry ℕ A (Written A))) (rest : Text) → reads_root (language types owns C.format_of) (location_verdict attr) tree entries t rest
+        → (after_space rest ≡ []) × (failures_of isolated tree entries ≡ []) × UpToFillings K (resolved_root C isolated g) (build isolated first entries tree)
     each_back tree entries rest r =
-        each_comes_back types owns types_law owns_law unreserved (location_standing attr) K first position C sound reflexive isolated g width n back tree entries rest
-        (subst (λ x. reads_root (language types owns C.format_of) (location_standing attr) tree entries x rest) printed.is r)
+        each_comes_back types owns types_law owns_law unreserved (location_verdict attr) K first position C sound reflexive isolated g width n back tree entries rest
+        (subst (λ x. reads_root (language types owns C.format_of) (location_verdict attr) tree entries x rest) printed.is r)
 
     -- what was built of it is the root, up to fillings
     pub held_back : (rest : Text) (held : Option (Built T A (Written A))) → ReadsAs types owns attr C isolated first t rest held → HeldBack types owns attr C isolated g rest held
@@ -72,7 +72,7 @@ module _ {T A : Type 0} (types : Texts T) (reading : Text → Outcome A) (text_o
           built = b;
           is = r.builds;
           same = e.2;
-          uses = same_uses (SameOp K) (SameBlock K) (λ x y h. h.shape) (stood C isolated g) b e.2;
+          uses = same_uses (SameOp K) (SameBlock K) (λ x y h. h.shape) (resolved_root C isolated g) b e.2;
           ends = e.0;
         }
 
@@ -86,10 +86,10 @@ module _ {T A : Type 0} (types : Texts T) (reading : Text → Outcome A) (text_o
           built = b;
           is = r.builds;
           same = same;
-          uses = same_uses (EqualOp K) (EqualBlock K) (λ x y h. h.shape) (stood C isolated g) b same;
+          uses = same_uses (EqualOp K) (EqualBlock K) (λ x y h. h.shape) (resolved_root C isolated g) b same;
           ends = e.0;
         }
 
     -- it parses as something that resolves
-    pub readable : (tree : Tree ℕ T A) × (entries : List (Entry ℕ A (Written A))) × (rest : Text) × reads_root (language types owns C.format_of) (location_standing attr) tree entries t rest × (failures_of isolated tree entries ≡ [])
-    readable = let r = back in (r.0, r.1, r.2, subst (λ x. reads_root (language types owns C.format_of) (location_standing attr) r.0 r.1 x r.2) (sym printed.is) r.3, r.5)
+    pub readable : (tree : Tree ℕ T A) × (entries : List (Entry ℕ A (Written A))) × (rest : Text) × reads_root (language types owns C.format_of) (location_verdict attr) tree entries t rest × (failures_of isolated tree entries ≡ [])
+    readable = let r = back in (r.0, r.1, r.2, subst (λ x. reads_root (language types owns C.format_of) (location_verdict attr) r.0 r.1 x r.2) (sym printed.is) r.3, r.5)

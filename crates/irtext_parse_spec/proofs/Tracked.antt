@@ -406,7 +406,7 @@ module _ {T A : Type 0} (L : ℕ → Location A → Type 0) (start : ContextView
       → HoldsMade L start old items whole (region_under r (Some before) ∷ ats) root b → BlockCame old new L d head → RegionGains old new r d → ModifiesOnly (TheBlock d ∷ TheRegion r ∷ []) old new
       → HoldsMade L start new ((head.label.place, TheBlock d) ∷ items) (TheBlock before ∷ whole) (region_under r (Some d) ∷ ats) root (builds.heads head b)
   heads_next old new r before ats d head b h came g s =
-      subst (λ z. HoldsMade L start new ((head.label.place, TheBlock d) ∷ items) (TheBlock before ∷ whole) (region_under r (Some d) ∷ ats) root (record { unfinished = z; tree = b.tree })) (acts.begins_behind head b.unfinished)
+      subst (λ z. HoldsMade L start new ((head.label.place, TheBlock d) ∷ items) (TheBlock before ∷ whole) (region_under r (Some d) ∷ ats) root (record { unfinished = z; tree = b.tree })) (acts.begins_after_end head b.unfinished)
       (heads_first L start old new items (TheBlock before ∷ whole) root formats r ats d head (record { unfinished = acts.block_ended b.unfinished; tree = b.tree }) (block_ends L start old items whole root r before ats b h) came g s)
 
   -- a region ends, with the block that is open in it
@@ -414,5 +414,5 @@ module _ {T A : Type 0} (L : ℕ → Location A → Type 0) (start : ContextView
       → HoldsMade L start c items whole (region_under r (Some d) ∷ operation_under p own ∷ ats) root b
       → HoldsMade L start c items (TheRegion r ∷ TheBlock d ∷ whole) (operation_under p own ∷ ats) root (builds.leaves iso place b)
   leaves_with_block c iso place r d p own ats b h =
-      subst (λ z. HoldsMade L start c items (TheRegion r ∷ TheBlock d ∷ whole) (operation_under p own ∷ ats) root (record { unfinished = z; tree = b.tree })) (acts.ends_behind place b.unfinished)
+      subst (λ z. HoldsMade L start c items (TheRegion r ∷ TheBlock d ∷ whole) (operation_under p own ∷ ats) root (record { unfinished = z; tree = b.tree })) (acts.ends_after place b.unfinished)
       (leaves_empty L start c items (TheBlock d ∷ whole) root formats iso place r p own ats (record { unfinished = acts.block_ended b.unfinished; tree = b.tree }) (block_ends L start c items whole root r d (operation_under p own ∷ ats) b h))

@@ -10,12 +10,12 @@ use Rattle.irtext_grammar.specs.Names.Script.{Failure, does_all, done}
 use Rattle.irtext_parse_spec.specs.Entries.{fault_for}
 
 -- no scope is open, these indices are marked, and these have entries
-abbrev pub behind_root : List ℕ → List ℕ → Scopes Text
-behind_root marks entries = record { values = None; labels = None; marks = marks; entries = entries }
+abbrev pub after_root : List ℕ → List ℕ → Scopes Text
+after_root marks entries = record { values = None; labels = None; marks = marks; entries = entries }
 
 -- the failures of a section after a root with these marks, by these rules
 abbrev pub refused : {A X : Type 0} → List ℕ → (ℕ → Rule A) → List (Entry ℕ A X) → List (Failure Text ℕ)
-refused marks rules es = failures same_text (behind_root marks []) (does_all (section_acts rules es) done)
+refused marks rules es = failures same_text (after_root marks []) (does_all (section_acts rules es) done)
 
 -- the text is bad at the first of these failures, with the failure's cause
 pub record StopsAt {X : Type 0} (text : Text) (o : Outcome X) (fs : List (Failure Text ℕ)) : Type 0 where

@@ -15,13 +15,13 @@ use Rattle.irtext_grammar.specs.Graphs.Build.{Built, build}
 use Rattle.irtext_grammar.specs.Graphs.Closed.{Closed, Fit}
 use Rattle.irtext_grammar.specs.Graphs.Graph.{Graph, Printing, Limit}
 use Rattle.irtext_grammar.specs.Graphs.Regained.{UpToPositions}
-use Rattle.irtext_grammar.specs.Graphs.Same.{Found, StoodOp, StoodBlock, UpToFillings, stood}
+use Rattle.irtext_grammar.specs.Graphs.Same.{Found, ResolvedOp, ResolvedBlock, UpToFillings, resolved_root}
 use Rattle.irtext_grammar.specs.Names.Acts.{failures_of}
 use Rattle.irtext_grammar.specs.Spelling.Section.{text}
 use Rattle.irtext_grammar.specs.Spelling.Writable.{has_region}
 use Rattle.irtext_parse_spec.specs.RootParts.{HoldsNoLabels, KeptRoot}
 use Rattle.irtext_parse_spec.specs.Promises.PrintedBack.{locations}
-use Rattle.irtext_parse_spec.specs.Promises.Supported.{location_standing}
+use Rattle.irtext_parse_spec.specs.Promises.Supported.{location_verdict}
 use Rattle.irtext_parse_spec.specs.Uses.{SameUses}
 
 module _ {T A : Type 0} (C : Printing T A) (isolated : Id → Bool) where
@@ -36,12 +36,12 @@ module _ {T A : Type 0} (C : Printing T A) (isolated : Id → Bool) where
   -- The same without names: the root has no result, operand or successor; it is isolated, or has no region; each operand inside is a
   -- value that its isolated scope defines, and each successor a block that its region defines; operations fit their formats; and no block
   -- has a label in its dictionary.
-  pub record StandsAlone (g : Graph T A) : Type 0 where
+  pub record SelfContained (g : Graph T A) : Type 0 where
     pub results : g.own.results ≡ []
     pub operands : g.own.operands ≡ []
     pub successors : g.own.successors ≡ []
     pub alone : has_region g.regions ≡ true → isolated g.own.id ≡ true
-    pub found : Found (stood C isolated g)
+    pub found : Found (resolved_root C isolated g)
     pub fits : Fit C isolated g
     pub unlabelled : HoldsNoLabels g
 
@@ -58,16 +58,16 @@ module _ {T A : Type 0} (types : Texts T) (owns : Texts A) (attr : Text → Outc
   pub record ReadsAs (first : ℕ → Written A) (t rest : Text) (held : Option (Built T A (Written A))) : Type 0 where
     pub tree : Tree ℕ T A
     pub entries : List (Entry ℕ A (Written A))
-    pub reads : reads_root (language types owns C.format_of) (location_standing attr) tree entries t rest
+    pub reads : reads_root (language types owns C.format_of) (location_verdict attr) tree entries t rest
     pub resolves : failures_of isolated tree entries ≡ []
     pub builds : held ≡ Some (build isolated first entries tree)
 
   -- `held` is equal to the root in the sense of `IsSame`, with the same uses inside; and only white space is left of the text.
-  pub record HeldAs (IsSame : Root (StoodOp T A) (StoodBlock T A) ⊤ → Built T A (Written A) → Type 0) (g : Graph T A) (rest : Text) (held : Option (Built T A (Written A))) : Type 0 where
+  pub record HeldAs (IsSame : Root (ResolvedOp T A) (ResolvedBlock T A) ⊤ → Built T A (Written A) → Type 0) (g : Graph T A) (rest : Text) (held : Option (Built T A (Written A))) : Type 0 where
     pub built : Built T A (Written A)
     pub is : held ≡ Some built
-    pub same : IsSame (stood C isolated g) built
-    pub uses : SameUses (stood C isolated g) built
+    pub same : IsSame (resolved_root C isolated g) built
+    pub uses : SameUses (resolved_root C isolated g) built
     pub ends : after_space rest ≡ []
 
   -- `held` is equal to the root up to fillings, with the same uses inside; and only white space is left of the text.

@@ -34,13 +34,13 @@ module _ {A : Type 0} (attr : Text → Outcome (AttrView A)) where
   pair_at = name_at ▶ λ key. spaced_at (codes "=") ▷ item_at ⇒ λ i. (key, i)
 
 -- an attribute in an entry is allowed under its key; a reference is tested later
-abbrev pub may_stand : {A : Type 0} → Rule A → Name ℕ × Item ℕ A → Bool
-may_stand rule (n, direct a) = rule n.text a
-may_stand rule (n, reference m) = true
+abbrev pub is_allowed : {A : Type 0} → Rule A → Name ℕ × Item ℕ A → Bool
+is_allowed rule (n, direct a) = rule n.text a
+is_allowed rule (n, reference m) = true
 
 -- a key whose attribute is not allowed under it is bad at its beginning
 abbrev pub kept : {A : Type 0} → Rule A → Outcome (Name ℕ × Item ℕ A) → Outcome (Name ℕ × Item ℕ A)
-kept rule (Read p taken rest) = cond (may_stand rule p) (Read p taken rest) (Bad (fault.ReservedKey p.0.text) [])
+kept rule (Read p taken rest) = cond (is_allowed rule p) (Read p taken rest) (Bad (fault.ReservedKey p.0.text) [])
 kept rule (Missing cause) = Missing cause
 kept rule (Bad cause upto) = Bad cause upto
 

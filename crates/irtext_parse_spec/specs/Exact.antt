@@ -4,7 +4,7 @@ use Rattle.std.specs.Prelude.{◌≡◌, false, List, [], ◌++◌, map, Some, c
 use Rattle.irtext_base.specs.Text.{Text, begins, begins_word}
 use Rattle.irtext_base.specs.Reading.{Reading, ◌▹◌, white, literal, separated}
 use Rattle.irtext_base.specs.Format.{Format, Id}
-use Rattle.irtext_base.specs.Own.{Language, standing, missing}
+use Rattle.irtext_base.specs.Own.{Language, verdict, missing}
 use Rattle.irtext_base.specs.Answers.{Read}
 use Rattle.irtext_tokens.specs.Infix.{Reader}
 use Rattle.irtext_grammar.specs.Grammar.Reads as reads
@@ -19,7 +19,7 @@ pub record Exact {X : Type 0} (reader : Reader X) (reading : X → Reading) : Ty
 
 -- A parser finds nothing if no word begins.
 pub record NeedsWord {X : Type 0} (reader : Reader X) : Type 0 where
-  pub misses : (text : Text) → begins begins_word text ≡ false → standing (reader text) ≡ missing
+  pub misses : (text : Text) → begins begins_word text ≡ false → verdict (reader text) ≡ missing
 
 -- the piece is one that the step parses
 abbrev pub IsOfStep : {P T A : Type 0} → Step → Piece P T A → Type 0

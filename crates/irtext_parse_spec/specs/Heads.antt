@@ -18,8 +18,8 @@ use Rattle.irtext_grammar.specs.Grammar.Tree as tree
 use Rattle.irtext_grammar.specs.Grammar.Tree.{Name, Mark, Attribute, Piece, Head}
 use Rattle.irtext_parse_spec.specs.Readers.Directives.{attribute_at}
 use Rattle.irtext_parse_spec.specs.Readers.Marker.{marker, starts_with}
-use Rattle.irtext_parse_spec.specs.Readers.Operations.{registered_behind}
-use Rattle.irtext_parse_spec.specs.Readers.Parts.{behind}
+use Rattle.irtext_parse_spec.specs.Readers.Operations.{registered_after}
+use Rattle.irtext_parse_spec.specs.Readers.Parts.{after_lead}
 
 -- what was parsed from a text, with the place of this text
 abbrev pub placed : {X : Type 0} → (ℕ → X → Name ℕ) → Text → Outcome X → Outcome (Name ℕ)
@@ -167,7 +167,7 @@ lead_at = space_at ▷ (λ text. named (results_at text) text) ◁ space_at
 
 -- a lead that was parsed, and a registered operation's id after it
 abbrev pub led_by : List (Text × Table) → Outcome (List (Name ℕ)) → Outcome (List (Name ℕ) × Id)
-led_by dialects (Read ns lead rest) = mapped (λ id. (ns, id)) (registered_behind dialects lead (behind lead (id_at rest)))
+led_by dialects (Read ns lead rest) = mapped (λ id. (ns, id)) (registered_after dialects lead (after_lead lead (id_at rest)))
 led_by dialects (Missing cause) = Missing cause
 led_by dialects (Bad cause upto) = Bad cause upto
 

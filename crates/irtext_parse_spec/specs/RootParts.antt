@@ -13,10 +13,10 @@ use Rattle.irtext_grammar.specs.Graphs.Identifiers.{OpHasIdentifiers, BlockHasId
 use Rattle.irtext_grammar.specs.Graphs.ReservedKeys.{GraphKeepsKeys}
 use Rattle.irtext_grammar.specs.Graphs.RoundTrip.{GraphHeld}
 use Rattle.irtext_grammar.specs.Graphs.Same.{SmallGraph}
-use Rattle.irtext_grammar.specs.Graphs.StandsFor.{Distinct}
+use Rattle.irtext_grammar.specs.Graphs.Represents.{Distinct}
 use Rattle.irtext_grammar.specs.Spelling.Spellable.{IsIdentifier}
 use Rattle.irtext_parse_spec.specs.Promises.PrintedBack.{locations}
-use Rattle.irtext_parse_spec.specs.Promises.Supported.{location_standing}
+use Rattle.irtext_parse_spec.specs.Promises.Supported.{location_verdict}
 
 -- the dictionary has no label
 abbrev pub HasNoLabel : {A : Type 0} → List (Text × Attribute A) → Type 0
@@ -36,5 +36,5 @@ pub record KeptRoot {T A : Type 0} (attr : Text → Outcome (AttrView A)) (text_
   pub inside : AllRegions (OpHasIdentifiers C) (BlockHasIdentifiers C) (λ r. ⊤) g.regions
   pub small : SmallGraph C isolated g
   pub keys : HoldsNoLabels g → GraphKeepsKeys g
-  pub held : GraphHeld (location_standing attr) (locations text_of) g
+  pub held : GraphHeld (location_verdict attr) (locations text_of) g
   pub distinct : Distinct C isolated g

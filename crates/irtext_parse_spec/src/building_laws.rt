@@ -46,7 +46,7 @@ pub fn what_is_built_is_the_tree<T: IrText<A>, A: AttrText<A>>()
 /// Two sets of actions on what is parsed can be performed side by side. The actions of a tree are then those of both. A parse ends, or is
 /// stuck at a fault of the text, exactly where that with each of the two does, with the same rest or the same cause and place. This also
 /// holds of the rest of a parse, given what is open.
-pub fn two_doings_stand_beside<T: IrText<A>, A: AttrText<A>, U, V>()
+pub fn actions_side_by_side<T: IrText<A>, A: AttrText<A>, U, V>()
     ensures tree { (isolated : Id → Bool) (d : Actions T A U) (e : Actions T A V) (x : Tree ℕ T A)
         (s : U) (t : V) →
         do_tree isolated (both d e) x (s, t) ≡ (do_tree isolated d x s, do_tree isolated e x t) }

@@ -13,15 +13,15 @@ ghost use Rattle.irtext_grammar.specs.Graphs.Build.{Built, build};
 ghost use Rattle.irtext_grammar.specs.Graphs.Closed.{Fit};
 ghost use Rattle.irtext_grammar.specs.Graphs.Graph.{Graph, Limit, Printing, written};
 ghost use Rattle.irtext_grammar.specs.Graphs.Regained.{Named};
-ghost use Rattle.irtext_grammar.specs.Graphs.Same.{stood};
-ghost use Rattle.irtext_grammar.specs.Graphs.StandsFor.{Distinct, StandsFor};
+ghost use Rattle.irtext_grammar.specs.Graphs.Same.{resolved_root};
+ghost use Rattle.irtext_grammar.specs.Graphs.Represents.{Distinct, Represents};
 ghost use Rattle.irtext_grammar.specs.Names.Acts.{failures_of};
 ghost use Rattle.irtext_grammar.specs.Spelling.Section.{text};
 ghost use Rattle.irtext_parse_spec.specs.RootParts.{KeptRoot};
 ghost use Rattle.irtext_parse_spec.specs.Promises.PrintedBack.{locations};
-ghost use Rattle.irtext_parse_spec.specs.Promises.Supported.{location_standing};
+ghost use Rattle.irtext_parse_spec.specs.Promises.Supported.{location_verdict};
 ghost use Rattle.irtext_tokens.specs.AttrTexts.{attr_at};
-ghost use Rattle.irtext_parse_spec.specs.Back.{ClosedRoot, HeldBack, HeldWhole, IsTextOf, ReadsAs, StandsAlone};
+ghost use Rattle.irtext_parse_spec.specs.Back.{ClosedRoot, HeldBack, HeldWhole, IsTextOf, ReadsAs, SelfContained};
 
 use irtext_base::text::{AttrText, IrText};
 
@@ -45,7 +45,7 @@ pub fn closed_root_comes_back<T: IrText<A>, A: AttrText<A>>()
         ((p : ℕ) → (locations A.written).is_position (first p) ≡ true) → C.same_own ≡ A.eq →
         IsTextOf types owns (attr_at A.reading) C isolated g width n None t → ClosedRoot C isolated g →
         (tree : Tree ℕ T A) × (entries : List (Entry ℕ A (Written A))) × (rest : List ℕ) ×
-        reads_root (language types owns C.format_of) (location_standing (attr_at A.reading)) tree entries t
+        reads_root (language types owns C.format_of) (location_verdict (attr_at A.reading)) tree entries t
         rest × (failures_of isolated tree entries ≡ []) }
 {}
 
@@ -73,7 +73,7 @@ pub fn limited_root_is_refused<T: IrText<A>, A: AttrText<A>>()
         let owns = texts_of A.reading A.written in
         IsTextOf types owns (attr_at A.reading) C isolated g width n limit t
         → (AllShown (written C limit g) → ⊥) →
-        reads_root (language types owns C.format_of) (location_standing (attr_at A.reading)) tree
+        reads_root (language types owns C.format_of) (location_verdict (attr_at A.reading)) tree
         entries t rest → ⊥ }
 {}
 
@@ -100,25 +100,25 @@ pub fn read_root_is_closed<T: IrText<A>, A: AttrText<A>>()
         let types = texts_of T.reading T.written in
         let owns = texts_of A.reading A.written in
         reads (language types owns C.format_of) tree source rest → failures_of isolated tree entries ≡ [] →
-        StandsFor (stood C isolated g) (build isolated before entries tree) → Distinct C isolated g
+        Represents (resolved_root C isolated g) (build isolated before entries tree) → Distinct C isolated g
         → Fit C isolated g →
         ClosedRoot C isolated g × Named C g }
     ensures again { (C : Printing T A) (isolated : Id → Bool) (before first : ℕ → Written A)
         (tree : Tree ℕ T A) (entries : List (Entry ℕ A (Written A)))
-        (source behind : List ℕ) (g : Graph T A) (width n : ℕ) (t rest : List ℕ)
+        (source following : List ℕ) (g : Graph T A) (width n : ℕ) (t rest : List ℕ)
         (held : Option (Built T A (Written A))) →
         let types = texts_of T.reading T.written in
         let owns = texts_of A.reading A.written in
-        reads (language types owns C.format_of) tree source behind → failures_of isolated tree entries ≡ [] →
-        StandsFor (stood C isolated g) (build isolated before entries tree) →
+        reads (language types owns C.format_of) tree source following → failures_of isolated tree entries ≡ [] →
+        Represents (resolved_root C isolated g) (build isolated before entries tree) →
         ((p : ℕ) → (locations A.written).is_position (first p) ≡ true) → C.same_own ≡ A.eq →
         IsTextOf types owns (attr_at A.reading) C isolated g width n None t →
         ReadsAs types owns (attr_at A.reading) C isolated first t rest held →
         HeldWhole types owns (attr_at A.reading) C isolated g rest held }
 {}
 
-/// A root that satisfies `StandsAlone` is closed if no two of its values or blocks are the same, as in every context.
+/// A root that satisfies `SelfContained` is closed if no two of its values or blocks are the same, as in every context.
 pub fn root_alone_is_closed<T, A>()
-    ensures { (C : Printing T A) (isolated : Id → Bool) (g : Graph T A) → StandsAlone C isolated g
+    ensures { (C : Printing T A) (isolated : Id → Bool) (g : Graph T A) → SelfContained C isolated g
         → Distinct C isolated g → ClosedRoot C isolated g }
 {}

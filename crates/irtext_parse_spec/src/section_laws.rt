@@ -11,7 +11,7 @@ ghost use Rattle.irtext_tokens.specs.AttrTexts.{attr_at};
 ghost use Rattle.irtext_grammar.specs.Contexts.Formats.{format_of};
 ghost use Rattle.irtext_parse_spec.specs.Agrees.{refused, ReadOrStops};
 ghost use Rattle.irtext_grammar.specs.Names.Acts.{Rule};
-ghost use Rattle.irtext_parse_spec.specs.Promises.Supported.{location_standing};
+ghost use Rattle.irtext_parse_spec.specs.Promises.Supported.{location_verdict};
 ghost use Rattle.irtext_parse_spec.specs.Entries.{section_at};
 
 use irtext_base::text::{AttrText, IrText};
@@ -24,11 +24,11 @@ pub fn section_text_is_a_section<T: IrText<A>, A: AttrText<A>>()
         (es : List (Entry ℕ A (Written A))) (text taken rest : Text) →
         section_at (attr_at A.reading) marks rules text ≡ Read es taken rest →
         section (language (texts_of T.reading T.written) (texts_of A.reading A.written) (format_of dialects))
-        (location_standing (attr_at A.reading)) es text rest
+        (location_verdict (attr_at A.reading)) es text rest
         × (refused marks rules es ≡ []) }
     ensures found { (dialects : List (Text × Table)) (marks : List ℕ) (rules : ℕ → Rule A)
         (es : List (Entry ℕ A (Written A))) (text rest : Text) →
         section (language (texts_of T.reading T.written) (texts_of A.reading A.written) (format_of dialects))
-        (location_standing (attr_at A.reading)) es text rest →
+        (location_verdict (attr_at A.reading)) es text rest →
         ReadOrStops text (section_at (attr_at A.reading) marks rules text) es rest (refused marks rules es) }
 {}

@@ -55,13 +55,13 @@ module _ {X : Type 0} where
   dense_more i xs x [] none e = counts_on 0 i xs x (omega (arith, e))
   dense_more i xs x (y ∷ ys) none e = absurd (omega (arith, none))
 
-  behind : (n : ℕ) (xs : List X) (es fs : List (ℕ × X)) → enumerate_from n xs ++ (es ++ fs) ≡ (enumerate_from n xs ++ es) ++ fs
-  behind n [] es fs = refl
-  behind n (x ∷ xs) es fs = ap (λ l. (n, x) ∷ l) (behind (n + 1) xs es fs)
+  following : (n : ℕ) (xs : List X) (es fs : List (ℕ × X)) → enumerate_from n xs ++ (es ++ fs) ≡ (enumerate_from n xs ++ es) ++ fs
+  following n [] es fs = refl
+  following n (x ∷ xs) es fs = ap (λ l. (n, x) ∷ l) (following (n + 1) xs es fs)
 
   -- one more of the others
   pub others_more : (xs : List X) (es fs : List (ℕ × X)) → all_numbered xs (es ++ fs) ≡ all_numbered xs es ++ fs
-  others_more xs es fs = behind 0 xs es fs
+  others_more xs es fs = following 0 xs es fs
 
   none_of_others : (t : ℕ → Bool) (n : ℕ) (xs : List X) (es : List (ℕ × X)) → lookup t (enumerate_from n xs ++ es) ≡ None → lookup t es ≡ None
   none_of_others t n [] es h = h

@@ -36,9 +36,9 @@ module _ {A : Type 0} where
     pub place : error.loc ≡ Unknown
 
   -- the result for a text that cannot be allocated
-  abbrev pub IsStarved : {X : Type 0} → Result X (Error A) → Type 0
-  IsStarved (Ok x) = ⊥
-  IsStarved (Err error) = IsMemory error
+  abbrev pub IsOutOfMemory : {X : Type 0} → Result X (Error A) → Type 0
+  IsOutOfMemory (Ok x) = ⊥
+  IsOutOfMemory (Err error) = IsMemory error
 
   -- a parser's value unchanged, and its parse error as an error
   abbrev pub Passes : {X : Type 0} → Result X (ParseFault A) → Result X (Error A) → Type 0

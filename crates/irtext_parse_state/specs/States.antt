@@ -26,4 +26,4 @@ Notes index item false old new = (lookup (same_index index) old ≡ None → ⊥
 pub record LocatesAt {A : Type 0} (src : Source) (passed : Text) (location : Location A) : Type 0 where
   pub at : SourcePosition
   pub is : location ≡ SrcPos src at
-  pub stands : IsAt at.line at.column passed
+  pub positioned : IsAt at.line at.column passed

@@ -59,13 +59,13 @@ module _ {T A : Type 0} (C : Printing T A) where
   pub inserted : (k : Bor A) (ks : List (Bor A)) → map (λ r. r.now) (insert_key (λ x y. C.same_own x.now y.now) ks k) ≡ with_mention C (map (λ r. r.now) ks) k.now
   inserted k ks = go (list_any (λ y. C.same_own k.now y.now) ks) ∙ ap (λ b. cond b (map (λ r. r.now) ks) (map (λ r. r.now) ks ++ k.now ∷ [])) (any_now C.same_own k ks)
     where
-      behind : (ks : List (Bor A)) → map (λ r. r.now) (ks ++ k ∷ []) ≡ map (λ r. r.now) ks ++ k.now ∷ []
-      behind [] = refl
-      behind (x ∷ xs) = ap (λ z. x.now ∷ z) (behind xs)
+      following : (ks : List (Bor A)) → map (λ r. r.now) (ks ++ k ∷ []) ≡ map (λ r. r.now) ks ++ k.now ∷ []
+      following [] = refl
+      following (x ∷ xs) = ap (λ z. x.now ∷ z) (following xs)
 
       go : (b : Bool) → map (λ r. r.now) (cond b ks (ks ++ k ∷ [])) ≡ cond b (map (λ r. r.now) ks) (map (λ r. r.now) ks ++ k.now ∷ [])
       go true = refl
-      go false = behind ks
+      go false = following ks
 
   -- the place of an element that is present is unchanged, whatever follows
   pub place_stays : (a : A) (ks more : List A) → has C.same_own a ks ≡ true → place_in C (ks ++ more) a ≡ place_in C ks a
@@ -150,59 +150,59 @@ module _ {T A : Type 0} (C : Printing T A) where
   items_on known (g ∷ gs) = then_on known (one_noted C known g) (items_noted C (one_noted C known g) gs) (one_on known g) (items_on (one_noted C known g) gs)
 
   -- the attributes that are known after mentions
-  abbrev behind_all : List A → List A → List A
-  behind_all known [] = known
-  behind_all known (m ∷ ms) = behind_all (with_mention C known m) ms
+  abbrev after_mentions : List A → List A → List A
+  after_mentions known [] = known
+  after_mentions known (m ∷ ms) = after_mentions (with_mention C known m) ms
 
-  behind_both : (known ms ns : List A) → behind_all known (ms ++ ns) ≡ behind_all (behind_all known ms) ns
-  behind_both known [] ns = refl
-  behind_both known (m ∷ ms) ns = behind_both (with_mention C known m) ms ns
+  after_both : (known ms ns : List A) → after_mentions known (ms ++ ns) ≡ after_mentions (after_mentions known ms) ns
+  after_both known [] ns = refl
+  after_both known (m ∷ ms) ns = after_both (with_mention C known m) ms ns
 
   -- they are those that are known, and then each that is new at its first mention
-  behind_firsts : (known seen ms : List A) → ((a : A) → has C.same_own a seen ≡ has C.same_own a known) → behind_all known ms ≡ known ++ firsts C seen ms
-  behind_firsts known seen [] alike = sym (append-nil known)
-  behind_firsts known seen (m ∷ ms) alike = go (has C.same_own m known) refl (behind_firsts known seen ms alike) (behind_firsts (known ++ m ∷ []) (m ∷ seen) ms wider)
+  after_firsts : (known seen ms : List A) → ((a : A) → has C.same_own a seen ≡ has C.same_own a known) → after_mentions known ms ≡ known ++ firsts C seen ms
+  after_firsts known seen [] alike = sym (append-nil known)
+  after_firsts known seen (m ∷ ms) alike = go (has C.same_own m known) refl (after_firsts known seen ms alike) (after_firsts (known ++ m ∷ []) (m ∷ seen) ms wider)
     where
       wider : (a : A) → has C.same_own a (m ∷ seen) ≡ has C.same_own a (known ++ m ∷ [])
       wider a = ap (λ b. C.same_own a m || b) (alike a) ∙ or_swap (C.same_own a m) (has C.same_own a known) ∙ sym (has_either C.same_own a known (m ∷ []))
 
-      go : (b : Bool) → has C.same_own m known ≡ b → behind_all known ms ≡ known ++ firsts C seen ms → behind_all (known ++ m ∷ []) ms ≡ (known ++ m ∷ []) ++ firsts C (m ∷ seen) ms
-          → behind_all (with_mention C known m) ms ≡ known ++ cond (has C.same_own m seen) (firsts C seen ms) (m ∷ firsts C (m ∷ seen) ms)
+      go : (b : Bool) → has C.same_own m known ≡ b → after_mentions known ms ≡ known ++ firsts C seen ms → after_mentions (known ++ m ∷ []) ms ≡ (known ++ m ∷ []) ++ firsts C (m ∷ seen) ms
+          → after_mentions (with_mention C known m) ms ≡ known ++ cond (has C.same_own m seen) (firsts C seen ms) (m ∷ firsts C (m ∷ seen) ms)
       go true h less more =
-          ap (λ b. behind_all (cond b known (known ++ m ∷ [])) ms) h ∙ less
+          ap (λ b. after_mentions (cond b known (known ++ m ∷ [])) ms) h ∙ less
           ∙ ap (λ b. known ++ cond b (firsts C seen ms) (m ∷ firsts C (m ∷ seen) ms)) (sym (alike m ∙ h))
       go false h less more =
-          ap (λ b. behind_all (cond b known (known ++ m ∷ [])) ms) h ∙ more
+          ap (λ b. after_mentions (cond b known (known ++ m ∷ [])) ms) h ∙ more
           ∙ append_assoc known (m ∷ []) (firsts C (m ∷ seen) ms)
           ∙ ap (λ b. known ++ cond b (firsts C seen ms) (m ∷ firsts C (m ∷ seen) ms)) (sym (alike m ∙ h))
 
-  noted_behind : (known : List A) (a : Attribute A) → noted C known a ≡ behind_all known (once C a)
-  noted_behind known (given_names ns) = refl
-  noted_behind known (ident n) = refl
-  noted_behind known (own a) = go (C.own_once a)
+  noted_after : (known : List A) (a : Attribute A) → noted C known a ≡ after_mentions known (once C a)
+  noted_after known (given_names ns) = refl
+  noted_after known (ident n) = refl
+  noted_after known (own a) = go (C.own_once a)
     where
-      go : (b : Bool) → cond b (with_mention C known a) known ≡ behind_all known (cond b (a ∷ []) [])
+      go : (b : Bool) → cond b (with_mention C known a) known ≡ after_mentions known (cond b (a ∷ []) [])
       go true = refl
       go false = refl
 
-  all_behind : (known : List A) (es : List (Text × Attribute A)) → all_noted C known es ≡ behind_all known (flat_map (λ e. once C e.1) es)
-  all_behind known [] = refl
-  all_behind known (e ∷ es) =
+  all_after : (known : List A) (es : List (Text × Attribute A)) → all_noted C known es ≡ after_mentions known (flat_map (λ e. once C e.1) es)
+  all_after known [] = refl
+  all_after known (e ∷ es) =
       let ms = flat_map (λ (e : Text × Attribute A). once C e.1) es in
-      all_behind (noted C known e.1) es ∙ ap (λ k. behind_all k ms) (noted_behind known e.1) ∙ sym (behind_both known (once C e.1) ms)
+      all_after (noted C known e.1) es ∙ ap (λ k. after_mentions k ms) (noted_after known e.1) ∙ sym (after_both known (once C e.1) ms)
 
   -- what the entries mention
   abbrev mentions : List (Entry C) → List A
   mentions es = flat_map (λ e. flat_map (λ a. once C a.1) e.attributes) es
 
-  items_behind : (known : List A) (gs : List (Option (Entry C))) → items_noted C known gs ≡ behind_all known (mentions (there C gs))
-  items_behind known [] = refl
-  items_behind known (None ∷ gs) = items_behind known gs
-  items_behind known (Some e ∷ gs) =
+  items_noted_after : (known : List A) (gs : List (Option (Entry C))) → items_noted C known gs ≡ after_mentions known (mentions (there C gs))
+  items_noted_after known [] = refl
+  items_noted_after known (None ∷ gs) = items_noted_after known gs
+  items_noted_after known (Some e ∷ gs) =
       let own_ms = flat_map (λ (a : Text × Attribute A). once C a.1) e.attributes in
       let ms = mentions (there C gs) in
-      items_behind (all_noted C known e.attributes) gs ∙ ap (λ k. behind_all k ms) (all_behind known e.attributes) ∙ sym (behind_both known own_ms ms)
+      items_noted_after (all_noted C known e.attributes) gs ∙ ap (λ k. after_mentions k ms) (all_after known e.attributes) ∙ sym (after_both known own_ms ms)
 
   -- the attributes that are recorded while all items are written are those that the section writes once
   pub noted_shared : (gs : List (Option (Entry C))) → items_noted C [] gs ≡ shared C (there C gs)
-  noted_shared gs = items_behind [] gs ∙ behind_firsts [] [] (mentions (there C gs)) (λ a. refl)
+  noted_shared gs = items_noted_after [] gs ∙ after_firsts [] [] (mentions (there C gs)) (λ a. refl)

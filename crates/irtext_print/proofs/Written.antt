@@ -28,31 +28,31 @@ module _ {T A : Type 0} (L : Language ⊤ T A) (C : Printing T A) (items : ℕ) 
   -- What was written of an item's attributes, and what is left: together they are all; the same of what is recorded.
   pub record PairsSoFar (known : List A) (left : List (Text × Attribute A)) (first : Bool) (old now : List ℕ) : Type 0 where
     pub known_all : all_noted C known left ≡ all_noted C first_known given
-    pub text : (behind : List A) → now ++ encode_utf8_all (left_text first (map (pair_text C items (all_noted C first_known given ++ behind) L) left))
-        ≡ old ++ encode_utf8_all (pairs_text C items (all_noted C first_known given ++ behind) L given)
+    pub text : (following : List A) → now ++ encode_utf8_all (left_text first (map (pair_text C items (all_noted C first_known given ++ following) L) left))
+        ≡ old ++ encode_utf8_all (pairs_text C items (all_noted C first_known given ++ following) L given)
 
   -- nothing was written so far
   pub pairs_none : (left : List (Text × Attribute A)) (old : List ℕ) → left ≡ given → PairsSoFar first_known left true old old
   pairs_none left old e = record {
     known_all = ap (all_noted C first_known) e;
-    text = λ behind. ap (λ z. old ++ encode_utf8_all (pairs_text C items (all_noted C first_known given ++ behind) L z)) e;
+    text = λ following. ap (λ z. old ++ encode_utf8_all (pairs_text C items (all_noted C first_known given ++ following) L z)) e;
   }
 
   -- one attribute more was written
   pub pairs_more : (known next_known : List A) (e : Text × Attribute A) (left rest : List (Text × Attribute A)) (first : Bool) (old now between next : List ℕ) → left ≡ e ∷ rest
       → between ≡ now ++ cond first [] comma → next_known ≡ noted C known e.1
-      → ((behind : List A) → next ≡ between ++ encode_utf8_all (pair_text C items (next_known ++ behind) L e))
+      → ((following : List A) → next ≡ between ++ encode_utf8_all (pair_text C items (next_known ++ following) L e))
       → PairsSoFar known left first old now → PairsSoFar next_known rest false old next
   pairs_more known next_known e left rest first old now between next is p k q so =
       let known_all : all_noted C next_known rest ≡ all_noted C first_known given = ap (λ z. all_noted C z rest) k ∙ ap (all_noted C known) (sym is) ∙ so.known_all in
       let on : GoesOn next_known (all_noted C next_known rest) = all_on C next_known rest in
-      let same : (behind : List A) → next_known ++ (on.0 ++ behind) ≡ all_noted C first_known given ++ behind = λ behind. sym (on_with next_known (all_noted C next_known rest) behind on) ∙ ap (λ z. z ++ behind) known_all in
+      let same : (following : List A) → next_known ++ (on.0 ++ following) ≡ all_noted C first_known given ++ following = λ following. sym (on_with next_known (all_noted C next_known rest) following on) ∙ ap (λ z. z ++ following) known_all in
       record {
         known_all = known_all;
-        text = λ behind.
-            pair_more L C items (all_noted C first_known given ++ behind) first left rest e now between next
-            (old ++ encode_utf8_all (pairs_text C items (all_noted C first_known given ++ behind) L given)) is p
-            (q (on.0 ++ behind) ∙ ap (λ z. between ++ encode_utf8_all (pair_text C items z L e)) (same behind)) (so.text behind);
+        text = λ following.
+            pair_more L C items (all_noted C first_known given ++ following) first left rest e now between next
+            (old ++ encode_utf8_all (pairs_text C items (all_noted C first_known given ++ following) L given)) is p
+            (q (on.0 ++ following) ∙ ap (λ z. between ++ encode_utf8_all (pair_text C items z L e)) (same following)) (so.text following);
       }
 
   -- all were recorded
@@ -61,10 +61,10 @@ module _ {T A : Type 0} (L : Language ⊤ T A) (C : Printing T A) (items : ℕ) 
 
   -- all were written
   pub pairs_written : (known : List A) (left : List (Text × Attribute A)) (first : Bool) (old now : List ℕ) → left ≡ [] → PairsSoFar known left first old now
-      → (behind : List A) → now ≡ old ++ encode_utf8_all (pairs_text C items (known ++ behind) L given)
-  pairs_written known left first old now is so behind =
-      pairs_end L C items (all_noted C first_known given ++ behind) first left now (old ++ encode_utf8_all (pairs_text C items (all_noted C first_known given ++ behind) L given)) is (so.text behind)
-      ∙ ap (λ z. old ++ encode_utf8_all (pairs_text C items (z ++ behind) L given)) (sym (pairs_known known left first old now is so))
+      → (following : List A) → now ≡ old ++ encode_utf8_all (pairs_text C items (known ++ following) L given)
+  pairs_written known left first old now is so following =
+      pairs_end L C items (all_noted C first_known given ++ following) first left now (old ++ encode_utf8_all (pairs_text C items (all_noted C first_known given ++ following) L given)) is (so.text following)
+      ∙ ap (λ z. old ++ encode_utf8_all (pairs_text C items (z ++ following) L given)) (sym (pairs_known known left first old now is so))
 
 module _ {T A : Type 0} (L : Language ⊤ T A) (C : Printing T A) where
   -- what printing requires of the caller's attributes alone
@@ -117,17 +117,17 @@ module _ {T A : Type 0} (L : Language ⊤ T A) (C : Printing T A) where
     -- What was written of items, and what is left: together they are all; the same of what is recorded.
     pub record ItemsSoFar (known : List A) (i : ℕ) (old now : List ℕ) : Type 0 where
       pub known_all : items_noted C known (map gives (drop i all)) ≡ items_noted C first_known (map gives all)
-      pub text : (behind : List A) → now ++ encode_utf8_all (given_texts C L items (items_noted C first_known (map gives all) ++ behind) i (map gives (drop i all)))
-          ≡ old ++ encode_utf8_all (given_texts C L items (items_noted C first_known (map gives all) ++ behind) 0 (map gives all))
+      pub text : (following : List A) → now ++ encode_utf8_all (given_texts C L items (items_noted C first_known (map gives all) ++ following) i (map gives (drop i all)))
+          ≡ old ++ encode_utf8_all (given_texts C L items (items_noted C first_known (map gives all) ++ following) 0 (map gives all))
 
     -- nothing was written so far
     pub items_none : (old : List ℕ) → ItemsSoFar first_known 0 old old
-    items_none old = record { known_all = refl; text = λ behind. refl }
+    items_none old = record { known_all = refl; text = λ following. refl }
 
     -- one item more was written
     pub items_more : (known next_known : List A) (i : ℕ) (d : X) (old now next : List ℕ) → i < length all
         → next_known ≡ one_noted C known (gives (get_or all i d))
-        → ((behind : List A) → next ≡ now ++ encode_utf8_all (given_text C L items (next_known ++ behind) i (gives (get_or all i d))))
+        → ((following : List A) → next ≡ now ++ encode_utf8_all (given_text C L items (next_known ++ following) i (gives (get_or all i d))))
         → ItemsSoFar known i old now → ItemsSoFar next_known (i + 1) old next
     items_more known next_known i d old now next below k q so =
         let x = get_or all i d in
@@ -136,16 +136,16 @@ module _ {T A : Type 0} (L : Language ⊤ T A) (C : Printing T A) where
         let split : map gives (drop i all) ≡ gives x ∷ rest = ap (map gives) (drop-cons all i d below ∙ ap (λ n. x ∷ drop n all) after) in
         let known_all : items_noted C next_known rest ≡ last_known = ap (λ z. items_noted C z rest) k ∙ ap (items_noted C known) (sym split) ∙ so.known_all in
         let on : GoesOn next_known (items_noted C next_known rest) = items_on C next_known rest in
-        let same : (behind : List A) → next_known ++ (on.0 ++ behind) ≡ last_known ++ behind = λ behind. sym (on_with next_known (items_noted C next_known rest) behind on) ∙ ap (λ z. z ++ behind) known_all in
+        let same : (following : List A) → next_known ++ (on.0 ++ following) ≡ last_known ++ following = λ following. sym (on_with next_known (items_noted C next_known rest) following on) ∙ ap (λ z. z ++ following) known_all in
         record {
           known_all = known_all;
-          text = λ behind.
-              let once = last_known ++ behind in
+          text = λ following.
+              let once = last_known ++ following in
               let tail = given_texts C L items once (i + 1) rest in
               more now next (next ++ encode_utf8_all tail) (given_text C L items once i (gives x)) tail
-              (q (on.0 ++ behind) ∙ ap (λ z. now ++ encode_utf8_all (given_text C L items z i (gives x))) (same behind)) refl
+              (q (on.0 ++ following) ∙ ap (λ z. now ++ encode_utf8_all (given_text C L items z i (gives x))) (same following)) refl
               ∙ ap (λ n. now ++ encode_utf8_all (given_text C L items once i (gives x) ++ given_texts C L items once n rest)) (sym after)
-              ∙ ap (λ z. now ++ encode_utf8_all (given_texts C L items once i z)) (sym split) ∙ so.text behind;
+              ∙ ap (λ z. now ++ encode_utf8_all (given_texts C L items once i z)) (sym split) ∙ so.text following;
         }
 
     nothing_left : (i : ℕ) → length all ≤ i → map gives (drop i all) ≡ []
@@ -157,10 +157,10 @@ module _ {T A : Type 0} (L : Language ⊤ T A) (C : Printing T A) where
 
     -- all were written
     pub items_written : (known : List A) (i : ℕ) (old now : List ℕ) → length all ≤ i → ItemsSoFar known i old now
-        → (behind : List A) → now ≡ old ++ encode_utf8_all (given_texts C L items (known ++ behind) 0 (map gives all))
-    items_written known i old now h so behind =
-        sym (append-nil now) ∙ ap (λ z. now ++ encode_utf8_all (given_texts C L items (last_known ++ behind) i z)) (sym (nothing_left i h)) ∙ so.text behind
-        ∙ ap (λ z. old ++ encode_utf8_all (given_texts C L items (z ++ behind) 0 (map gives all))) (sym (items_known known i old now h so))
+        → (following : List A) → now ≡ old ++ encode_utf8_all (given_texts C L items (known ++ following) 0 (map gives all))
+    items_written known i old now h so following =
+        sym (append-nil now) ∙ ap (λ z. now ++ encode_utf8_all (given_texts C L items (last_known ++ following) i z)) (sym (nothing_left i h)) ∙ so.text following
+        ∙ ap (λ z. old ++ encode_utf8_all (given_texts C L items (z ++ following) 0 (map gives all))) (sym (items_known known i old now h so))
 
     -- the section, where there are items
     section_some : 0 < length all → section_of C L (map gives all)
@@ -176,7 +176,7 @@ module _ {T A : Type 0} (L : Language ⊤ T A) (C : Printing T A) where
   pub section_written : {X : Type 0} (gives : X → Option (Entry C)) (all : List X) (known : List A) (f0 f1 f2 f3 : List ℕ) → 0 < length all
       → f1 ≡ f0 ++ codes "\n\noutlined_attributes:\n"
       → known ≡ items_noted C [] (map gives all)
-      → ((behind : List A) → f2 ≡ f1 ++ encode_utf8_all (given_texts C L (length all) (known ++ behind) 0 (map gives all)))
+      → ((following : List A) → f2 ≡ f1 ++ encode_utf8_all (given_texts C L (length all) (known ++ following) 0 (map gives all)))
       → f3 ≡ f2 ++ encode_utf8_all (once_texts (words L.owns.written) alone (length all) known)
       → f3 ≡ f0 ++ encode_utf8_all (section_of C L (map gives all))
   section_written gives all known f0 f1 f2 f3 some p k q r =

@@ -89,9 +89,9 @@ module _ {T A : Type 0} (C : Printing T A) (L : Language ⊤ T A) (ctx : Context
     region_items (Max (suc m)) = refl
 
     pub region_fits : (limit : RegionPrintDepthLimit) → IsLive ctx.graph (TheRegion r) → AllFit C L ctx (region_frames r i limit)
-    region_fits Unlimited stands = (stands, tt)
-    region_fits (Max zero) stands = tt
-    region_fits (Max (suc m)) stands = (stands, tt)
+    region_fits Unlimited alive = (alive, tt)
+    region_fits (Max zero) alive = tt
+    region_fits (Max (suc m)) alive = (alive, tt)
 
     -- a reason why it fails
     abbrev pub Fault : RegionPrintDepthLimit → Refusal → Type 0

@@ -51,9 +51,9 @@ module _ {T A : Type 0} (types : ir_text.Ghosts T A) (owns : ir_text.Ghosts A A)
   pub operation_begun : (p : Ptr Operation) (indent : ℕ) (mid : List ℕ) → slice_get (operations_in ctx.graph f.block) f.operation ≡ Some p → IsSome (operation ctx p) → Nested (children ctx.graph) (parent ctx.graph) → IsLive ctx.graph (TheBlock f.block) → indent ≡ f.indent + width →
       heads.AreDirectivesAt types owns attributes same ctx p begun.directives → heads.FitsAt types owns attributes same ctx p → mid ≡ old ++ encode_utf8_all (unless_first f.first (between_operations indent)) →
       new ≡ mid ++ encode_utf8_all (heads.operation_front_at types owns attributes same ctx p) → begun ≡ heads.begun_at types owns attributes same ctx p begun.directives true indent f.limit → Begins
-  operation_begun p indent mid got live nested stands n found fits between front is =
+  operation_begun p indent mid got live nested alive n found fits between front is =
       let there = is_there (operation ctx p) live in
-      block_begins C L ctx width f items [] p there.0 begun.directives indent old mid new (after ∷ frame.Operation begun ∷ []) (one_left (operations_in ctx.graph f.block) f.operation p (sym got)) there.1 nested stands n found fits between front (ap (λ b. after ∷ frame.Operation b ∷ []) is)
+      block_begins C L ctx width f items [] p there.0 begun.directives indent old mid new (after ∷ frame.Operation begun ∷ []) (one_left (operations_in ctx.graph f.block) f.operation p (sym got)) there.1 nested alive n found fits between front (ap (λ b. after ∷ frame.Operation b ∷ []) is)
 
   module _ (s : Begins) where
     -- the operation fits its frame

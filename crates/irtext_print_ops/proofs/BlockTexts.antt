@@ -26,7 +26,7 @@ use Rattle.irtext_print_ops.specs.Names.{name_of, label_text}
 use Rattle.irtext_print_ops.specs.declared.lists.Listed.TheVariants.{Arguments}
 use Rattle.irtext_print_ops.proofs.CanonicalTexts.{rows_are}
 use Rattle.irtext_print_ops.proofs.ListTexts.{texts_known}
-use Rattle.irtext_print_ops.proofs.Standing.{for_seen}
+use Rattle.irtext_print_ops.proofs.LiveViews.{for_seen}
 
 -- there are some
 abbrev some_of : {X : Type 0} → List X → Bool

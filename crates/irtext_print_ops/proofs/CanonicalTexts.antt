@@ -24,7 +24,7 @@ use Rattle.irtext_print_ops.specs.Opened.{body_front}
 use Rattle.irtext_print_ops.specs.Listed.{list_text}
 use Rattle.irtext_print_ops.specs.Names.{name_of, block_text}
 use Rattle.irtext_print_ops.specs.declared.lists.Listed.TheVariants.{Operands, Successors, OperandTypes, ResultTypes}
-use Rattle.irtext_print_ops.proofs.Standing.{for_seen}
+use Rattle.irtext_print_ops.proofs.LiveViews.{for_seen}
 use Rattle.irtext_print_ops.proofs.ListTexts.{texts_known, all_texts, types_known}
 
 all_kept : {X : Type 0} (xs : List X) → filter (λ x. true) xs ≡ xs

@@ -64,18 +64,18 @@ module _ {T A : Type 0} (C : Printing T A) (L : Language ⊤ T A) (ctx : Context
         let left_first : s.pushed ≡ pre ++ g ∷ [] = sym s.stack in
         let count : length items1 ≡ n + k = ap length s.marks ∙ length-append items s.gathered in
         let opened : map o s.pushed ≡ map o pre ++ o g ∷ [] = ap (map o) left_first ∙ map-append o pre (g ∷ []) in
-        let behind : map o pre ++ map o t.pushed ≡ map o (pre ++ post) = ap (λ z. map o pre ++ map o z) (sym t.stack) ∙ sym (map-append o pre post) in
+        let following : map o pre ++ map o t.pushed ≡ map o (pre ++ post) = ap (λ z. map o pre ++ map o z) (sym t.stack) ∙ sym (map-append o pre post) in
         let second : Turns C L width (o g) (n + k) t.text j (map o t.pushed) = subst (λ m. Turns C L width (o g) m t.text j (map o t.pushed)) count t.turned in
         let both : j + k ≡ length (s.gathered ++ t.gathered) = (let e = length-append s.gathered t.gathered in omega (arith, e)) in
         let sum : (n + k) + j ≡ n + length (s.gathered ++ t.gathered) = (let e = length-append s.gathered t.gathered in omega (arith, e)) in
         let written : rest C L width (o f) n ≡ (s.text ++ t.text) ++ open_rest C L width (map o (pre ++ post)) (n + length (s.gathered ++ t.gathered)) =
         s.turned.written ∙ (ap (λ z. s.text ++ open_rest C L width z (n + k)) opened
         ∙ (ap (λ z. s.text ++ z) (turned C L width (map o pre) (o g) (n + k) t.text j (map o t.pushed) second)
-        ∙ (ap (λ z. s.text ++ (t.text ++ open_rest C L width z ((n + k) + j))) behind
+        ∙ (ap (λ z. s.text ++ (t.text ++ open_rest C L width z ((n + k) + j))) following
         ∙ (ap (λ m. s.text ++ (t.text ++ open_rest C L width (map o (pre ++ post)) m)) sum
         ∙ sym (append_assoc s.text t.text (open_rest C L width (map o (pre ++ post)) (n + length (s.gathered ++ t.gathered)))))))) in
         let inner : open_marks C (map o s.pushed) ≡ j + open_marks C (map o (pre ++ post)) =
-        ap (open_marks C) opened ∙ (turned_marks C L width (map o pre) (o g) (n + k) t.text j (map o t.pushed) second ∙ ap (λ z. j + open_marks C z) behind) in
+        ap (open_marks C) opened ∙ (turned_marks C L width (map o pre) (o g) (n + k) t.text j (map o t.pushed) second ∙ ap (λ z. j + open_marks C z) following) in
         let counted : marks C (o f) ≡ length (s.gathered ++ t.gathered) + open_marks C (map o (pre ++ post)) = (let a = s.turned.counted in let b = length-append s.gathered t.gathered in omega (arith, a, b, inner)) in
         let last : items_left C L ctx (pre ++ g ∷ []) ≡ t.gathered ++ items_left C L ctx (pre ++ post) =
         items_both C L ctx width pre (g ∷ []) ∙ (ap (λ z. z ++ items_left C L ctx pre) (t.left ∙ ap (λ z. t.gathered ++ items_left C L ctx z) (sym t.stack))

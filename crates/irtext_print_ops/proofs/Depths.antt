@@ -27,8 +27,8 @@ use Rattle.irtext_grammar.specs.Contexts.Nested.{operations_by, blocks_by, regio
 
 -- the object under a pointer
 module _ {X K : Type 0} (s : Store X) where
-  stands_at : (p : Ptr K) (x : Entry X) → get s p ≡ Some x → (c : Cell X) × (slice_get s.cells p.index ≡ Some c) × (c.generation ≡ p.generation)
-  stands_at p x e = go (slice_get s.cells p.index) refl e
+  cell_is_live : (p : Ptr K) (x : Entry X) → get s p ≡ Some x → (c : Cell X) × (slice_get s.cells p.index ≡ Some c) × (c.generation ≡ p.generation)
+  cell_is_live p x e = go (slice_get s.cells p.index) refl e
     where
       test : (c : Cell X) (t : Bool) → (c.generation == p.generation) ≡ t → cond t c.object None ≡ Some x → c.generation ≡ p.generation
       test c true q f = eqb-true c.generation p.generation q
@@ -39,12 +39,12 @@ module _ {X K : Type 0} (s : Store X) where
       go (Some c) q f = (c, q, test c (c.generation == p.generation) refl f)
 
   place_within : (p : Ptr K) (x : Entry X) → get s p ≡ Some x → p.index < length s.cells
-  place_within p x e = let c = stands_at p x e in slice_get_within s.cells p.index c.0 c.1
+  place_within p x e = let c = cell_is_live p x e in slice_get_within s.cells p.index c.0 c.1
 
   one_at_a_place : (p q : Ptr K) (x y : Entry X) → get s p ≡ Some x → get s q ≡ Some y → p.index ≡ q.index → p ≡ q
   one_at_a_place p q x y e f same =
-      let c = stands_at p x e in
-      let d = stands_at q y f in
+      let c = cell_is_live p x e in
+      let d = cell_is_live q y f in
       let k : c.0 ≡ d.0 = some_eq (sym c.1 ∙ (ap (slice_get s.cells) same ∙ d.1)) in
       ptr_same p q same (sym c.2 ∙ (ap (λ (z : Cell X). z.generation) k ∙ d.2))
 

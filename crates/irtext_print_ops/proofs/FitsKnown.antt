@@ -19,7 +19,7 @@ use Rattle.irtext_print_ops.specs.Fits.{Names, counts_of, first_failed, refused_
 use Rattle.irtext_print_ops.specs.declared.fits.Counts.{Counts}
 use Rattle.irtext_print_ops.specs.declared.fits.FitFault.{FitFault}
 use Rattle.irtext_print_ops.proofs.FitTexts.{Answers, answered, had}
-use Rattle.irtext_print_ops.proofs.Standing.{for_seen}
+use Rattle.irtext_print_ops.proofs.LiveViews.{for_seen}
 
 module _ {T A : Type 0} (C : Printing T A) (written : A → Text) (ctx : ContextView T A) (p : Ptr Operation) (id : OpId) (named : option_map (λ op. op.id) (operation ctx p) ≡ Some id) where
   -- the operation has the format that was found

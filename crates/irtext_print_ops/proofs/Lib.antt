@@ -23,11 +23,11 @@ pub mod Printed
 pub mod Refused
 pub mod ResultTexts
 pub mod Seen
-pub mod Standing
+pub mod LiveViews
 pub mod Stops
 pub mod Tests
 pub mod Turned
 pub mod Turns
-pub mod UsesStand
+pub mod UsesDefined
 pub mod ValuesByNumber
 pub mod Walked

@@ -113,11 +113,11 @@ module _ {X Y Z : Type 0} (f : X → Option Y) (name : Y → Z) (text : Z → Te
       go (Some y) h = ap (λ z. text (name y) ∷ z) h
 
   -- the same after an index, if nothing is left out
-  pub texts_behind : (xs : List X) → ((i : ℕ) (x : X) → slice_get xs i ≡ Some x → IsSome (f x)) → (k : ℕ)
+  pub texts_after : (xs : List X) → ((i : ℕ) (x : X) → slice_get xs i ≡ Some x → IsSome (f x)) → (k : ℕ)
       → map text (map name (drop k (filter_map f xs))) ≡ known_types (drop k (map (λ x. option_map (λ y. text (name y)) (f x)) xs))
-  texts_behind xs there zero = texts_known xs
-  texts_behind [] there (suc k) = refl
-  texts_behind (x ∷ xs) there (suc k) = go (f x) (there zero x refl) (texts_behind xs (λ i y e. there (suc i) y e) k)
+  texts_after xs there zero = texts_known xs
+  texts_after [] there (suc k) = refl
+  texts_after (x ∷ xs) there (suc k) = go (f x) (there zero x refl) (texts_after xs (λ i y e. there (suc i) y e) k)
     where
       go : (o : Option Y) → IsSome o → map text (map name (drop k (filter_map f xs))) ≡ known_types (drop k (map (λ x. option_map (λ y. text (name y)) (f x)) xs))
           → map text (map name (drop (suc k) (cons_option o (filter_map f xs)))) ≡ known_types (drop k (map (λ x. option_map (λ y. text (name y)) (f x)) xs))

@@ -11,7 +11,7 @@ use Rattle.irtext_grammar.specs.Graphs.Graph.{Printing, is_marked, op_outlined, 
 use Rattle.irtext_print.specs.Given.{operation_entry, block_entry, is_marked_by}
 use Rattle.irtext_print_ops.specs.Heads.{or_no_block}
 use Rattle.irtext_print_ops.specs.Walk.{or_nothing}
-use Rattle.irtext_print_ops.proofs.Standing.{when_live}
+use Rattle.irtext_print_ops.proofs.LiveViews.{when_live}
 
 module _ {T A : Type 0} (C : Printing T A) (written : A → Text) (ctx : ContextView T A) where
   -- a live operation

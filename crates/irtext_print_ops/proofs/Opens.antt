@@ -12,9 +12,9 @@ module _ {T A : Type 0} (C : Printing T A) (L : Language ⊤ T A) (width : ℕ) 
   marks_pushed [] f = omega arith
   marks_pushed (g ∷ gs) f = let k = marks_pushed gs f in omega (arith, k)
 
-  marks_behind : (gs hs : List (Open T A)) → open_marks C (gs ++ hs) ≡ open_marks C gs + open_marks C hs
-  marks_behind [] hs = omega arith
-  marks_behind (g ∷ gs) hs = let k = marks_behind gs hs in omega (arith, k)
+  marks_after : (gs hs : List (Open T A)) → open_marks C (gs ++ hs) ≡ open_marks C gs + open_marks C hs
+  marks_after [] hs = omega arith
+  marks_after (g ∷ gs) hs = let k = marks_after gs hs in omega (arith, k)
 
   -- only this frame is open
   pub alone : (f : Open T A) (n : ℕ) → open_rest C L width (f ∷ []) n ≡ rest C L width f n
@@ -28,7 +28,7 @@ module _ {T A : Type 0} (C : Printing T A) (L : Language ⊤ T A) (width : ℕ) 
       open_rest C L width (gs ++ f ∷ []) n ≡ text ++ open_rest C L width (gs ++ hs) (n + k)
   turned [] f n text k hs t = alone f n ∙ t.written
   turned (g ∷ gs) f n text k hs t =
-      let e : n + open_marks C (gs ++ f ∷ []) ≡ (n + k) + open_marks C (gs ++ hs) = (let a = marks_pushed gs f in let b = marks_behind gs hs in let c = t.counted in omega (arith, a, b, c)) in
+      let e : n + open_marks C (gs ++ f ∷ []) ≡ (n + k) + open_marks C (gs ++ hs) = (let a = marks_pushed gs f in let b = marks_after gs hs in let c = t.counted in omega (arith, a, b, c)) in
       ap (λ z. z ++ rest C L width g (n + open_marks C (gs ++ f ∷ []))) (turned gs f n text k hs t)
       ∙ (ap (λ m. (text ++ open_rest C L width (gs ++ hs) (n + k)) ++ rest C L width g m) e
       ∙ append_assoc text (open_rest C L width (gs ++ hs) (n + k)) (rest C L width g ((n + k) + open_marks C (gs ++ hs))))
@@ -36,4 +36,4 @@ module _ {T A : Type 0} (C : Printing T A) (L : Language ⊤ T A) (width : ℕ) 
   -- the marks that are left, after a turn
   pub turned_marks : (gs : List (Open T A)) (f : Open T A) (n : ℕ) (text : Text) (k : ℕ) (hs : List (Open T A)) → Turns C L width f n text k hs →
       open_marks C (gs ++ f ∷ []) ≡ k + open_marks C (gs ++ hs)
-  turned_marks gs f n text k hs t = let a = marks_pushed gs f in let b = marks_behind gs hs in let c = t.counted in omega (arith, a, b, c)
+  turned_marks gs f n text k hs t = let a = marks_pushed gs f in let b = marks_after gs hs in let c = t.counted in omega (arith, a, b, c)

@@ -14,7 +14,7 @@ use Rattle.irtext_base.specs.declared.format.Directive as code
 use Rattle.irtext_context.specs.Context.{ContextView, OperationView, operation}
 use Rattle.irtext_base.specs.FormatViews.{directive_of}
 use Rattle.irtext_graph.specs.Content.{Typed}
-use Rattle.irtext_graph.specs.Parts.{operands, successors, results, value_at, ValueStands}
+use Rattle.irtext_graph.specs.Parts.{operands, successors, results, value_at, IsDefinedValue}
 use Rattle.irtext_graph.specs.declared.arena.Ptr.{Ptr}
 use Rattle.irtext_graph.specs.declared.object.BasicBlock.{BasicBlock}
 use Rattle.irtext_graph.specs.declared.object.Operation.{Operation}
@@ -34,11 +34,11 @@ use Rattle.irtext_print_ops.specs.Listed.{typed_text, facet_text}
 use Rattle.irtext_print_ops.specs.Names.{name_of, operand_text, block_text, label_text}
 use Rattle.irtext_print_ops.specs.Written.{part_text}
 use Rattle.irtext_print_ops.specs.declared.lists.Facet.TheVariants as facet
-use Rattle.irtext_print_ops.proofs.Standing.{for_seen}
-use Rattle.irtext_print_ops.proofs.ListTexts.{texts_behind, at_index, all_texts}
+use Rattle.irtext_print_ops.proofs.LiveViews.{for_seen}
+use Rattle.irtext_print_ops.proofs.ListTexts.{texts_after, at_index, all_texts}
 
 -- all that an operation uses is there
-pub record UsesStand {T A : Type 0} (ctx : ContextView T A) (p : Ptr Operation) : Type 0 where
+pub record UsesDefined {T A : Type 0} (ctx : ContextView T A) (p : Ptr Operation) : Type 0 where
   pub at : (i : ℕ) (v : Value) → slice_get (operands ctx.graph p) i ≡ Some v → IsSome (number_of ctx v)
 
 module _ {T A : Type 0} (L : Language ⊤ T A) where
@@ -92,11 +92,11 @@ module _ {T A : Type 0} (L : Language ⊤ T A) where
         go (Some n) = refl
 
     -- the operand at an index
-    pub operand_is : UsesStand ctx p → (i : ℕ) → spaced_if (option_and_then (λ t. t) (slice_get (map (operand_text ctx) (operands ctx.graph p)) i))
+    pub operand_is : UsesDefined ctx p → (i : ℕ) → spaced_if (option_and_then (λ t. t) (slice_get (map (operand_text ctx) (operands ctx.graph p)) i))
         ≡ part_text L (option_map (λ n. tree.piece (tree.operand i (record { place = tt; text = name_of ctx n }))) (slice_get (filter_map (number_of ctx) (operands ctx.graph p)) i))
-    operand_is stand i =
+    operand_is uses_present i =
         ap spaced_if (sym (found_all (operand_text ctx) (operands ctx.graph p) i)) ∙ operand_here i (slice_get (operands ctx.graph p) i)
-        ∙ ap (λ x. part_text L (option_map (λ n. tree.piece (tree.operand i (record { place = tt; text = name_of ctx n }))) x)) (sym (at_index (number_of ctx) (operands ctx.graph p) stand.at i))
+        ∙ ap (λ x. part_text L (option_map (λ n. tree.piece (tree.operand i (record { place = tt; text = name_of ctx n }))) x)) (sym (at_index (number_of ctx) (operands ctx.graph p) uses_present.at i))
       where
         found_all : (f : Value → Option Text) (xs : List Value) (i : ℕ) → option_and_then f (slice_get xs i) ≡ option_and_then (λ t. t) (slice_get (map f xs) i)
         found_all f [] i = refl
@@ -104,9 +104,9 @@ module _ {T A : Type 0} (L : Language ⊤ T A) where
         found_all f (x ∷ xs) (suc i) = found_all f xs i
 
     -- the operands from an index on
-    pub operands_are : UsesStand ctx p → (k : ℕ) → spaced (joined comma (known_types (drop k (map (operand_text ctx) (operands ctx.graph p)))))
+    pub operands_are : UsesDefined ctx p → (k : ℕ) → spaced (joined comma (known_types (drop k (map (operand_text ctx) (operands ctx.graph p)))))
         ≡ part_text L (Some (tree.piece (tree.operands (map (λ n. record { place = tt; text = name_of ctx n }) (drop k (filter_map (number_of ctx) (operands ctx.graph p)))))))
-    operands_are stand k = ap (λ z. spaced (joined comma z)) (sym (texts_behind (number_of ctx) (λ n. record { place = tt; text = name_of ctx n }) (λ (n : Name ⊤). n.text) (operands ctx.graph p) stand.at k))
+    operands_are uses_present k = ap (λ z. spaced (joined comma z)) (sym (texts_after (number_of ctx) (λ n. record { place = tt; text = name_of ctx n }) (λ (n : Name ⊤). n.text) (operands ctx.graph p) uses_present.at k))
 
     -- the successor at an index
     pub successor_is : (i : ℕ) → spaced_if (option_and_then (λ t. t) (slice_get (map (λ b. Some (label_text ctx b)) (successors ctx.graph p)) i))
@@ -163,8 +163,8 @@ module _ {T A : Type 0} (L : Language ⊤ T A) (C : Printing T A) (ds : List Dir
   attributes_written d es found is view e = ap (λ z. directive_text L.owns.written C.own_outlined ds (entries_of z) [] 0 d) (sym (seen (λ op. op.attributes) (operation ctx p) view es e found)) ∙ is (seen_operation written ctx p view)
 
 -- what an operation uses has a number
-pub uses_stand : {T A : Type 0} (ctx : ContextView T A) (p : Ptr Operation) → ((i : ℕ) (v : Value) → slice_get (operands ctx.graph p) i ≡ Some v → ValueStands ctx.graph v) → UsesStand ctx p
-uses_stand {T = T} {A = A} ctx p stand = record { at = λ i v e. go (value_at ctx.graph v) (stand i v e) }
+pub uses_defined : {T A : Type 0} (ctx : ContextView T A) (p : Ptr Operation) → ((i : ℕ) (v : Value) → slice_get (operands ctx.graph p) i ≡ Some v → IsDefinedValue ctx.graph v) → UsesDefined ctx p
+uses_defined {T = T} {A = A} ctx p uses_present = record { at = λ i v e. go (value_at ctx.graph v) (uses_present i v e) }
   where
     go : (o : Option (Typed (Option T))) → IsSome o → IsSome (option_map (λ (t : Typed (Option T)). t.number) o)
     go None h = absurd (cc)

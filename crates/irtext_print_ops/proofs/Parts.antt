@@ -20,7 +20,7 @@ use Rattle.irtext_grammar.specs.Graphs.Graph.{GraphOp, GraphBlock, Printing, Lim
 use Rattle.irtext_print_ops.specs.Opened.{Open, an_operation, covers, Turns, rest, open_rest, marks}
 use Rattle.irtext_print_ops.proofs.Opens.{alone}
 use Rattle.irtext_print_ops.proofs.Turns.{goes_on, piece_turns}
-use Rattle.irtext_print_ops.specs.Walk.{part_text, pieces_text, behind_pieces}
+use Rattle.irtext_print_ops.specs.Walk.{part_text, pieces_text, after_pieces}
 
 module _ {T A : Type 0} (C : Printing T A) (L : Language ⊤ T A) (width : ℕ) where
   -- one turn after another
@@ -38,21 +38,21 @@ module _ {T A : Type 0} (C : Printing T A) (L : Language ⊤ T A) (width : ℕ) 
 
   -- the pieces before a region
   pub pieces_turn : (i : ℕ) (l : Limit) (mine : Option (GraphOp T A)) (ps : List (Part ⊤ T A)) (rs : Regions (GraphOp T A) (GraphBlock T A) ⊤) (n : ℕ) →
-      Turns C L width (an_operation i l mine false ps rs) n (pieces_text L ps) 0 (an_operation i l mine false (behind_pieces ps) rs ∷ [])
+      Turns C L width (an_operation i l mine false ps rs) n (pieces_text L ps) 0 (an_operation i l mine false (after_pieces ps) rs ∷ [])
   pieces_turn i l mine [] rs n = goes_on C L width (an_operation i l mine false [] rs) n [] (an_operation i l mine false [] rs) refl refl
   pieces_turn i l mine (tree.piece p ∷ ps) rs n =
-      and_then (an_operation i l mine false (tree.piece p ∷ ps) rs) (an_operation i l mine false ps rs) n _ (pieces_text L ps) 0 (an_operation i l mine false (behind_pieces ps) rs ∷ [])
+      and_then (an_operation i l mine false (tree.piece p ∷ ps) rs) (an_operation i l mine false ps rs) n _ (pieces_text L ps) 0 (an_operation i l mine false (after_pieces ps) rs ∷ [])
       (piece_turns C L width i l mine p ps rs n) (pieces_turn i l mine ps rs n)
   pieces_turn i l mine (tree.region j ∷ ps) rs n = goes_on C L width (an_operation i l mine false (tree.region j ∷ ps) rs) n [] (an_operation i l mine false (tree.region j ∷ ps) rs) refl refl
   pieces_turn i l mine (tree.regions ∷ ps) rs n = goes_on C L width (an_operation i l mine false (tree.regions ∷ ps) rs) n [] (an_operation i l mine false (tree.regions ∷ ps) rs) refl refl
 
 module _ {T A : Type 0} where
   -- pieces write no region
-  pub covers_behind : (ps : List (Part ⊤ T A)) (rs : Regions (GraphOp T A) (GraphBlock T A) ⊤) → covers ps rs ≡ covers (behind_pieces ps) rs
-  covers_behind [] rs = refl
-  covers_behind (tree.piece p ∷ ps) rs = covers_behind ps rs
-  covers_behind (tree.region j ∷ ps) rs = refl
-  covers_behind (tree.regions ∷ ps) rs = refl
+  pub covers_after : (ps : List (Part ⊤ T A)) (rs : Regions (GraphOp T A) (GraphBlock T A) ⊤) → covers ps rs ≡ covers (after_pieces ps) rs
+  covers_after [] rs = refl
+  covers_after (tree.piece p ∷ ps) rs = covers_after ps rs
+  covers_after (tree.region j ∷ ps) rs = refl
+  covers_after (tree.regions ∷ ps) rs = refl
 
   -- where no region is left, all are written
   pub covers_none : (ps : List (Part ⊤ T A)) → covers {T = T} {A = A} ps no_regions ≡ true
@@ -136,11 +136,11 @@ module _ {T A : Type 0} (C : Printing T A) (isolated : format.Id → Bool) (all 
   pieces_more L (Some (tree.region i)) h ps = absurd h
   pieces_more L (Some tree.regions) h ps = absurd h
 
-  behind_more : (p : Option (Part ⊤ T A)) → IsPiece p → (ps : List (Part ⊤ T A)) → behind_pieces (cons_option p ps) ≡ behind_pieces ps
-  behind_more None h ps = refl
-  behind_more (Some (tree.piece p)) h ps = refl
-  behind_more (Some (tree.region i)) h ps = absurd h
-  behind_more (Some tree.regions) h ps = absurd h
+  after_further : (p : Option (Part ⊤ T A)) → IsPiece p → (ps : List (Part ⊤ T A)) → after_pieces (cons_option p ps) ≡ after_pieces ps
+  after_further None h ps = refl
+  after_further (Some (tree.piece p)) h ps = refl
+  after_further (Some (tree.region i)) h ps = absurd h
+  after_further (Some tree.regions) h ps = absurd h
 
   -- one piece more is written
   pub next_piece : (L : Language ⊤ T A) (d : Directive) (ps qs : List (Part ⊤ T A)) (now new whole : List ℕ) → is_any_region d ≡ false → ps ≡ cons_option (part_of C all o d) qs →
@@ -150,5 +150,5 @@ module _ {T A : Type 0} (C : Printing T A) (isolated : format.Id → Bool) (all 
       ∙ (ap (λ z. now ++ encode_utf8_all z) (sym (pieces_more L (part_of C all o d) (is_piece d e) qs) ∙ ap (pieces_text L) (sym p)) ∙ h)
 
   -- and the same is left after the pieces
-  pub next_behind : (d : Directive) (ps qs all_left : List (Part ⊤ T A)) → is_any_region d ≡ false → ps ≡ cons_option (part_of C all o d) qs → behind_pieces ps ≡ all_left → behind_pieces qs ≡ all_left
-  next_behind d ps qs all_left e p h = sym (behind_more (part_of C all o d) (is_piece d e) qs) ∙ (ap behind_pieces (sym p) ∙ h)
+  pub next_after : (d : Directive) (ps qs all_left : List (Part ⊤ T A)) → is_any_region d ≡ false → ps ≡ cons_option (part_of C all o d) qs → after_pieces ps ≡ all_left → after_pieces qs ≡ all_left
+  next_after d ps qs all_left e p h = sym (after_further (part_of C all o d) (is_piece d e) qs) ∙ (ap after_pieces (sym p) ∙ h)

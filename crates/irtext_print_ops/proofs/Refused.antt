@@ -41,8 +41,8 @@ use Rattle.irtext_print_ops.proofs.Tests.{is_there}
 use Rattle.irtext_print_ops.proofs.Turned.{seen_some, block_there, regions_seen}
 
 -- what holds of an error that is returned by `?`
-pub handed_on : {R E : Type 0} (P : E → Type 0) (r : Result R E) (e : E) → IsErrAnd r (λ y. y ≡ e) → P e → IfErr r P
-handed_on P r e h p = let q = err_from_is_err_and r h in subst (λ z. IfErr z P) (sym (q.1 ∙ ap Err q.2)) p
+pub propagated : {R E : Type 0} (P : E → Type 0) (r : Result R E) (e : E) → IsErrAnd r (λ y. y ≡ e) → P e → IfErr r P
+propagated P r e h p = let q = err_from_is_err_and r h in subst (λ z. IfErr z P) (sym (q.1 ∙ ap Err q.2)) p
 
 module _ {T A : Type 0} (types : ir_text.Ghosts T A) (owns : ir_text.Ghosts A A) (attributes : attr_text.Ghosts A A) (same : A → A → Bool) (ctx : ContextView T A) where
   -- what an error says, from the reason that it has

@@ -9,7 +9,7 @@ use Rattle.irtext_grammar.specs.Contexts.Nested.{seen_operation, seen_own, seen_
 use Rattle.irtext_grammar.specs.Graphs.Graph.{GraphOp, GraphBlock}
 use Rattle.irtext_print_ops.specs.Heads.{or_no_block}
 use Rattle.irtext_print_ops.specs.Walk.{or_nothing}
-use Rattle.irtext_print_ops.proofs.Standing.{when_live}
+use Rattle.irtext_print_ops.proofs.LiveViews.{when_live}
 
 module _ {T A : Type 0} (written : A → Text) (ctx : ContextView T A) where
   -- of an operation

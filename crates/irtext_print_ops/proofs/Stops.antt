@@ -10,7 +10,7 @@ use Rattle.irtext_base.specs.FormatViews.{directive_of, directives_of}
 use Rattle.irtext_grammar.specs.Grammar.Tree.{Part}
 use Rattle.irtext_grammar.specs.Graphs.Graph.{GraphOp, Printing}
 use Rattle.irtext_print_ops.specs.Steps.{custom_directives}
-use Rattle.irtext_print_ops.specs.Walk.{behind_pieces, directives_in, part_at, parts_left, pieces_text}
+use Rattle.irtext_print_ops.specs.Walk.{after_pieces, directives_in, part_at, parts_left, pieces_text}
 use Rattle.irtext_print_ops.proofs.Directives.{all_written, directives_found, parts_step}
 
 module _ {T A : Type 0} (C : Printing T A) (L : Language ⊤ T A) (o : GraphOp T A) (items : List code.Directive) (at : ℕ) (x : code.Directive)
@@ -26,18 +26,18 @@ module _ {T A : Type 0} (C : Printing T A) (L : Language ⊤ T A) (o : GraphOp T
   -- the pieces from a directive on are written, and stop before this part
   pub record StopsAt (from : ℕ) (part : Part ⊤ T A) (now whole : List ℕ) : Type 0 where
     pub text : now ≡ whole
-    pub left : behind_pieces (parts_left C o from) ≡ part ∷ parts_left C o (at + 1)
+    pub left : after_pieces (parts_left C o from) ≡ part ∷ parts_left C o (at + 1)
     pub past : from < at + 1
     pub within : at + 1 ≤ length (directives_in (C.format_of o.id))
 
-  pub stops_at : (from : ℕ) (part : Part ⊤ T A) (now whole : List ℕ) → at < length items → part_at C o (directive_of x) ≡ Some part → pieces_text L (part ∷ parts_left C o (at + 1)) ≡ [] → behind_pieces (part ∷ parts_left C o (at + 1)) ≡ part ∷ parts_left C o (at + 1) →
-      now ++ encode_utf8_all (pieces_text L (parts_left C o at)) ≡ whole → behind_pieces (parts_left C o at) ≡ behind_pieces (parts_left C o from) → from ≤ at → StopsAt from part now whole
-  stops_at from part now whole low is none stays text behind past =
+  pub stops_at : (from : ℕ) (part : Part ⊤ T A) (now whole : List ℕ) → at < length items → part_at C o (directive_of x) ≡ Some part → pieces_text L (part ∷ parts_left C o (at + 1)) ≡ [] → after_pieces (part ∷ parts_left C o (at + 1)) ≡ part ∷ parts_left C o (at + 1) →
+      now ++ encode_utf8_all (pieces_text L (parts_left C o at)) ≡ whole → after_pieces (parts_left C o at) ≡ after_pieces (parts_left C o from) → from ≤ at → StopsAt from part now whole
+  stops_at from part now whole low is none stays text following past =
       let next : parts_left C o at ≡ part ∷ parts_left C o (at + 1) = next_part ∙ ap (λ y. cons_option y (parts_left C o (at + 1))) is in
       let count : length (directives_in (C.format_of o.id)) ≡ length items = ap length found ∙ length-map items directive_of in
       record {
         text = all_written L (parts_left C o at) (part ∷ parts_left C o (at + 1)) now whole next none text;
-        left = sym behind ∙ ap behind_pieces next ∙ stays;
+        left = sym following ∙ ap after_pieces next ∙ stays;
         past = omega (arith, past);
         within = omega (arith, count, low);
       }

@@ -37,7 +37,7 @@ use Rattle.irtext_print.specs.declared.printable.state.RegionPrintDepthLimit.The
 use Rattle.irtext_print_ops.specs.Opened.{an_operation, a_region, a_block, covers, Turns, mark_text, mark_count, opened, operation_front, block_head, block_front, between_blocks, between_operations, unless_first, closing}
 use Rattle.irtext_print_ops.proofs.Depths.{inside_is}
 use Rattle.irtext_print_ops.proofs.Turns.{goes_on, operation_ends, no_region_turns, repeats_turns, repeats_end, elided_turns, elided_repeats, shown_turns, shown_repeats, region_ends, block_ends, block_turns, operation_turns}
-use Rattle.irtext_print_ops.specs.Walk.{is_canonical, AreDirectives, IsBegun, directives_in, or_nothing, pieces_text, behind_pieces, parts_left, seen_at, inside_of, regions_left, blocks_left, operations_left, marked_own, open_of, AllFit, FrameFits, marked_operation, marked_block, items_in_regions, items_in_blocks, items_in_operations, items_left, directive_count, turns_of_regions, turns_of_blocks, turns_of_operations, turns_left, Steps}
+use Rattle.irtext_print_ops.specs.Walk.{is_canonical, AreDirectives, IsBegun, directives_in, or_nothing, pieces_text, after_pieces, parts_left, seen_at, inside_of, regions_left, blocks_left, operations_left, marked_own, open_of, AllFit, FrameFits, marked_operation, marked_block, items_in_regions, items_in_blocks, items_in_operations, items_left, directive_count, turns_of_regions, turns_of_blocks, turns_of_operations, turns_left, Steps}
 use Rattle.irtext_print_ops.specs.Steps.{region_front, region_frames, region_turn_text, region_turn_frames}
 use Rattle.irtext_print_ops.proofs.Tests.{none_left}
 use Rattle.irtext_dict.proofs.Drops.{one_left}
@@ -56,7 +56,7 @@ use Rattle.irtext_print.proofs.Printers.Locations.{more, ending}
 use Rattle.irtext_graph.proofs.Nests.{seen}
 use Rattle.irtext_grammar.specs.Graphs.Closed.{FitsFormat, count_fits}
 use Rattle.std.specs.Prelude.{filter_map}
-use Rattle.irtext_print_ops.proofs.Parts.{and_then, pieces_turn, covers_behind, covers_none, region_count, covered}
+use Rattle.irtext_print_ops.proofs.Parts.{and_then, pieces_turn, covers_after, covers_none, region_count, covered}
 
 module _ {T A : Type 0} (C : Printing T A) (L : Language ⊤ T A) (ctx : ContextView T A) (width : ℕ) where
   -- an operation that fits its format writes all its regions
@@ -118,7 +118,7 @@ module _ {T A : Type 0} (C : Printing T A) (L : Language ⊤ T A) (ctx : Context
     pub block_skips : (p : Ptr Operation) (old : List ℕ) (frames' : List Frame) → drop f.operation (operations_in ctx.graph f.block) ≡ p ∷ drop (f.operation + 1) (operations_in ctx.graph f.block) → operation ctx p ≡ None →
         IsLive ctx.graph (TheBlock f.block) → frames' ≡ frames ++ frame.Block (record f { operation = f.operation + 1 }) ∷ [] →
         Steps C L ctx width (frame.Block f) items items frames frames' old old
-    block_skips p old frames' e none stands k =
+    block_skips p old frames' e none alive k =
         let ops = operations_in ctx.graph f.block in
         let os = operations_left C L ctx f.block (f.operation + 1) in
         let q = record f { operation = f.operation + 1 } in
@@ -136,7 +136,7 @@ module _ {T A : Type 0} (C : Printing T A) (L : Language ⊤ T A) (ctx : Context
               (goes_on C L width (a_block f.indent (levels f.limit) f.first (seen_operations L.owns.written ctx os)) (length items) [] (a_block f.indent (levels f.limit) f.first (seen_operations L.owns.written ctx os)) refl refl);
           left = ap (λ z. items_in_operations C L ctx (levels f.limit) (here z)) e
               ∙ ap (λ o. elim o [ Some op ↦ items_in_regions C L ctx (levels f.limit) (inside_of C L ctx p) ++ (marked_operation C L ctx p (seen_operation L.owns.written ctx p op) ++ items_in_operations C L ctx (levels f.limit) os) | None ↦ items_in_operations C L ctx (levels f.limit) os ]) none;
-          fit = (stands, tt);
+          fit = (alive, tt);
           faults = λ why x. subst (λ z. OpenFault C (isolated ctx.dialects) width why (a_block f.indent (levels f.limit) f.first z)) (sym out) (only_fault C (isolated ctx.dialects) width why (a_block f.indent (levels f.limit) f.first (seen_operations L.owns.written ctx os)) x);
           misfits = λ x. inl (subst (λ z. OpenFault C (isolated ctx.dialects) width Misfit (a_block f.indent (levels f.limit) f.first z)) out x);
           fewer = fewer (turns_of_operations C L ctx (here (drop f.operation ops))) (turns_of_operations C L ctx os) (directive_count C L ctx p) (turns_of_regions C L ctx (inside_of C L ctx p)) (ap (λ z. turns_of_operations C L ctx (here z)) e);
@@ -153,7 +153,7 @@ module _ {T A : Type 0} (C : Printing T A) (L : Language ⊤ T A) (ctx : Context
         frames' ≡ (frames ++ frame.Block (record f { operation = f.operation + 1; first = false }) ∷ [])
         ++ frame.Operation (record { op = p; directives = known; directive = 0; region = 0; repeats = is_canonical (C.format_of (seen_at C L ctx p).id); marked = true; indent = indent; limit = f.limit }) ∷ [] →
         Steps C L ctx width (frame.Block f) items items frames frames' old new
-    block_begins p op known indent old mid new frames' e is nested stands n found fits w v k =
+    block_begins p op known indent old mid new frames' e is nested alive n found fits w v k =
         let ops = operations_in ctx.graph f.block in
         let l = levels f.limit in
         let o = seen_at C L ctx p in
@@ -190,7 +190,7 @@ module _ {T A : Type 0} (C : Printing T A) (L : Language ⊤ T A) (ctx : Context
               ∙ (ap (λ z. items_in_regions C L ctx l z ++ (marked_operation C L ctx p o ++ items_in_operations C L ctx l os)) is_inner
               ∙ sym (append_assoc (items_in_regions C L ctx l (regions_left C L ctx p 0)) (marked_operation C L ctx p o) (items_in_operations C L ctx l os)))));
           fit = (
-            stands,
+            alive,
             (
               (
                 (subst (λ (z : Option (OperationView T A)). IsSome z) (sym is) refl, found),
@@ -220,14 +220,14 @@ module _ {T A : Type 0} (C : Printing T A) (L : Language ⊤ T A) (ctx : Context
     | inr at ↦ at
   ]
 
-  pub block_stands : Nested (children ctx.graph) (parent ctx.graph) → (r : Ptr Region) (b : Ptr BasicBlock) (i : ℕ) → slice_get (blocks ctx.graph r) i ≡ Some b → IsSome (block ctx b)
-  block_stands nested r b i h = let at = block_there nested r b i h in subst (λ (z : Option (BlockView T A)). IsSome z) (sym (ap (option_map block_of) at.1)) refl
+  pub block_is_live : Nested (children ctx.graph) (parent ctx.graph) → (r : Ptr Region) (b : Ptr BasicBlock) (i : ℕ) → slice_get (blocks ctx.graph r) i ≡ Some b → IsSome (block ctx b)
+  block_is_live nested r b i h = let at = block_there nested r b i h in subst (λ (z : Option (BlockView T A)). IsSome z) (sym (ap (option_map block_of) at.1)) refl
 
-  block_stands_there : Nested (children ctx.graph) (parent ctx.graph) → (r : Ptr Region) (b : Ptr BasicBlock) (i : ℕ) → slice_get (blocks ctx.graph r) i ≡ Some b → IsLive ctx.graph (TheBlock b)
-  block_stands_there nested r b i h = let at = block_there nested r b i h in subst (λ o. IsSome {T = Content (Option (OperationData A)) (BlockData A) (Option T)} (option_map (λ d. ABlock d.0 d.1) (content_of o))) (sym at.1) refl
+  block_there_is_live : Nested (children ctx.graph) (parent ctx.graph) → (r : Ptr Region) (b : Ptr BasicBlock) (i : ℕ) → slice_get (blocks ctx.graph r) i ≡ Some b → IsLive ctx.graph (TheBlock b)
+  block_there_is_live nested r b i h = let at = block_there nested r b i h in subst (λ o. IsSome {T = Content (Option (OperationData A)) (BlockData A) (Option T)} (option_map (λ d. ABlock d.0 d.1) (content_of o))) (sym at.1) refl
 
-  pub region_stands : Nested (children ctx.graph) (parent ctx.graph) → (p : Ptr Operation) (r : Ptr Region) (i : ℕ) → slice_get (regions ctx.graph p) i ≡ Some r → IsLive ctx.graph (TheRegion r)
-  region_stands nested p r i h = elim (seen (get ctx.graph.regions r)) [
+  pub region_is_live : Nested (children ctx.graph) (parent ctx.graph) → (p : Ptr Operation) (r : Ptr Region) (i : ℕ) → slice_get (regions ctx.graph p) i ≡ Some r → IsLive ctx.graph (TheRegion r)
+  region_is_live nested p r i h = elim (seen (get ctx.graph.regions r)) [
     | inl none ↦ absurd (let k : option_map TheOperation (parent_of (get ctx.graph.regions r)) ≡ None = ap (λ o. option_map TheOperation (parent_of o)) none in
         let m : option_map TheOperation (parent_of (get ctx.graph.regions r)) ≡ Some (TheOperation p) = nested.down (TheOperation p) i (TheRegion r) (slice_get-map TheRegion (regions ctx.graph p) i ∙ ap (option_map TheRegion) h) in cc)
     | inr at ↦ subst (λ o. IsSome {T = Content (Option (OperationData A)) (BlockData A) (Option T)} (option_map (λ d. ARegion d.0 d.1) (content_of o))) (sym at.1) refl
@@ -263,7 +263,7 @@ module _ {T A : Type 0} (C : Printing T A) (L : Language ⊤ T A) (ctx : Context
         frames' ≡ (frames ++ frame.Region (record f { block = f.block + 1; first = false }) ∷ [])
         ++ frame.Block (record { block = b; operation = 0; first = true; indent = indent; limit = f.limit }) ∷ [] →
         Steps C L ctx width (frame.Region f) items items' frames frames' old new
-    region_begins b indent inner items' old f1 f2 f3 new frames' got e nested stands n m w1 w2 w3 w4 i k =
+    region_begins b indent inner items' old f1 f2 f3 new frames' got e nested alive n m w1 w2 w3 w4 i k =
         let bks = blocks ctx.graph f.region in
         let l = levels f.limit in
         let h = or_no_block (seen_head L.owns.written ctx b) in
@@ -303,7 +303,7 @@ module _ {T A : Type 0} (C : Printing T A) (L : Language ⊤ T A) (ctx : Context
           left = ap (λ z. items_in_blocks C L ctx l (here z)) e
               ∙ (ap (λ x. elim x [ Some view ↦ marked_block C L ctx b (seen_block L.owns.written ctx b view) ++ (items_in_operations C L ctx l os ++ items_in_blocks C L ctx l bs) | None ↦ items_in_blocks C L ctx l bs ]) is
               ∙ ap (λ x. marked_block C L ctx b x ++ (items_in_operations C L ctx l os ++ items_in_blocks C L ctx l bs)) (sym same));
-          fit = (stands, (block_stands_there nested f.region b f.block got, tt));
+          fit = (alive, (block_there_is_live nested f.region b f.block got, tt));
           faults = λ why x. subst (λ z. OpenFault C (isolated ctx.dialects) width why (a_region f.indent l f.first z)) (sym shows) (region_next C (isolated ctx.dialects) width why f.indent indent l f.first h sos sbs n x);
           misfits = λ x. region_kept C (isolated ctx.dialects) width f.indent indent l f.first h sos sbs n (subst (λ z. OpenFault C (isolated ctx.dialects) width Misfit (a_region f.indent l f.first z)) shows x);
           fewer = fewer (turns_of_blocks C L ctx (here (drop f.block bks))) (turns_of_blocks C L ctx bs) (turns_of_operations C L ctx os) (ap (λ z. turns_of_blocks C L ctx (here z)) e);
@@ -331,7 +331,7 @@ module _ {T A : Type 0} (C : Printing T A) (L : Language ⊤ T A) (ctx : Context
 
   module _ (f : OperationFrame) (items : List Item) (frames : List Frame) where
     -- all is written but the mark
-    pub operation_ended : (items' : List Item) (old mid new : List ℕ) → f.repeats ≡ false → behind_pieces (parts_left C (seen_at C L ctx f.op) f.directive) ≡ [] →
+    pub operation_ended : (items' : List Item) (old mid new : List ℕ) → f.repeats ≡ false → after_pieces (parts_left C (seen_at C L ctx f.op) f.directive) ≡ [] →
         covers (parts_left C (seen_at C L ctx f.op) f.directive) (seen_regions L.owns.written ctx (regions_left C L ctx f.op f.region)) ≡ true →
         mid ≡ old ++ encode_utf8_all (pieces_text L (parts_left C (seen_at C L ctx f.op) f.directive)) →
         new ≡ mid ++ encode_utf8_all (mark_text C L 0 (length items) (marked_own C L ctx f.marked f.op)) →
@@ -343,7 +343,7 @@ module _ {T A : Type 0} (C : Printing T A) (L : Language ⊤ T A) (ctx : Context
         let l = levels f.limit in
         let own = marked_own C L ctx f.marked f.op in
         let mark = mark_text C L width (length items) own in
-        let cov' : covers [] rs ≡ true = ap (λ z. covers z rs) (sym e) ∙ (sym (covers_behind ps rs) ∙ cov) in
+        let cov' : covers [] rs ≡ true = ap (λ z. covers z rs) (sym e) ∙ (sym (covers_after ps rs) ∙ cov) in
         let mine = cond f.marked (marked_operation C L ctx f.op (seen_at C L ctx f.op)) [] in
         record {
           pushed = [];
@@ -354,7 +354,7 @@ module _ {T A : Type 0} (C : Printing T A) (L : Language ⊤ T A) (ctx : Context
           written = more old mid new (pieces_text L ps) mark w (v ∙ ap (λ z. mid ++ encode_utf8_all z) (same_mark width (length items) own));
           turned = subst (λ b. Turns C L width (an_operation f.indent l own b ps rs) (length items) (pieces_text L ps ++ mark) (length mine) []) (sym once)
               (subst (λ k. Turns C L width (an_operation f.indent l own false ps rs) (length items) (pieces_text L ps ++ mark) k []) (sym (own_count f.marked f.op))
-              (and_then C L width (an_operation f.indent l own false ps rs) (an_operation f.indent l own false (behind_pieces ps) rs) (length items) (pieces_text L ps) mark (mark_count C own) []
+              (and_then C L width (an_operation f.indent l own false ps rs) (an_operation f.indent l own false (after_pieces ps) rs) (length items) (pieces_text L ps) mark (mark_count C own) []
               (pieces_turn C L width f.indent l own ps rs (length items))
               (subst (λ z. Turns C L width (an_operation f.indent l own false z rs) (length items) mark (mark_count C own) []) (sym e) (operation_ends C L width f.indent l own rs (length items) cov'))));
           left = ap (λ z. z ++ mine) (none_covered (inside_of C L ctx) l (drop f.region (regions ctx.graph f.op)) cov') ∙ sym (append-nil mine);
@@ -368,7 +368,7 @@ module _ {T A : Type 0} (C : Printing T A) (L : Language ⊤ T A) (ctx : Context
     stays_open : (k : ℕ) (again : Bool) (text : Text) (old new : List ℕ) (frames' : List Frame) → f.repeats ≡ false → f.directive < k → k ≤ directive_count C L ctx f.op →
         new ≡ old ++ encode_utf8_all (pieces_text L (parts_left C (seen_at C L ctx f.op) f.directive) ++ text) → frames' ≡ frames ++ frame.Operation (record f { directive = k; repeats = again }) ∷ [] →
         FrameFits C L ctx (frame.Operation (record f { directive = k; repeats = again })) →
-        Turns C L width (an_operation f.indent (levels f.limit) (marked_own C L ctx f.marked f.op) false (behind_pieces (parts_left C (seen_at C L ctx f.op) f.directive)) (seen_regions L.owns.written ctx (regions_left C L ctx f.op f.region))) (length items) text 0
+        Turns C L width (an_operation f.indent (levels f.limit) (marked_own C L ctx f.marked f.op) false (after_pieces (parts_left C (seen_at C L ctx f.op) f.directive)) (seen_regions L.owns.written ctx (regions_left C L ctx f.op f.region))) (length items) text 0
         (open_of C L ctx (frame.Operation (record f { directive = k; repeats = again })) ∷ []) →
         Steps C L ctx width (frame.Operation f) items items frames frames' old new
     stays_open k again text old new frames' once low high w s fits turns =
@@ -384,7 +384,7 @@ module _ {T A : Type 0} (C : Printing T A) (L : Language ⊤ T A) (ctx : Context
           marks = sym (append-nil items);
           written = w;
           turned = subst (λ b. Turns C L width (opens b ps) (length items) (pieces_text L ps ++ text) 0 (open_of C L ctx next ∷ [])) (sym once)
-              (and_then C L width (opens false ps) (opens false (behind_pieces ps)) (length items) (pieces_text L ps) text 0 (open_of C L ctx next ∷ [])
+              (and_then C L width (opens false ps) (opens false (after_pieces ps)) (length items) (pieces_text L ps) text 0 (open_of C L ctx next ∷ [])
               (pieces_turn C L width f.indent (levels f.limit) (marked_own C L ctx f.marked f.op) ps rs (length items)) turns);
           left = refl;
           fit = (fits, tt);
@@ -397,15 +397,15 @@ module _ {T A : Type 0} (C : Printing T A) (L : Language ⊤ T A) (ctx : Context
         fewer d i k r b c one low high = omega (arith, one, low, high)
 
     -- all regions that are left are written next
-    pub regions_begin : (k : ℕ) (old mid new : List ℕ) (frames' : List Frame) → f.repeats ≡ false → behind_pieces (parts_left C (seen_at C L ctx f.op) f.directive) ≡ tree.regions ∷ parts_left C (seen_at C L ctx f.op) k →
+    pub regions_begin : (k : ℕ) (old mid new : List ℕ) (frames' : List Frame) → f.repeats ≡ false → after_pieces (parts_left C (seen_at C L ctx f.op) f.directive) ≡ tree.regions ∷ parts_left C (seen_at C L ctx f.op) k →
         f.directive < k → k ≤ directive_count C L ctx f.op → IsBegun C L ctx f.op f.directives →
         mid ≡ old ++ encode_utf8_all (pieces_text L (parts_left C (seen_at C L ctx f.op) f.directive)) → new ≡ mid ++ codes " " →
         frames' ≡ frames ++ frame.Operation (record f { directive = k; repeats = true }) ∷ [] →
         Steps C L ctx width (frame.Operation f) items items frames frames' old new
-    regions_begin k old mid new frames' once e low high stands w v s =
+    regions_begin k old mid new frames' once e low high alive w v s =
         let own = marked_own C L ctx f.marked f.op in
         let rs = seen_regions L.owns.written ctx (regions_left C L ctx f.op f.region) in
-        stays_open k true (codes " ") old new frames' once low high (ending old mid new (pieces_text L (parts_left C (seen_at C L ctx f.op) f.directive)) (codes " ") refl w v) s (stands, refl)
+        stays_open k true (codes " ") old new frames' once low high (ending old mid new (pieces_text L (parts_left C (seen_at C L ctx f.op) f.directive)) (codes " ") refl w v) s (alive, refl)
         (subst (λ z. Turns C L width (an_operation f.indent (levels f.limit) own false z rs) (length items) (codes " ") 0 (an_operation f.indent (levels f.limit) own true (parts_left C (seen_at C L ctx f.op) k) rs ∷ [])) (sym e)
         (repeats_turns C L width f.indent (levels f.limit) own (parts_left C (seen_at C L ctx f.op) k) rs (length items)))
 
@@ -454,7 +454,7 @@ module _ {T A : Type 0} (C : Printing T A) (L : Language ⊤ T A) (ctx : Context
     -- all regions are written, none is left
     pub repeat_ended : (old new : List ℕ) (frames' : List Frame) → f.repeats ≡ true → drop f.region (regions ctx.graph f.op) ≡ [] → IsBegun C L ctx f.op f.directives → new ≡ old ++ [] →
         frames' ≡ frames ++ frame.Operation (record f { repeats = false }) ∷ [] → Steps C L ctx width (frame.Operation f) items items frames frames' old new
-    repeat_ended old new frames' all_left e stands w s =
+    repeat_ended old new frames' all_left e alive w s =
         let ps = parts_left C (seen_at C L ctx f.op) f.directive in
         let here = λ (z : List (Ptr Region)). regions_by ctx.graph (inside_of C L ctx) z in
         let l = levels f.limit in
@@ -470,7 +470,7 @@ module _ {T A : Type 0} (C : Printing T A) (L : Language ⊤ T A) (ctx : Context
               (subst (λ z. Turns C L width (an_operation f.indent l own true ps (seen_regions L.owns.written ctx (here z))) (length items) [] 0 (an_operation f.indent l own false ps (seen_regions L.owns.written ctx (here z)) ∷ [])) (sym e)
               (repeats_end C L width f.indent l own ps (length items)));
           left = refl;
-          fit = ((stands, subst (λ z. covers ps (seen_regions L.owns.written ctx (here z)) ≡ true) (sym e) (covers_none ps)), tt);
+          fit = ((alive, subst (λ z. covers ps (seen_regions L.owns.written ctx (here z)) ≡ true) (sym e) (covers_none ps)), tt);
           faults = λ why x. only_fault C (isolated ctx.dialects) width why (an_operation f.indent l own false ps (seen_regions L.owns.written ctx (here (drop f.region (regions ctx.graph f.op))))) x;
           misfits = λ x. inl x;
           fewer = subst (λ b. (1 + (2 * (directive_count C L ctx f.op - f.directive) + (0 + turns_of_regions C L ctx (regions_left C L ctx f.op f.region)))) + 0
@@ -481,7 +481,7 @@ module _ {T A : Type 0} (C : Printing T A) (L : Language ⊤ T A) (ctx : Context
     pub repeat_begins : (r : Ptr Region) (old new : List ℕ) (frames' : List Frame) → f.repeats ≡ true → drop f.region (regions ctx.graph f.op) ≡ r ∷ drop (f.region + 1) (regions ctx.graph f.op) →
         IsBegun C L ctx f.op f.directives → IsLive ctx.graph (TheRegion r) → new ≡ old ++ encode_utf8_all (region_front width f.indent f.limit) →
         frames' ≡ frames ++ frame.Operation (record f { region = f.region + 1 }) ∷ region_frames r f.indent f.limit → Steps C L ctx width (frame.Operation f) items items frames frames' old new
-    repeat_begins r old new frames' all_left e stands there w s =
+    repeat_begins r old new frames' all_left e alive there w s =
         let ps = parts_left C (seen_at C L ctx f.op) f.directive in
         let here = λ (z : List (Ptr Region)). regions_by ctx.graph (inside_of C L ctx) z in
         let l = levels f.limit in
@@ -502,7 +502,7 @@ module _ {T A : Type 0} (C : Printing T A) (L : Language ⊤ T A) (ctx : Context
               (subst (λ hs. Turns C L width (an_operation f.indent l own true ps (forest.region tt bs srs)) (length items) (region_front width f.indent f.limit) 0 (an_operation f.indent l own true ps srs ∷ hs)) (sym (frames_open r f.indent f.limit))
               (repeated_turn f.indent own (length items) ps bs srs f.limit)));
           left = ap (λ z. items_in_regions C L ctx l (here z) ++ mine) e ∙ frames_items r f.indent f.limit rs mine;
-          fit = ((stands, subst (λ b. (b || covers ps srs) ≡ true) (sym all_left) refl), frames_fit r f.indent f.limit there);
+          fit = ((alive, subst (λ b. (b || covers ps srs) ≡ true) (sym all_left) refl), frames_fit r f.indent f.limit there);
           faults = λ why x. subst (λ z. RegionsFault C (isolated ctx.dialects) width why f.indent l (seen_regions L.owns.written ctx (here z))) (sym e)
               (operation_next C (isolated ctx.dialects) width why f.indent f.limit own f.repeats ps bs srs
               (subst (λ z. AnyFault C (isolated ctx.dialects) width why (an_operation f.indent l own f.repeats ps srs ∷ z)) (frames_open r f.indent f.limit) x));
@@ -516,29 +516,29 @@ module _ {T A : Type 0} (C : Printing T A) (L : Language ⊤ T A) (ctx : Context
         fewer d b later all tf tb e m = omega (arith, e, m)
 
     -- the pieces are written up to a directive of one region, and none is left
-    pub single_ended : (k j : ℕ) (old new : List ℕ) (frames' : List Frame) → f.repeats ≡ false → behind_pieces (parts_left C (seen_at C L ctx f.op) f.directive) ≡ tree.region j ∷ parts_left C (seen_at C L ctx f.op) k →
+    pub single_ended : (k j : ℕ) (old new : List ℕ) (frames' : List Frame) → f.repeats ≡ false → after_pieces (parts_left C (seen_at C L ctx f.op) f.directive) ≡ tree.region j ∷ parts_left C (seen_at C L ctx f.op) k →
         f.directive < k → k ≤ directive_count C L ctx f.op → drop f.region (regions ctx.graph f.op) ≡ [] → IsBegun C L ctx f.op f.directives →
         new ≡ old ++ encode_utf8_all (pieces_text L (parts_left C (seen_at C L ctx f.op) f.directive)) →
         frames' ≡ frames ++ frame.Operation (record f { directive = k; repeats = false }) ∷ [] → Steps C L ctx width (frame.Operation f) items items frames frames' old new
-    single_ended k j old new frames' once b low high e stands w s =
+    single_ended k j old new frames' once b low high e alive w s =
         let qs = parts_left C (seen_at C L ctx f.op) k in
         let seen_by = λ (z : List (Ptr Region)). seen_regions L.owns.written ctx (regions_by ctx.graph (inside_of C L ctx) z) in
         let opens = λ (ps : List (Part ⊤ T A)) (z : List (Ptr Region)). an_operation f.indent (levels f.limit) (marked_own C L ctx f.marked f.op) false ps (seen_by z) in
         let left = drop f.region (regions ctx.graph f.op) in
         stays_open f items frames k false [] old new frames' once low high (w ∙ ap (λ z. old ++ encode_utf8_all z) (sym (append-nil (pieces_text L (parts_left C (seen_at C L ctx f.op) f.directive))))) s
-        (stands, subst (λ z. covers qs (seen_by z) ≡ true) (sym e) (covers_none qs))
+        (alive, subst (λ z. covers qs (seen_by z) ≡ true) (sym e) (covers_none qs))
         (subst (λ y. Turns C L width (opens y left) (length items) [] 0 (opens qs left ∷ [])) (sym b)
         (subst (λ z. Turns C L width (opens (tree.region j ∷ qs) z) (length items) [] 0 (opens qs z ∷ [])) (sym e)
         (no_region_turns C L width f.indent (levels f.limit) (marked_own C L ctx f.marked f.op) j qs (length items))))
 
     -- the pieces are written up to a directive of one region, and it is begun
-    pub single_begins : (k j : ℕ) (r : Ptr Region) (old mid new : List ℕ) (frames' : List Frame) → f.repeats ≡ false → behind_pieces (parts_left C (seen_at C L ctx f.op) f.directive) ≡ tree.region j ∷ parts_left C (seen_at C L ctx f.op) k →
+    pub single_begins : (k j : ℕ) (r : Ptr Region) (old mid new : List ℕ) (frames' : List Frame) → f.repeats ≡ false → after_pieces (parts_left C (seen_at C L ctx f.op) f.directive) ≡ tree.region j ∷ parts_left C (seen_at C L ctx f.op) k →
         f.directive < k → k ≤ directive_count C L ctx f.op → drop f.region (regions ctx.graph f.op) ≡ r ∷ drop (f.region + 1) (regions ctx.graph f.op) →
         covers (parts_left C (seen_at C L ctx f.op) f.directive) (seen_regions L.owns.written ctx (regions_left C L ctx f.op f.region)) ≡ true →
         IsBegun C L ctx f.op f.directives → IsLive ctx.graph (TheRegion r) →
         mid ≡ old ++ encode_utf8_all (pieces_text L (parts_left C (seen_at C L ctx f.op) f.directive)) → new ≡ mid ++ encode_utf8_all (codes " " ++ region_front width f.indent f.limit) →
         frames' ≡ frames ++ frame.Operation (record f { directive = k; region = f.region + 1 }) ∷ region_frames r f.indent f.limit → Steps C L ctx width (frame.Operation f) items items frames frames' old new
-    single_begins k j r old mid new frames' once b low high e cov stands there w v s =
+    single_begins k j r old mid new frames' once b low high e cov alive there w v s =
         let ps = parts_left C (seen_at C L ctx f.op) f.directive in
         let qs = parts_left C (seen_at C L ctx f.op) k in
         let here = λ (z : List (Ptr Region)). regions_by ctx.graph (inside_of C L ctx) z in
@@ -550,7 +550,7 @@ module _ {T A : Type 0} (C : Printing T A) (L : Language ⊤ T A) (ctx : Context
         let front = codes " " ++ region_front width f.indent f.limit in
         let hs = map (open_of C L ctx) (region_frames r f.indent f.limit) in
         let shows : all ≡ forest.region tt bs srs = ap (λ z. seen_regions L.owns.written ctx (here z)) e in
-        let cov' : covers qs srs ≡ true = ap (λ z. covers (tree.region j ∷ qs) z) (sym shows) ∙ (ap (λ y. covers y all) (sym b) ∙ (sym (covers_behind ps all) ∙ cov)) in
+        let cov' : covers qs srs ≡ true = ap (λ z. covers (tree.region j ∷ qs) z) (sym shows) ∙ (ap (λ y. covers y all) (sym b) ∙ (sym (covers_after ps all) ∙ cov)) in
         record {
           pushed = frame.Operation (record f { directive = k; region = f.region + 1 }) ∷ region_frames r f.indent f.limit;
           text = pieces_text L ps ++ front;
@@ -559,14 +559,14 @@ module _ {T A : Type 0} (C : Printing T A) (L : Language ⊤ T A) (ctx : Context
           marks = sym (append-nil items);
           written = more old mid new (pieces_text L ps) front w v;
           turned = subst (λ x. Turns C L width (an_operation f.indent l own x ps all) (length items) (pieces_text L ps ++ front) 0 (an_operation f.indent l own x qs srs ∷ hs)) (sym once)
-              (and_then C L width (an_operation f.indent l own false ps all) (an_operation f.indent l own false (behind_pieces ps) all) (length items) (pieces_text L ps) front 0 (an_operation f.indent l own false qs srs ∷ hs)
+              (and_then C L width (an_operation f.indent l own false ps all) (an_operation f.indent l own false (after_pieces ps) all) (length items) (pieces_text L ps) front 0 (an_operation f.indent l own false qs srs ∷ hs)
               (pieces_turn C L width f.indent l own ps all (length items))
               (subst (λ y. Turns C L width (an_operation f.indent l own false y all) (length items) front 0 (an_operation f.indent l own false qs srs ∷ hs)) (sym b)
               (subst (λ z. Turns C L width (an_operation f.indent l own false (tree.region j ∷ qs) z) (length items) front 0 (an_operation f.indent l own false qs srs ∷ hs)) (sym shows)
               (subst (λ z. Turns C L width (an_operation f.indent l own false (tree.region j ∷ qs) (forest.region tt bs srs)) (length items) front 0 (an_operation f.indent l own false qs srs ∷ z)) (sym (frames_open r f.indent f.limit))
               (single_turn f.indent own (length items) qs bs srs f.limit j)))));
           left = ap (λ z. items_in_regions C L ctx l (here z) ++ mine) e ∙ frames_items r f.indent f.limit rs mine;
-          fit = ((stands, subst (λ x. (x || covers qs srs) ≡ true) (sym once) cov'), frames_fit r f.indent f.limit there);
+          fit = ((alive, subst (λ x. (x || covers qs srs) ≡ true) (sym once) cov'), frames_fit r f.indent f.limit there);
           faults = λ why x. subst (λ z. RegionsFault C (isolated ctx.dialects) width why f.indent l z) (sym shows)
               (operation_next C (isolated ctx.dialects) width why f.indent f.limit own f.repeats qs bs srs
               (subst (λ z. AnyFault C (isolated ctx.dialects) width why (an_operation f.indent l own f.repeats qs srs ∷ z)) (frames_open r f.indent f.limit) x));
@@ -582,28 +582,28 @@ module _ {T A : Type 0} (C : Printing T A) (L : Language ⊤ T A) (ctx : Context
     -- a turn in which all regions that are left are written
     pub repeat_step : (old new : List ℕ) (frames' : List Frame) → f.repeats ≡ true → IsBegun C L ctx f.op f.directives → Nested (children ctx.graph) (parent ctx.graph) →
         new ≡ old ++ encode_utf8_all (region_turn_text ctx width f) → frames' ≡ frames ++ region_turn_frames ctx f → Steps C L ctx width (frame.Operation f) items items frames frames' old new
-    repeat_step old new frames' all_left stands nested w s = go (slice_get (regions ctx.graph f.op) f.region) refl w s
+    repeat_step old new frames' all_left alive nested w s = go (slice_get (regions ctx.graph f.op) f.region) refl w s
       where
         go : (o : Option (Ptr Region)) → slice_get (regions ctx.graph f.op) f.region ≡ o → new ≡ old ++ encode_utf8_all (elim o [ None ↦ [] | Some _ ↦ cond f.repeats [] (codes " ") ++ region_front width f.indent f.limit ]) →
             frames' ≡ frames ++ elim o [ None ↦ frame.Operation (record f { repeats = false }) ∷ [] | Some r ↦ frame.Operation (record f { region = f.region + 1 }) ∷ region_frames r f.indent f.limit ] →
             Steps C L ctx width (frame.Operation f) items items frames frames' old new
-        go None e w s = repeat_ended old new frames' all_left (none_left (regions ctx.graph f.op) f.region e) stands w s
-        go (Some r) e w s = repeat_begins r old new frames' all_left (one_left (regions ctx.graph f.op) f.region r (sym e)) stands (region_stands nested f.op r f.region e)
+        go None e w s = repeat_ended old new frames' all_left (none_left (regions ctx.graph f.op) f.region e) alive w s
+        go (Some r) e w s = repeat_begins r old new frames' all_left (one_left (regions ctx.graph f.op) f.region r (sym e)) alive (region_is_live nested f.op r f.region e)
             (w ∙ ap (λ b. old ++ encode_utf8_all (cond b [] (codes " ") ++ region_front width f.indent f.limit)) all_left) s
 
     -- a turn in which the pieces are written, and one region
-    pub single_step : (k j : ℕ) (old mid new : List ℕ) (frames' : List Frame) → f.repeats ≡ false → behind_pieces (parts_left C (seen_at C L ctx f.op) f.directive) ≡ tree.region j ∷ parts_left C (seen_at C L ctx f.op) k →
+    pub single_step : (k j : ℕ) (old mid new : List ℕ) (frames' : List Frame) → f.repeats ≡ false → after_pieces (parts_left C (seen_at C L ctx f.op) f.directive) ≡ tree.region j ∷ parts_left C (seen_at C L ctx f.op) k →
         f.directive < k → k ≤ directive_count C L ctx f.op →
         covers (parts_left C (seen_at C L ctx f.op) f.directive) (seen_regions L.owns.written ctx (regions_left C L ctx f.op f.region)) ≡ true →
         IsBegun C L ctx f.op f.directives → Nested (children ctx.graph) (parent ctx.graph) →
         mid ≡ old ++ encode_utf8_all (pieces_text L (parts_left C (seen_at C L ctx f.op) f.directive)) →
         new ≡ mid ++ encode_utf8_all (region_turn_text ctx width (record f { directive = k })) → frames' ≡ frames ++ region_turn_frames ctx (record f { directive = k }) →
         Steps C L ctx width (frame.Operation f) items items frames frames' old new
-    single_step k j old mid new frames' once b low high cov stands nested v w s = go (slice_get (regions ctx.graph f.op) f.region) refl w s
+    single_step k j old mid new frames' once b low high cov alive nested v w s = go (slice_get (regions ctx.graph f.op) f.region) refl w s
       where
         go : (o : Option (Ptr Region)) → slice_get (regions ctx.graph f.op) f.region ≡ o → new ≡ mid ++ encode_utf8_all (elim o [ None ↦ [] | Some _ ↦ cond f.repeats [] (codes " ") ++ region_front width f.indent f.limit ]) →
             frames' ≡ frames ++ elim o [ None ↦ frame.Operation (record f { directive = k; repeats = false }) ∷ [] | Some r ↦ frame.Operation (record f { directive = k; region = f.region + 1 }) ∷ region_frames r f.indent f.limit ] →
             Steps C L ctx width (frame.Operation f) items items frames frames' old new
-        go None e w s = single_ended k j old new frames' once b low high (none_left (regions ctx.graph f.op) f.region e) stands (w ∙ (append-nil mid ∙ v)) s
-        go (Some r) e w s = single_begins k j r old mid new frames' once b low high (one_left (regions ctx.graph f.op) f.region r (sym e)) cov stands (region_stands nested f.op r f.region e) v
+        go None e w s = single_ended k j old new frames' once b low high (none_left (regions ctx.graph f.op) f.region e) alive (w ∙ (append-nil mid ∙ v)) s
+        go (Some r) e w s = single_begins k j r old mid new frames' once b low high (one_left (regions ctx.graph f.op) f.region r (sym e)) cov alive (region_is_live nested f.op r f.region e) v
             (w ∙ ap (λ x. mid ++ encode_utf8_all (cond x [] (codes " ") ++ region_front width f.indent f.limit)) once) s

@@ -21,7 +21,7 @@ use Rattle.irtext_context.specs.Context.{ContextView, OperationView, BlockView, 
 use Rattle.irtext_context.specs.declared.base.block.BlockData.{BlockData}
 use Rattle.irtext_context.specs.declared.base.operation.OperationData.{OperationData}
 use Rattle.irtext_context.proofs.Contexts.{OperationEntry, BlockEntry}
-use Rattle.irtext_grammar.specs.Contexts.Nested.{NamedValue, given_at, attributes_in, named_from, standing, numbered_as, named_results, named_arguments, values_of, given_to, type_of}
+use Rattle.irtext_grammar.specs.Contexts.Nested.{NamedValue, given_at, attributes_in, named_from, if_live, numbered_as, named_results, named_arguments, values_of, given_to, type_of}
 use Rattle.irtext_grammar.specs.UniqueNames as unique
 use Rattle.irtext_grammar.specs.UniqueNames.{given_name}
 
@@ -135,7 +135,7 @@ module _ {T A : Type 0} (ctx : ContextView T A) where
   Is w = (v : Value) × (t : Typed (Option T)) × (value_at ctx.graph v ≡ Some t) × (w ≡ its v t)
 
   from_results : (i : ℕ) (c : Cell (Node BasicBlock Region (OperationContent (Option (OperationData A)) (Option T)))) → slice_get ctx.graph.operations.cells i ≡ Some c
-      → (o : Option (OperationEntry T A)) → c.object ≡ o → (w : NamedValue T) → Among w (standing named_results o) → Is w
+      → (o : Option (OperationEntry T A)) → c.object ≡ o → (w : NamedValue T) → Among w (if_live named_results o) → Is w
   from_results i c at None is w h = absurd h
   from_results i c at (Some e) is w h =
       let p : Ptr Operation = record { index = i; generation = c.generation; of = record {} } in
@@ -149,7 +149,7 @@ module _ {T A : Type 0} (ctx : ContextView T A) where
       )
 
   from_arguments : (i : ℕ) (c : Cell (Node Region Operation (BlockContent (BlockData A) (Option T)))) → slice_get ctx.graph.blocks.cells i ≡ Some c
-      → (o : Option (BlockEntry T A)) → c.object ≡ o → (w : NamedValue T) → Among w (standing named_arguments o) → Is w
+      → (o : Option (BlockEntry T A)) → c.object ≡ o → (w : NamedValue T) → Among w (if_live named_arguments o) → Is w
   from_arguments i c at None is w h = absurd h
   from_arguments i c at (Some e) is w h =
       let p : Ptr BasicBlock = record { index = i; generation = c.generation; of = record {} } in
@@ -163,24 +163,24 @@ module _ {T A : Type 0} (ctx : ContextView T A) where
       )
 
   each_is : (w : NamedValue T) → Among w (values_of ctx) → Is w
-  each_is w h = elim (among_either w (flat_map (λ c. standing named_results c.object) ctx.graph.operations.cells) (flat_map (λ c. standing named_arguments c.object) ctx.graph.blocks.cells) h) [
-    | inl l ↦ let r = all_among (λ c. standing named_results c.object) ctx.graph.operations.cells w l in from_results r.0 r.1 r.2 r.1.object refl w r.3
-    | inr l ↦ let r = all_among (λ c. standing named_arguments c.object) ctx.graph.blocks.cells w l in from_arguments r.0 r.1 r.2 r.1.object refl w r.3
+  each_is w h = elim (among_either w (flat_map (λ c. if_live named_results c.object) ctx.graph.operations.cells) (flat_map (λ c. if_live named_arguments c.object) ctx.graph.blocks.cells) h) [
+    | inl l ↦ let r = all_among (λ c. if_live named_results c.object) ctx.graph.operations.cells w l in from_results r.0 r.1 r.2 r.1.object refl w r.3
+    | inr l ↦ let r = all_among (λ c. if_live named_arguments c.object) ctx.graph.blocks.cells w l in from_arguments r.0 r.1 r.2 r.1.object refl w r.3
   ]
 
   -- each value is among them
-  among_results : (p : Ptr Operation) (k : ℕ) (t : Typed (Option T)) → value_at ctx.graph (Result p k) ≡ Some t → Among (its (Result p k) t) (flat_map (λ c. standing named_results c.object) ctx.graph.operations.cells)
-  among_results p k t h = among_listed ctx.graph.operations.cells (λ o. results_of (option_map (λ x. x.content.content) o)) (standing named_results) p.index p.generation k t (its (Result p k) t) (λ e. cc)
+  among_results : (p : Ptr Operation) (k : ℕ) (t : Typed (Option T)) → value_at ctx.graph (Result p k) ≡ Some t → Among (its (Result p k) t) (flat_map (λ c. if_live named_results c.object) ctx.graph.operations.cells)
+  among_results p k t h = among_listed ctx.graph.operations.cells (λ o. results_of (option_map (λ x. x.content.content) o)) (if_live named_results) p.index p.generation k t (its (Result p k) t) (λ e. cc)
       (λ e there got. subst (λ w. Among w (named_from (attributes_in e.content.content.data_of) 0 e.content.content.results)) (sym (as_result p k e t there)) (named_among (attributes_in e.content.content.data_of) 0 e.content.content.results k k t (omega arith) got)) h
 
-  among_arguments : (p : Ptr BasicBlock) (k : ℕ) (t : Typed (Option T)) → value_at ctx.graph (Argument p k) ≡ Some t → Among (its (Argument p k) t) (flat_map (λ c. standing named_arguments c.object) ctx.graph.blocks.cells)
-  among_arguments p k t h = among_listed ctx.graph.blocks.cells (λ o. arguments_of (option_map (λ x. x.content.content) o)) (standing named_arguments) p.index p.generation k t (its (Argument p k) t) (λ e. cc)
+  among_arguments : (p : Ptr BasicBlock) (k : ℕ) (t : Typed (Option T)) → value_at ctx.graph (Argument p k) ≡ Some t → Among (its (Argument p k) t) (flat_map (λ c. if_live named_arguments c.object) ctx.graph.blocks.cells)
+  among_arguments p k t h = among_listed ctx.graph.blocks.cells (λ o. arguments_of (option_map (λ x. x.content.content) o)) (if_live named_arguments) p.index p.generation k t (its (Argument p k) t) (λ e. cc)
       (λ e there got. subst (λ w. Among w (named_from e.content.content.data_of.attributes 0 e.content.content.arguments)) (sym (as_argument p k e t there)) (named_among e.content.content.data_of.attributes 0 e.content.content.arguments k k t (omega arith) got)) h
 
   is_among : (v : Value) (t : Typed (Option T)) → value_at ctx.graph v ≡ Some t → Among (its v t) (values_of ctx)
-  is_among (Result p k) t h = among_left (its (Result p k) t) (flat_map (λ c. standing named_results c.object) ctx.graph.operations.cells) (flat_map (λ c. standing named_arguments c.object) ctx.graph.blocks.cells)
+  is_among (Result p k) t h = among_left (its (Result p k) t) (flat_map (λ c. if_live named_results c.object) ctx.graph.operations.cells) (flat_map (λ c. if_live named_arguments c.object) ctx.graph.blocks.cells)
       (among_results p k t h)
-  is_among (Argument p k) t h = among_right (its (Argument p k) t) (flat_map (λ c. standing named_results c.object) ctx.graph.operations.cells) (flat_map (λ c. standing named_arguments c.object) ctx.graph.blocks.cells)
+  is_among (Argument p k) t h = among_right (its (Argument p k) t) (flat_map (λ c. if_live named_results c.object) ctx.graph.operations.cells) (flat_map (λ c. if_live named_arguments c.object) ctx.graph.blocks.cells)
       (among_arguments p k t h)
 
   -- the value that is found by a value's number is this one

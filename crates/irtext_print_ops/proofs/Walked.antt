@@ -157,9 +157,9 @@ module _ {T A : Type 0} (C : Printing T A) (L : Language ⊤ T A) (ctx : Context
         ∙ ap (λ z. old ++ encode_utf8_all (concrete L (tree_op C m o) (region_texts L width i (tree_regions C l n rs)) ++ z)) (sym (same_mark C L ctx width width m own))))
 
     pub first_fit : (scoped : format.Id → Bool) → IsBegun C L ctx p known → FitsFormat C scoped (C.format_of (seen_at C L ctx p).id) (seen_at C L ctx p) (length (regions ctx.graph p)) → AllFit C L ctx (first_frame ∷ [])
-    first_fit scoped stands fits = (
+    first_fit scoped alive fits = (
       (
-        stands,
+        alive,
         fits_covered C L ctx width scoped (C.format_of (seen_at C L ctx p).id) (seen_at C L ctx p) (length (regions ctx.graph p)) (seen_regions L.owns.written ctx (regions_left C L ctx p 0)) fits
             (regions_counted C L ctx width (inside_of C L ctx) (regions ctx.graph p)),
       ),

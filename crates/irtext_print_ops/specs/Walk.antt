@@ -78,11 +78,11 @@ module _ {T A : Type 0} (L : Language ⊤ T A) where
   pieces_text (tree.regions ∷ ps) = []
 
 -- the parts from the first region on
-abbrev pub behind_pieces : {T A : Type 0} → List (Part ⊤ T A) → List (Part ⊤ T A)
-behind_pieces [] = []
-behind_pieces (tree.piece p ∷ ps) = behind_pieces ps
-behind_pieces (tree.region i ∷ ps) = tree.region i ∷ ps
-behind_pieces (tree.regions ∷ ps) = tree.regions ∷ ps
+abbrev pub after_pieces : {T A : Type 0} → List (Part ⊤ T A) → List (Part ⊤ T A)
+after_pieces [] = []
+after_pieces (tree.piece p ∷ ps) = after_pieces ps
+after_pieces (tree.region i ∷ ps) = tree.region i ∷ ps
+after_pieces (tree.regions ∷ ps) = tree.regions ∷ ps
 
 module _ {T A : Type 0} (C : Printing T A) where
   -- the part that a directive of an operation's format denotes
@@ -104,9 +104,9 @@ module _ {T A : Type 0} (C : Printing T A) where
   -- Where the pieces from a directive on end, and which parts are left then: none, or one region or all that are left, and what
   -- follows.
   abbrev pub StopsBefore : GraphOp T A → ℕ → Stop → Type 0
-  StopsBefore o from stop.End = behind_pieces (parts_left o from) ≡ []
-  StopsBefore o from (stop.Region k) = ((i : ℕ) × (behind_pieces (parts_left o from) ≡ tree.region i ∷ parts_left o k)) × ((from < k) × (k ≤ length (directives_in (C.format_of o.id))))
-  StopsBefore o from (stop.Regions k) = (behind_pieces (parts_left o from) ≡ tree.regions ∷ parts_left o k) × ((from < k) × (k ≤ length (directives_in (C.format_of o.id))))
+  StopsBefore o from stop.End = after_pieces (parts_left o from) ≡ []
+  StopsBefore o from (stop.Region k) = ((i : ℕ) × (after_pieces (parts_left o from) ≡ tree.region i ∷ parts_left o k)) × ((from < k) × (k ≤ length (directives_in (C.format_of o.id))))
+  StopsBefore o from (stop.Regions k) = (after_pieces (parts_left o from) ≡ tree.regions ∷ parts_left o k) × ((from < k) × (k ≤ length (directives_in (C.format_of o.id))))
 
   module _ (L : Language ⊤ T A) (ctx : ContextView T A) where
     -- an operation as printing sees it

@@ -4,7 +4,7 @@ ghost use Rattle.std.specs.Char.{is_ascii};
 ghost use Rattle.std.specs.List.{list_all};
 ghost use Rattle.irtext_context.specs.Context.{block};
 ghost use Rattle.irtext_graph.specs.Graph.{IsLive};
-ghost use Rattle.irtext_graph.specs.Parts.{operands, successors, value_at, ValueStands};
+ghost use Rattle.irtext_graph.specs.Parts.{operands, successors, value_at, IsDefinedValue};
 ghost use Rattle.irtext_graph.specs.declared.object.Object.TheVariants.{TheOperation};
 ghost use Rattle.irtext_grammar.specs.Contexts.Held.{known_types};
 ghost use Rattle.irtext_grammar.specs.Contexts.Nested.{number_of};
@@ -65,10 +65,10 @@ impl<'c, T: IrText<A>, A: AttrText<A>> Printer<'c, T, A> {
     /// Returns the value that an operation uses at an index; it is live.
     #[inline(always)]
     fn operand(self, op: Ptr<Operation>, index: usize) -> Value
-        requires stands { IsLive self.ctx.now.graph (TheOperation op) }
+        requires alive { IsLive self.ctx.now.graph (TheOperation op) }
         requires within { index < length (operands self.ctx.now.graph op) }
         ensures value { slice_get (operands self.entry.ctx.now.graph op) index ≡ Some result }
-        ensures there { ValueStands self.entry.ctx.now.graph result }
+        ensures there { IsDefinedValue self.entry.ctx.now.graph result }
     {
         let graph = self.ctx.graph();
         graph.keeps_nesting();
@@ -78,7 +78,7 @@ impl<'c, T: IrText<A>, A: AttrText<A>> Printer<'c, T, A> {
     /// Returns the block that an operation uses at an index; it is live.
     #[inline(always)]
     fn successor(self, op: Ptr<Operation>, index: usize) -> Ptr<BasicBlock>
-        requires stands { IsLive self.ctx.now.graph (TheOperation op) }
+        requires alive { IsLive self.ctx.now.graph (TheOperation op) }
         requires within { index < length (successors self.ctx.now.graph op) }
         ensures value { slice_get (successors self.entry.ctx.now.graph op) index ≡ Some result }
         ensures there { IsSome (block self.entry.ctx.now result) }
@@ -91,7 +91,7 @@ impl<'c, T: IrText<A>, A: AttrText<A>> Printer<'c, T, A> {
     /// Appends the name of a value, after `, ` if it is not the first.
     #[inline(always)]
     fn fmt_operand(self, value: Value, first: bool, f: &mut String) -> fmt::Result
-        requires { ValueStands self.ctx.now.graph value }
+        requires { IsDefinedValue self.ctx.now.graph value }
         ensures { OnOk result (AppendsText f.old
             (texts.next_text first (operand_text self.entry.ctx.now value)) f.new) }
     {
@@ -113,7 +113,7 @@ impl<'c, T: IrText<A>, A: AttrText<A>> Printer<'c, T, A> {
     /// Appends this facet of a value of this type.
     #[inline(always)]
     fn fmt_facet(self, value: Value, of_type: &T, facet: Facet, f: &mut String) -> fmt::Result
-        requires { ValueStands self.ctx.now.graph value }
+        requires { IsDefinedValue self.ctx.now.graph value }
         ensures { OnOk result (IfSome (number_of self.entry.ctx.now value) (λ n. AppendsText f.old
             (texts.facet_text T.IrText.written self.entry.ctx.now facet (n, of_type.now)) f.new)) }
     {
@@ -131,7 +131,7 @@ impl<'c, T: IrText<A>, A: AttrText<A>> Printer<'c, T, A> {
     /// Appends this facet of a value if its type is known, after `, ` if it is not the first. Returns whether still nothing was printed.
     #[inline(always)]
     fn fmt_typed(self, value: Value, facet: Facet, first: bool, f: &mut String) -> StillFirst
-        requires { ValueStands self.ctx.now.graph value }
+        requires { IsDefinedValue self.ctx.now.graph value }
         ensures text { OnOk result (AppendsText f.old (texts.next_text first
             (option_and_then (texts.typed_text T.IrText.written self.entry.ctx.now facet)
             (value_at self.entry.ctx.now.graph value))) f.new) }
@@ -150,7 +150,7 @@ impl<'c, T: IrText<A>, A: AttrText<A>> Printer<'c, T, A> {
     /// Appends the type of a value if it is known, after `, ` if it is not the first. Returns whether still nothing was printed.
     #[inline(always)]
     fn fmt_operand_type(self, value: Value, first: bool, f: &mut String) -> StillFirst
-        requires { ValueStands self.ctx.now.graph value }
+        requires { IsDefinedValue self.ctx.now.graph value }
         ensures text { OnOk result (AppendsText f.old (texts.next_text first (texts.operand_type_text
             T.IrText.written self.entry.ctx.now value)) f.new) }
         ensures left { IfOk result (λ left. left ≡ (first && not
@@ -184,7 +184,7 @@ impl<'c, T: IrText<A>, A: AttrText<A>> Printer<'c, T, A> {
         first: bool,
         f: &mut String,
     ) -> StillFirst
-        requires stands { IsLive self.ctx.now.graph (owner listed) }
+        requires alive { IsLive self.ctx.now.graph (owner listed) }
         requires within { index < length (texts.texts_of T.IrText.written self.ctx.now listed) }
         ensures text { OnOk result (AppendsText f.old (texts.next_text first
             (texts.text_at T.IrText.written self.entry.ctx.now listed index)) f.new) }
@@ -240,7 +240,7 @@ impl<'c, T: IrText<A>, A: AttrText<A>> Printer<'c, T, A> {
         both: &str,
         f: &mut String,
     ) -> fmt::Result
-        requires stands { IsLive self.ctx.now.graph (owner listed) }
+        requires alive { IsLive self.ctx.now.graph (owner listed) }
         requires joined { both.now ≡ before.now ++ after.now }
         requires before { list_all is_ascii before.now ≡ true }
         requires after { list_all is_ascii after.now ≡ true }

@@ -1,6 +1,6 @@
 //! The names of values and the labels of blocks, as they are printed.
 ghost use Rattle.std.specs.Prelude.{◌≡◌, ◌++◌, Some, IsSome, OnOk, IfSome, option_copied, codes, decimal};
-ghost use Rattle.irtext_graph.specs.Parts.{value_at, ValueStands};
+ghost use Rattle.irtext_graph.specs.Parts.{value_at, IsDefinedValue};
 ghost use Rattle.irtext_context.specs.Context.{block};
 ghost use Rattle.irtext_grammar.specs.Contexts.Nested.{given_to, type_of};
 ghost use Rattle.irtext_grammar.specs.Spelling.PrintedNames as printed;
@@ -95,7 +95,7 @@ pub fn fmt_value_name<T: IrText<A>, A: AttrText<A>>(
     value: Value,
     f: &mut String,
 ) -> fmt::Result
-    requires { ValueStands ctx.now.graph value }
+    requires { IsDefinedValue ctx.now.graph value }
     ensures { OnOk result (AppendsText f.old (or_nothing (operand_text ctx.now value)) f.new) }
 {
     keeps_values(ctx, value);

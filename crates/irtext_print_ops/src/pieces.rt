@@ -5,7 +5,7 @@ ghost use Rattle.irtext_base.specs.Format.{operand_places, successor_places};
 ghost use Rattle.irtext_context.specs.Context.{operation};
 ghost use Rattle.irtext_base.specs.FormatViews.{directive_of, directives_of};
 ghost use Rattle.irtext_graph.specs.Graph.{IsLive};
-ghost use Rattle.irtext_graph.specs.Parts.{operands, value_at, ValueStands};
+ghost use Rattle.irtext_graph.specs.Parts.{operands, value_at, IsDefinedValue};
 ghost use Rattle.irtext_graph.specs.declared.object.Value as code;
 ghost use Rattle.irtext_graph.specs.declared.object.Object.TheVariants.{TheOperation};
 ghost use Rattle.irtext_grammar.specs.Contexts.Held.{known_types};
@@ -37,7 +37,7 @@ impl<'c, T: IrText<A>, A: AttrText<A>> Printer<'c, T, A> {
     /// What an operation uses is live. Does nothing: the contract hands that out.
     pub(crate) fn keeps_operands(self, op: Ptr<Operation>)
         ensures { (i : ℕ) (v : code.Value) → slice_get (operands self.entry.ctx.now.graph op) i ≡ Some v
-            → ValueStands self.entry.ctx.now.graph v }
+            → IsDefinedValue self.entry.ctx.now.graph v }
     {
         self.ctx.graph().keeps_nesting();
     }
@@ -60,7 +60,7 @@ impl<'c, T: IrText<A>, A: AttrText<A>> Printer<'c, T, A> {
 
     /// Returns the type of a value, if it is known.
     pub(crate) fn known_type(self, value: Value) -> Option<&'c T>
-        requires { ValueStands self.ctx.now.graph value }
+        requires { IsDefinedValue self.ctx.now.graph value }
         ensures { option_map (λ t. T.IrText.written t.now) result ≡
             option_and_then (texts.typed_text T.IrText.written self.entry.ctx.now facet.Type)
             (value_at self.entry.ctx.now.graph value) }

@@ -138,7 +138,7 @@ fn entered<T: IrText<A>, A: AttrText<A>>(
     begun: Option<RegionFrame>,
     f: &mut String,
 ) -> Result<Turn, Refusal>
-    requires stand { heads.FramesFitAt T.IrText.own A.IrText.own A.AttrText.own A.eq ctx.now
+    requires each_fits { heads.FramesFitAt T.IrText.own A.IrText.own A.AttrText.own A.eq ctx.now
         (steps.begun_frames begun) }
     ensures text { OnOk result (AppendsText f.old (steps.ended_text ctx.now begun) f.new) }
     ensures left { IfOk result (λ turn. turn ≡ steps.ended_turn ctx.now begun) }

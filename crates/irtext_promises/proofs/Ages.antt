@@ -37,8 +37,8 @@ module _ {X : Type 0} where
         go (Some x) e s = older_is m (get new p) x (kept ∙ (all ∙ e)) ∙ sym e
 
     -- an older object was live then
-    stood_older : (x : Entry X) → get new p ≡ Some x → nat_lt x.born m ≡ true → get old p ≡ Some x
-    stood_older x e h = older_is m (get old p) x (sym kept ∙ (ap (older m) e ∙ older_there m x h))
+    older_was_live : (x : Entry X) → get new p ≡ Some x → nat_lt x.born m ≡ true → get old p ≡ Some x
+    older_was_live x e h = older_is m (get old p) x (sym kept ∙ (ap (older m) e ∙ older_there m x h))
 
 module _ {O B T : Type 0} (m : ℕ) (g k : GraphView O B T) (all : AllOlder m g) (kept : KeepsOlder m g k) where
   pub operation_stays : (p : Ptr Operation) → IsSome (get g.operations p) → get k.operations p ≡ get g.operations p
@@ -52,17 +52,17 @@ module _ {O B T : Type 0} (m : ℕ) (g k : GraphView O B T) (all : AllOlder m g)
 
 module _ {O B T : Type 0} (m : ℕ) (g k : GraphView O B T) (kept : KeepsOlder m g k) where
   -- a live object is new, or was live then
-  stood_operation : (x : Option (Entry (Node BasicBlock Region (OperationContent O T)))) (p : Ptr Operation) → get k.operations p ≡ x → is_older {O = O} {B = B} {T = T} m (option_map (λ d. AnOperation d.0 d.1) (content_of x)) ≡ true → IsSome (get g.operations p)
-  stood_operation None p e h = absurd (cc)
-  stood_operation (Some x) p e h = let w = stood_older m g.operations k.operations p (kept.operations p) x e h in subst IsSome (sym w) refl
+  operation_was_live : (x : Option (Entry (Node BasicBlock Region (OperationContent O T)))) (p : Ptr Operation) → get k.operations p ≡ x → is_older {O = O} {B = B} {T = T} m (option_map (λ d. AnOperation d.0 d.1) (content_of x)) ≡ true → IsSome (get g.operations p)
+  operation_was_live None p e h = absurd (cc)
+  operation_was_live (Some x) p e h = let w = older_was_live m g.operations k.operations p (kept.operations p) x e h in subst IsSome (sym w) refl
 
-  stood_block : (x : Option (Entry (Node Region Operation (BlockContent B T)))) (b : Ptr BasicBlock) → get k.blocks b ≡ x → is_older {O = O} {B = B} {T = T} m (option_map (λ d. ABlock d.0 d.1) (content_of x)) ≡ true → IsSome (get g.blocks b)
-  stood_block None b e h = absurd (cc)
-  stood_block (Some x) b e h = let w = stood_older m g.blocks k.blocks b (kept.blocks b) x e h in subst IsSome (sym w) refl
+  block_was_live : (x : Option (Entry (Node Region Operation (BlockContent B T)))) (b : Ptr BasicBlock) → get k.blocks b ≡ x → is_older {O = O} {B = B} {T = T} m (option_map (λ d. ABlock d.0 d.1) (content_of x)) ≡ true → IsSome (get g.blocks b)
+  block_was_live None b e h = absurd (cc)
+  block_was_live (Some x) b e h = let w = older_was_live m g.blocks k.blocks b (kept.blocks b) x e h in subst IsSome (sym w) refl
 
-  stood_region : (x : Option (Entry (Node Operation BasicBlock RegionContent))) (r : Ptr Region) → get k.regions r ≡ x → is_older {O = O} {B = B} {T = T} m (option_map (λ d. ARegion d.0 d.1) (content_of x)) ≡ true → IsSome (get g.regions r)
-  stood_region None r e h = absurd (cc)
-  stood_region (Some x) r e h = let w = stood_older m g.regions k.regions r (kept.regions r) x e h in subst IsSome (sym w) refl
+  region_was_live : (x : Option (Entry (Node Operation BasicBlock RegionContent))) (r : Ptr Region) → get k.regions r ≡ x → is_older {O = O} {B = B} {T = T} m (option_map (λ d. ARegion d.0 d.1) (content_of x)) ≡ true → IsSome (get g.regions r)
+  region_was_live None r e h = absurd (cc)
+  region_was_live (Some x) r e h = let w = older_was_live m g.regions k.regions r (kept.regions r) x e h in subst IsSome (sym w) refl
 
 -- an object is in its arena
 abbrev pub IsHere : {O B T : Type 0} → GraphView O B T → Object → Type 0
@@ -81,56 +81,56 @@ module _ {O B T : Type 0} where
   abbrev a_region : ℕ × RegionContent → Content O B T
   a_region d = ARegion d.0 d.1
 
-  pub here_stands : (g : GraphView O B T) (q : Object) → IsHere g q → IsLive g q
-  here_stands g (TheOperation p) h = go (get g.operations p) h
+  pub here_is_live : (g : GraphView O B T) (q : Object) → IsHere g q → IsLive g q
+  here_is_live g (TheOperation p) h = go (get g.operations p) h
     where
       go : (x : Option (Entry (Node BasicBlock Region (OperationContent O T)))) → IsSome x → IsSome (option_map an_operation (content_of x))
       go None h = absurd (cc)
       go (Some x) h = refl
-  here_stands g (TheBlock b) h = go (get g.blocks b) h
+  here_is_live g (TheBlock b) h = go (get g.blocks b) h
     where
       go : (x : Option (Entry (Node Region Operation (BlockContent B T)))) → IsSome x → IsSome (option_map a_block (content_of x))
       go None h = absurd (cc)
       go (Some x) h = refl
-  here_stands g (TheRegion r) h = go (get g.regions r) h
+  here_is_live g (TheRegion r) h = go (get g.regions r) h
     where
       go : (x : Option (Entry (Node Operation BasicBlock RegionContent))) → IsSome x → IsSome (option_map a_region (content_of x))
       go None h = absurd (cc)
       go (Some x) h = refl
 
-  pub stands_here : (g : GraphView O B T) (q : Object) → IsLive g q → IsHere g q
-  stands_here g (TheOperation p) h = go (get g.operations p) h
+  pub live_here : (g : GraphView O B T) (q : Object) → IsLive g q → IsHere g q
+  live_here g (TheOperation p) h = go (get g.operations p) h
     where
       go : (x : Option (Entry (Node BasicBlock Region (OperationContent O T)))) → IsSome (option_map an_operation (content_of x)) → IsSome x
       go None h = absurd (cc)
       go (Some x) h = refl
-  stands_here g (TheBlock b) h = go (get g.blocks b) h
+  live_here g (TheBlock b) h = go (get g.blocks b) h
     where
       go : (x : Option (Entry (Node Region Operation (BlockContent B T)))) → IsSome (option_map a_block (content_of x)) → IsSome x
       go None h = absurd (cc)
       go (Some x) h = refl
-  stands_here g (TheRegion r) h = go (get g.regions r) h
+  live_here g (TheRegion r) h = go (get g.regions r) h
     where
       go : (x : Option (Entry (Node Operation BasicBlock RegionContent))) → IsSome (option_map a_region (content_of x)) → IsSome x
       go None h = absurd (cc)
       go (Some x) h = refl
 
   -- a live object was live then, or is new
-  pub stood_or_new : (m : ℕ) (g k : GraphView O B T) → KeepsOlder m g k → (q : Object) → IsLive k q → IsLive g q ⊎ IsNew m k q
-  stood_or_new m g k kept q s = go (is_older m (content k q)) refl
+  pub was_live_or_new : (m : ℕ) (g k : GraphView O B T) → KeepsOlder m g k → (q : Object) → IsLive k q → IsLive g q ⊎ IsNew m k q
+  was_live_or_new m g k kept q s = go (is_older m (content k q)) refl
     where
       older_here : (q : Object) → is_older m (content k q) ≡ true → IsHere g q
-      older_here (TheOperation p) e = stood_operation m g k kept (get k.operations p) p refl e
-      older_here (TheBlock b) e = stood_block m g k kept (get k.blocks b) b refl e
-      older_here (TheRegion r) e = stood_region m g k kept (get k.regions r) r refl e
+      older_here (TheOperation p) e = operation_was_live m g k kept (get k.operations p) p refl e
+      older_here (TheBlock b) e = block_was_live m g k kept (get k.blocks b) b refl e
+      older_here (TheRegion r) e = region_was_live m g k kept (get k.regions r) r refl e
 
       go : (b : Bool) → is_older m (content k q) ≡ b → IsLive g q ⊎ IsNew m k q
-      go true e = inl (here_stands g q (older_here q e))
+      go true e = inl (here_is_live g q (older_here q e))
       go false e = inr e
 
   -- an object that was live has the parent that it had
   pub same_parent : (m : ℕ) (g k : GraphView O B T) → AllOlder m g → KeepsOlder m g k → (q : Object) → IsLive g q → parent k q ≡ parent g q
-  same_parent m g k all kept q s = go q (stands_here g q s)
+  same_parent m g k all kept q s = go q (live_here g q s)
     where
       go : (q : Object) → IsHere g q → parent k q ≡ parent g q
       go (TheOperation p) h = ap (λ x. option_map TheBlock (parent_of x)) (operation_stays m g k all kept p h)

@@ -43,7 +43,7 @@ use Rattle.irtext_scopes.specs.declared.tracker.NameTracker.{NameTracker}
 use Rattle.irtext_parse_spec.specs.Naming.{paths_in_blocks}
 use Rattle.irtext_parse_spec.specs.Unchanged.{RegionsHold}
 use Rattle.irtext_parse_spec.specs.Tracks.{Made, noted, HasChild}
-use Rattle.irtext_names.specs.Linked.{Known, StandsAt}
+use Rattle.irtext_names.specs.Linked.{Known, NamesAgree}
 use Rattle.irtext_names.specs.OfItems.{AreOf}
 use Rattle.irtext_names.proofs.Linked.Passes.{ran_through}
 use Rattle.irtext_promises.specs.Alone.{pointers_in, held_region}
@@ -118,16 +118,16 @@ module _ {T A : Type 0} (L : ℕ → Location A → Type 0) (c : ContextView T A
   placed = located_in L c items path (pointers_in c r) (forest.region (shown place) bs no_regions) (subst (λ xs. Each (λ (item : ℕ × Path). path item.0 ≡ item.1) xs) (sym (append-nil (paths_in_blocks (0 ∷ []) 0 bs))) names) is_region
 
   module _ {O B X : Type 0} (first : ℕ → Written A) (isolated : Id → Bool) (id : Id) (closed : isolated id ≡ true) (formed : FormedBlocks bs) (names_at : NameTracker Value (Ptr BasicBlock)) (g : GraphView (Option O) B X) (known : Known) (are : AreOf path items known) (st : State)
-      (stands : StandsAt names_at g known [] st) (same_uses : (s : Site) → used_at c.graph s ≡ used_at g s) (ran : run (going history.start) (events (script.within true place (blocks_script isolated (0 ∷ []) 0 bs) done)) ≡ going st) where
+      (agreed : NamesAgree names_at g known [] st) (same_uses : (s : Site) → used_at c.graph s ≡ used_at g s) (ran : run (going history.start) (events (script.within true place (blocks_script isolated (0 ∷ []) 0 bs) done)) ≡ going st) where
     keeps : Keeps c first [] isolated all (region_links [] 0 (built_regions isolated first [] [] [] 0 (isolated id) (forest.region (shown place) bs no_regions)))
     keeps = record {
       operands_keep = λ o r' i q at l.
-          let u = operand_uses L c items path all placed (once_regions [] 0 (pointers_in c r)) once occurs known are names_at g st stands o r' i q at
-          (bound_uses L c items path all placed (once_regions [] 0 (pointers_in c r)) once occurs known are names_at g st stands (operand r' i) q (linked_bound first isolated id closed place bs formed st ran (operand r' i) q l)) in
+          let u = operand_uses L c items path all placed (once_regions [] 0 (pointers_in c r)) once occurs known are names_at g st agreed o r' i q at
+          (bound_uses L c items path all placed (once_regions [] 0 (pointers_in c r)) once occurs known are names_at g st agreed (operand r' i) q (linked_bound first isolated id closed place bs formed st ran (operand r' i) q l)) in
           (u.0, same_uses (AtOperand o i) ∙ u.1, u.2);
       successors_keep = λ o r' i q at l.
-          let u = successor_uses L c items path all placed (once_regions [] 0 (pointers_in c r)) once occurs known are names_at g st stands o r' i q at
-          (bound_uses L c items path all placed (once_regions [] 0 (pointers_in c r)) once occurs known are names_at g st stands (successor r' i) q (linked_bound first isolated id closed place bs formed st ran (successor r' i) q l)) in
+          let u = successor_uses L c items path all placed (once_regions [] 0 (pointers_in c r)) once occurs known are names_at g st agreed o r' i q at
+          (bound_uses L c items path all placed (once_regions [] 0 (pointers_in c r)) once occurs known are names_at g st agreed (successor r' i) q (linked_bound first isolated id closed place bs formed st ran (successor r' i) q l)) in
           (u.0, same_uses (AtSuccessor o i) ∙ u.1, u.2);
     }
 

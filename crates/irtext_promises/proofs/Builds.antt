@@ -33,7 +33,7 @@ use Rattle.irtext_scopes.specs.declared.tracker.NameTracker.{NameTracker}
 use Rattle.irtext_parse_spec.specs.Naming.{Names}
 use Rattle.irtext_parse_spec.specs.Building.{finished}
 use Rattle.irtext_parse_spec.specs.Tracks.{Made, HoldsMade}
-use Rattle.irtext_names.specs.Linked.{Known, StandsAt}
+use Rattle.irtext_names.specs.Linked.{Known, NamesAgree}
 use Rattle.irtext_names.specs.OfItems.{AreOf}
 use Rattle.irtext_names.proofs.Linked.Passes.{ran_through}
 use Rattle.irtext_promises.specs.Held.{placed_under, held_root}
@@ -54,7 +54,7 @@ in_among x (y ∷ ys) (inr i) = inr (in_among x ys i)
 
 module _ {T A : Type 0} (L : ℕ → Location A → Type 0) (start c : ContextView T A) (items : Made) (whole : List Object) (p : Ptr Operation) (x : Tree ℕ T A) (held : HoldsMade L start c items whole [] (Some p) (finished x))
     (nest : Nested (children c.graph) (parent c.graph)) (path : ℕ → Path) (names : Names path x) (first : ℕ → Written A) (isolated : Id → Bool) (formed : Formed x)
-    (names_at : NameTracker Value (Ptr BasicBlock)) (known : Known) (are : AreOf path items known) (st : State) (stands : StandsAt names_at c.graph known [] st)
+    (names_at : NameTracker Value (Ptr BasicBlock)) (known : Known) (are : AreOf path items known) (st : State) (agreed : NamesAgree names_at c.graph known [] st)
     (ran : run (going history.start) (events (tree_script isolated x done)) ≡ going st) where
   -- the tree resolves
   pub resolves : failures no_scope (tree_script isolated x done) ≡ []
@@ -80,10 +80,10 @@ module _ {T A : Type 0} (L : ℕ → Location A → Type 0) (start c : ContextVi
 
   pub keeps : (es : List (Entry ℕ A (Written A))) → Keeps c first es isolated (placed_under (pointers c.graph p)) (links (build isolated first es x))
   keeps es = record {
-    operands_keep = λ o r i q at l. operand_uses L c items path (placed_under (pointers c.graph p)) placed (once_under (pointers c.graph p)) held.tracks.once occurs known are names_at c.graph st stands o r i q at
-        (bound_uses L c items path (placed_under (pointers c.graph p)) placed (once_under (pointers c.graph p)) held.tracks.once occurs known are names_at c.graph st stands (operand r i) q (linked_bound (operand r i) q (subst (λ ls. In (operand r i, q) ls) (links_same isolated first es x) l)));
-    successors_keep = λ o r i q at l. successor_uses L c items path (placed_under (pointers c.graph p)) placed (once_under (pointers c.graph p)) held.tracks.once occurs known are names_at c.graph st stands o r i q at
-        (bound_uses L c items path (placed_under (pointers c.graph p)) placed (once_under (pointers c.graph p)) held.tracks.once occurs known are names_at c.graph st stands (successor r i) q (linked_bound (successor r i) q (subst (λ ls. In (successor r i, q) ls) (links_same isolated first es x) l)));
+    operands_keep = λ o r i q at l. operand_uses L c items path (placed_under (pointers c.graph p)) placed (once_under (pointers c.graph p)) held.tracks.once occurs known are names_at c.graph st agreed o r i q at
+        (bound_uses L c items path (placed_under (pointers c.graph p)) placed (once_under (pointers c.graph p)) held.tracks.once occurs known are names_at c.graph st agreed (operand r i) q (linked_bound (operand r i) q (subst (λ ls. In (operand r i, q) ls) (links_same isolated first es x) l)));
+    successors_keep = λ o r i q at l. successor_uses L c items path (placed_under (pointers c.graph p)) placed (once_under (pointers c.graph p)) held.tracks.once occurs known are names_at c.graph st agreed o r i q at
+        (bound_uses L c items path (placed_under (pointers c.graph p)) placed (once_under (pointers c.graph p)) held.tracks.once occurs known are names_at c.graph st agreed (successor r i) q (linked_bound (successor r i) q (subst (λ ls. In (successor r i, q) ls) (links_same isolated first es x) l)));
   }
 
   -- each operand and successor of what is built holds something

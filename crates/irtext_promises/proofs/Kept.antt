@@ -46,14 +46,14 @@ use Rattle.irtext_parse_spec.proofs.Naming.Shorter.{Shortens}
 use Rattle.irtext_parse_spec.specs.Building.{Building, building, nothing_open, finished}
 use Rattle.irtext_parse_spec.proofs.Built.{tree_finished}
 use Rattle.irtext_parse_spec.proofs.Whole.{whole_read}
-use Rattle.irtext_names.specs.Linked.{Known, StandsAt}
+use Rattle.irtext_names.specs.Linked.{Known, NamesAgree}
 use Rattle.irtext_names.proofs.Linked.Passes.{ran_through}
 use Rattle.irtext_promises.specs.Held.{held_root, placed_under}
-use Rattle.irtext_promises.specs.Leaves.{StandsFrom, LeavesTree, LeavesClosed}
+use Rattle.irtext_promises.specs.Leaves.{MachineFrom, LeavesTree, LeavesClosed}
 use Rattle.irtext_promises.specs.OnlyNew.{OnlyNew}
 use Rattle.irtext_promises.specs.Placed.{RootIs}
 use Rattle.irtext_promises.specs.Promises.{start_with, tree_marks}
-use Rattle.irtext_promises.proofs.Behind.{values_shut, labels_shut}
+use Rattle.irtext_promises.proofs.AfterTree.{values_shut, labels_shut}
 use Rattle.irtext_promises.proofs.Builds as builds
 use Rattle.irtext_promises.proofs.Equal.{Keeps}
 use Rattle.irtext_promises.proofs.FewerMarks.{ran_without}
@@ -75,7 +75,7 @@ accepts None f h e = absurd (cc)
 accepts (Some g) f h e = let same : g ≡ f = cc in subst Accepted same h
 
 -- names and graph that agree with a state of the machine agree with the state that has other marks, too
-other_marks : {O B T : Type 0} (names : NameTracker Value (Ptr BasicBlock)) (g : GraphView (Option O) B T) (known : Known) (st : history.State) (marks : List ℕ) → StandsAt names g known [] (record st { marks = marks }) → StandsAt names g known [] st
+other_marks : {O B T : Type 0} (names : NameTracker Value (Ptr BasicBlock)) (g : GraphView (Option O) B T) (known : Known) (st : history.State) (marks : List ℕ) → NamesAgree names g known [] (record st { marks = marks }) → NamesAgree names g known [] st
 other_marks names g known st marks s = record {
   distinct = s.distinct;
   tied = s.tied;
@@ -112,57 +112,57 @@ module _ {T A : Type 0} (types_at : Text → Outcome T) (types_written : T → T
   abbrev script : Script
   script = tree_script (isolated dialects) leaves.tree done
 
-  abbrev pub behind : StandsFrom types_at (attr_at reading) dialects earlier leaves.items marks new text rest named.0
-  behind = leaves.machine named.0
+  abbrev pub following : MachineFrom types_at (attr_at reading) dialects earlier leaves.items marks new text rest named.0
+  following = leaves.machine named.0
 
   -- the machine ran the tree's script without failure
-  ran : run (going (start_with earlier)) (events script) ≡ going behind.state
+  ran : run (going (start_with earlier)) (events script) ≡ going following.state
   ran =
       let found = knot.tree_found types_at types_written reading written dialects types_split splits (naming (format_of dialects) named.0) words leaves.tree text rest (going (start_with earlier)) reads_tree in
       let runs = read_runs (texts_of types_at types_written) (texts_of reading written) (format_of dialects) named.0 (isolated dialects) leaves.tree text rest named.1 reads_tree (going (start_with earlier)) in
-      sym runs ∙ came_same tt tt _ _ rest rest (sym found ∙ behind.came)
+      sym runs ∙ came_same tt tt _ _ rest rest (sym found ∙ following.came)
 
   -- so it does where nothing was marked
-  alone : (st : history.State) × (run (going start) (events script) ≡ going st) × (behind.state ≡ record st { marks = earlier ++ st.marks })
-  alone = ran_without earlier script start behind.state (root_entryless (isolated dialects) leaves.tree whole_tree) (ap (λ ms. run (going (start_with ms)) (events script)) (append-nil earlier) ∙ ran)
+  alone : (st : history.State) × (run (going start) (events script) ≡ going st) × (following.state ≡ record st { marks = earlier ++ st.marks })
+  alone = ran_without earlier script start following.state (root_entryless (isolated dialects) leaves.tree whole_tree) (ap (λ ms. run (going (start_with ms)) (events script)) (append-nil earlier) ∙ ran)
 
   stopped : alone.0 ≡ after start (facts script)
   stopped = (ran_through script alone.0 alone.1).1
 
-  stands : StandsAt behind.names new.graph behind.known [] alone.0
-  stands = other_marks behind.names new.graph behind.known alone.0 (earlier ++ alone.0.marks) (subst (λ z. StandsAt behind.names new.graph behind.known [] z) alone.2 behind.stands)
+  agreed : NamesAgree following.names new.graph following.known [] alone.0
+  agreed = other_marks following.names new.graph following.known alone.0 (earlier ++ alone.0.marks) (subst (λ z. NamesAgree following.names new.graph following.known [] z) alone.2 following.agreed)
 
   -- it resolves
   pub tree_resolves : failures_of {X = Written A} (isolated dialects) leaves.tree [] ≡ []
   tree_resolves = (ran_through script alone.0 alone.1).0
 
   -- no scope is open
-  pub no_values : behind.names.values ≡ []
-  no_values = values_shut behind.names new.graph behind.known [] alone.0 stands (ap (λ (z : history.State). z.values) stopped)
+  pub no_values : following.names.values ≡ []
+  no_values = values_shut following.names new.graph following.known [] alone.0 agreed (ap (λ (z : history.State). z.values) stopped)
 
-  pub no_labels : behind.names.labels ≡ []
-  no_labels = labels_shut behind.names new.graph behind.known [] alone.0 stands (ap (λ (z : history.State). z.labels) stopped)
+  pub no_labels : following.names.labels ≡ []
+  no_labels = labels_shut following.names new.graph following.known [] alone.0 agreed (ap (λ (z : history.State). z.labels) stopped)
 
   -- its marks are recorded after the earlier ones
   pub marks_are : marks ≡ earlier ++ tree_marks dialects leaves.tree
-  marks_are = sym behind.marked ∙ ap (λ (z : history.State). z.marks) alone.2 ∙ ap (λ (z : history.State). earlier ++ z.marks) stopped
+  marks_are = sym following.marked ∙ ap (λ (z : history.State). z.marks) alone.2 ∙ ap (λ (z : history.State). earlier ++ z.marks) stopped
 
   module _ (closed : LeavesClosed old new) (first : ℕ → Written A) where
     -- the forest of pointers is the tree's
     pub is_tree : RootIs L new leaves.items (pointers new.graph op) leaves.tree
-    is_tree = builds.is_tree L old new leaves.items leaves.whole op leaves.tree leaves.held closed.nest named.0 named.1 first (isolated dialects) formed behind.names behind.known behind.are alone.0 stands alone.1
+    is_tree = builds.is_tree L old new leaves.items leaves.whole op leaves.tree leaves.held closed.nest named.0 named.1 first (isolated dialects) formed following.names following.known following.are alone.0 agreed alone.1
 
     -- each of the links that it builds is in the context
     pub keeps : (es : List (Entry ℕ A (Written A))) → Keeps new first es (isolated dialects) (placed_under (pointers new.graph op)) (links (build (isolated dialects) first es leaves.tree))
-    keeps = builds.keeps L old new leaves.items leaves.whole op leaves.tree leaves.held closed.nest named.0 named.1 first (isolated dialects) formed behind.names behind.known behind.are alone.0 stands alone.1
+    keeps = builds.keeps L old new leaves.items leaves.whole op leaves.tree leaves.held closed.nest named.0 named.1 first (isolated dialects) formed following.names following.known following.are alone.0 agreed alone.1
 
     module _ (tells : (n : ℕ) (l : Location A) → L n l → location_over new.paths l ≡ first n) where
       -- what it builds is under the pointer
       pub tree_builds : held_root new op ≡ Some (build (isolated dialects) first [] leaves.tree)
-      tree_builds = builds.builds L old new leaves.items leaves.whole op leaves.tree leaves.held closed.nest named.0 named.1 first (isolated dialects) formed behind.names behind.known behind.are alone.0 stands alone.1 tells
+      tree_builds = builds.builds L old new leaves.items leaves.whole op leaves.tree leaves.held closed.nest named.0 named.1 first (isolated dialects) formed following.names following.known following.are alone.0 agreed alone.1 tells
 
       -- and only that is new
       pub tree_only : OnlyNew op old new
       tree_only = only_new L old new leaves.items leaves.whole op leaves.tree leaves.held closed.nest is_tree (build (isolated dialects) first [] leaves.tree) tree_builds
-          (builds.linked L old new leaves.items leaves.whole op leaves.tree leaves.held closed.nest named.0 named.1 first (isolated dialects) formed behind.names behind.known behind.are alone.0 stands alone.1)
+          (builds.linked L old new leaves.items leaves.whole op leaves.tree leaves.held closed.nest named.0 named.1 first (isolated dialects) formed following.names following.known following.are alone.0 agreed alone.1)
           old.graph.made closed.older closed.kept closed.none closed.blanks closed.holders named.0 named.1

@@ -2,7 +2,7 @@ mod Rows
 pub mod Accepts
 pub mod Ages
 pub mod AloneBuilds
-pub mod Behind
+pub mod AfterTree
 pub mod Builds
 pub mod Depths
 pub mod Equal
@@ -23,7 +23,7 @@ pub mod Root
 pub mod Shapes
 pub mod Shown
 pub mod Spots
-pub mod StandsHeld
+pub mod HeldRepresents
 pub mod TrueFacts
 pub mod Wholes
 pub mod WithSection

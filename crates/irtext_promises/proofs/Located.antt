@@ -29,7 +29,7 @@ use Rattle.irtext_grammar.proofs.Lists.Each.{each_left, each_right}
 use Rattle.irtext_scopes.specs.declared.tracker.NameTracker.{NameTracker}
 use Rattle.irtext_parse_spec.specs.Naming.{paths_in_regions, paths_in_blocks, paths_in_operations, Names}
 use Rattle.irtext_parse_spec.specs.Tracks.{Made}
-use Rattle.irtext_names.specs.Linked.{Known, StandsAt, Became, Holds}
+use Rattle.irtext_names.specs.Linked.{Known, NamesAgree, Became, Holds}
 use Rattle.irtext_names.specs.OfItems.{IsSiteOf, AreOf}
 use Rattle.irtext_names.proofs.Linked.Moving.{among_split}
 use Rattle.irtext_promises.specs.Held.{PtrRegions, PtrBlocks, PtrOperations, placed_regions, placed_blocks, placed_operations, placed_under, path_of, value_place, block_place, defined_place}
@@ -138,7 +138,7 @@ module _ {T A : Type 0} (L : ℕ → Location A → Type 0) (c : ContextView T A
       label_found q b a = let x = are.blocks_of q b a in ap (option_map block_at) (block_found x.0 b x.2) ∙ ap Some (sym x.1)
 
       -- what a use of the script is bound to is what the operand or successor of its operation names
-      module _ {O B X : Type 0} (names_at : NameTracker Value (Ptr BasicBlock)) (g : GraphView (Option O) B X) (st : State) (stands : StandsAt names_at g known [] st) where
+      module _ {O B X : Type 0} (names_at : NameTracker Value (Ptr BasicBlock)) (g : GraphView (Option O) B X) (st : State) (agreed : NamesAgree names_at g known [] st) where
         -- the operand or successor of this user refers to what is defined at the place
         pub record Uses (u : User) (q : Place) : Type 0 where
           pub site : Site
@@ -148,7 +148,7 @@ module _ {T A : Type 0} (L : ℕ → Location A → Type 0) (c : ContextView T A
           pub place : defined_place all what ≡ Some q
 
         pub bound_uses : (u : User) (q : Place) → Among (u, q) st.bound → Uses u q
-        bound_uses u q a = let x = stands.bound u q a in go x.0 x.1 x.2
+        bound_uses u q a = let x = agreed.bound u q a in go x.0 x.1 x.2
           where
             placed : (d : Defined) → Became known q d → defined_place all d ≡ Some q
             placed (OfValue v) b = value_found q v b

@@ -32,7 +32,7 @@ use Rattle.irtext_graph.specs.Parts.{operands, successors, operands_of, successo
 use Rattle.irtext_graph.specs.Store.{get}
 use Rattle.irtext_graph.specs.Used.{IsDefined, IsUse, used_at, user}
 use Rattle.irtext_graph.proofs.Frames.{operation_content_same}
-use Rattle.irtext_graph.proofs.Nests.{some_eq, told}
+use Rattle.irtext_graph.proofs.Nests.{some_eq, same_or_other}
 use Rattle.irtext_graph.proofs.Same.{object_tells}
 use Rattle.irtext_graph.proofs.PartsSeen.{some_of, of_some}
 use Rattle.irtext_grammar.specs.Contexts.Nested.{pointers}
@@ -53,7 +53,7 @@ use Rattle.irtext_promises.specs.Alone.{pointers_in, held_region}
 use Rattle.irtext_promises.specs.Held.{PtrRegions, PtrBlocks, PtrOperations, placed_regions, placed_blocks, placed_operations, placed_under, path_of, value_place, block_place, held_op, held_head, held_regions, held_blocks, held_operations, held_root}
 use Rattle.irtext_promises.specs.OnlyNew.{OnlyNew, BlanksDefine}
 use Rattle.irtext_promises.specs.Placed.{RegionsAre, BlocksAre, OperationsAre, RootIs}
-use Rattle.irtext_promises.proofs.Ages.{IsHere, here_stands, stands_here, stood_or_new, same_parent, operation_stays, block_stays, region_stays}
+use Rattle.irtext_promises.proofs.Ages.{IsHere, here_is_live, live_here, was_live_or_new, same_parent, operation_stays, block_stays, region_stays}
 use Rattle.irtext_promises.proofs.Located.{IsPlaced, located}
 use Rattle.irtext_promises.proofs.OnePlace.{path_there}
 use Rattle.irtext_promises.proofs.Occurs.{child_parent, whole_occurs}
@@ -129,35 +129,35 @@ has_none part (Some x) e h = refl
 
 module _ {T A : Type 0} (c : ContextView T A) where
   -- an object that is present is live
-  there_stands : (q : Object) → IsThere c q → IsLive c.graph q
-  there_stands (TheOperation o) t = here_stands c.graph (TheOperation o) (operation_here (get c.graph.operations o) t)
+  there_is_live : (q : Object) → IsThere c q → IsLive c.graph q
+  there_is_live (TheOperation o) t = here_is_live c.graph (TheOperation o) (operation_here (get c.graph.operations o) t)
     where
       operation_here : (y : Option (OperationEntry T A)) → IsSome (option_and_then operation_of y) → IsSome y
       operation_here None h = absurd (cc)
       operation_here (Some e) h = refl
-  there_stands (TheBlock d) t = here_stands c.graph (TheBlock d) (some_of block_of (get c.graph.blocks d) t.0)
-  there_stands (TheRegion r) t = here_stands c.graph (TheRegion r) (some_of region_of (get c.graph.regions r) t)
+  there_is_live (TheBlock d) t = here_is_live c.graph (TheBlock d) (some_of block_of (get c.graph.blocks d) t.0)
+  there_is_live (TheRegion r) t = here_is_live c.graph (TheRegion r) (some_of region_of (get c.graph.regions r) t)
 
   -- the owner of a definition is live
-  result_stands : (o : Ptr Operation) (i : ℕ) → IsSome (slice_get (results_of (operation_at c.graph o)) i) → IsSome (get c.graph.operations o)
-  result_stands o i h = has_none (λ y. slice_get (results_of (option_map (λ e. e.content.content) y)) i) (get c.graph.operations o) refl h
+  result_is_live : (o : Ptr Operation) (i : ℕ) → IsSome (slice_get (results_of (operation_at c.graph o)) i) → IsSome (get c.graph.operations o)
+  result_is_live o i h = has_none (λ y. slice_get (results_of (option_map (λ e. e.content.content) y)) i) (get c.graph.operations o) refl h
 
-  argument_stands : (k : Ptr BasicBlock) (i : ℕ) → IsSome (slice_get (arguments_of (block_at c.graph k)) i) → IsSome (get c.graph.blocks k)
-  argument_stands k i h = has_none (λ y. slice_get (arguments_of (option_map (λ e. e.content.content) y)) i) (get c.graph.blocks k) refl h
+  argument_is_live : (k : Ptr BasicBlock) (i : ℕ) → IsSome (slice_get (arguments_of (block_at c.graph k)) i) → IsSome (get c.graph.blocks k)
+  argument_is_live k i h = has_none (λ y. slice_get (arguments_of (option_map (λ e. e.content.content) y)) i) (get c.graph.blocks k) refl h
 
-  owner_stands : (d : Defined) → IsDefined c.graph d → IsLive c.graph (owner d)
-  owner_stands (OfValue (Result o i)) h = here_stands c.graph (TheOperation o) (result_stands o i h)
-  owner_stands (OfValue (Argument k i)) h = here_stands c.graph (TheBlock k) (argument_stands k i h)
-  owner_stands (OfBlock k) h = h
+  owner_is_live : (d : Defined) → IsDefined c.graph d → IsLive c.graph (owner d)
+  owner_is_live (OfValue (Result o i)) h = here_is_live c.graph (TheOperation o) (result_is_live o i h)
+  owner_is_live (OfValue (Argument k i)) h = here_is_live c.graph (TheBlock k) (argument_is_live k i h)
+  owner_is_live (OfBlock k) h = h
 
   -- an operation that uses something is live
-  user_stands : (s : Site) (d : Defined) → IsUse c.graph d s → IsSome (get c.graph.operations (user s))
-  user_stands (AtOperand o i) d e = go (get c.graph.operations o) e
+  user_is_live : (s : Site) (d : Defined) → IsUse c.graph d s → IsSome (get c.graph.operations (user s))
+  user_is_live (AtOperand o i) d e = go (get c.graph.operations o) e
     where
       go : (y : Option (OperationEntry T A)) → option_map OfValue (slice_get (operands_of (option_map (λ e. e.content.content) y)) i) ≡ Some d → IsSome y
       go None e = absurd (cc)
       go (Some z) e = refl
-  user_stands (AtSuccessor o i) d e = go (get c.graph.operations o) e
+  user_is_live (AtSuccessor o i) d e = go (get c.graph.operations o) e
     where
       go : (y : Option (OperationEntry T A)) → option_map OfBlock (slice_get (successors_of (option_map (λ e. e.content.content) y)) i) ≡ Some d → IsSome y
       go None e = absurd (cc)
@@ -193,15 +193,15 @@ module _ {T A : Type 0} (m : ℕ) (c : ContextView T A) (none : NoneIsLeft m [] 
       go : (v : Option (OperationView T A)) → operation c o ≡ v → IsSome (operation c o)
       go (Some view) e = subst IsSome (sym e) refl
       go None e =
-          let here = stands_here c.graph (TheOperation o) s in
+          let here = live_here c.graph (TheOperation o) s in
           let r = blanks o here e n in
           absurd (none.values (Result o r.0) r.1 (blank (get c.graph.operations o) here e) n)
-  new_there (TheBlock d) s n = (of_some block_of (get c.graph.blocks d) (stands_here c.graph (TheBlock d) s), go (parent c.graph (TheBlock d)) refl)
+  new_there (TheBlock d) s n = (of_some block_of (get c.graph.blocks d) (live_here c.graph (TheBlock d) s), go (parent c.graph (TheBlock d)) refl)
     where
       go : (k : Option Object) → parent c.graph (TheBlock d) ≡ k → IsSome (parent c.graph (TheBlock d))
       go (Some k) e = subst IsSome (sym e) refl
       go None e = absurd (none.labels d s e n (λ i. i))
-  new_there (TheRegion r) s n = of_some region_of (get c.graph.regions r) (stands_here c.graph (TheRegion r) s)
+  new_there (TheRegion r) s n = of_some region_of (get c.graph.regions r) (live_here c.graph (TheRegion r) s)
 
 -- ---- what is under a path and was not live uses nothing that was live
 module _ {T A : Type 0} (L : ℕ → Location A → Type 0) (start c : ContextView T A) (items : Made) (all : List (Object × Path)) (named : AllNamed L c items all all)
@@ -238,7 +238,7 @@ module _ {T A : Type 0} (L : ℕ → Location A → Type 0) (start c : ContextVi
       go (Some k) f a e = let same : OfBlock k ≡ d = cc in label_new k (all_at (block_place all) (successors c.graph o) i k a f) (subst (IsDefined start.graph) (sym same) s)
 
 module _ {T A : Type 0} (L : ℕ → Location A → Type 0) (start c : ContextView T A) (items : Made) (whole : List Object) (p : Ptr Operation) (x : Tree ℕ T A) (held : HoldsMade L start c items whole [] (Some p) (finished x))
-    (nest : Nested (children c.graph) (parent c.graph)) (is : RootIs L c items (pointers c.graph p) x) (b : Built T A (Written A)) (stands : held_root c p ≡ Some b) (linked : Linked b)
+    (nest : Nested (children c.graph) (parent c.graph)) (is : RootIs L c items (pointers c.graph p) x) (b : Built T A (Written A)) (alive : held_root c p ≡ Some b) (linked : Linked b)
     (m : ℕ) (older : AllOlder m start.graph) (kept : KeepsOlder m start c) (none : NoneIsLeft m [] c.graph) (blanks : BlanksDefine m c) (holders : (o k : Object) → parent start.graph o ≡ Some k → IsLive start.graph k)
     (path : ℕ → Path) (names : Names path x) where
   abbrev all : List (Object × Path)
@@ -246,7 +246,7 @@ module _ {T A : Type 0} (L : ℕ → Location A → Type 0) (start c : ContextVi
 
   -- ---- what is whole was not there
   whole_new : (q : Object) → Among q whole → IsLive start.graph q → ⊥
-  whole_new q i s = held.tracks.came q (inl i) (there_then m start c older kept q (stands_here start.graph q s) (held.so_far.whole_there q i))
+  whole_new q i s = held.tracks.came q (inl i) (there_then m start c older kept q (live_here start.graph q s) (held.so_far.whole_there q i))
 
   root_whole : Among (TheOperation p) whole
   root_whole = held.so_far.tree.0
@@ -280,12 +280,12 @@ module _ {T A : Type 0} (L : ℕ → Location A → Type 0) (start c : ContextVi
 
   new_whole : (q : Object) → IsLive c.graph q → IsNew m c.graph q → IsLive start.graph q ⊎ Among q whole
   new_whole q s n = elim (held.tracks.all q (new_there m c none blanks q s n)) [
-    | inl first ↦ inl (there_stands start q first)
+    | inl first ↦ inl (there_is_live start q first)
     | inr h ↦ elim h [ inl i ↦ inr i | inr never ↦ absurd never ]
   ]
 
   live : (q : Object) → IsLive c.graph q → IsLive start.graph q ⊎ IsInside c.graph (TheOperation p) q
-  live q s = elim (stood_or_new m start.graph c.graph kept.graph q s) [
+  live q s = elim (was_live_or_new m start.graph c.graph kept.graph q s) [
     | inl was ↦ inl was
     | inr n ↦ elim (new_whole q s n) [ inl was ↦ inl was | inr i ↦ let k = nest.ends q in inr (whole_inside k.0 q i k.1) ]
   ]
@@ -293,7 +293,7 @@ module _ {T A : Type 0} (L : ℕ → Location A → Type 0) (start c : ContextVi
   -- ---- what is new uses what is new
 
   held_is : ◌≡◌ {A = Built T A (Written A)} (record { own = held_op c all p is.0.view; regions = held_regions c all (pointers c.graph p).regions }) b
-  held_is = some_eq (sym (ap (option_map (λ view. record { own = held_op c all p view; regions = held_regions c all (pointers c.graph p).regions })) is.0.is) ∙ stands)
+  held_is = some_eq (sym (ap (option_map (λ view. record { own = held_op c all p view; regions = held_regions c all (pointers c.graph p).regions })) is.0.is) ∙ alive)
 
   all_named : AllNamed L c items all all
   all_named =
@@ -315,7 +315,7 @@ module _ {T A : Type 0} (L : ℕ → Location A → Type 0) (start c : ContextVi
   placed_new : (d : Defined) (q : Path) → Among (owner d, q) all → IsDefined start.graph d → ⊥
   placed_new d q at s =
       let l = located L c items path (pointers c.graph p) x names is (owner d) q at in
-      whole_new (owner d) (placed_whole (owner d) q l (owner_kind d)) (owner_stands start d s)
+      whole_new (owner d) (placed_whole (owner d) q l (owner_kind d)) (owner_is_live start d s)
 
   -- one that is whole uses nothing that was there
   whole_uses : (s : Site) (d : Defined) → Among (TheOperation (user s)) whole → IsUse c.graph d s → IsDefined start.graph d → ⊥
@@ -326,10 +326,10 @@ module _ {T A : Type 0} (L : ℕ → Location A → Type 0) (start c : ContextVi
   uses : (d : Defined) (s : Site) → IsDefined start.graph d → IsUse c.graph d s → IsUse start.graph d s
   uses d s there e =
       let o = TheOperation (user s) in
-      let stands = here_stands c.graph o (user_stands c s d e) in
-      elim (stood_or_new m start.graph c.graph kept.graph o stands) [
-        | inl was ↦ used_then m start c older kept s d (stands_here start.graph o was) e
-        | inr n ↦ elim (new_whole o stands n) [ inl was ↦ used_then m start c older kept s d (stands_here start.graph o was) e | inr w ↦ absurd (whole_uses s d w e there) ]
+      let alive = here_is_live c.graph o (user_is_live c s d e) in
+      elim (was_live_or_new m start.graph c.graph kept.graph o alive) [
+        | inl was ↦ used_then m start c older kept s d (live_here start.graph o was) e
+        | inr n ↦ elim (new_whole o alive n) [ inl was ↦ used_then m start c older kept s d (live_here start.graph o was) e | inr w ↦ absurd (whole_uses s d w e there) ]
       ]
 
   -- only the operation and what is nested in it were created
@@ -363,17 +363,17 @@ module _ {T A : Type 0} (L : ℕ → Location A → Type 0) (start mid c : Conte
   used_same (AtOperand o i) = ap (λ z. option_map OfValue (slice_get (operands_of z) i)) (held_same (get c.graph.operations o) (get mid.graph.operations o) (operation_content_same mid.graph c.graph o (a.objects.contents (TheOperation o))))
   used_same (AtSuccessor o i) = ap (λ z. option_map OfBlock (slice_get (successors_of z) i)) (held_same (get c.graph.operations o) (get mid.graph.operations o) (operation_content_same mid.graph c.graph o (a.objects.contents (TheOperation o))))
 
-  stood_before : (q : Object) → IsLive c.graph q → IsLive mid.graph q
-  stood_before q s = subst IsSome (a.objects.contents q) s
+  was_live_before : (q : Object) → IsLive c.graph q → IsLive mid.graph q
+  was_live_before q s = subst IsSome (a.objects.contents q) s
 
   -- ---- what is whole was not there
   pub whole_is_new : (q : Object) → Among q whole → IsLive start.graph q → ⊥
-  whole_is_new q i s = came q i (there_then m start mid older kept q (stands_here start.graph q s) (there q i))
+  whole_is_new q i s = came q i (there_then m start mid older kept q (live_here start.graph q s) (there q i))
 
   -- ---- nothing inside was there
   inside_is_new : (n : ℕ) (q : Object) → climb (parent c.graph) n (Some q) ≡ Some (TheRegion r) → IsLive start.graph q → ⊥
   inside_is_new zero q e s = whole_is_new (TheRegion r) region_whole (subst (IsLive start.graph) (some_eq e) s)
-  inside_is_new (suc n) q e s = elim (told object_tells q (TheRegion r)) [
+  inside_is_new (suc n) q e s = elim (same_or_other object_tells q (TheRegion r)) [
     | inl same ↦ whole_is_new (TheRegion r) region_whole (subst (IsLive start.graph) same s)
     | inr apart ↦ go (λ k g t. inside_is_new n k g t) (parent c.graph q) refl (a.parents q apart) e
   ]
@@ -398,13 +398,13 @@ module _ {T A : Type 0} (L : ℕ → Location A → Type 0) (start mid c : Conte
   ]
 
   new_is_whole : (q : Object) → IsLive mid.graph q → IsNew m mid.graph q → IsLive start.graph q ⊎ Among q whole
-  new_is_whole q s n = elim (all_that q (new_there m mid none blanks q s n)) [ inl first ↦ inl (there_stands start q first) | inr i ↦ inr i ]
+  new_is_whole q s n = elim (all_that q (new_there m mid none blanks q s n)) [ inl first ↦ inl (there_is_live start q first) | inr i ↦ inr i ]
 
   -- a live object was live, or is inside the region, and no object inside the region was live
   pub region_live : (q : Object) → IsLive c.graph q → IsLive start.graph q ⊎ IsInside c.graph (TheRegion r) q
-  region_live q s = elim (stood_or_new m start.graph mid.graph kept.graph q (stood_before q s)) [
+  region_live q s = elim (was_live_or_new m start.graph mid.graph kept.graph q (was_live_before q s)) [
     | inl was ↦ inl was
-    | inr n ↦ elim (new_is_whole q (stood_before q s) n) [ inl was ↦ inl was | inr i ↦ let k = nest.ends q in inr (whole_is_inside k.0 q i k.1) ]
+    | inr n ↦ elim (new_is_whole q (was_live_before q s) n) [ inl was ↦ inl was | inr i ↦ let k = nest.ends q in inr (whole_is_inside k.0 q i k.1) ]
   ]
 
   pub region_is_new : (q : Object) → IsInside c.graph (TheRegion r) q → IsLive start.graph q → ⊥
@@ -428,17 +428,17 @@ module _ {T A : Type 0} (L : ℕ → Location A → Type 0) (start mid c : Conte
     placed_is_whole (TheRegion k) q h apart = absurd (apart k refl)
 
     placed_is_new : (d : Defined) (q : Path) → Among (owner d, q) here_all → IsDefined start.graph d → ⊥
-    placed_is_new d q at s = whole_is_new (owner d) (placed_is_whole (owner d) q (placed (owner d) q at) (owner_kind d)) (owner_stands start d s)
+    placed_is_new d q at s = whole_is_new (owner d) (placed_is_whole (owner d) q (placed (owner d) q at) (owner_kind d)) (owner_is_live start d s)
 
     whole_uses_new : (s : Site) (d : Defined) → Among (TheOperation (user s)) whole → IsUse c.graph d s → IsDefined start.graph d → ⊥
     whole_uses_new s d w = let at = occurs (TheOperation (user s)) w in uses_placed L start c items here_all here_named placed_is_new s d at.0 at.1
 
     -- what was live has no more uses than before
     pub region_uses : (d : Defined) (s : Site) → IsDefined start.graph d → IsUse c.graph d s → IsUse start.graph d s
-    region_uses d s stood e =
+    region_uses d s was_live e =
         let o = TheOperation (user s) in
-        let stands = stood_before o (here_stands c.graph o (user_stands c s d e)) in
-        elim (stood_or_new m start.graph mid.graph kept.graph o stands) [
-          | inl was ↦ used_before d s (stands_here start.graph o was) e
-          | inr n ↦ elim (new_is_whole o stands n) [ inl was ↦ used_before d s (stands_here start.graph o was) e | inr w ↦ absurd (whole_uses_new s d w e stood) ]
+        let alive = was_live_before o (here_is_live c.graph o (user_is_live c s d e)) in
+        elim (was_live_or_new m start.graph mid.graph kept.graph o alive) [
+          | inl was ↦ used_before d s (live_here start.graph o was) e
+          | inr n ↦ elim (new_is_whole o alive n) [ inl was ↦ used_before d s (live_here start.graph o was) e | inr w ↦ absurd (whole_uses_new s d w e was_live) ]
         ]

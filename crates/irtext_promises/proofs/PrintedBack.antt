@@ -20,7 +20,7 @@ use Rattle.irtext_grammar.specs.Graphs.Regained.{Named}
 use Rattle.irtext_grammar.specs.Names.Acts.{failures_of}
 use Rattle.irtext_grammar.specs.Spelling.Section.{text}
 use Rattle.irtext_parse_spec.specs.Promises.Root.{location_of}
-use Rattle.irtext_parse_spec.specs.Promises.Supported.{supported, location_standing}
+use Rattle.irtext_parse_spec.specs.Promises.Supported.{supported, location_verdict}
 use Rattle.irtext_promises.specs.Held.{held_root}
 use Rattle.irtext_promises.specs.Promises.{BuildsRoot, IsFirst, RefusesRoot}
 use Rattle.irtext_tokens.specs.AttrTexts.{attr_at}
@@ -28,7 +28,7 @@ use Rattle.irtext_parse_spec.specs.Back.{ClosedRoot, IsTextOf, ReadsAs}
 use Rattle.irtext_parse_spec.proofs.Limited.{limited_refused}
 use Rattle.irtext_parse_spec.proofs.TextBack.{held_back, held_whole, readable}
 use Rattle.irtext_parse_state.specs.declared.parsable.state.StateStream.{StateStream}
-use Rattle.irtext_promises.specs.PrintedRoot.{PrintedRoot, StandsBack, StandsWhole}
+use Rattle.irtext_promises.specs.PrintedRoot.{PrintedRoot, GivesBackRoot, GivesBackWhole}
 
 module _ {T A : Type 0} (types : Texts T) (reading : Text → Outcome A) (text_of : A → Text) (types_law : Lawful T types) (owns_law : Lawful A (texts_of reading text_of)) (unreserved : Unreserved A (texts_of reading text_of))
     (outlined once : A → Bool) (eq : A → A → Bool) (sound : (a b : A) → eq a b ≡ true → a ≡ b) (reflexive : (a : A) → eq a a ≡ true)
@@ -54,7 +54,7 @@ module _ {T A : Type 0} (types : Texts T) (reading : Text → Outcome A) (text_o
         let few = printed.few in
         record { kept = printed.kept; fits = printed.fits; is = sym is; few = omega (arith, few, same, size, low) }
 
-    module _ {U : Type 0} (old : StateStream T A U) (stands : old.stream.rest ≡ chars bytes) (same_dialects : old.state.ctx.now.dialects ≡ ctx.dialects) where
+    module _ {U : Type 0} (old : StateStream T A U) (follows_on : old.stream.rest ≡ chars bytes) (same_dialects : old.state.ctx.now.dialects ≡ ctx.dialects) where
       -- what was parsed from it
       read_as : (q : Ptr Operation) (new : StateStream T A U) → BuildsRoot types owns attr q old new
           → ReadsAs types owns attr C (isolated ctx.dialects) (location_of new.state.ctx.now.paths old.state.src (whole old.stream)) (chars bytes) new.stream.rest (held_root new.state.ctx.now q)
@@ -63,8 +63,8 @@ module _ {T A : Type 0} (types : Texts T) (reading : Text → Outcome A) (text_o
           record {
             tree = b.tree;
             entries = b.entries;
-            reads = subst (λ t. reads_root (supported ctx.dialects types owns) (location_standing attr) b.tree b.entries t new.stream.rest) stands
-                (subst (λ d. reads_root (supported d types owns) (location_standing attr) b.tree b.entries old.stream.rest new.stream.rest) same_dialects b.reads);
+            reads = subst (λ t. reads_root (supported ctx.dialects types owns) (location_verdict attr) b.tree b.entries t new.stream.rest) follows_on
+                (subst (λ d. reads_root (supported d types owns) (location_verdict attr) b.tree b.entries old.stream.rest new.stream.rest) same_dialects b.reads);
             resolves = subst (λ d. failures_of (isolated d) b.tree b.entries ≡ []) same_dialects b.resolves;
             builds = b.builds ∙ ap (λ d. Some (build (isolated d) first b.entries b.tree)) same_dialects;
           }
@@ -76,20 +76,20 @@ module _ {T A : Type 0} (types : Texts T) (reading : Text → Outcome A) (text_o
           limited_refused types owns types_law owns_law unreserved attr C (isolated ctx.dialects) g width n limit (chars bytes) new.stream.rest r.tree r.entries is_text left r.reads
 
   module _ (printed : PrintedRoot types owns attr C ctx p g width n None bytes) (closed : ClosedRoot C (isolated ctx.dialects) g)
-      {U : Type 0} (old : StateStream T A U) (stands : old.stream.rest ≡ chars bytes) (same_dialects : old.state.ctx.now.dialects ≡ ctx.dialects) where
-    pub stands_back : (q : Ptr Operation) (new : StateStream T A U) → BuildsRoot types owns attr q old new → StandsBack types owns attr C ctx.dialects g q new
-    stands_back q new b =
+      {U : Type 0} (old : StateStream T A U) (follows_on : old.stream.rest ≡ chars bytes) (same_dialects : old.state.ctx.now.dialects ≡ ctx.dialects) where
+    pub gives_back_root : (q : Ptr Operation) (new : StateStream T A U) → BuildsRoot types owns attr q old new → GivesBackRoot types owns attr C ctx.dialects g q new
+    gives_back_root q new b =
         held_back types reading text_of types_law owns_law unreserved C sound reflexive (isolated ctx.dialects) (location_of new.state.ctx.now.paths old.state.src (whole old.stream)) (λ p. refl) g width n (chars bytes) (is_text None printed) closed
-        new.stream.rest (held_root new.state.ctx.now q) (read_as None printed old stands same_dialects q new b)
+        new.stream.rest (held_root new.state.ctx.now q) (read_as None printed old follows_on same_dialects q new b)
 
-    pub stands_whole : Named C g → (q : Ptr Operation) (new : StateStream T A U) → BuildsRoot types owns attr q old new → StandsWhole types owns attr C ctx.dialects g q new
-    stands_whole named q new b =
+    pub gives_back_whole : Named C g → (q : Ptr Operation) (new : StateStream T A U) → BuildsRoot types owns attr q old new → GivesBackWhole types owns attr C ctx.dialects g q new
+    gives_back_whole named q new b =
         held_whole types reading text_of types_law owns_law unreserved C sound reflexive (isolated ctx.dialects) (location_of new.state.ctx.now.paths old.state.src (whole old.stream)) (λ p. refl) g width n (chars bytes) (is_text None printed) closed
-        named new.stream.rest (held_root new.state.ctx.now q) (read_as None printed old stands same_dialects q new b)
+        named new.stream.rest (held_root new.state.ctx.now q) (read_as None printed old follows_on same_dialects q new b)
 
     pub not_refused : (types_at : Text → Outcome T) (fault : ParseFault A) → RefusesRoot types owns types_at attr old.state.ctx.now.dialects old.stream fault → ⊥
     not_refused types_at fault there =
         let f = subst (λ d. RefusesRoot types owns types_at attr d old.stream fault) same_dialects there in
         let r = readable types reading text_of types_law owns_law unreserved C sound reflexive (isolated ctx.dialects) (location_of ctx.paths old.state.src (whole old.stream)) (λ p. refl) g width n (chars bytes) (is_text None printed) closed in
-        let here = subst (λ t. reads_root (supported ctx.dialects types owns) (location_standing attr) r.0 r.1 t r.2) (sym stands) r.3 in
+        let here = subst (λ t. reads_root (supported ctx.dialects types owns) (location_verdict attr) r.0 r.1 t r.2) (sym follows_on) r.3 in
         subst (λ z. IsFirst (whole old.stream) z fault) r.4 (f.first r.0 r.1 r.2 here)

@@ -16,9 +16,9 @@ use Rattle.irtext_grammar.specs.Grammar.Reads.{reads}
 use Rattle.irtext_grammar.specs.Graphs.Build.{build}
 use Rattle.irtext_grammar.specs.Graphs.Closed.{Fit}
 use Rattle.irtext_grammar.specs.Graphs.Graph.{Graph, Printing}
-use Rattle.irtext_grammar.specs.Graphs.Same.{stood}
+use Rattle.irtext_grammar.specs.Graphs.Same.{resolved_root}
 use Rattle.irtext_grammar.specs.Graphs.Regained.{Named}
-use Rattle.irtext_grammar.specs.Graphs.StandsFor.{Distinct, StandsFor}
+use Rattle.irtext_grammar.specs.Graphs.Represents.{Distinct, Represents}
 use Rattle.irtext_grammar.specs.Names.Acts.{failures_of, section_acts, rule_of}
 use Rattle.irtext_grammar.specs.Names.Script.{done, does_all}
 use Rattle.irtext_grammar.proofs.Grammar.PartsOfFormats.{formed_read}
@@ -34,7 +34,7 @@ use Rattle.irtext_parse_spec.specs.Back.{ClosedRoot}
 use Rattle.irtext_parse_spec.proofs.ReadRoot.{closed_where_read}
 use Rattle.irtext_parse_state.specs.declared.parsable.state.StateStream.{StateStream}
 use Rattle.irtext_promises.proofs.Accepts.{tree_accepted}
-use Rattle.irtext_promises.proofs.StandsHeld.{many_held, stands_held, label_found}
+use Rattle.irtext_promises.proofs.HeldRepresents.{many_held, represents_held, label_found}
 
 module _ {T A U : Type 0} (types : Texts T) (reading : Text → Outcome A) (text_of : A → Text) (outlined once : A → Bool) (eq : A → A → Bool) (p : Ptr Operation) (before after : StateStream T A U) (g : Graph T A) where
   abbrev C : Printing T A
@@ -61,8 +61,8 @@ module _ {T A U : Type 0} (types : Texts T) (reading : Text → Outcome A) (text
     builds_there = subst (λ d. held_root after.state.ctx.now p ≡ Some (build (isolated d) first built.entries built.tree)) (sym built.only.dialects) built.builds
 
     -- what printing sees represents it
-    pub stands_there : StandsFor (stood C iso g) (build iso first built.entries built.tree)
-    stands_there =
+    pub printed_represents : Represents (resolved_root C iso g) (build iso first built.entries built.tree)
+    printed_represents =
         let t = built.tree in
         let es = built.entries in
         let enough = trees.whole L (λ p q h. h) t before.stream.rest built.reads.0 read_there in
@@ -71,8 +71,8 @@ module _ {T A U : Type 0} (types : Texts T) (reading : Text → Outcome A) (text
         let many = many_held after.state.ctx.now counters text_of p C label iso first es t built.is_whole builds_there right.counts enough g sees in
         let formed = formed_read L (λ p q h. h) t before.stream.rest built.reads.0 (tree_accepted L C (λ i. refl) iso t g many fits) read_there in
         let linked = all_there iso first es t formed (does_all (section_acts (rule_of t) es) done) clean in
-        stands_held after.state.ctx.now counters text_of p C label iso first es t built.is_whole builds_there right.counts enough linked g sees fits
+        represents_held after.state.ctx.now counters text_of p C label iso first es t built.is_whole builds_there right.counts enough linked g sees fits
 
     -- it is closed, and all has names
     pub read_closed : Distinct C iso g → ClosedRoot C iso g × Named C g
-    read_closed distinct = closed_where_read L (λ p q h. h) C (λ i. refl) iso first built.tree built.entries g before.stream.rest built.reads.0 read_there clean stands_there distinct fits
+    read_closed distinct = closed_where_read L (λ p q h. h) C (λ i. refl) iso first built.tree built.entries g before.stream.rest built.reads.0 read_there clean printed_represents distinct fits

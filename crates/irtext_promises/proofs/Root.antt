@@ -23,7 +23,7 @@ use Rattle.irtext_grammar.specs.Grammar.Tree.{Tree}
 use Rattle.irtext_grammar.specs.Names.Acts.{rule_of, failures_of}
 use Rattle.irtext_grammar.proofs.Names.InScripts.{WholeOperations}
 use Rattle.irtext_parse_spec.specs.Promises.Section.{is_noted}
-use Rattle.irtext_parse_spec.specs.Promises.Supported.{location_standing}
+use Rattle.irtext_parse_spec.specs.Promises.Supported.{location_verdict}
 use Rattle.irtext_parse_spec.proofs.Joins.Answers.{Splits}
 use Rattle.irtext_parse_spec.specs.Exact.{NeedsWord}
 use Rattle.irtext_parse_spec.specs.Reached.{Advanced}
@@ -78,12 +78,12 @@ module _ {T A : Type 0} (types_at : Text → Outcome T) (types_written : T → T
 
     -- a fault of the section is the first failure of whatever the text parses as
     pub section_refuses : (all : Text) (fault : ParseFault A)
-        → ((es : List (Entry ℕ A (Written A))) (left : Text) → section_if (knot.L types_at types_written reading written dialects) (location_standing (attr_at reading)) (marked leaves.tree) es rest left → IsFirst all (refused marks (rule_of leaves.tree) es) fault)
-        → (x : Tree ℕ T A) (es : List (Entry ℕ A (Written A))) (left : Text) → reads_root (knot.L types_at types_written reading written dialects) (location_standing (attr_at reading)) x es text left → IsFirst all (failures_of (isolated dialects) x es) fault
+        → ((es : List (Entry ℕ A (Written A))) (left : Text) → section_if (knot.L types_at types_written reading written dialects) (location_verdict (attr_at reading)) (marked leaves.tree) es rest left → IsFirst all (refused marks (rule_of leaves.tree) es) fault)
+        → (x : Tree ℕ T A) (es : List (Entry ℕ A (Written A))) (left : Text) → reads_root (knot.L types_at types_written reading written dialects) (location_verdict (attr_at reading)) x es text left → IsFirst all (failures_of (isolated dialects) x es) fault
     section_refuses all fault first x es left (between, r, s) =
         let same = one_tree leaves.tree x text rest between reads_it r in
-        let moved = subst (λ z. section_if (knot.L types_at types_written reading written dialects) (location_standing (attr_at reading)) (marked leaves.tree) es z left) (sym same.1)
-        (subst (λ z. section_if (knot.L types_at types_written reading written dialects) (location_standing (attr_at reading)) (marked z) es between left) (sym same.0) s) in
+        let moved = subst (λ z. section_if (knot.L types_at types_written reading written dialects) (location_verdict (attr_at reading)) (marked leaves.tree) es z left) (sym same.1)
+        (subst (λ z. section_if (knot.L types_at types_written reading written dialects) (location_verdict (attr_at reading)) (marked z) es between left) (sym same.0) s) in
         subst (λ z. IsFirst all (failures_of (isolated dialects) z es) fault) same.0 (subst (λ fs. IsFirst all fs fault) (sym (section_failures es)) (first es left moved))
 
 module _ {T A : Type 0} (types_at : Text → Outcome T) (types_written : T → Text) (reading : Text → Outcome A) (written : A → Text) (dialects : List (Text × Table)) (types_split : Splits types_at) (splits : Splits reading) (words : NeedsWord reading)
@@ -95,9 +95,9 @@ module _ {T A : Type 0} (types_at : Text → Outcome T) (types_written : T → T
   }
 
   -- and if it was parsed, and the section after it is an error
-  pub root_refused_behind : ((id : Id) → IsAccepted dialects id) → (L : ℕ → Location A → Type 0) (op : Ptr Operation) (earlier marks : List ℕ) (before mid : ContextView T A) (old : StreamView) (rest : Text) (leaves : LeavesTree types_at (attr_at reading) dialects earlier L op marks before mid old.rest rest) → earlier ≡ [] → (fault : ParseFault A)
-      → ((es : List (Entry ℕ A (Written A))) (left : Text) → section_if (knot.L types_at types_written reading written dialects) (location_standing (attr_at reading)) (marked leaves.tree) es rest left → IsFirst (whole old) (refused marks (rule_of leaves.tree) es) fault)
+  pub root_refused_after : ((id : Id) → IsAccepted dialects id) → (L : ℕ → Location A → Type 0) (op : Ptr Operation) (earlier marks : List ℕ) (before mid : ContextView T A) (old : StreamView) (rest : Text) (leaves : LeavesTree types_at (attr_at reading) dialects earlier L op marks before mid old.rest rest) → earlier ≡ [] → (fault : ParseFault A)
+      → ((es : List (Entry ℕ A (Written A))) (left : Text) → section_if (knot.L types_at types_written reading written dialects) (location_verdict (attr_at reading)) (marked leaves.tree) es rest left → IsFirst (whole old) (refused marks (rule_of leaves.tree) es) fault)
       → RefusesRoot (texts_of types_at types_written) (texts_of reading written) types_at (attr_at reading) dialects old fault
-  root_refused_behind accepted L op earlier marks before mid old rest leaves none fault first = record {
+  root_refused_after accepted L op earlier marks before mid old rest leaves none fault first = record {
     first = λ tree es left h. section_refuses types_at types_written reading written dialects types_split splits words short_types short_owns accepted L op earlier marks before mid old.rest rest leaves none (whole old) fault first tree es left h;
   }

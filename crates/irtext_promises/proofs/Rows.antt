@@ -56,16 +56,16 @@ context = record {
 }
 
 -- the location of this place, as it is written
-abbrev told_at : ℕ → Written ℕ
-told_at place = location_over [] (loc_at place)
+abbrev written_at : ℕ → Written ℕ
+written_at place = location_over [] (loc_at place)
 
 abbrev built : Built ℕ ℕ (Written ℕ)
 built = record {
-  own = record { id = id_of (codes "h"); result_types = []; operands = []; successors = []; attributes = []; location = told_at 25 };
+  own = record { id = id_of (codes "h"); result_types = []; operands = []; successors = []; attributes = []; location = written_at 25 };
   regions = region tt
-      (block (record { label = codes "b"; argument_types = []; attributes = []; location = told_at 15 })
-      (operation (record { id = id_of (codes "n"); result_types = 5 ∷ []; operands = []; successors = []; attributes = (codes "k", tree.own 7) ∷ []; location = told_at 9 }) no_regions
-      (operation (record { id = id_of (codes "u"); result_types = []; operands = Some (result (0 ∷ 0 ∷ 0 ∷ []) 0) ∷ []; successors = Some (block_at (0 ∷ 0 ∷ [])) ∷ []; attributes = []; location = told_at 5 }) no_regions
+      (block (record { label = codes "b"; argument_types = []; attributes = []; location = written_at 15 })
+      (operation (record { id = id_of (codes "n"); result_types = 5 ∷ []; operands = []; successors = []; attributes = (codes "k", tree.own 7) ∷ []; location = written_at 9 }) no_regions
+      (operation (record { id = id_of (codes "u"); result_types = []; operands = Some (result (0 ∷ 0 ∷ 0 ∷ []) 0) ∷ []; successors = Some (block_at (0 ∷ 0 ∷ [])) ∷ []; attributes = []; location = written_at 5 }) no_regions
       no_operations)) no_blocks)
       no_regions;
 }
@@ -76,7 +76,7 @@ held_row = refl
 
 -- under the second alone, neither has a place
 alone_row : held_root context (pointer 2) ≡ Some (record {
-  own = record { id = id_of (codes "u"); result_types = []; operands = None ∷ []; successors = None ∷ []; attributes = []; location = told_at 5 };
+  own = record { id = id_of (codes "u"); result_types = []; operands = None ∷ []; successors = None ∷ []; attributes = []; location = written_at 5 };
   regions = no_regions;
 })
 alone_row = refl

@@ -17,7 +17,7 @@ use Rattle.irtext_graph.specs.Parts.{regions, blocks, operands_of, successors_of
 use Rattle.irtext_graph.specs.Store.{get, object_of}
 use Rattle.irtext_graph.specs.Used.{used_at}
 use Rattle.irtext_promises.specs.WithSection.{SameShape}
-use Rattle.irtext_promises.proofs.Ages.{IsHere, here_stands, stands_here}
+use Rattle.irtext_promises.proofs.Ages.{IsHere, here_is_live, live_here}
 use Rattle.irtext_graph.proofs.Stores.{edited_same}
 
 abbrev OpEntry : Type 0 → Type 0 → Type 0
@@ -28,7 +28,7 @@ BlEntry B T = Option (Entry (Node Region Operation (BlockContent B T)))
 
 module _ {O B T : Type 0} where
   pub shape_self : (g : GraphView O B T) → SameShape g g
-  shape_self g = record { places = refl; same_regions = λ p. refl; same_blocks = λ r. refl; same_operations = λ b. refl; same_parents = λ q. refl; same_uses = λ s. refl; stood = λ q s. s }
+  shape_self g = record { places = refl; same_regions = λ p. refl; same_blocks = λ r. refl; same_operations = λ b. refl; same_parents = λ q. refl; same_uses = λ s. refl; was_live = λ q s. s }
 
   -- one change after another
   pub shape_then : (g h k : GraphView O B T) → SameShape g h → SameShape h k → SameShape g k
@@ -39,7 +39,7 @@ module _ {O B T : Type 0} where
     same_operations = λ b. t.same_operations b ∙ s.same_operations b;
     same_parents = λ q. t.same_parents q ∙ s.same_parents q;
     same_uses = λ u. t.same_uses u ∙ s.same_uses u;
-    stood = λ q u. s.stood q (t.stood q u);
+    was_live = λ q u. s.was_live q (t.was_live q u);
   }
 
   -- ---- the data of an operation
@@ -56,7 +56,7 @@ module _ {O B T : Type 0} where
       same_operations = λ b. ap (λ s. children_of (get s b)) e.blocks;
       same_parents = parents;
       same_uses = uses;
-      stood = λ q s. here_stands g q (here q (stands_here k q s));
+      was_live = λ q s. here_is_live g q (here q (live_here k q s));
     }
       where
         parents : (q : Object) → parent k q ≡ parent g q
@@ -86,7 +86,7 @@ module _ {O B T : Type 0} where
       same_operations = block_alike children_of (λ x. refl);
       same_parents = parents;
       same_uses = uses;
-      stood = λ q s. here_stands g q (here q (stands_here k q s));
+      was_live = λ q s. here_is_live g q (here q (live_here k q s));
     }
       where
         parents : (q : Object) → parent k q ≡ parent g q

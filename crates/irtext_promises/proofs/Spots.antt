@@ -185,8 +185,8 @@ module _ {T A : Type 0} (C : Printing T A) (isolated : Id → Bool) where
       let five = (meets ds f.0).fifth in
       let front = and_left (ascend 0 (region_places ds) && nat_lt (count is_regions ds) 2) _ five in
       let few = and_right (ascend 0 (region_places ds)) (nat_lt (count is_regions ds) 2) front in
-      let behind = and_right (ascend 0 (region_places ds) && nat_lt (count is_regions ds) 2) _ five in
-      directives_say ds p o h ds ss os (subst (Room ds) (sym e) (room ds n f.1.regions few behind)) a
+      let following = and_right (ascend 0 (region_places ds) && nat_lt (count is_regions ds) 2) _ five in
+      directives_say ds p o h ds ss os (subst (Room ds) (sym e) (room ds n f.1.regions few following)) a
 
   scripts_many : (p : Path) (j : ℕ) (iso : Bool) (rs : Regions (GraphOp T A) (GraphBlock T A) ⊤) → length (graph_regions C isolated p j iso rs) ≡ length (regions_list rs)
   scripts_many p j iso no_regions = refl

@@ -175,7 +175,7 @@ pub only_still : {T A : Type 0} (op : Ptr Operation) (old mid new : ContextView 
     → ((r : Ptr Region) → IsSome (get old.graph.regions r) → get new.graph.regions r ≡ get mid.graph.regions r)
     → KeepsPaths old.paths new.paths → new.dialects ≡ mid.dialects → OnlyNew op old new
 only_still op old mid new only shape operations blocks regions paths dialects = record {
-  live = λ q s. elim (only.live q (shape.stood q s)) [ inl was ↦ inl was | inr i ↦ inr (i.0, climb_same mid.graph new.graph shape i.0 (Some q) ∙ i.1) ];
+  live = λ q s. elim (only.live q (shape.was_live q s)) [ inl was ↦ inl was | inr i ↦ inr (i.0, climb_same mid.graph new.graph shape i.0 (Some q) ∙ i.1) ];
   is_new = λ q i s. only.is_new q (i.0, sym (climb_same mid.graph new.graph shape i.0 (Some q)) ∙ i.1) s;
   operations = λ p s. operations p s ∙ only.operations p s;
   blocks = λ b s. blocks b s ∙ only.blocks b s;

@@ -25,7 +25,7 @@ use Rattle.irtext_parse_spec.specs.Naming.{naming}
 use Rattle.irtext_parse_spec.specs.Reached.{Advanced, operation_at}
 use Rattle.irtext_parse_spec.specs.Building.{building, nothing_open, finished}
 use Rattle.irtext_parse_spec.specs.Tracks.{Made, HoldsMade}
-use Rattle.irtext_names.specs.Linked.{Known, StandsAt}
+use Rattle.irtext_names.specs.Linked.{Known, NamesAgree}
 use Rattle.irtext_names.specs.OfItems.{AreOf}
 use Rattle.irtext_names.specs.Tied.{NoneIsLeft}
 use Rattle.irtext_promises.specs.OnlyNew.{BlanksDefine}
@@ -35,12 +35,12 @@ module _ {T A : Type 0} (types_at : Text → Outcome T) (attr : Text → Outcome
   -- The machine of names starts with the earlier indices marked, and gets through the text; each item has the path of its place. The
   -- names and the graph that were made for these items agree with the machine's final state, and nothing is in hand. These indices are
   -- marked then.
-  pub record StandsFrom (items : Made) (marks : List ℕ) (c : ContextView T A) (text rest : Text) (path : ℕ → Path) : Type 0 where
+  pub record MachineFrom (items : Made) (marks : List ℕ) (c : ContextView T A) (text rest : Text) (path : ℕ → Path) : Type 0 where
     pub names : NameTracker Value (Ptr BasicBlock)
     pub known : Known
     pub are : AreOf path items known
     pub state : history.State
-    pub stands : StandsAt names c.graph known [] state
+    pub agreed : NamesAgree names c.graph known [] state
     pub marked : state.marks ≡ marks
     pub came : operation_at dialects types_at attr (naming (format_of dialects) path) true text (going (start_with earlier)) ≡ Advanced tt (going state) rest
 
@@ -52,7 +52,7 @@ module _ {T A : Type 0} (types_at : Text → Outcome T) (attr : Text → Outcome
     pub items : Made
     pub whole : List Object
     pub held : HoldsMade IsLocation old new items whole [] (Some op) (finished tree)
-    pub machine : (path : ℕ → Path) → StandsFrom items marks new text rest path
+    pub machine : (path : ℕ → Path) → MachineFrom items marks new text rest path
 
 -- What was created since is closed: all earlier objects are unchanged, no placeholder is left, and both graphs are forests.
 pub record LeavesClosed {T A : Type 0} (old new : ContextView T A) : Type 0 where

@@ -18,8 +18,8 @@ use Rattle.irtext_grammar.specs.Contexts.Nested.{printing_over, seen_root}
 use Rattle.irtext_grammar.specs.Graphs.Build.{Built}
 use Rattle.irtext_grammar.specs.Graphs.Closed.{Fit}
 use Rattle.irtext_grammar.specs.Graphs.Graph.{Graph, Limit, Printing}
-use Rattle.irtext_grammar.specs.Graphs.Same.{stood}
-use Rattle.irtext_grammar.specs.Graphs.StandsFor.{StandsFor}
+use Rattle.irtext_grammar.specs.Graphs.Same.{resolved_root}
+use Rattle.irtext_grammar.specs.Graphs.Represents.{Represents}
 use Rattle.irtext_grammar.specs.Spelling.Section.{text}
 use Rattle.irtext_parse_state.specs.declared.parsable.state.StateStream.{StateStream}
 use Rattle.irtext_promises.specs.Held.{held_root}
@@ -49,12 +49,12 @@ module _ {T A : Type 0} (types : Texts T) (owns : Texts A) (attr : Text → Outc
   module _ {U : Type 0} (dialects : List (Text × Table)) (g : Graph T A) (q : Ptr Operation) (new : StateStream T A U) where
     -- the returned root, with everything nested in it, is equal to the graph up to fillings, with the same uses inside, and only white
     -- space is left
-    abbrev pub StandsBack : Type 0
-    StandsBack = HeldBack types owns attr C (isolated dialects) g new.stream.rest (held_root new.state.ctx.now q)
+    abbrev pub GivesBackRoot : Type 0
+    GivesBackRoot = HeldBack types owns attr C (isolated dialects) g new.stream.rest (held_root new.state.ctx.now q)
 
     -- the same, with nothing filled in but positions
-    abbrev pub StandsWhole : Type 0
-    StandsWhole = HeldWhole types owns attr C (isolated dialects) g new.stream.rest (held_root new.state.ctx.now q)
+    abbrev pub GivesBackWhole : Type 0
+    GivesBackWhole = HeldWhole types owns attr C (isolated dialects) g new.stream.rest (held_root new.state.ctx.now q)
 
 module _ {T A : Type 0} (types : ir_text.Ghosts T A) (owns : ir_text.Ghosts A A) (attributes : attr_text.Ghosts A A) (same : A → A → Bool) where
   -- the texts of the caller's types
@@ -88,11 +88,11 @@ module _ {T A : Type 0} (types : ir_text.Ghosts T A) (owns : ir_text.Ghosts A A)
   module _ (U : Type 0) where
     -- each root that is parsed from these bytes is equal to the graph up to fillings
     abbrev pub ComesBack : ContextView T A → Graph T A → List ℕ → Type 0
-    ComesBack ctx g bytes = OfParsed {U = U} ctx bytes (λ q new. StandsBack types_texts own_texts (attr_at owns.reading) (printing_in ctx) ctx.dialects g q new)
+    ComesBack ctx g bytes = OfParsed {U = U} ctx bytes (λ q new. GivesBackRoot types_texts own_texts (attr_at owns.reading) (printing_in ctx) ctx.dialects g q new)
 
     -- the same, with nothing filled in but positions
     abbrev pub ComesBackWhole : ContextView T A → Graph T A → List ℕ → Type 0
-    ComesBackWhole ctx g bytes = OfParsed {U = U} ctx bytes (λ q new. StandsWhole types_texts own_texts (attr_at owns.reading) (printing_in ctx) ctx.dialects g q new)
+    ComesBackWhole ctx g bytes = OfParsed {U = U} ctx bytes (λ q new. GivesBackWhole types_texts own_texts (attr_at owns.reading) (printing_in ctx) ctx.dialects g q new)
 
     -- these bytes are no text that is rejected
     abbrev pub IsNeverRefused : ContextView T A → List ℕ → Type 0
@@ -111,4 +111,4 @@ module _ {T A : Type 0} (types : ir_text.Ghosts T A) (owns : ir_text.Ghosts A A)
 
   -- what printing sees of a root represents what the context holds of it, each number for the place of its definition
   abbrev pub RepresentsHeld : Ptr Operation → ContextView T A → Graph T A → Type 0
-  RepresentsHeld p ctx g = (b : Built T A (Written A)) × (held_root ctx p ≡ Some b) × StandsFor (stood (printing_in ctx) (isolated ctx.dialects) g) b
+  RepresentsHeld p ctx g = (b : Built T A (Written A)) × (held_root ctx p ≡ Some b) × Represents (resolved_root (printing_in ctx) (isolated ctx.dialects) g) b

@@ -14,7 +14,7 @@ use Rattle.irtext_graph.specs.declared.object.Operation.{Operation}
 use Rattle.irtext_parse_state.specs.States.{marks_of}
 use Rattle.irtext_parse_state.specs.declared.parsable.state.StateStream.{StateStream}
 use Rattle.irtext_grammar.specs.Contexts.Formats.{format_of, isolated}
-use Rattle.irtext_grammar.specs.Contexts.Held.{whole, StandsAt}
+use Rattle.irtext_grammar.specs.Contexts.Held.{whole, IsPosition}
 use Rattle.irtext_grammar.specs.Grammar.Marked.{reads_root}
 use Rattle.irtext_grammar.specs.Grammar.Reads as grammar
 use Rattle.irtext_grammar.specs.Grammar.Section.{Entry}
@@ -28,7 +28,7 @@ use Rattle.irtext_grammar.specs.Names.Script.{Failure, Path, done}
 use Rattle.irtext_grammar.specs.Names.TextScopes.{facts}
 use Rattle.irtext_parse_spec.specs.Promises.Root.{location_of, IsCause, IsPlace}
 use Rattle.irtext_parse_spec.specs.Promises.Section.{Moves, indices_of}
-use Rattle.irtext_parse_spec.specs.Promises.Supported.{supported, location_standing, is_committed}
+use Rattle.irtext_parse_spec.specs.Promises.Supported.{supported, location_verdict, is_committed}
 use Rattle.irtext_parse_spec.specs.Heads.{led_at}
 use Rattle.irtext_parse_spec.specs.Naming.{naming}
 use Rattle.irtext_parse_spec.specs.Reached.{Stopped, operation_at}
@@ -66,7 +66,7 @@ module _ {T A : Type 0} (types_at : Text → Outcome T) (attr : Text → Outcome
   -- of the text, and no name had failed before it; it is committed unless no operation comes next. Or it is the failure of a name or a
   -- mark, committed, whatever follows in the text. So the text determines which of the two comes first, even if it parses as no tree.
   pub data HasFault (text rest : Text) (fault : ParseFault A) : Type 0 where
-    at_text : (cause : Fault) (place : ℕ) → fault_of fault.cause ≡ cause → StandsAt text place fault.pos → fault.committed ≡ is_committed (led_at dialects rest)
+    at_text : (cause : Fault) (place : ℕ) → fault_of fault.cause ≡ cause → IsPosition text place fault.pos → fault.committed ≡ is_committed (led_at dialects rest)
         → ((path : ℕ → Path) → (st : history.State) × (operation_at dialects types_at attr (naming (format_of dialects) path) true rest (going (start_with earlier)) ≡ Stopped (going st) cause place)) → HasFault text rest fault
     by_names : (f : Failure Text ℕ) → IsOf text f fault → fault.committed ≡ true
         → ((path : ℕ → Path) → EndsIn (failed f) (operation_at dialects types_at attr (naming (format_of dialects) path) true rest (going (start_with earlier)))) → HasFault text rest fault
@@ -80,7 +80,7 @@ module _ {T A : Type 0} (types : Texts T) (owns : Texts A) (types_at : Text → 
 
   -- Whatever the text parses as with these dialects, with its section, does not resolve, and the fault is its first failure.
   pub record RefusesRoot (old : StreamView) (fault : ParseFault A) : Type 0 where
-    pub first : (tree : Tree ℕ T A) (entries : List (Entry ℕ A (Written A))) (rest : Text) → reads_root (supported dialects types owns) (location_standing attr) tree entries old.rest rest
+    pub first : (tree : Tree ℕ T A) (entries : List (Entry ℕ A (Written A))) (rest : Text) → reads_root (supported dialects types owns) (location_verdict attr) tree entries old.rest rest
         → IsFirst (whole old) (failures_of (isolated dialects) tree entries) fault
 
   -- the one with a section if the flag is true, otherwise the one without
@@ -109,7 +109,7 @@ module _ {T A U : Type 0} (types : Texts T) (owns : Texts A) (attr : Text → Ou
   pub record BuildsRoot (op : Ptr Operation) (old new : StateStream T A U) : Type 0 where
     pub tree : Tree ℕ T A
     pub entries : List (Entry ℕ A (Written A))
-    pub reads : reads_root (supported old.state.ctx.now.dialects types owns) (location_standing attr) tree entries old.stream.rest new.stream.rest
+    pub reads : reads_root (supported old.state.ctx.now.dialects types owns) (location_verdict attr) tree entries old.stream.rest new.stream.rest
     pub resolves : failures_of (isolated old.state.ctx.now.dialects) tree entries ≡ []
     pub moves : Moves old.stream new.stream
     pub builds : held_root new.state.ctx.now op ≡ Some (build (isolated old.state.ctx.now.dialects) (location_of new.state.ctx.now.paths old.state.src (whole old.stream)) entries tree)

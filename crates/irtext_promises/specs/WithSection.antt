@@ -29,4 +29,4 @@ pub record SameShape {O B T : Type 0} (g k : GraphView O B T) : Type 0 where
   pub same_operations : (b : Ptr BasicBlock) → operations_in k b ≡ operations_in g b
   pub same_parents : (q : Object) → parent k q ≡ parent g q
   pub same_uses : (s : Site) → used_at k s ≡ used_at g s
-  pub stood : (q : Object) → IsLive k q → IsLive g q
+  pub was_live : (q : Object) → IsLive k q → IsLive g q

@@ -38,7 +38,7 @@ pub fn read_root_comes_back<T: IrText<A>, A: AttrText<A>, U, V>()
     ensures closed { root.OfRead T.IrText.own A.IrText.own A.AttrText.own A.eq U (λ p ctx g.
         let C = root.printing_in T.IrText.own A.IrText.own A.AttrText.own A.eq ctx in
         ClosedRoot C (isolated ctx.dialects) g × Named C g) }
-    ensures stands { root.OfRead T.IrText.own A.IrText.own A.AttrText.own A.eq U (λ p ctx g.
+    ensures represented { root.OfRead T.IrText.own A.IrText.own A.AttrText.own A.eq U (λ p ctx g.
         root.RepresentsHeld T.IrText.own A.IrText.own A.AttrText.own A.eq p ctx g) }
     ensures whole { root.OfReadWhole T.IrText.own A.IrText.own A.AttrText.own A.eq U (λ ctx g bytes.
         root.ComesBackWhole T.IrText.own A.IrText.own A.AttrText.own A.eq V ctx g bytes) }

@@ -15,13 +15,13 @@ use pliron_text::result::Cause;
 use std::alloc::Global;
 
 /// A root that is in the context before the text is parsed.
-const STANDS: &str = "builtin.module @stands { ^a(x: test.ptr): test.use x; test.br ^a }";
+const LIVE_ROOT: &str = "builtin.module @stands { ^a(x: test.ptr): test.use x; test.br ^a }";
 
 /// The result of parsing a text: a line about it, or out of memory.
 #[derive(Drop)]
 enum Said {
     Text(String),
-    Starved,
+    RanOut,
 }
 
 /// Whether one more call on the stream returns that it has failed.
@@ -44,7 +44,7 @@ fn refused(
     }
     let again = Operation::top_level_parse(s);
     if has_failed(&again) {
-        return Ok(Said::Starved);
+        return Ok(Said::RanOut);
     }
     Err(Fault::Wrong)
 }
@@ -81,7 +81,7 @@ fn twice(alloc: Global, ctx: &mut Ctx, text: &str) -> Result<String, Fault> {
     let (second, came) = read(alloc, ctx, text)?;
     match second {
         Said::Text(said) => Ok(format!(in alloc; "{said}, {came}")?),
-        Said::Starved => Err(Fault::Wrong),
+        Said::RanOut => Err(Fault::Wrong),
     }
 }
 
@@ -100,16 +100,16 @@ fn printed(alloc: Global, ctx: &Ctx, root: Ptr<Operation>) -> Result<String, Fau
 fn beside(alloc: Global, ctx: &mut Ctx, root: Ptr<Operation>, text: &str) -> Result<String, Fault> {
     let before = printed(alloc, ctx, root)?;
     let said = twice(alloc, ctx, text)?;
-    let behind = printed(alloc, ctx, root)?;
-    if behind.as_str() != before.as_str() {
+    let following = printed(alloc, ctx, root)?;
+    if following.as_str() != before.as_str() {
         return Err(Fault::Wrong);
     }
-    Ok(format!(in alloc; "{said}\n{behind}")?)
+    Ok(format!(in alloc; "{said}\n{following}")?)
 }
 
 /// Parses the first root, and then does the same.
-fn standing(alloc: Global, ctx: &mut Ctx, text: &str) -> Result<String, Fault> {
-    match parse_from_str(|s| Operation::top_level_parse(s), ctx, STANDS) {
+fn beside_first(alloc: Global, ctx: &mut Ctx, text: &str) -> Result<String, Fault> {
+    match parse_from_str(|s| Operation::top_level_parse(s), ctx, LIVE_ROOT) {
         Ok(root) => beside(alloc, ctx, root, text),
         Err(error) => Err(Fault::of(&error)),
     }
@@ -118,7 +118,7 @@ fn standing(alloc: Global, ctx: &mut Ctx, text: &str) -> Result<String, Fault> {
 /// Registers the demo dialects first, and then does the same.
 fn registered(alloc: Global, ctx: &mut Ctx, text: &str) -> Result<String, Fault> {
     match register_demo(ctx) {
-        Ok(()) => standing(alloc, ctx, text),
+        Ok(()) => beside_first(alloc, ctx, text),
         Err(error) => Err(Fault::of(&error)),
     }
 }

@@ -111,17 +111,17 @@ module _ {V : Type 0} where
     pub there : slice_get bs i ≡ Some binding
     pub means : find n (innermost (scopes_at marks bs)) ≡ Some binding.entry
 
-  abbrev pub Told : ℕ → List ℕ → List (Binding V) → Option ℕ → Type 0
-  Told n marks bs None = find n (innermost (scopes_at marks bs)) ≡ None
-  Told n marks bs (Some i) = Found n marks bs i
+  abbrev pub ResolvesTo : ℕ → List ℕ → List (Binding V) → Option ℕ → Type 0
+  ResolvesTo n marks bs None = find n (innermost (scopes_at marks bs)) ≡ None
+  ResolvesTo n marks bs (Some i) = Found n marks bs i
 
-  pub place_told : (heads : List (Option ℕ)) (marks : List ℕ) (bs : List (Binding V)) (n : ℕ) (o : Option ℕ)
-      → IsSound heads bs marks → o ≡ place_in heads marks n → Told n marks bs o
-  place_told heads marks bs n o s q =
-      subst (Told n marks bs) (sym (q ∙ ap (from_mark (first (reverse marks))) (s.chained.heads_lead n)))
-      (told (first (reverse marks)) refl (newest n bs) refl)
+  pub place_resolves : (heads : List (Option ℕ)) (marks : List ℕ) (bs : List (Binding V)) (n : ℕ) (o : Option ℕ)
+      → IsSound heads bs marks → o ≡ place_in heads marks n → ResolvesTo n marks bs o
+  place_resolves heads marks bs n o s q =
+      subst (ResolvesTo n marks bs) (sym (q ∙ ap (from_mark (first (reverse marks))) (s.chained.heads_lead n)))
+      (resolves_to (first (reverse marks)) refl (newest n bs) refl)
     where
-      here : (m i : ℕ) → first (reverse marks) ≡ Some m → newest n bs ≡ Some i → (c : Bool) → nat_lt i m ≡ c → Told n marks bs (cond c None (Some i))
+      here : (m i : ℕ) → first (reverse marks) ≡ Some m → newest n bs ≡ Some i → (c : Bool) → nat_lt i m ≡ c → ResolvesTo n marks bs (cond c None (Some i))
       here m i e h true l = sym (find_hidden (reverse marks) bs n m i e (mark_apart heads marks bs m s e) h (ltb-true i m l))
       here m i e h false l =
           let b = newest_there n i bs h in
@@ -136,10 +136,10 @@ module _ {V : Type 0} where
             means = sym (find_there (reverse marks) bs n m i b.0 e (mark_apart heads marks bs m s e) h low (sym (get_or_there bs i b.0 b.0 b.1)));
           }
 
-      told : (f : Option ℕ) → first (reverse marks) ≡ f → (w : Option ℕ) → newest n bs ≡ w → Told n marks bs (from_mark f w)
-      told None e w h = ap (λ ss. find n (innermost ss)) (closed_scopes marks bs e)
-      told (Some m) e None h = sym (find_absent (reverse marks) bs n m e (mark_apart heads marks bs m s e) h)
-      told (Some m) e (Some i) h = here m i e h (nat_lt i m) refl
+      resolves_to : (f : Option ℕ) → first (reverse marks) ≡ f → (w : Option ℕ) → newest n bs ≡ w → ResolvesTo n marks bs (from_mark f w)
+      resolves_to None e w h = ap (λ ss. find n (innermost ss)) (closed_scopes marks bs e)
+      resolves_to (Some m) e None h = sym (find_absent (reverse marks) bs n m e (mark_apart heads marks bs m s e) h)
+      resolves_to (Some m) e (Some i) h = here m i e h (nat_lt i m) refl
 
   -- ---- names and links alone decide what is newest
   abbrev names_of : List (Binding V) → List ℕ

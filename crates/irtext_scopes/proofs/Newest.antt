@@ -12,24 +12,24 @@ use Rattle.irtext_scopes.proofs.Maps.{not_again, apart_tail, resolved_unknown}
 
 module _ {V : Type 0} where
   -- a binding of the name is at this place
-  abbrev pub Stands : ℕ → List (Binding V) → Option ℕ → Type 0
-  Stands n bs None = Unit {0}
-  Stands n bs (Some i) = (b : Binding V) × (slice_get bs i ≡ Some b) × (b.name ≡ n)
+  abbrev pub IsBindingAt : ℕ → List (Binding V) → Option ℕ → Type 0
+  IsBindingAt n bs None = Unit {0}
+  IsBindingAt n bs (Some i) = (b : Binding V) × (slice_get bs i ≡ Some b) × (b.name ≡ n)
 
-  stands : (n : ℕ) (bs : List (Binding V)) → Stands n bs (newest n bs)
-  stands n [] = tt
-  stands n (b ∷ bs) = go (newest n bs) (stands n bs)
+  newest_is_bound : (n : ℕ) (bs : List (Binding V)) → IsBindingAt n bs (newest n bs)
+  newest_is_bound n [] = tt
+  newest_is_bound n (b ∷ bs) = go (newest n bs) (newest_is_bound n bs)
     where
-      here : (c : Bool) → nat_eq b.name n ≡ c → Stands n (b ∷ bs) (cond c (Some 0) None)
+      here : (c : Bool) → nat_eq b.name n ≡ c → IsBindingAt n (b ∷ bs) (cond c (Some 0) None)
       here true e = (b, refl, eqb-true b.name n e)
       here false e = tt
 
-      go : (o : Option ℕ) → Stands n bs o → Stands n (b ∷ bs) (option_or (option_map suc o) (cond (nat_eq b.name n) (Some 0) None))
+      go : (o : Option ℕ) → IsBindingAt n bs o → IsBindingAt n (b ∷ bs) (option_or (option_map suc o) (cond (nat_eq b.name n) (Some 0) None))
       go (Some i) t = t
       go None t = here (nat_eq b.name n) refl
 
   pub newest_there : (n i : ℕ) (bs : List (Binding V)) → newest n bs ≡ Some i → (b : Binding V) × (slice_get bs i ≡ Some b) × (b.name ≡ n)
-  newest_there n i bs h = subst (Stands n bs) h (stands n bs)
+  newest_there n i bs h = subst (IsBindingAt n bs) h (newest_is_bound n bs)
 
   -- what a scope that begins at m has under n, by the newest binding of n
   abbrev pub Tells : ℕ → ℕ → List (Binding V) → Option ℕ → Type 0

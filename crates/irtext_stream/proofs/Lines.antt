@@ -9,7 +9,7 @@ use Rattle.std.specs.List.{take_while}
 use Rattle.std.specs.Str.{encode_utf8_all, chars, IsUtf8}
 use Rattle.memchr.specs.Find.{IsFirstByte, is_byte}
 use Rattle.std.specs.Char.{encode_utf8}
-use Rattle.irtext_stream.specs.Text.{Text, is_newline, line_behind, column_behind}
+use Rattle.irtext_stream.specs.Text.{Text, is_newline, line_after, column_after}
 use Rattle.irtext_stream.specs.Index.{BeginsLine, AreStarts, AreBlocks, begins_character, entry_before}
 use Rattle.irtext_stream.proofs.Encoded.{Split, encode_some, characters_begin, split_newline, no_newlines}
 
@@ -28,30 +28,30 @@ newline_more : (c : ℕ) (ys : Text) → count_by is_newline (c ∷ ys) ≡ cond
 newline_more c ys = sum_by-cons (λ c. cond (is_newline c) 1 0) c ys
 
 -- ---- columns
-column_step : (xs : Text) (c : ℕ) → column_behind (xs ++ (c ∷ [])) ≡ 1 + length (cond (not (is_newline c)) (c ∷ take_while (λ c. not (is_newline c)) (reverse xs)) [])
+column_step : (xs : Text) (c : ℕ) → column_after (xs ++ (c ∷ [])) ≡ 1 + length (cond (not (is_newline c)) (c ∷ take_while (λ c. not (is_newline c)) (reverse xs)) [])
 column_step xs c = ap (λ t. 1 + length (take_while (λ c. not (is_newline c)) t)) (reverse-append xs (c ∷ [])) ∙ ap (λ t. 1 + length t) (take_while-cons (λ c. not (is_newline c)) c (reverse xs))
 
 -- a character that is no newline goes one column on
-pub column_more : (xs : Text) (c : ℕ) → is_newline c ≡ false → column_behind (xs ++ (c ∷ [])) ≡ suc (column_behind xs)
+pub column_more : (xs : Text) (c : ℕ) → is_newline c ≡ false → column_after (xs ++ (c ∷ [])) ≡ suc (column_after xs)
 column_more xs c e =
-    let h : column_behind (xs ++ (c ∷ [])) ≡ 1 + suc (length (take_while (λ c. not (is_newline c)) (reverse xs))) = column_step xs c ∙ ap (λ b. 1 + length (cond (not b) (c ∷ take_while (λ c. not (is_newline c)) (reverse xs)) [])) e in
+    let h : column_after (xs ++ (c ∷ [])) ≡ 1 + suc (length (take_while (λ c. not (is_newline c)) (reverse xs))) = column_step xs c ∙ ap (λ b. 1 + length (cond (not b) (c ∷ take_while (λ c. not (is_newline c)) (reverse xs)) [])) e in
     omega (arith, h)
 
 -- after a newline the column is 1
-pub column_fresh : (xs : Text) → column_behind (xs ++ (10 ∷ [])) ≡ 1
+pub column_fresh : (xs : Text) → column_after (xs ++ (10 ∷ [])) ≡ 1
 column_fresh xs = column_step xs 10
 
 -- a text without newlines goes as many columns on as it has characters
-pub columns : (xs ys : Text) → count_by is_newline ys ≡ 0 → column_behind (xs ++ ys) ≡ column_behind xs + length ys
-columns xs [] e = ap column_behind (append-nil xs) ∙ omega arith
+pub columns : (xs ys : Text) → count_by is_newline ys ≡ 0 → column_after (xs ++ ys) ≡ column_after xs + length ys
+columns xs [] e = ap column_after (append-nil xs) ∙ omega arith
 columns xs (c ∷ ys) e = go (is_newline c) refl (columns (xs ++ (c ∷ [])) ys)
   where
-    go : (b : Bool) → is_newline c ≡ b → (count_by is_newline ys ≡ 0 → column_behind ((xs ++ (c ∷ [])) ++ ys) ≡ column_behind (xs ++ (c ∷ [])) + length ys) → column_behind (xs ++ (c ∷ ys)) ≡ column_behind xs + length (c ∷ ys)
+    go : (b : Bool) → is_newline c ≡ b → (count_by is_newline ys ≡ 0 → column_after ((xs ++ (c ∷ [])) ++ ys) ≡ column_after (xs ++ (c ∷ [])) + length ys) → column_after (xs ++ (c ∷ ys)) ≡ column_after xs + length (c ∷ ys)
     go true h more = absurd (omega (arith, e, newline_more c ys ∙ ap (λ b. cond b 1 0 + count_by is_newline ys) h))
     go false h more =
         let q : count_by is_newline (c ∷ ys) ≡ 0 + count_by is_newline ys = newline_more c ys ∙ ap (λ b. cond b 1 0 + count_by is_newline ys) h in
         let r : count_by is_newline ys ≡ 0 = omega (arith, q, e) in
-        ap column_behind (sym (append_assoc xs (c ∷ []) ys)) ∙ (more r ∙ omega (arith, column_more xs c h))
+        ap column_after (sym (append_assoc xs (c ∷ []) ys)) ∙ (more r ∙ omega (arith, column_more xs c h))
 
 -- ---- fronts of one text, by their bytes
 pub front_between : (xs a ys b : Text) → xs ++ a ≡ ys ++ b → length (encode_utf8_all xs) ≤ length (encode_utf8_all ys) → (z : Text) × (ys ≡ xs ++ z)
@@ -68,24 +68,24 @@ front_between (c ∷ xs) a (d ∷ ys) b e h =
 
 -- ---- the lines' beginnings
 pub no_line : (text : Text) → BeginsLine text 0 0
-no_line text = record { before = []; behind = text; same = refl; at = refl; counts = refl; fresh = refl }
+no_line text = record { before = []; following = text; same = refl; at = refl; counts = refl; fresh = refl }
 
 newline_size : length (encode_utf8_all (10 ∷ [])) ≡ 1
 unfolding lib.Utf8.encode
 newline_size = refl
 
 -- the next line begins after the next newline
-pub next_line : (text : Text) (o n i : ℕ) (l : BeginsLine text o n) → Split l.behind i → BeginsLine text (o + (i + 1)) (suc n)
+pub next_line : (text : Text) (o n i : ℕ) (l : BeginsLine text o n) → Split l.following i → BeginsLine text (o + (i + 1)) (suc n)
 next_line text o n i l s =
     let more : length (encode_utf8_all (s.line ++ (10 ∷ []))) ≡ length (encode_utf8_all s.line) + 1 = ap length (encodes-append s.line (10 ∷ [])) ∙ (length-append (encode_utf8_all s.line) (encode_utf8_all (10 ∷ [])) ∙ ap (λ n. length (encode_utf8_all s.line) + n) newline_size) in
     let all : length (encode_utf8_all (l.before ++ (s.line ++ (10 ∷ [])))) ≡ length (encode_utf8_all l.before) + length (encode_utf8_all (s.line ++ (10 ∷ []))) = ap length (encodes-append l.before (s.line ++ (10 ∷ []))) ∙ length-append (encode_utf8_all l.before) (encode_utf8_all (s.line ++ (10 ∷ []))) in
     record {
       before = l.before ++ (s.line ++ (10 ∷ []));
-      behind = s.rest;
+      following = s.rest;
       same = append_assoc l.before (s.line ++ (10 ∷ [])) s.rest ∙ (ap (λ t. l.before ++ t) (append_assoc s.line (10 ∷ []) s.rest ∙ sym s.is) ∙ l.same);
       at = omega (arith, l.at, s.at, more, all);
       counts = newlines_of l.before (s.line ++ (10 ∷ [])) ∙ omega (arith, l.counts, newlines_of s.line (10 ∷ []), s.none);
-      fresh = ap column_behind (sym (append_assoc l.before s.line (10 ∷ []))) ∙ column_fresh (l.before ++ s.line);
+      fresh = ap column_after (sym (append_assoc l.before s.line (10 ∷ []))) ∙ column_fresh (l.before ++ s.line);
     }
 
 -- ---- a place and the line that it is on
@@ -94,13 +94,13 @@ pub record OnLine (passed : Text) (start line : ℕ) : Type 0 where
   pub between : Text
   pub same : passed ≡ before ++ between
   pub begins : start ≡ length (encode_utf8_all before)
-  pub is_line : line_behind passed ≡ 1 + line
-  pub is_column : column_behind passed ≡ 1 + length between
+  pub is_line : line_after passed ≡ 1 + line
+  pub is_column : column_after passed ≡ 1 + length between
 
 -- after the beginning of a line, with as many newlines before
 on_line : (text passed rest : Text) (start line : ℕ) → passed ++ rest ≡ text → (l : BeginsLine text start line) → start ≤ length (encode_utf8_all passed) → count_by is_newline passed ≤ line → OnLine passed start line
 on_line text passed rest start line e l h c =
-    let z = front_between l.before l.behind passed rest (l.same ∙ sym e) (omega (arith, l.at)) in
+    let z = front_between l.before l.following passed rest (l.same ∙ sym e) (omega (arith, l.at)) in
     let n : count_by is_newline passed ≡ count_by is_newline l.before + count_by is_newline z.0 = ap (count_by is_newline) z.1 ∙ newlines_of l.before z.0 in
     let none : count_by is_newline z.0 ≡ 0 = omega (arith, n, c, l.counts) in
     record {
@@ -109,13 +109,13 @@ on_line text passed rest start line e l h c =
       same = z.1;
       begins = l.at;
       is_line = omega (arith, n, none, l.counts);
-      is_column = ap column_behind z.1 ∙ (columns l.before z.0 none ∙ omega (arith, l.fresh));
+      is_column = ap column_after z.1 ∙ (columns l.before z.0 none ∙ omega (arith, l.fresh));
     }
 
 -- fewer newlines are before a place that precedes a line's beginning
 fewer : (text passed rest : Text) (start line : ℕ) → passed ++ rest ≡ text → (l : BeginsLine text start (suc line)) → length (encode_utf8_all passed) < start → count_by is_newline passed ≤ line
 fewer text passed rest start line e l h =
-    let z = front_between passed rest l.before l.behind (e ∙ sym l.same) (omega (arith, l.at)) in
+    let z = front_between passed rest l.before l.following (e ∙ sym l.same) (omega (arith, l.at)) in
     let n : suc line ≡ count_by is_newline passed + count_by is_newline z.0 = sym l.counts ∙ (ap (count_by is_newline) z.1 ∙ newlines_of passed z.0) in
     let size : start ≡ length (encode_utf8_all passed) + length (encode_utf8_all z.0) = l.at ∙ (ap (λ t. length (encode_utf8_all t)) z.1 ∙ (ap length (encodes-append passed z.0) ∙ length-append (encode_utf8_all passed) (encode_utf8_all z.0))) in
     go z.0 (count_by is_newline z.0) refl n z.1 size
@@ -123,7 +123,7 @@ fewer text passed rest start line e l h =
     go : (t : Text) (k : ℕ) → count_by is_newline t ≡ k → suc line ≡ count_by is_newline passed + count_by is_newline t → l.before ≡ passed ++ t → start ≡ length (encode_utf8_all passed) + length (encode_utf8_all t) → count_by is_newline passed ≤ line
     go t (suc k) e n b s = omega (arith, e, n)
     go [] zero e n b s = absurd (omega (arith, s, h))
-    go (c ∷ t) zero e n b s = absurd (omega (arith, sym l.fresh ∙ (ap column_behind b ∙ columns passed (c ∷ t) e), l.fresh))
+    go (c ∷ t) zero e n b s = absurd (omega (arith, sym l.fresh ∙ (ap column_after b ∙ columns passed (c ∷ t) e), l.fresh))
 
 -- as few, if no line begins after it
 last : (text passed rest : Text) (line : ℕ) → passed ++ rest ≡ text → count_by is_newline text ≡ line → count_by is_newline passed ≤ line
@@ -133,9 +133,9 @@ few : (text passed rest : Text) (starts : List ℕ) (k : ℕ) → AreStarts text
 few text passed rest starts k a e w f = ⊎_elim (λ (h : k ≡ length starts). last text passed rest k e (a.all ∙ sym h)) (λ (h : k < length starts). fewer text passed rest (get_or starts k 0) k e (a.each k h) (f h)) (eq-or-lt_of_le w)
 
 -- a place is on the line if it is between the beginning of the line and that of the next
-pub stands_on : (text passed rest : Text) (starts : List ℕ) (k : ℕ) → AreStarts text starts → passed ++ rest ≡ text → k ≤ length starts → (0 < k → get_or starts (k - 1) 0 ≤ length (encode_utf8_all passed)) → (k < length starts → length (encode_utf8_all passed) < get_or starts k 0) → OnLine passed (entry_before starts k) k
-stands_on text passed rest starts zero a e w b f = on_line text passed rest 0 0 e (no_line text) (omega arith) (few text passed rest starts zero a e w f)
-stands_on text passed rest starts (suc k) a e w b f =
+pub is_on_line : (text passed rest : Text) (starts : List ℕ) (k : ℕ) → AreStarts text starts → passed ++ rest ≡ text → k ≤ length starts → (0 < k → get_or starts (k - 1) 0 ≤ length (encode_utf8_all passed)) → (k < length starts → length (encode_utf8_all passed) < get_or starts k 0) → OnLine passed (entry_before starts k) k
+is_on_line text passed rest starts zero a e w b f = on_line text passed rest 0 0 e (no_line text) (omega arith) (few text passed rest starts zero a e w f)
+is_on_line text passed rest starts (suc k) a e w b f =
     let h : get_or starts (suc k - 1) 0 ≡ get_or starts k 0 = ap (λ j. get_or starts j 0) (omega arith) in
     on_line text passed rest (get_or starts k 0) (suc k) e (a.each k (omega (arith, w))) (omega (arith, b (omega arith), h)) (few text passed rest starts (suc k) a e w f)
 
@@ -149,33 +149,33 @@ entries_more P xs x a p k h =
     (eq-or-lt_of_le (le_of_suc-le-suc (omega (arith, h, length-append xs (x ∷ [])))))
 
 -- the bytes after the beginning of a line
-pub record Coming (bs : List ℕ) (o : ℕ) (behind : Text) : Type 0 where
+pub record Coming (bs : List ℕ) (o : ℕ) (following : Text) : Type 0 where
   pub within : o ≤ length bs
-  pub bytes : drop o bs ≡ encode_utf8_all behind
+  pub bytes : drop o bs ≡ encode_utf8_all following
 
 -- what follows the beginning of a line, in bytes
-pub coming : (bs : List ℕ) (o n : ℕ) → IsUtf8 bs → (l : BeginsLine (chars bs) o n) → Coming bs o l.behind
+pub coming : (bs : List ℕ) (o n : ℕ) → IsUtf8 bs → (l : BeginsLine (chars bs) o n) → Coming bs o l.following
 coming bs o n u l =
-    let b : encode_utf8_all l.before ++ encode_utf8_all l.behind ≡ bs = sym (encodes-append l.before l.behind) ∙ (ap encode_utf8_all l.same ∙ encodes-chars bs u) in
+    let b : encode_utf8_all l.before ++ encode_utf8_all l.following ≡ bs = sym (encodes-append l.before l.following) ∙ (ap encode_utf8_all l.same ∙ encodes-chars bs u) in
     record {
-      within = omega (arith, l.at, ap length b, length-append (encode_utf8_all l.before) (encode_utf8_all l.behind));
-      bytes = rw (l.at, ← b) (drop-append_seam (encode_utf8_all l.before) (encode_utf8_all l.behind));
+      within = omega (arith, l.at, ap length b, length-append (encode_utf8_all l.before) (encode_utf8_all l.following));
+      bytes = rw (l.at, ← b) (drop-append_seam (encode_utf8_all l.before) (encode_utf8_all l.following));
     }
 
 -- after the first newline of what follows a line begins
 pub line_found : (bs part : List ℕ) (o n i : ℕ) → IsUtf8 bs → (l : BeginsLine (chars bs) o n) → part ≡ drop o bs → IsFirstByte (is_byte 10) part (Some i) → BeginsLine (chars bs) (o + (i + 1)) (suc n)
 line_found bs part o n i u l p f =
-    let e : part ≡ encode_utf8_all l.behind = p ∙ (coming bs o n u l).bytes in
+    let e : part ≡ encode_utf8_all l.following = p ∙ (coming bs o n u l).bytes in
     let g = subst (λ z. IsFirstByte (is_byte 10) z (Some i)) e f in
-    next_line (chars bs) o n i l (split_newline l.behind i g.0.high (eqb-true _ _ g.1) (λ j h q. g.0.before j (omega arith) h (true-eqb q)))
+    next_line (chars bs) o n i l (split_newline l.following i g.0.high (eqb-true _ _ g.1) (λ j h q. g.0.before j (omega arith) h (true-eqb q)))
 
 -- no line begins after the last newline
 pub lines_end : (bs part starts : List ℕ) (o : ℕ) → IsUtf8 bs → (l : BeginsLine (chars bs) o (length starts)) → part ≡ drop o bs → IsFirstByte (is_byte 10) part None → ((k : ℕ) → k < length starts → BeginsLine (chars bs) (get_or starts k 0) (suc k)) → AreStarts (chars bs) starts
 lines_end bs part starts o u l p f a =
-    let e : part ≡ encode_utf8_all l.behind = p ∙ (coming bs o (length starts) u l).bytes in
+    let e : part ≡ encode_utf8_all l.following = p ∙ (coming bs o (length starts) u l).bytes in
     let g = subst (λ z. IsFirstByte (is_byte 10) z None) e f in
-    let none : count_by is_newline l.behind ≡ 0 = no_newlines l.behind (λ j h q. g j (omega arith) h (true-eqb q)) in
-    record { each = a; all = ap (count_by is_newline) (sym l.same) ∙ (newlines_of l.before l.behind ∙ omega (arith, none, l.counts)) }
+    let none : count_by is_newline l.following ≡ 0 = no_newlines l.following (λ j h q. g j (omega arith) h (true-eqb q)) in
+    record { each = a; all = ap (count_by is_newline) (sym l.same) ∙ (newlines_of l.before l.following ∙ omega (arith, none, l.counts)) }
 
 -- ---- counting in pieces
 pub counted_more : (bs : List ℕ) (o n : ℕ) → count_by begins_character (take (o + n) bs) ≡ count_by begins_character (take o bs) + count_by begins_character (take n (drop o bs))
@@ -221,9 +221,9 @@ front_begins bs xs ys u e =
 
 -- the line and the column of a place, by its line's number and the characters that begin before
 pub position_is : (bs : List ℕ) (passed rest : Text) (starts : List ℕ) (offset line : ℕ) → IsUtf8 bs → AreStarts (chars bs) starts → passed ++ rest ≡ chars bs → offset ≡ length (encode_utf8_all passed) → line ≤ length starts → (0 < line → get_or starts (line - 1) 0 ≤ offset) → (line < length starts → offset < get_or starts line 0)
-    → (line_behind passed ≡ 1 + line) × (column_behind passed ≡ 1 + (count_by begins_character (take offset bs) - count_by begins_character (take (entry_before starts line) bs)))
+    → (line_after passed ≡ 1 + line) × (column_after passed ≡ 1 + (count_by begins_character (take offset bs) - count_by begins_character (take (entry_before starts line) bs)))
 position_is bs passed rest starts offset line u a e o w b f =
-    let l = stands_on (chars bs) passed rest starts line a e w (λ h. omega (arith, o, b h)) (λ h. omega (arith, o, f h)) in
+    let l = is_on_line (chars bs) passed rest starts line a e w (λ h. omega (arith, o, b h)) (λ h. omega (arith, o, f h)) in
     let x : count_by begins_character (take offset bs) ≡ length passed = ap (λ k. count_by begins_character (take k bs)) o ∙ front_begins bs passed rest u e in
     let split : l.before ++ (l.between ++ rest) ≡ chars bs = sym (append_assoc l.before l.between rest) ∙ (ap (λ t. t ++ rest) (sym l.same) ∙ e) in
     let y : count_by begins_character (take (entry_before starts line) bs) ≡ length l.before = ap (λ k. count_by begins_character (take k bs)) l.begins ∙ front_begins bs l.before (l.between ++ rest) u split in

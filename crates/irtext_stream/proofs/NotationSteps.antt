@@ -12,14 +12,14 @@ use Rattle.std.specs.Char.{is_ascii, is_ascii_digit, is_ascii_graphic, encode_ut
 use Rattle.std.specs.List.{list_all}
 use Rattle.irtext_stream.specs.Text.{BeginsOtherwise}
 use Rattle.irtext_stream.specs.Text.{Text, begins, front, after}
-use Rattle.irtext_stream.specs.Stream.{StreamView, behind, first_of, advanced, advanced_by}
+use Rattle.irtext_stream.specs.Stream.{StreamView, after_taken, first_of, advanced, advanced_by}
 use Rattle.irtext_stream.specs.Stream.{Comes}
-use Rattle.irtext_stream.specs.Places.{StandsBehind, AtPlace, SincePlace}
+use Rattle.irtext_stream.specs.Places.{IsPlaceAfter, AtPlace, SincePlace}
 use Rattle.irtext_stream.specs.declared.position.Place.{Place}
 use Rattle.irtext_stream.proofs.Slices.{front_after}
-use Rattle.irtext_stream.specs.NotationPieces.{characters, Meaning, means, lacks, past, index_of, index_at, letters_after}
+use Rattle.irtext_stream.specs.NotationPieces.{characters, Meaning, means, unmet, past, index_of, index_at, letters_after}
 use Rattle.irtext_stream.specs.declared.notation.fault.NotationPart.TheVariants as part
-use Rattle.irtext_stream.specs.NotationFaults.{whole, Reads, Faults, Lacks, IsNoLetter, TakesLetter}
+use Rattle.irtext_stream.specs.NotationFaults.{whole, Reads, Faults, IsUnmet, IsNoLetter, TakesLetter}
 use Rattle.irtext_stream.specs.declared.notation.fault.NotationPart.{NotationPart}
 use Rattle.irtext_stream.specs.declared.notation.fault.NotationFault.{NotationFault}
 use Rattle.irtext_stream.specs.declared.notation.fault.NotationFault.TheVariants as fault
@@ -88,9 +88,9 @@ list_all-front p (c ∷ text) =
 
 -- ---- errors
 -- the error says what the meaning lacks
-pub lacks_so : {X : Type 0} (text rest : Text) (expected : NotationPart) (m : Meaning X) (e : NotationFault) → m ≡ lacks expected rest → Lacks text expected rest e → Faults text m e
-lacks_so text rest expected m (fault.Unexpected at part) q h = (rest, q ∙ ap (λ z. lacks z rest) (sym h.0), h.1)
-lacks_so text rest expected m fault.Memory q h = absurd h
+pub unmet_so : {X : Type 0} (text rest : Text) (expected : NotationPart) (m : Meaning X) (e : NotationFault) → m ≡ unmet expected rest → IsUnmet text expected rest e → Faults text m e
+unmet_so text rest expected m (fault.Unexpected at part) q h = (rest, q ∙ ap (λ z. unmet z rest) (sym h.0), h.1)
+unmet_so text rest expected m fault.Memory q h = absurd h
 
 -- ---- indices
 digit_small : (c : ℕ) → is_ascii_digit c ≡ true → c < 128
@@ -119,10 +119,10 @@ index_there expected text l small =
     let e : nat_lt (index_of text) (2 ^ 64) ≡ true = grind (arith, nat_tests) in
     rw (some_digits text l, e) refl
 
-no_index : (expected : NotationPart) (text : Text) → ((0 < length (front is_ascii_digit text)) × (index_of text < 2 ^ 64) → ⊥) → index_at expected text ≡ lacks expected text
+no_index : (expected : NotationPart) (text : Text) → ((0 < length (front is_ascii_digit text)) × (index_of text < 2 ^ 64) → ⊥) → index_at expected text ≡ unmet expected text
 no_index expected text h = go (begins is_ascii_digit text) (nat_lt (index_of text) (2 ^ 64)) refl refl
   where
-    go : (b d : Bool) → begins is_ascii_digit text ≡ b → nat_lt (index_of text) (2 ^ 64) ≡ d → ◌≡◌ {A = Meaning ℕ} (cond (b && d) (means (index_of text) (after is_ascii_digit text)) (lacks expected text)) (lacks expected text)
+    go : (b d : Bool) → begins is_ascii_digit text ≡ b → nat_lt (index_of text) (2 ^ 64) ≡ d → ◌≡◌ {A = Meaning ℕ} (cond (b && d) (means (index_of text) (after is_ascii_digit text)) (unmet expected text)) (unmet expected text)
     go true true e f = let small : index_of text < 2 ^ 64 = grind (arith, nat_tests) in absurd (h (digits_some text e, small))
     go true false e f = refl
     go false d e f = refl
@@ -133,29 +133,29 @@ index_ok E expected old bytes i e h =
     let k = digits_parsed {E = E} old.rest bytes (Ok i) e h in index_there expected old.rest k.0.0 k.0.1 ∙ ap (λ z. means z (after is_ascii_digit old.rest)) (sym k.1)
 
 -- none was parsed
-pub index_err : {E : Type 0} (expected : NotationPart) (old : StreamView) (bytes : List ℕ) (err : E) → bytes ≡ encode_utf8_all (front is_ascii_digit old.rest) → ParsesUnsigned 64 10 bytes (Err err) → index_at expected old.rest ≡ lacks expected old.rest
+pub index_err : {E : Type 0} (expected : NotationPart) (old : StreamView) (bytes : List ℕ) (err : E) → bytes ≡ encode_utf8_all (front is_ascii_digit old.rest) → ParsesUnsigned 64 10 bytes (Err err) → index_at expected old.rest ≡ unmet expected old.rest
 index_err expected old bytes err e h = no_index expected old.rest (digits_parsed old.rest bytes (Err err) e h)
 
 -- ---- runs of characters of a class
 -- what is left after a run, in the same text
-pub passed_front : (test : ℕ → Bool) (old mid : StreamView) → mid ≡ behind old (front test old.rest) (after test old.rest) → (mid.rest ≡ after test old.rest) × (whole mid ≡ whole old)
+pub passed_front : (test : ℕ → Bool) (old mid : StreamView) → mid ≡ after_taken old (front test old.rest) (after test old.rest) → (mid.rest ≡ after test old.rest) × (whole mid ≡ whole old)
 passed_front test old mid e = (ap (λ v. v.rest) e, ap whole e ∙ (append_assoc old.passed (front test old.rest) (after test old.rest) ∙ ap (λ z. old.passed ++ z) (front_after test old.rest)))
 
 -- the text since the place before the run is the run
-pub since_is : (test : ℕ → Bool) (old mid : StreamView) (place : Place) (bytes : List ℕ) → mid ≡ behind old (front test old.rest) (after test old.rest) → StandsBehind place old.passed → SincePlace place mid (λ passed taken. bytes ≡ encode_utf8_all taken) → bytes ≡ encode_utf8_all (front test old.rest)
+pub since_is : (test : ℕ → Bool) (old mid : StreamView) (place : Place) (bytes : List ℕ) → mid ≡ after_taken old (front test old.rest) (after test old.rest) → IsPlaceAfter place old.passed → SincePlace place mid (λ passed taken. bytes ≡ encode_utf8_all taken) → bytes ≡ encode_utf8_all (front test old.rest)
 since_is test old mid place bytes e p h = h old.passed (front test old.rest) (sym (ap (λ v. v.passed) e)) p
 
 -- the error at the place where the parse began
-pub lacks_back : {X : Type 0} (old mid : StreamView) (place : Place) (expected : NotationPart) (m : Meaning X) (e : NotationFault) → m ≡ lacks expected old.rest → whole mid ≡ whole old → StandsBehind place old.passed → AtPlace place mid (λ passed rest. Lacks (whole mid) expected rest e) → Faults (whole old) m e
-lacks_back old mid place expected m e q w p h = lacks_so (whole old) old.rest expected m e q (subst (λ z. Lacks z expected old.rest e) w (h old.passed old.rest (sym w) p))
+pub unmet_back : {X : Type 0} (old mid : StreamView) (place : Place) (expected : NotationPart) (m : Meaning X) (e : NotationFault) → m ≡ unmet expected old.rest → whole mid ≡ whole old → IsPlaceAfter place old.passed → AtPlace place mid (λ passed rest. IsUnmet (whole mid) expected rest e) → Faults (whole old) m e
+unmet_back old mid place expected m e q w p h = unmet_so (whole old) old.rest expected m e q (subst (λ z. IsUnmet z expected old.rest e) w (h old.passed old.rest (sym w) p))
 
 -- ---- what a `?` returns
-handed_on : {T E : Type 0} {e : E} (r : Result T E) → IsErrAnd r (λ y. y ≡ e) → r ≡ Err e
-handed_on r h = let p = err_from_is_err_and r h in p.1 ∙ ap Err p.2
+propagated : {T E : Type 0} {e : E} (r : Result T E) → IsErrAnd r (λ y. y ≡ e) → r ≡ Err e
+propagated r h = let p = err_from_is_err_and r h in p.1 ∙ ap Err p.2
 
 -- an error that is passed on
 pub handed : {X Y : Type 0} (see : Y → X) (text : Text) (m : Meaning X) (new : StreamView) (r : Result Y NotationFault) (e : NotationFault) → IsErrAnd r (λ y. y ≡ e) → Faults text m e → Reads see text m r new
-handed see text m new r e h f = subst (λ z. Reads see text m z new) (sym (handed_on r h)) f
+handed see text m new r e h f = subst (λ z. Reads see text m z new) (sym (propagated r h)) f
 
 -- ---- literals
 -- how far the parser of a literal has come
@@ -206,7 +206,7 @@ letters_end found (d ∷ rest) p = go (96 == d) refl p
     go true f p = absurd (cc)
     go false f p = let t : (d == 96) ≡ false = grind (arith, nat_tests) in rw t refl
 
-letters_lack : (found rest : Text) → begins is_ascii_graphic rest ≡ false → letters_after found false rest ≡ lacks part.Backquote rest
+letters_lack : (found rest : Text) → begins is_ascii_graphic rest ≡ false → letters_after found false rest ≡ unmet part.Backquote rest
 letters_lack found [] e = refl
 letters_lack found (c ∷ rest) e = let t : (c == 96) ≡ false = grind (arith, nat_tests) in rw (t, e) refl
 
@@ -240,9 +240,9 @@ module _ {start text : Text} {bytes : List ℕ} {now : StreamView} (s : Spelled 
   )
 
   -- neither a character of a literal nor a backquote comes next
-  pub spelled_lacks : (next : StreamView) (e : NotationFault) → IsNoLetter now next → Lacks (whole next) part.Backquote next.rest e → Faults text (letters_after [] false start) e
-  spelled_lacks next e b h =
-      lacks_so text now.rest part.Backquote (letters_after [] false start) e (s.left ∙ letters_lack s.found now.rest b.0) (subst (λ z. Lacks z part.Backquote now.rest e) s.same (subst (λ v. Lacks (whole v) part.Backquote v.rest e) b.1 h))
+  pub spelled_unmet : (next : StreamView) (e : NotationFault) → IsNoLetter now next → IsUnmet (whole next) part.Backquote next.rest e → Faults text (letters_after [] false start) e
+  spelled_unmet next e b h =
+      unmet_so text now.rest part.Backquote (letters_after [] false start) e (s.left ∙ letters_lack s.found now.rest b.0) (subst (λ z. IsUnmet z part.Backquote now.rest e) s.same (subst (λ v. IsUnmet (whole v) part.Backquote v.rest e) b.1 h))
 
 -- a word that is passed makes the text shorter
 pub past_shorter : (word text rest : Text) → past word text ≡ Some rest → length rest + length word ≡ length text

@@ -92,8 +92,8 @@ ahead_ends bytes from kind at a e =
     }
 
 -- the longest prefix, continued from a position inside it, ends where the whole does
-pub ends_behind : (bytes : List ℕ) (from : ℕ) (kind : ℕ → Bool) (at to : ℕ) → Ahead bytes from kind at → Ends bytes at kind to → Ends bytes from kind to
-ends_behind bytes from kind at to a e =
+pub ends_after : (bytes : List ℕ) (from : ℕ) (kind : ℕ → Bool) (at to : ℕ) → Ahead bytes from kind at → Ends bytes at kind to → Ends bytes from kind to
+ends_after bytes from kind at to a e =
     let old = chars (take from bytes) in
     record {
       within = e.within;
@@ -114,18 +114,18 @@ width_none kind (c ∷ text) e = absurd (cc)
 
 -- ---- a text that comes next
 -- the rest of UTF-8 after UTF-8 is UTF-8
-utf8_behind : (xs : Text) (b : List ℕ) (zs : Text) → all_scalars zs ≡ true → encode_utf8_all xs ++ b ≡ encode_utf8_all zs → IsUtf8 b
-utf8_behind [] b zs s e = (zs, (s, sym e))
-utf8_behind (c ∷ xs) b [] s e = absurd (omega (arith, ap length e, encode_some c, length-append (encode_utf8 c ++ encode_utf8_all xs) b, length-append (encode_utf8 c) (encode_utf8_all xs)))
-utf8_behind (c ∷ xs) b (d ∷ zs) s e = utf8_behind xs b zs (more (scalar d) (all_scalars zs) s) (encode_same c d (encode_utf8_all xs ++ b) (encode_utf8_all zs) (sym (append_assoc (encode_utf8 c) (encode_utf8_all xs) b) ∙ e)).1
+utf8_after : (xs : Text) (b : List ℕ) (zs : Text) → all_scalars zs ≡ true → encode_utf8_all xs ++ b ≡ encode_utf8_all zs → IsUtf8 b
+utf8_after [] b zs s e = (zs, (s, sym e))
+utf8_after (c ∷ xs) b [] s e = absurd (omega (arith, ap length e, encode_some c, length-append (encode_utf8 c ++ encode_utf8_all xs) b, length-append (encode_utf8 c) (encode_utf8_all xs)))
+utf8_after (c ∷ xs) b (d ∷ zs) s e = utf8_after xs b zs (more (scalar d) (all_scalars zs) s) (encode_same c d (encode_utf8_all xs ++ b) (encode_utf8_all zs) (sym (append_assoc (encode_utf8 c) (encode_utf8_all xs) b) ∙ e)).1
   where
     more : (a b : Bool) → (a && b) ≡ true → b ≡ true
     more true b e = e
     more false b e = absurd (cc)
 
 -- the place after a text whose bytes come next
-pub behind_text : (bytes : List ℕ) (o : ℕ) (text : List ℕ) → o ≤ length bytes → IsUtf8 (take o bytes) → IsUtf8 (drop o bytes) → IsUtf8 text → drop o bytes ≡ text ++ drop (length text) (drop o bytes) → ComesAt bytes o text
-behind_text bytes o text l f u t e =
+pub after_bytes : (bytes : List ℕ) (o : ℕ) (text : List ℕ) → o ≤ length bytes → IsUtf8 (take o bytes) → IsUtf8 (drop o bytes) → IsUtf8 text → drop o bytes ≡ text ++ drop (length text) (drop o bytes) → ComesAt bytes o text
+after_bytes bytes o text l f u t e =
     let d : drop (length text) (drop o bytes) ≡ drop (o + length text) bytes = drop-drop (length text) o bytes in
     let b : drop o bytes ≡ text ++ drop (o + length text) bytes = e ∙ ap (λ z. text ++ z) d in
     let p : take (o + length text) bytes ≡ take o bytes ++ text = take-add o (length text) bytes ∙ ap (λ z. take o bytes ++ z) (ap (take (length text)) b ∙ take-append_seam text (drop (o + length text) bytes)) in
@@ -133,7 +133,7 @@ behind_text bytes o text l f u t e =
     record {
       within = omega (arith, l, length-drop o bytes, ap length b, length-append text (drop (o + length text) bytes));
       passed_utf8 = rw p (IsUtf8-append (take o bytes) text f t);
-      rest_utf8 = utf8_behind (chars text) (drop (o + length text) bytes) (chars (drop o bytes)) (scalars-chars (drop o bytes) u) z;
+      rest_utf8 = utf8_after (chars text) (drop (o + length text) bytes) (chars (drop o bytes)) (scalars-chars (drop o bytes) u) z;
       passed = ap chars p ∙ chars-append (take o bytes) text f;
       rest = ap chars b ∙ chars-append text (drop (o + length text) bytes) t;
     }
@@ -173,7 +173,7 @@ comes bs cs text word o r same w e =
 
 -- what a result about the bytes says of the text
 pub comes_where : (bs word : List ℕ) (o : ℕ) (r : Bool) → o ≤ length bs → IsUtf8 (take o bs) → IsUtf8 (drop o bs) → IsUtf8 word → (r ≡ true → drop o bs ≡ word ++ drop (length word) (drop o bs)) × ((rest : List ℕ) → drop o bs ≡ word ++ rest → r ≡ true) → MatchBool r (ComesAt bs o word) ((rest : List ℕ) → chars (drop o bs) ≡ chars word ++ rest → ⊥)
-comes_where bs word o true l f u t p = behind_text bs o word l f u t (p.0 refl)
+comes_where bs word o true l f u t p = after_bytes bs o word l f u t (p.0 refl)
 comes_where bs word o false l f u t p = λ rest e. true≢false (sym (p.1 (encode_utf8_all rest) (comes_next bs o word rest u t e)))
 
 first_and_rest : (xs : List ℕ) → 0 < length xs → xs ≡ get_or xs 0 0 ∷ drop 1 xs

@@ -2,7 +2,7 @@
 use Rattle.std.specs.Prelude.{ℕ, Bool, ◌||◌, ◌==◌}
 use Rattle.std.specs.Char.{is_ascii_digit, is_ascii_hexdigit, is_whitespace}
 use Rattle.irtext_stream.specs.Text.{front, after, begins_word, in_word, is_plain}
-use Rattle.irtext_stream.specs.Stream.{StreamView, behind}
+use Rattle.irtext_stream.specs.Stream.{StreamView, after_taken}
 use Rattle.irtext_stream.specs.declared.class.Class.{Class}
 use Rattle.irtext_stream.specs.declared.class.Class.TheVariants as class
 
@@ -27,9 +27,9 @@ bit_of class.Dotted = 32
 bit_of class.Plain = 64
 
 -- the stream after the longest run of characters of a class that comes next
-abbrev pub behind_front : Class → StreamView → StreamView
-behind_front class v = behind v (front (has class) v.rest) (after (has class) v.rest)
+abbrev pub after_front : Class → StreamView → StreamView
+after_front class v = after_taken v (front (has class) v.rest) (after (has class) v.rest)
 
 -- the stream after the white space that comes next
-abbrev pub behind_space : StreamView → StreamView
-behind_space v = behind_front class.WhiteSpace v
+abbrev pub after_spaces : StreamView → StreamView
+after_spaces v = after_front class.WhiteSpace v

@@ -3,7 +3,7 @@
 use Rattle.std.specs.Prelude.{◌≡◌, ℕ, zero, suc, ◌+◌, ◌-◌, ◌*◌, ◌<◌, ◌≤◌, Bool, true, false, ◌||◌, nat_lt, nat_le, cond, List, [], ◌∷◌, ◌++◌, length, get_or, take, drop, count_by}
 use Rattle.std.specs.Str.{chars, encode_utf8_all, IsUtf8}
 use Rattle.std.specs.Char.{encode_utf8}
-use Rattle.irtext_stream.specs.Text.{Text, is_newline, column_behind, front, after}
+use Rattle.irtext_stream.specs.Text.{Text, is_newline, column_after, front, after}
 use Rattle.irtext_stream.specs.declared.index.TextIndex.{TextIndex}
 
 -- whether a character in UTF-8 begins with this byte
@@ -18,11 +18,11 @@ entry_before table (suc k) = get_or table k 0
 -- a line begins at this byte offset of the text, after this many newlines
 pub record BeginsLine (text : Text) (offset newlines : ℕ) : Type 0 where
   pub before : Text
-  pub behind : Text
-  pub same : before ++ behind ≡ text
+  pub following : Text
+  pub same : before ++ following ≡ text
   pub at : offset ≡ length (encode_utf8_all before)
   pub counts : count_by is_newline before ≡ newlines
-  pub fresh : column_behind before ≡ 1
+  pub fresh : column_after before ≡ 1
 
 -- the byte offsets at which the lines but the first begin
 pub record AreStarts (text : Text) (starts : List ℕ) : Type 0 where

@@ -4,7 +4,7 @@ use Rattle.std.specs.Char.{is_ascii_graphic}
 use Rattle.irtext_stream.specs.Text.{Text, begins}
 use Rattle.irtext_stream.specs.Stream.{StreamView, IsAt}
 use Rattle.irtext_stream.specs.Places.{position_text}
-use Rattle.irtext_stream.specs.NotationPieces.{Meaning, means, lacks}
+use Rattle.irtext_stream.specs.NotationPieces.{Meaning, means, unmet}
 use Rattle.irtext_stream.specs.declared.position.SourcePosition.{SourcePosition}
 use Rattle.irtext_stream.specs.declared.notation.fault.NotationPart.{NotationPart}
 use Rattle.irtext_stream.specs.declared.notation.fault.NotationPart.TheVariants as part
@@ -34,13 +34,13 @@ pub record BeginsAt (rest whole : Text) (at : SourcePosition) : Type 0 where
   pub place : IsAt at.line at.column passed
 
 -- the error says that this part is expected where the rest of the whole text begins
-abbrev pub Lacks : Text → NotationPart → Text → NotationFault → Type 0
-Lacks whole expected rest (fault.Unexpected at e) = (e ≡ expected) × BeginsAt rest whole at
-Lacks whole expected rest fault.Memory = ⊥
+abbrev pub IsUnmet : Text → NotationPart → Text → NotationFault → Type 0
+IsUnmet whole expected rest (fault.Unexpected at e) = (e ≡ expected) × BeginsAt rest whole at
+IsUnmet whole expected rest fault.Memory = ⊥
 
 -- the error says what the meaning lacks, and where in the whole text; or that an allocation failed
 abbrev pub Faults : {X : Type 0} → Text → Meaning X → NotationFault → Type 0
-Faults whole m (fault.Unexpected at expected) = (rest : Text) × (m ≡ lacks expected rest) × BeginsAt rest whole at
+Faults whole m (fault.Unexpected at expected) = (rest : Text) × (m ≡ unmet expected rest) × BeginsAt rest whole at
 Faults whole m fault.Memory = Unit {0}
 
 -- the whole text of a stream

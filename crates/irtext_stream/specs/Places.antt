@@ -10,8 +10,8 @@ use Rattle.irtext_stream.specs.declared.position.Place.{Place}
 use Rattle.irtext_stream.specs.declared.position.SourcePosition.{SourcePosition}
 
 -- the position after this text, which is at the beginning of the stream
-abbrev pub StandsBehind : Place → Text → Type 0
-StandsBehind place passed = place.offset ≡ length (encode_utf8_all passed)
+abbrev pub IsPlaceAfter : Place → Text → Type 0
+IsPlaceAfter place passed = place.offset ≡ length (encode_utf8_all passed)
 
 -- this holds of the texts before and after a byte offset of a text
 abbrev pub AtOffset : ℕ → Text → (Text → Text → Type 0) → Type 0
@@ -27,14 +27,14 @@ SincePlace place v Holds = AtOffset place.offset v.passed Holds
 
 -- the position is at or before the stream's current position
 abbrev pub HasPassed : Place → StreamView → Type 0
-HasPassed place v = (passed taken : Text) × (passed ++ taken ≡ v.passed) × StandsBehind place passed
+HasPassed place v = (passed taken : Text) × (passed ++ taken ≡ v.passed) × IsPlaceAfter place passed
 
 -- the position is one in the stream's text
 pub record IsPlaceOf (place : Place) (v : StreamView) : Type 0 where
   pub passed : Text
   pub rest : Text
   pub same : passed ++ rest ≡ v.passed ++ v.rest
-  pub stands : StandsBehind place passed
+  pub positioned : IsPlaceAfter place passed
 
 -- the text of a position: its line and its column
 abbrev pub position_text : SourcePosition → List ℕ

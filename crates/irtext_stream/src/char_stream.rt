@@ -2,9 +2,9 @@
 ghost use Rattle.std.specs.Prelude.{◌≡◌, MatchBool, refl};
 ghost use Rattle.std.specs.Str.{chars, encode_utf8_all};
 ghost use Rattle.irtext_stream.specs.Text.{BeginsOtherwise};
-ghost use Rattle.irtext_stream.specs.Classes.{behind_front, behind_space};
+ghost use Rattle.irtext_stream.specs.Classes.{after_front, after_spaces};
 ghost use Rattle.irtext_stream.specs.Stream.{StreamView, IsAt, first_of, advanced, after_failure, Comes, moved};
-ghost use Rattle.irtext_stream.specs.Places.{StandsBehind, IsPlaceOf, AtPlace, SincePlace, HasPassed};
+ghost use Rattle.irtext_stream.specs.Places.{IsPlaceAfter, IsPlaceOf, AtPlace, SincePlace, HasPassed};
 
 use crate::class::Class;
 use crate::position::{Place, SourcePosition};
@@ -29,7 +29,7 @@ pub trait CharStream {
 
     /// Consumes the longest run of characters of the class that comes next.
     fn skip(&mut self, class: Class)
-        ensures { self.new ≡ at self.old (behind_front class (view self.old)) };
+        ensures { self.new ≡ at self.old (after_front class (view self.old)) };
 
     /// If `text` comes next, consumes it and returns true. Otherwise returns false and leaves the stream unchanged.
     fn accept(&mut self, text: &str) -> bool
@@ -41,12 +41,12 @@ pub trait CharStream {
     /// leaves the stream unchanged, in front of the white space.
     fn accept_spaced(&mut self, text: &str) -> bool
         ensures { MatchBool result
-            (Comes (chars text.now) (behind_space (view self.old)) (λ v. self.new ≡ at self.old v))
-            (BeginsOtherwise (chars text.now) (behind_space (view self.old)).rest × (self.new ≡ self.old)) };
+            (Comes (chars text.now) (after_spaces (view self.old)) (λ v. self.new ≡ at self.old v))
+            (BeginsOtherwise (chars text.now) (after_spaces (view self.old)).rest × (self.new ≡ self.old)) };
 
     /// Returns the position of the next character, or of the end of the text.
     fn position(&self) -> Place
-        ensures { StandsBehind result (view self.now).passed };
+        ensures { IsPlaceAfter result (view self.now).passed };
 
     /// Returns the line and the column of a position that `position` returned on this stream.
     fn locate(&self, place: Place) -> SourcePosition

@@ -93,7 +93,7 @@ fn block_counts(alloc: Global, bytes: &[u8]) -> Result<Vec<usize>, AllocError>
 fn line_at(starts: &[usize], least: usize, offset: usize) -> usize
     requires { BeginUpTo starts.now least offset }
     ensures up_to { BeginUpTo starts.now result offset }
-    ensures behind { result < length starts.now → offset < get_or starts.now result 0 }
+    ensures following { result < length starts.now → offset < get_or starts.now result 0 }
 {
     let mut line = least;
     while line < starts.len() && starts[line] <= offset {
@@ -125,11 +125,11 @@ fn entry_before(table: &[usize], k: usize) -> usize
 }
 
 /// Returns the number of a line or a column that comes after so many others, capped at `i32::MAX`.
-fn shown(behind: usize) -> i32
-    ensures { result ≡ cut (1 + behind) }
+fn shown(following: usize) -> i32
+    ensures { result ≡ cut (1 + following) }
 {
-    if behind < i32::MAX as usize {
-        behind as i32 + 1
+    if following < i32::MAX as usize {
+        following as i32 + 1
     } else {
         i32::MAX
     }

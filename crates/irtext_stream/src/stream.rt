@@ -2,9 +2,9 @@
 ghost use Rattle.std.specs.Prelude.{◌≡◌, [], IfOk, MatchBool, false};
 ghost use Rattle.std.specs.Str.{chars, encode_utf8_all};
 ghost use Rattle.irtext_stream.specs.Text.{BeginsOtherwise};
-ghost use Rattle.irtext_stream.specs.Classes.{behind_front, behind_space};
+ghost use Rattle.irtext_stream.specs.Classes.{after_front, after_spaces};
 ghost use Rattle.irtext_stream.specs.Stream.{StreamView, IsAt, first_of, advanced, after_failure, Comes, moved};
-ghost use Rattle.irtext_stream.specs.Places.{StandsBehind, IsPlaceOf, AtPlace, SincePlace, HasPassed};
+ghost use Rattle.irtext_stream.specs.Places.{IsPlaceAfter, IsPlaceOf, AtPlace, SincePlace, HasPassed};
 
 use crate::class::Class;
 use crate::index::TextIndex;
@@ -100,7 +100,7 @@ impl TextStream {
     /// Consumes the longest run of characters of the class that comes next.
     #[inline(always)]
     pub fn skip(&mut self, class: Class)
-        ensures { self.new ≡ behind_front class self.old }
+        ensures { self.new ≡ after_front class self.old }
     {
         self.offset = end_of(self.text.as_str(), self.offset, class);
     }
@@ -124,8 +124,8 @@ impl TextStream {
     #[inline(always)]
     pub fn accept_spaced(&mut self, text: &str) -> bool
         ensures { MatchBool result
-            (Comes (chars text.now) (behind_space self.old) (λ v. self.new ≡ v))
-            (BeginsOtherwise (chars text.now) (behind_space self.old).rest × (self.new ≡ self.old)) }
+            (Comes (chars text.now) (after_spaces self.old) (λ v. self.new ≡ v))
+            (BeginsOtherwise (chars text.now) (after_spaces self.old).rest × (self.new ≡ self.old)) }
     {
         let from = end_of(self.text.as_str(), self.offset, Class::WhiteSpace);
         if !comes_at(self.text.as_str(), from, text) {
@@ -138,7 +138,7 @@ impl TextStream {
     /// Returns the position of the next character, or of the end of the text.
     #[inline(always)]
     pub fn position(&self) -> Place
-        ensures { StandsBehind result self.now.passed }
+        ensures { IsPlaceAfter result self.now.passed }
     {
         Place {
             offset: self.offset,

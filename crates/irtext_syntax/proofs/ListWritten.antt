@@ -29,10 +29,10 @@ module _ {X : Type 0} (separator : ℕ) (w : X → Text) where
       ∙ (ap (λ z. f ++ z) (sym (encodes-append (w x) (tail_text separator w xs))) ∙ ap (λ z. f ++ encode_utf8_all (joined_text separator w z)) (sym d))))
 
 -- a text between two ASCII texts
-pub enclosed : (before text behind f begun mid new : Text) → encode_utf8_all before ≡ before → encode_utf8_all behind ≡ behind → begun ≡ f ++ before → mid ≡ begun ++ encode_utf8_all text → new ≡ mid ++ behind
-    → new ≡ f ++ encode_utf8_all (before ++ (text ++ behind))
-enclosed before text behind f begun mid new a b o m n =
-    n ∙ (ap (λ z. z ++ behind) (m ∙ ap (λ z. z ++ encode_utf8_all text) o)
-    ∙ (append_assoc (f ++ before) (encode_utf8_all text) behind
-    ∙ (append_assoc f before (encode_utf8_all text ++ behind)
-    ∙ ap (λ z. f ++ z) (sym (encodes-append before (text ++ behind) ∙ (ap (λ z. z ++ encode_utf8_all (text ++ behind)) a ∙ ap (λ z. before ++ z) (encodes-append text behind ∙ ap (λ z. encode_utf8_all text ++ z) b)))))))
+pub enclosed : (before text following f begun mid new : Text) → encode_utf8_all before ≡ before → encode_utf8_all following ≡ following → begun ≡ f ++ before → mid ≡ begun ++ encode_utf8_all text → new ≡ mid ++ following
+    → new ≡ f ++ encode_utf8_all (before ++ (text ++ following))
+enclosed before text following f begun mid new a b o m n =
+    n ∙ (ap (λ z. z ++ following) (m ∙ ap (λ z. z ++ encode_utf8_all text) o)
+    ∙ (append_assoc (f ++ before) (encode_utf8_all text) following
+    ∙ (append_assoc f before (encode_utf8_all text ++ following)
+    ∙ ap (λ z. f ++ z) (sym (encodes-append before (text ++ following) ∙ (ap (λ z. z ++ encode_utf8_all (text ++ following)) a ∙ ap (λ z. before ++ z) (encodes-append text following ∙ ap (λ z. encode_utf8_all text ++ z) b)))))))

@@ -20,20 +20,20 @@ words = codes "my.index" ∷ []
 abbrev word_of : Text → Option Index
 word_of text = cond (bytes_eq text (codes "my.index")) (Some index) None
 
-abbrev behind : Index → Reader Index
-behind index = nothing index
+abbrev following : Index → Reader Index
+following index = nothing index
 
 abbrev text_of : Index → Text
 text_of index = codes "my.index"
 
-rows : (x : Index) → Row word_of behind words text_of x
+rows : (x : Index) → Row word_of following words text_of x
 rows index = word_row (codes "my.index") index index refl refl refl (λ text. refl)
 
 -- the same with a space after the word
 abbrev spaced_text : Index → Text
 spaced_text index = codes "my.index "
 
-spaced_rows : (x : Index) → Row word_of behind words spaced_text x
+spaced_rows : (x : Index) → Row word_of following words spaced_text x
 spaced_rows index = spaced_word_row (codes "my.index") index index refl refl refl (λ text. refl)
 
 leads : (rest : Text) → Ends rest → is_one_of words (front in_dotted (codes "my.index" ++ rest)) ≡ true

@@ -4,9 +4,9 @@ use Rattle.std.specs.Bool.{MatchBool}
 use Rattle.irtext_base.specs.Text.{Text, front, after, in_word}
 use Rattle.irtext_base.specs.Stream.{StreamView, first_of}
 use Rattle.irtext_base.specs.Faults.{Demand, Word, Unexpected, characters}
-use Rattle.irtext_base.specs.Answers.{Read, Missing, Gives, Takes, Passes, Starves, StarvesHere, Refuses, unless_failed}
+use Rattle.irtext_base.specs.Answers.{Read, Missing, Gives, Takes, Passes, RunsOut, RunsOutHere, Refuses, unless_failed}
 use Rattle.irtext_base.specs.declared.parsable.fault.ParseFault.{ParseFault}
-use Rattle.irtext_base.proofs.Compose.{takes_none, starves_behind}
+use Rattle.irtext_base.proofs.Compose.{takes_none, runs_out_after}
 use Rattle.irtext_syntax.specs.KeywordTexts.{is_next, keyword_at, flag_at}
 
 next_read : (word text : Text) (b : Bool) → b ≡ false → is_next word text ≡ true → unless_failed b (keyword_at word text) ≡ Read tt (front in_word text) (after in_word text)
@@ -39,13 +39,13 @@ flag_gives word given old new false f g (e, t) =
 module _ {A : Type 0} (word given : Text) (old mid : StreamView) (fine : old.failed ≡ false) (is : given ≡ word) (e : is_next given old.rest ≡ false) (same : mid ≡ old) where
   -- the word is missing
   pub word_missing : (fault : ParseFault A) (d : Demand) (other : Text) → other ≡ word → d ≡ Word (characters other) → Passes (λ s. s) (λ s v. v) (Unexpected (first_of mid.rest) d) mid fault mid
-      → Starves (λ s. s) (λ s v. v) old fault mid ⊎ Refuses (λ s. s) (λ s v. v) (unless_failed old.failed (keyword_at word old.rest)) old fault mid
+      → RunsOut (λ s. s) (λ s v. v) old fault mid ⊎ Refuses (λ s. s) (λ s v. v) (unless_failed old.failed (keyword_at word old.rest)) old fault mid
   word_missing fault d other o q h =
       let h1 = subst (λ d. Passes (λ s. s) (λ s v. v) (Unexpected (first_of mid.rest) d) mid fault mid) (q ∙ ap (λ w. Word (characters w)) o) h in
       let h2 = subst (λ s. Passes (λ s. s) (λ s v. v) (Unexpected (first_of s.rest) (Word (characters word))) s fault mid) same h1 in
       inr (subst (λ o. Refuses (λ s. s) (λ s v. v) o old fault mid) (sym (next_missed word old.rest old.failed fine (subst (λ w. is_next w old.rest ≡ false) is e))) h2)
 
   -- out of memory for the error
-  pub word_starves : (fault : ParseFault A) (new : StreamView) → StarvesHere (λ s. s) (λ s v. v) mid fault new
-      → Starves (λ s. s) (λ s v. v) old fault new ⊎ Refuses (λ s. s) (λ s v. v) (unless_failed old.failed (keyword_at word old.rest)) old fault new
-  word_starves fault new h = inl (starves_behind (λ s. s) (λ s v. v) (λ s v. refl) (λ s v w. refl) old old new [] old.rest fault fine (none old) (subst (λ s. StarvesHere (λ s. s) (λ s v. v) s fault new) same h))
+  pub word_runs_out : (fault : ParseFault A) (new : StreamView) → RunsOutHere (λ s. s) (λ s v. v) mid fault new
+      → RunsOut (λ s. s) (λ s v. v) old fault new ⊎ Refuses (λ s. s) (λ s v. v) (unless_failed old.failed (keyword_at word old.rest)) old fault new
+  word_runs_out fault new h = inl (runs_out_after (λ s. s) (λ s v. v) (λ s v. refl) (λ s v w. refl) old old new [] old.rest fault fine (none old) (subst (λ s. RunsOutHere (λ s. s) (λ s v. v) s fault new) same h))

@@ -16,7 +16,7 @@ use Rattle.irtext_base.specs.Faults.{Unexpected, ADigit}
 use Rattle.irtext_base.proofs.Characters.{and_left, front_all, after_all}
 use Rattle.irtext_base.proofs.Numbers.{digits_every}
 use Rattle.irtext_tokens.specs.Tokens.{is_sign, sign_of, after_sign}
-use Rattle.irtext_tokens.specs.Integers.{int_at, sign_at, no_digit_behind, signed_integer, numeral_at, ranged, integer_by}
+use Rattle.irtext_tokens.specs.Integers.{int_at, sign_at, no_digit_after, signed_integer, numeral_at, ranged, integer_by}
 use Rattle.irtext_tokens.proofs.Decimals.{plain}
 use Rattle.irtext_syntax.specs.PartLaws.{is_closer}
 use Rattle.irtext_syntax.specs.Numbers.{fits}
@@ -48,7 +48,7 @@ module _ (below : Bool → ℕ) where
   unfolding int_at
   no_int c rest s d =
       let first : sign_at (c ∷ rest) ≡ Missing (Unexpected (Some c) ADigit) =
-      ap₂ (λ x y. let o : Outcome Text = cond (begins is_ascii_digit y) (Read x x y) (no_digit_behind x y) in o) (ap (λ b. let t : Text = cond b (c ∷ []) [] in t) s) (ap (λ b. let t : Text = cond b rest (c ∷ rest) in t) s)
+      ap₂ (λ x y. let o : Outcome Text = cond (begins is_ascii_digit y) (Read x x y) (no_digit_after x y) in o) (ap (λ b. let t : Text = cond b (c ∷ []) [] in t) s) (ap (λ b. let t : Text = cond b rest (c ∷ rest) in t) s)
       ∙ ap (λ q. let o : Outcome Text = cond q (Read [] [] (c ∷ rest)) (Missing (Unexpected (Some c) ADigit)) in o) d in
       ap (numeral_at is_ascii_digit (signed_integer below)) first
 
@@ -65,7 +65,7 @@ module _ (below : Bool → ℕ) where
       let t = (c ∷ ds) ++ rest in
       let d = and_left (is_ascii_digit c) (list_all is_ascii_digit ds) all in
       let first : sign_at (sign ++ t) ≡ Read sign sign t =
-      ap₂ (λ x y. let o : Outcome Text = cond (begins is_ascii_digit y) (Read x x y) (no_digit_behind x y) in o) s b ∙ ap (λ q. let o : Outcome Text = cond q (Read sign sign t) (no_digit_behind sign t) in o) d in
+      ap₂ (λ x y. let o : Outcome Text = cond (begins is_ascii_digit y) (Read x x y) (no_digit_after x y) in o) s b ∙ ap (λ q. let o : Outcome Text = cond q (Read sign sign t) (no_digit_after sign t) in o) d in
       ap (numeral_at is_ascii_digit (signed_integer below)) first
       ∙ (ap₂ (λ f a. ranged (sign ++ f) a (signed_integer below sign f)) (front_all is_ascii_digit (c ∷ ds) rest all stop) (after_all is_ascii_digit (c ∷ ds) rest all stop)
       ∙ (ap (λ m. ranged (sign ++ (c ∷ ds)) rest (cond (nat_lt m (below (begins (the 45) sign))) (Some (integer_by (begins (the 45) sign) m)) None)) v
@@ -80,7 +80,7 @@ module _ (below : Bool → ℕ) where
     int-here (pos n) rest e stop =
         let k = decimal_is_IsNumeral n (small n false e) in
         let p = plain (decimal n) rest k.0.0 (digits_every (decimal n) k.0.1) in
-        digits-int [] (decimal n) rest n (pos n) p.sign p.behind k.0.0 (digits_every (decimal n) k.0.1) k.1 e refl stop
+        digits-int [] (decimal n) rest n (pos n) p.sign p.following k.0.0 (digits_every (decimal n) k.0.1) k.1 e refl stop
     int-here (negsuc n) rest e stop =
         let k = decimal_is_IsNumeral (suc n) (small (suc n) true e) in
         digits-int (45 ∷ []) (decimal (suc n)) rest (suc n) (negsuc n) refl refl k.0.0 (digits_every (decimal (suc n)) k.0.1) k.1 e refl stop

@@ -8,7 +8,7 @@ use Rattle.std.proofs.lemmas.Str.{encodes-IsAscii}
 use Rattle.irtext_base.specs.Text.{Text, begins, front, after, after_space, in_word, is_identifier}
 use Rattle.irtext_base.specs.Answers.{Outcome, Read, Missing}
 use Rattle.irtext_base.specs.Faults.{Unexpected, Word, characters}
-use Rattle.irtext_base.specs.Own.{standing, can_follow}
+use Rattle.irtext_base.specs.Own.{verdict, can_follow}
 use Rattle.irtext_base.specs.Stream.{first_of}
 use Rattle.irtext_base.proofs.Along.{front_after}
 use Rattle.irtext_base.proofs.Characters.{and_left, and_right, after_twice, front_all, after_all, identifier_every, identifier_begins, follow_no_word}
@@ -75,13 +75,13 @@ module _ (word : Text) (is_word : is_identifier word ≡ true) where
   }
 
   pub keyword_misses : MissesClosers (keyword_at word)
-  keyword_misses = record { misses = λ c rest e. ap (λ b. standing (cond b (Read tt (front in_word (c ∷ rest)) (after in_word (c ∷ rest))) (Missing (Unexpected (first_of (c ∷ rest)) (Word (characters word)))))) (other_next (c ∷ rest) (follow_no_word c (closer_follows c e))) }
+  keyword_misses = record { misses = λ c rest e. ap (λ b. verdict (cond b (Read tt (front in_word (c ∷ rest)) (after in_word (c ∷ rest))) (Missing (Unexpected (first_of (c ∷ rest)) (Word (characters word)))))) (other_next (c ∷ rest) (follow_no_word c (closer_follows c e))) }
 
   flag_back : (b : Bool) (rest : Text) → ends_flag word rest ≡ true → IsRead (flag_at word) b (flag_text word b ++ rest) rest
   flag_back true rest e = let stop = not_true (begins in_word rest) (and_left (ends_word rest) _ e) in read_here (flag_at word) true (word ++ rest) word rest (word_no_space rest stop) (flag-here rest stop)
   flag_back false rest e =
       let t = after_space rest in
-      (t, ap (λ b. standing (cond b (Read true (front in_word t) (after in_word t)) (Read false [] t))) (not_true (is_next word t) (and_right (ends_word rest) _ e)), after_twice is_whitespace rest)
+      (t, ap (λ b. verdict (cond b (Read true (front in_word t) (after in_word t)) (Read false [] t))) (not_true (is_next word t) (and_right (ends_word rest) _ e)), after_twice is_whitespace rest)
 
   flag_scalars : (b : Bool) → all_scalars (flag_text word b) ≡ true
   flag_scalars true = scalars_ascii word (ascii_word word (identifier_every word is_word))

@@ -3,7 +3,7 @@ use Rattle.std.proofs.Common.{◌≡◌, Bool, true, false, ◌&&◌, Option, So
 use Rattle.std.specs.Prelude.{◌↔◌, IsTrue}
 use Rattle.irtext_base.specs.Text.{Text, begins, after_space}
 use Rattle.irtext_base.specs.Answers.{Outcome, Read, Missing, Bad}
-use Rattle.irtext_base.specs.Own.{found, missing, standing, can_follow}
+use Rattle.irtext_base.specs.Own.{found, missing, verdict, can_follow}
 use Rattle.irtext_base.proofs.Characters.{and_left, and_right, after_twice}
 use Rattle.irtext_base.proofs.Sincere.{Of, of_read, of_bad, of_sincere, sincere_of}
 use Rattle.std.specs.Char.{is_whitespace}
@@ -13,12 +13,12 @@ use Rattle.irtext_syntax.specs.Maybes.{or_none, maybe_at, maybe_text, maybe_ends
 use Rattle.irtext_syntax.specs.PartLaws.{is_closer, IsRead, PartLaw, MissesClosers}
 
 -- what is found is found, and where it is missing nothing is consumed
-or_none_found : {X : Type 0} (o : Outcome X) (text : Text) (x : X) (rest : Text) → standing o ≡ found x rest → standing (or_none o text) ≡ found (Some x) rest
+or_none_found : {X : Type 0} (o : Outcome X) (text : Text) (x : X) (rest : Text) → verdict o ≡ found x rest → verdict (or_none o text) ≡ found (Some x) rest
 or_none_found (Read y taken r) text x rest e = cc
 or_none_found (Missing cause) text x rest e = absurd (cc)
 or_none_found (Bad cause upto) text x rest e = absurd (cc)
 
-or_none_missing : {X : Type 0} (o : Outcome X) (text : Text) → standing o ≡ missing → standing (or_none o text) ≡ found None text
+or_none_missing : {X : Type 0} (o : Outcome X) (text : Text) → verdict o ≡ missing → verdict (or_none o text) ≡ found None text
 or_none_missing (Read y taken r) text e = absurd (cc)
 or_none_missing (Missing cause) text e = refl
 or_none_missing (Bad cause upto) text e = absurd (cc)
@@ -29,7 +29,7 @@ both false b e f = absurd (true≢false (sym e))
 
 module _ {X : Type 0} (reading : Reader X) (written : X → Text) (ends : Text → Bool) where
   -- it is missing where a closing character comes
-  missed : MissesClosers reading → (text : Text) → begins is_closer text ≡ true → standing (maybe_at reading text) ≡ found None text
+  missed : MissesClosers reading → (text : Text) → begins is_closer text ≡ true → verdict (maybe_at reading text) ≡ found None text
   missed m [] e = absurd (true≢false (sym e))
   missed m (c ∷ rest) e = or_none_missing (reading (c ∷ rest)) (c ∷ rest) (m.misses c rest e)
 

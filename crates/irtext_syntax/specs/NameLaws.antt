@@ -10,7 +10,7 @@ use Rattle.std.proofs.lemmas.Str.Ascii.{IsAscii-nil}
 use Rattle.irtext_base.specs.Text.{Text, begins, front, after, begins_word, in_word}
 use Rattle.irtext_base.specs.Answers.{Outcome, Read, Missing, mapped}
 use Rattle.irtext_base.specs.Faults.{AnIdentifier, Unexpected}
-use Rattle.irtext_base.specs.Own.{missing, standing, can_follow}
+use Rattle.irtext_base.specs.Own.{missing, verdict, can_follow}
 use Rattle.irtext_base.specs.Stream.{first_of}
 use Rattle.irtext_base.proofs.Characters.{and_left, and_right, is_false, begins_in, follow_no_word, front_all, after_all, identifier_every, identifier_begins, word_no_space, in_word_small, ends_word as no_word_ends}
 use Rattle.irtext_base.proofs.Scalars.{scalars_ascii}
@@ -74,9 +74,9 @@ encodes_name w = encodes-IsAscii w.characters (ascii_word w.characters (identifi
 no_beginning : (c : ℕ) → in_word c ≡ false → begins_word c ≡ false
 no_beginning c e = is_false (begins_word c) (λ f. true≢false (sym (begins_in c f) ∙ e))
 
-missed : (c : ℕ) (rest : Text) → begins_word c ≡ false → standing (name_at (c ∷ rest)) ≡ missing
+missed : (c : ℕ) (rest : Text) → begins_word c ≡ false → verdict (name_at (c ∷ rest)) ≡ missing
 unfolding word_at
-missed c rest e = ap (λ b. standing (mapped word_text (cond b (Read (front in_word (c ∷ rest)) (front in_word (c ∷ rest)) (after in_word (c ∷ rest))) (Missing (Unexpected (Some c) AnIdentifier))))) e
+missed c rest e = ap (λ b. verdict (mapped word_text (cond b (Read (front in_word (c ∷ rest)) (front in_word (c ∷ rest)) (after in_word (c ∷ rest))) (Missing (Unexpected (Some c) AnIdentifier))))) e
 
 pub name_misses : MissesClosers name_at
 name_misses = record { misses = λ c rest e. missed c rest (no_beginning c (follow_no_word c (closer_follows c e))) }

@@ -7,7 +7,7 @@ use Rattle.std.specs.Str.{encode_utf8_all}
 use Rattle.std.proofs.lemmas.Str.{encodes-IsAscii}
 use Rattle.irtext_base.specs.Text.{Text, begins}
 use Rattle.irtext_base.specs.Answers.{Outcome, Read, Missing, Bad}
-use Rattle.irtext_base.specs.Own.{standing, can_follow}
+use Rattle.irtext_base.specs.Own.{verdict, can_follow}
 use Rattle.irtext_base.proofs.Characters.{and_left}
 use Rattle.irtext_base.proofs.Scalars.{scalars_ascii}
 use Rattle.irtext_base.proofs.Sincere.{Of, of_missing, of_bad, sincere_of}
@@ -51,7 +51,7 @@ module _ {N : Type 0} (g : radix.Ghosts N) (of : ℤ → N) (narrow : (negative 
   encodes-number n = encodes-IsAscii (number_text n) (ascii-int g.below narrow (g.number n.value) n.in_range)
 
   pub number_misses : MissesClosers (number_at g of)
-  number_misses = record { misses = λ c rest e. ap (λ o. standing (narrowed (λ z. number_if g (of z)) o)) (closer_no_int g.below c rest e) }
+  number_misses = record { misses = λ c rest e. ap (λ o. verdict (narrowed (λ z. number_if g (of z)) o)) (closer_no_int g.below c rest e) }
 
   pub number_decides : (test : N → N → Bool) → ((x y : N) → IsTrue (test x y) ↔ (x ≡ y)) → (x y : Number N g) → IsTrue (test x.value y.value) ↔ (x ≡ y)
   number_decides test decides x y = (λ e. let f : Some x ≡ Some y = sym (number_found g x) ∙ (ap (number_if g) ((decides x.value y.value).0 e) ∙ number_found g y) in ap (λ o. unwrap_or o x) f, λ e. (decides x.value y.value).1 (ap (λ n. n.value) e))

@@ -3,7 +3,7 @@ use Rattle.std.proofs.Common.{◌≡◌, ℕ, Bool, true, false, ◌∷◌, [], 
 use Rattle.std.proofs.lemmas.Bool.Decides.{nat_tests}
 use Rattle.std.specs.Prelude.{◌↔◌, IsTrue}
 use Rattle.irtext_base.specs.Text.{Text, begins_word}
-use Rattle.irtext_base.specs.Own.{standing, texts_of, can_follow, Ends, Lawful, Sincere}
+use Rattle.irtext_base.specs.Own.{verdict, texts_of, can_follow, Ends, Lawful, Sincere}
 use Rattle.irtext_base.proofs.Characters.{and_left, word_tight}
 use Rattle.irtext_tokens.specs.Infix.{Reader}
 use Rattle.irtext_syntax.specs.Owns.{own_with, own_at, own_text, ends_text}
@@ -37,7 +37,7 @@ module _ {T : Type 0} (reading : Reader T) (written : T → Text) where
       back : (x : T) (rest : Text) → ends_text rest ≡ true → IsRead reading x (written x ++ rest) rest
       back x rest e =
           let k = l.again x rest (ends_if rest e) in
-          (k.0, ap (λ z. standing (reading z)) (word_tight (written x ++ rest) (l.starts x rest)) ∙ k.1, k.2)
+          (k.0, ap (λ z. verdict (reading z)) (word_tight (written x ++ rest) (l.starts x rest)) ∙ k.1, k.2)
 
   pub text_misses : Lawful T (texts_of reading written) → MissesClosers reading
   text_misses l = record { misses = λ c rest e. l.misses (c ∷ rest) (closer_no_word c e) }

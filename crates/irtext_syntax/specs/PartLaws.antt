@@ -4,7 +4,7 @@ use Rattle.std.specs.Str.{all_scalars}
 use Rattle.irtext_base.specs.Text.{Text, begins, after_space}
 use Rattle.irtext_base.specs.Format.{has}
 use Rattle.irtext_base.specs.Answers.{Outcome}
-use Rattle.irtext_base.specs.Own.{found, missing, standing, can_follow, Ends, Sincere}
+use Rattle.irtext_base.specs.Own.{found, missing, verdict, can_follow, Ends, Sincere}
 
 -- a character that closes or separates parts
 abbrev pub is_closer : ℕ → Bool
@@ -16,7 +16,7 @@ closes text = begins can_follow text && begins is_closer (after_space text)
 
 -- the value is parsed at the beginning of the text, after any white space, and only white space is left before `rest`
 abbrev pub IsRead : {X : Type 0} → (Text → Outcome X) → X → Text → Text → Type 0
-IsRead reading x text rest = (left : Text) × (standing (reading (after_space text)) ≡ found x left) × (after_space left ≡ after_space rest)
+IsRead reading x text rest = (left : Text) × (verdict (reading (after_space text)) ≡ found x left) × (after_space left ≡ after_space rest)
 
 -- the law of a part: a printed text is parsed back before every text that can come after it, as each does that begins with a closing
 -- character; printed texts consist of Unicode scalar values; and what the parser says about a text is about that text
@@ -39,7 +39,7 @@ pub record PartLaws {X : Type 0} (text : PartText X) (test : X → X → Bool) :
 
 -- no value is found where a closing character comes
 pub record MissesClosers {X : Type 0} (reading : Text → Outcome X) : Type 0 where
-  pub misses : (c : ℕ) (rest : Text) → is_closer c ≡ true → standing (reading (c ∷ rest)) ≡ missing
+  pub misses : (c : ℕ) (rest : Text) → is_closer c ≡ true → verdict (reading (c ∷ rest)) ≡ missing
 
 -- whatever can end a type's or an attribute's text can come next
 pub record EndsAnywhere (ends : Text → Bool) : Type 0 where

@@ -6,7 +6,7 @@ use Rattle.std.specs.Prelude.{◌↔◌, IsTrue}
 use Rattle.std.specs.Str.{chars, encode_utf8_all, bytes_eq}
 use Rattle.irtext_base.specs.Text.{Text}
 use Rattle.irtext_base.specs.Answers.{Outcome, Read, mapped}
-use Rattle.irtext_base.specs.Own.{missing, standing}
+use Rattle.irtext_base.specs.Own.{missing, verdict}
 use Rattle.irtext_base.proofs.Scalars.{scalars_quoted}
 use Rattle.irtext_base.proofs.Sincere.{of_mapped, sincere_of}
 use Rattle.irtext_tokens.specs.Tokens.{text_at}
@@ -31,7 +31,7 @@ characters_law = record {
   sincere = sincere_of characters_at (λ text. of_mapped text scalar_text (quoted_at text) (of_quoted text));
 }
 
-quoted_missed : (c : ℕ) (rest : Text) → is_closer c ≡ true → standing (characters_at (c ∷ rest)) ≡ missing
+quoted_missed : (c : ℕ) (rest : Text) → is_closer c ≡ true → verdict (characters_at (c ∷ rest)) ≡ missing
 unfolding quoted_at
 quoted_missed c rest e = mapped_missing scalar_text _ (then_missing (text_at (codes "\"") (c ∷ rest)) (λ _ t. units_at [] t) (word_misses (codes "\"") refl c rest e))
 

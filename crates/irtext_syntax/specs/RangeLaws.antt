@@ -13,7 +13,7 @@ use Rattle.irtext_base.specs.Text.{Text, begins, front, after}
 use Rattle.irtext_base.specs.Stream.{first_of}
 use Rattle.irtext_base.specs.Faults.{ADigit, Unexpected}
 use Rattle.irtext_base.specs.Answers.{Read, Missing}
-use Rattle.irtext_base.specs.Own.{standing, can_follow}
+use Rattle.irtext_base.specs.Own.{verdict, can_follow}
 use Rattle.irtext_base.proofs.Along.{front_after}
 use Rattle.irtext_base.proofs.Characters.{and_left, front_all, after_all}
 use Rattle.irtext_base.proofs.Numbers.{digits_every}
@@ -72,7 +72,7 @@ module _ {R : Type 0} (g : range.Ghosts R) where
 
   pub ranged_misses : MissesClosers (ranged_at g)
   ranged_misses = record {
-    misses = λ c rest e. ap (λ b. standing (cond b (ranged (front is_ascii_digit (c ∷ rest)) (after is_ascii_digit (c ∷ rest)) (ranged_if g (value_of (front is_ascii_digit (c ∷ rest))))) (Missing (Unexpected (Some c) ADigit)))) (closer_no_digit c e);
+    misses = λ c rest e. ap (λ b. verdict (cond b (ranged (front is_ascii_digit (c ∷ rest)) (after is_ascii_digit (c ∷ rest)) (ranged_if g (value_of (front is_ascii_digit (c ∷ rest))))) (Missing (Unexpected (Some c) ADigit)))) (closer_no_digit c e);
   }
 
   pub ranged_decides : (x y : Ranged R g) → IsTrue (nat_eq x.value y.value) ↔ (x ≡ y)

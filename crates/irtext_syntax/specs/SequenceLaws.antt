@@ -3,7 +3,7 @@ use Rattle.std.proofs.Common.{◌≡◌, Bool, true, ◌++◌, refl, sym, ◌∙
 use Rattle.std.specs.Prelude.{◌↔◌, IsTrue, ◌&&◌}
 use Rattle.irtext_base.specs.Text.{Text, after_space}
 use Rattle.irtext_base.specs.Answers.{mapped}
-use Rattle.irtext_base.specs.Own.{found, standing}
+use Rattle.irtext_base.specs.Own.{found, verdict}
 use Rattle.irtext_base.proofs.Characters.{and_left, and_right}
 use Rattle.irtext_base.proofs.Scalars.{scalars_more}
 use Rattle.irtext_base.proofs.Sincere.{of_followed, of_mapped, of_sincere, sincere_of}
@@ -19,7 +19,7 @@ use Rattle.irtext_syntax.specs.declared.sequence.Then.{Then}
 use Rattle.irtext_syntax.specs.declared.sequence.Within.{Within}
 
 -- a fixed text that comes after white space is parsed, whatever white space it is
-between_found : (text printed left rest : Text) → BetweenLaw text printed → after_space left ≡ after_space (printed ++ rest) → standing (spaced_at text left) ≡ found tt (after_space rest)
+between_found : (text printed left rest : Text) → BetweenLaw text printed → after_space left ≡ after_space (printed ++ rest) → verdict (spaced_at text left) ≡ found tt (after_space rest)
 between_found text printed left rest w e = spaced_same (word text ▷ space_at) left (printed ++ rest) e ∙ w.back rest
 
 module _ {P W Q : Type 0} (first : Reader P) (first_text : P → Text) (first_ends : Text → Bool) (text printed : Text) (second : Reader Q) (second_text : Q → Text) (second_ends : Text → Bool) where
@@ -38,7 +38,7 @@ module _ {P W Q : Type 0} (first : Reader P) (first_text : P → Text) (first_en
       let last = then_found (spaced_at text one.0) (λ _ t. mapped (then_with x.first) (second t)) tt x (after_space tail) two.0 (between_found text printed one.0 tail w one.2) (mapped_found (then_with x.first) (second (after_space tail)) x.second two.0 two.1) in
       let flat = append_assoc (first_text x.first) (printed ++ second_text x.second) rest ∙ ap (λ z. first_text x.first ++ z) (append_assoc printed (second_text x.second) rest) in (
         two.0,
-        ap (λ z. standing (at (after_space z))) flat ∙ then_found (first (after_space (first_text x.first ++ (printed ++ tail)))) (λ y t. second_at text second y t) x.first x one.0 two.0 one.1 last,
+        ap (λ z. verdict (at (after_space z))) flat ∙ then_found (first (after_space (first_text x.first ++ (printed ++ tail)))) (λ y t. second_at text second y t) x.first x one.0 two.0 one.1 last,
         two.2,
       )
 
@@ -70,14 +70,14 @@ module _ {B P : Type 0} (opener closer opener_printed closer_printed : Text) (in
 
   within_back : BracketsLaw opener closer opener_printed closer_printed → PartLaw inside inside_text inside_ends → (x : Within B P) (rest : Text) → anything rest ≡ true → IsRead within x (within_of x ++ rest) rest
   within_back b p x rest e =
-      let behind = closer_printed ++ rest in
-      let tail = inside_text x.inside ++ behind in
-      let one = p.back x.inside behind (p.closed behind (b.closing rest)) in
-      let shut = mapped_found (λ _. within_with x.inside) (close_at closer one.0) tt rest (spaced_same (word closer) one.0 behind one.2 ∙ b.shuts rest) in
+      let following = closer_printed ++ rest in
+      let tail = inside_text x.inside ++ following in
+      let one = p.back x.inside following (p.closed following (b.closing rest)) in
+      let shut = mapped_found (λ _. within_with x.inside) (close_at closer one.0) tt rest (spaced_same (word closer) one.0 following one.2 ∙ b.shuts rest) in
       let last = then_found (inside (after_space tail)) (λ y t. shut_at closer y t) x.inside x one.0 rest one.1 shut in
       let flat = append_assoc opener_printed (inside_text x.inside ++ closer_printed) rest ∙ ap (λ z. opener_printed ++ z) (append_assoc (inside_text x.inside) closer_printed rest) in (
         rest,
-        ap (λ z. standing (within (after_space z))) flat ∙ then_found (open_at opener (after_space (opener_printed ++ tail))) (λ _ t. inside_at closer inside t) tt x (after_space tail) rest (b.opens tail) last,
+        ap (λ z. verdict (within (after_space z))) flat ∙ then_found (open_at opener (after_space (opener_printed ++ tail))) (λ _ t. inside_at closer inside t) tt x (after_space tail) rest (b.opens tail) last,
         refl,
       )
 

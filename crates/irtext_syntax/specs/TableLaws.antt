@@ -10,7 +10,7 @@ use Rattle.irtext_base.specs.Text.{Text, begins, front, after, begins_word, in_d
 use Rattle.irtext_base.specs.Answers.{Outcome, Read, Missing, mapped}
 use Rattle.irtext_base.specs.Faults.{Demand, Unexpected}
 use Rattle.irtext_base.specs.Families.{is_one_of, BeginsWithWord}
-use Rattle.irtext_base.specs.Own.{missing, standing, texts_of, Ends, Lawful, Sincere, Unreserved}
+use Rattle.irtext_base.specs.Own.{missing, verdict, texts_of, Ends, Lawful, Sincere, Unreserved}
 use Rattle.irtext_base.specs.Stream.{first_of}
 use Rattle.irtext_base.proofs.Along.{front_after}
 use Rattle.irtext_base.proofs.Characters.{and_left, and_right, front_all, after_all}
@@ -27,10 +27,10 @@ use Rattle.irtext_syntax.specs.Words.{chosen, dotted_at}
 
 -- ---- rows
 -- a word and a part after a space
-pub part_row : {W E P : Type 0} {choose : Text → Option W} {behind : W → Reader E} {words : List Text} {written : E → Text} {reading : Reader P} {text_of : P → Text} {ends : Text → Bool} (word : Text) (kind : W) (make : P → E) (x : P)
-    → PartLaw reading text_of ends → EndsAnywhere ends → written (make x) ≡ word ++ (32 ∷ text_of x) → is_word_of words word ≡ true → choose word ≡ Some kind → ((text : Text) → standing (behind kind text) ≡ standing (mapped make ((space_at ▷ reading) text)))
-    → Row choose behind words written (make x)
-part_row {behind = behind} {reading = reading} {text_of = text_of} word kind make x law last is listed picks reads = record {
+pub part_row : {W E P : Type 0} {choose : Text → Option W} {following : W → Reader E} {words : List Text} {written : E → Text} {reading : Reader P} {text_of : P → Text} {ends : Text → Bool} (word : Text) (kind : W) (make : P → E) (x : P)
+    → PartLaw reading text_of ends → EndsAnywhere ends → written (make x) ≡ word ++ (32 ∷ text_of x) → is_word_of words word ≡ true → choose word ≡ Some kind → ((text : Text) → verdict (following kind text) ≡ verdict (mapped make ((space_at ▷ reading) text)))
+    → Row choose following words written (make x)
+part_row {following = following} {reading = reading} {text_of = text_of} word kind make x law last is listed picks reads = record {
   word = word;
   tail = 32 ∷ text_of x;
   kind = kind;
@@ -45,8 +45,8 @@ part_row {behind = behind} {reading = reading} {text_of = text_of} word kind mak
 }
 
 -- a word alone
-pub word_row : {W E : Type 0} {choose : Text → Option W} {behind : W → Reader E} {words : List Text} {written : E → Text} (word : Text) (kind : W) (x : E)
-    → written x ≡ word → is_word_of words word ≡ true → choose word ≡ Some kind → ((text : Text) → behind kind text ≡ Read x [] text) → Row choose behind words written x
+pub word_row : {W E : Type 0} {choose : Text → Option W} {following : W → Reader E} {words : List Text} {written : E → Text} (word : Text) (kind : W) (x : E)
+    → written x ≡ word → is_word_of words word ≡ true → choose word ≡ Some kind → ((text : Text) → following kind text ≡ Read x [] text) → Row choose following words written x
 word_row word kind x is listed picks reads = record {
   word = word;
   tail = [];
@@ -55,13 +55,13 @@ word_row word kind x is listed picks reads = record {
   listed = listed;
   chosen = picks;
   stops = no_dotted;
-  back = λ rest e. (rest, ap standing (reads rest), refl);
+  back = λ rest e. (rest, ap verdict (reads rest), refl);
   scalars = refl;
 }
 
 -- a word alone that is printed with a space after it
-pub spaced_word_row : {W E : Type 0} {choose : Text → Option W} {behind : W → Reader E} {words : List Text} {written : E → Text} (word : Text) (kind : W) (x : E)
-    → written x ≡ word ++ (32 ∷ []) → is_word_of words word ≡ true → choose word ≡ Some kind → ((text : Text) → behind kind text ≡ Read x [] text) → Row choose behind words written x
+pub spaced_word_row : {W E : Type 0} {choose : Text → Option W} {following : W → Reader E} {words : List Text} {written : E → Text} (word : Text) (kind : W) (x : E)
+    → written x ≡ word ++ (32 ∷ []) → is_word_of words word ≡ true → choose word ≡ Some kind → ((text : Text) → following kind text ≡ Read x [] text) → Row choose following words written x
 spaced_word_row word kind x is listed picks reads = record {
   word = word;
   tail = 32 ∷ [];
@@ -70,7 +70,7 @@ spaced_word_row word kind x is listed picks reads = record {
   listed = listed;
   chosen = picks;
   stops = λ rest e. refl;
-  back = λ rest e. (32 ∷ rest, ap standing (reads (32 ∷ rest)), refl);
+  back = λ rest e. (32 ∷ rest, ap verdict (reads (32 ∷ rest)), refl);
   scalars = refl;
 }
 
@@ -91,7 +91,7 @@ all_ascii [] e = refl
 all_ascii (c ∷ s) e = both (is_ascii c) (list_all is_ascii s) (dotted_ascii c (and_left (in_dotted c) (list_all in_dotted s) e)) (all_ascii s (and_right (in_dotted c) (list_all in_dotted s) e))
 
 -- if no word begins the text, a dotted word is missing
-missed : {X : Type 0} (b : Bool) (o : Outcome X) (cause : _) → b ≡ false → standing (cond b o (Missing cause)) ≡ missing
+missed : {X : Type 0} (b : Bool) (o : Outcome X) (cause : _) → b ≡ false → verdict (cond b o (Missing cause)) ≡ missing
 missed b o cause e = rw e refl
 
 of_chosen : {X : Type 0} (refusal taken rest text : Text) (o : Option X) → taken ++ rest ≡ text → Of text (chosen refusal taken rest o)
@@ -101,49 +101,49 @@ of_chosen refusal taken rest text None e = of_here text _ refl
 pub of_dotted : {X : Type 0} (w : Text → Option X) (refusal : Text) (demand : Demand) (text : Text) → Of text (dotted_at w refusal demand text)
 of_dotted w refusal demand text = of_either text (begins begins_word text) _ _ (of_chosen refusal (front in_dotted text) (after in_dotted text) text (w (front in_dotted text)) (front_after in_dotted text)) (of_missing text _ refl)
 
-module _ {W E : Type 0} {choose : Text → Option W} {behind : W → Reader E} {words : List Text} {written : E → Text} where
+module _ {W E : Type 0} {choose : Text → Option W} {following : W → Reader E} {words : List Text} {written : E → Text} where
   -- the word of a value is the longest dotted front of its text
-  leads : (x : E) → (r : Row choose behind words written x) → (rest : Text) → Ends rest → front in_dotted (written x ++ rest) ≡ r.word
+  leads : (x : E) → (r : Row choose following words written x) → (rest : Text) → Ends rest → front in_dotted (written x ++ rest) ≡ r.word
   leads x r rest e =
       ap (λ z. front in_dotted (z ++ rest)) r.is ∙ (ap (front in_dotted) (append_assoc r.word r.tail rest)
       ∙ front_all in_dotted r.word (r.tail ++ rest) (and_left (list_all in_dotted r.word) _ (and_right (begins begins_word r.word) _ r.listed)) (r.stops rest e))
 
-  pub table_led : ((x : E) → Row choose behind words written x) → BeginsWithWord words written
+  pub table_led : ((x : E) → Row choose following words written x) → BeginsWithWord words written
   table_led rows = record { leads = λ x rest e. ap (is_one_of words) (leads x (rows x) rest e) ∙ and_right (list_all in_dotted (rows x).word) _ (and_right (begins begins_word (rows x).word) _ (rows x).listed) }
 
-module _ {W E : Type 0} (choose : Text → Option W) (behind : W → Reader E) (words : List Text) (written : E → Text) (refusal : Text) (demand : Demand) where
+module _ {W E : Type 0} (choose : Text → Option W) (following : W → Reader E) (words : List Text) (written : E → Text) (refusal : Text) (demand : Demand) where
   abbrev at : Reader E
-  at = table_at choose behind refusal demand
+  at = table_at choose following refusal demand
 
   dotted_read : (word rest : Text) (kind : W) → begins begins_word word ≡ true → list_all in_dotted word ≡ true → choose word ≡ Some kind → begins in_dotted rest ≡ false → dotted_at choose refusal demand (word ++ rest) ≡ Read kind word rest
   dotted_read word rest kind b d c s =
       ap (λ q. cond q (chosen refusal (front in_dotted (word ++ rest)) (after in_dotted (word ++ rest)) (choose (front in_dotted (word ++ rest)))) (Missing (Unexpected (first_of (word ++ rest)) demand))) (begins_more begins_word word rest b)
       ∙ (ap₂ (λ f a. chosen refusal f a (choose f)) (front_all in_dotted word rest d s) (after_all in_dotted word rest d s) ∙ ap (chosen refusal word rest) c)
 
-  back : (x : E) (r : Row choose behind words written x) (rest : Text) → Ends rest → IsRest at x (written x ++ rest) rest
+  back : (x : E) (r : Row choose following words written x) (rest : Text) → Ends rest → IsRest at x (written x ++ rest) rest
   back x r rest e =
       let b = and_left (begins begins_word r.word) _ r.listed in
       let d = and_left (list_all in_dotted r.word) _ (and_right (begins begins_word r.word) _ r.listed) in
       let k = r.back rest e in
       let flat = ap (λ z. z ++ rest) r.is ∙ append_assoc r.word r.tail rest in
       let lead = dotted_read r.word (r.tail ++ rest) r.kind b d r.chosen (r.stops rest e) in
-      (k.0, ap (λ z. standing (at z)) flat ∙ then_found (dotted_at choose refusal demand (r.word ++ (r.tail ++ rest))) behind r.kind x (r.tail ++ rest) k.0 (ap standing lead) k.1, k.2)
+      (k.0, ap (λ z. verdict (at z)) flat ∙ then_found (dotted_at choose refusal demand (r.word ++ (r.tail ++ rest))) following r.kind x (r.tail ++ rest) k.0 (ap verdict lead) k.1, k.2)
 
-  lawful : ((x : E) → Row choose behind words written x) → Lawful E (texts_of at written)
+  lawful : ((x : E) → Row choose following words written x) → Lawful E (texts_of at written)
   lawful rows = record {
     starts = λ x rest. let r = rows x in ap (λ z. begins begins_word (z ++ rest)) r.is ∙ (ap (begins begins_word) (append_assoc r.word r.tail rest) ∙ begins_more begins_word r.word (r.tail ++ rest) (and_left (begins begins_word r.word) _ r.listed));
-    misses = λ text e. then_missing (dotted_at choose refusal demand text) behind (missed (begins begins_word text) _ _ e);
+    misses = λ text e. then_missing (dotted_at choose refusal demand text) following (missed (begins begins_word text) _ _ e);
     again = λ x rest e. back x (rows x) rest e;
     scalars = λ x. let r = rows x in
         ap all_scalars r.is ∙ scalars_more r.word r.tail (ascii_scalars r.word (all_ascii r.word (and_left (list_all in_dotted r.word) _ (and_right (begins begins_word r.word) _ r.listed)))) r.scalars;
   }
 
 -- the whole family obeys the law, by one row for each variant
-pub table_lawful : {W E : Type 0} {choose : Text → Option W} {behind : W → Reader E} {words : List Text} {written : E → Text} (refusal : Text) (demand : Demand) → ((x : E) → Row choose behind words written x) → Lawful E (texts_of (table_at choose behind refusal demand) written)
-table_lawful {choose = choose} {behind = behind} {words = words} {written = written} refusal demand rows = lawful choose behind words written refusal demand rows
+pub table_lawful : {W E : Type 0} {choose : Text → Option W} {following : W → Reader E} {words : List Text} {written : E → Text} (refusal : Text) (demand : Demand) → ((x : E) → Row choose following words written x) → Lawful E (texts_of (table_at choose following refusal demand) written)
+table_lawful {choose = choose} {following = following} {words = words} {written = written} refusal demand rows = lawful choose following words written refusal demand rows
 
-pub table_sincere : {W E : Type 0} {behind : W → Reader E} (choose : Text → Option W) (refusal : Text) (demand : Demand) → ((w : W) → Sincere (behind w)) → Sincere (table_at choose behind refusal demand)
-table_sincere {behind = behind} choose refusal demand s = sincere_of (table_at choose behind refusal demand) (λ text. of_followed text _ _ (of_dotted choose refusal demand text) (λ w t. of_sincere (behind w) (s w) t))
+pub table_sincere : {W E : Type 0} {following : W → Reader E} (choose : Text → Option W) (refusal : Text) (demand : Demand) → ((w : W) → Sincere (following w)) → Sincere (table_at choose following refusal demand)
+table_sincere {following = following} choose refusal demand s = sincere_of (table_at choose following refusal demand) (λ text. of_followed text _ _ (of_dotted choose refusal demand text) (λ w t. of_sincere (following w) (s w) t))
 
 -- what comes after a word is about the text
 pub part_sincere : {E P : Type 0} {reading : Reader P} {text_of : P → Text} {ends : Text → Bool} (make : P → E) → PartLaw reading text_of ends → Sincere (λ text. mapped make ((space_at ▷ reading) text))
@@ -192,14 +192,14 @@ free_one [] word f e = absurd (true≢false (sym e))
 free_one (w ∷ words) word f e =
     free_by (bytes_eq word w) w word (is_one_of words word) refl e (and_left (is_free w) (list_all is_free words) f) (λ g. free_one words word (and_right (is_free w) (list_all is_free words) f) g)
 
-module _ {W E : Type 0} {choose : Text → Option W} {behind : W → Reader E} {words : List Text} {written : E → Text} where
-  free_row : (x : E) (r : Row choose behind words written x) → list_all is_free words ≡ true → is_free r.word ≡ true
+module _ {W E : Type 0} {choose : Text → Option W} {following : W → Reader E} {words : List Text} {written : E → Text} where
+  free_row : (x : E) (r : Row choose following words written x) → list_all is_free words ≡ true → is_free r.word ≡ true
   free_row x r f = free_one words r.word f (and_right (list_all in_dotted r.word) _ (and_right (begins begins_word r.word) _ r.listed))
 
-  whole_row : (x : E) (r : Row choose behind words written x) (rest : Text) → r.word ++ (r.tail ++ rest) ≡ written x ++ rest
+  whole_row : (x : E) (r : Row choose following words written x) (rest : Text) → r.word ++ (r.tail ++ rest) ≡ written x ++ rest
   whole_row x r rest = sym (ap (λ z. z ++ rest) r.is ∙ append_assoc r.word r.tail rest)
 
-  pub table_unreserved : (reading : Reader E) → ((x : E) → Row choose behind words written x) → list_all is_free words ≡ true → Unreserved E (texts_of reading written)
+  pub table_unreserved : (reading : Reader E) → ((x : E) → Row choose following words written x) → list_all is_free words ≡ true → Unreserved E (texts_of reading written)
   table_unreserved reading rows f = record {
     given_names = λ x rest left k. let r = rows x in differ_apart r.word (codes "builtin.given_names") (r.tail ++ rest) left (and_left _ _ (free_row x r f)) (whole_row x r rest ∙ k.0);
     identifier = λ x rest left k. let r = rows x in differ_apart r.word (codes "builtin.identifier") (r.tail ++ rest) left (and_right _ _ (free_row x r f)) (whole_row x r rest ∙ k.0);

@@ -22,7 +22,7 @@ pub trait Table<E, A>: Copy {
     // the word that a text is, if it is one
     ghost word: { List ℕ → Option Self };
     // what is parsed after a word
-    ghost behind: { Self → List ℕ → Outcome E };
+    ghost following: { Self → List ℕ → Outcome E };
 
     /// Returns the word that the text is, or `None` if it is not one. `match_text!` says it in a row for each word.
     fn of(text: &str) -> Option<Self>
@@ -30,14 +30,14 @@ pub trait Table<E, A>: Copy {
 
     /// Parses the rest of a value, after its word. Every error is committed.
     fn parse(self, stream: &mut TextStream) -> ParseResult<E, A>
-        ensures { MustRead (λ s. s) (λ s v. v) (λ x. x) (behind self) stream.old result stream.new };
+        ensures { MustRead (λ s. s) (λ s v. v) (λ x. x) (following self) stream.old result stream.new };
 
     /// Parses the rest of a value as `parse` does, but returns `None` in place of any error, and the stream is unchanged then. It may also
     /// return `None` where `parse` finds a value, as this default does. Words that come often should have it: no error is made where it
     /// succeeds.
     fn parse_known(self, stream: &mut TextStream) -> Option<E>
         ensures { MatchOption result (stream.new ≡ stream.old)
-            (λ x. MustRead {A = A} (λ s. s) (λ s v. v) (λ x. x) (behind self) stream.old (Ok x) stream.new) }
+            (λ x. MustRead {A = A} (λ s. s) (λ s v. v) (λ x. x) (following self) stream.old (Ok x) stream.new) }
     {
         None
     }
@@ -56,7 +56,7 @@ pub trait Choice: Copy + Drop {
 impl<A, W: Choice> Table<W, A> for W {
     ghost word = { W.chosen };
 
-    ghost behind = { nothing };
+    ghost following = { nothing };
 
     fn of(text: &str) -> Option<W> {
         W::choice(text)
@@ -94,7 +94,7 @@ fn table_slowly<W: Table<E, A>, E: Drop, A>(
     refusal: &str,
     expected: Expected,
 ) -> ParseResult<E, A>
-    ensures { ReadsTable W.word W.behind refusal.now (demand_of expected) stream.old result stream.new }
+    ensures { ReadsTable W.word W.following refusal.now (demand_of expected) stream.old result stream.new }
 {
     match dotted_parse::<W, E, A>(stream, refusal, expected) {
         Ok(word) => word.parse(stream),
@@ -109,7 +109,7 @@ pub fn table_parse<W: Table<E, A>, E: Drop, A>(
     refusal: &str,
     expected: Expected,
 ) -> ParseResult<E, A>
-    ensures { ReadsTable W.word W.behind refusal.now (demand_of expected) stream.old result stream.new }
+    ensures { ReadsTable W.word W.following refusal.now (demand_of expected) stream.old result stream.new }
 {
     let Some(word) = dotted_there::<W, E, A>(stream) else {
         return table_slowly::<W, E, A>(stream, refusal, expected);
@@ -121,7 +121,7 @@ pub fn table_parse<W: Table<E, A>, E: Drop, A>(
 }
 
 /// Parses a required part after a word, with optional white space between. Every error is committed.
-pub fn behind_word<P: Part<A>, A>(stream: &mut TextStream) -> ParseResult<P, A>
+pub fn after_word<P: Part<A>, A>(stream: &mut TextStream) -> ParseResult<P, A>
     ensures { MustRead (λ s. s) (λ s v. v) (λ x. x) (space_at ▷ P.text.reading) stream.old result stream.new }
 {
     if stream.has_failed() {
@@ -133,7 +133,7 @@ pub fn behind_word<P: Part<A>, A>(stream: &mut TextStream) -> ParseResult<P, A>
 
 /// Parses a part after a word, with optional white space between, if the part's `read_known` finds it. Otherwise the stream is unchanged.
 #[inline(always)]
-pub fn behind_known<P: Part<A>, A>(stream: &mut TextStream) -> Option<P>
+pub fn after_known<P: Part<A>, A>(stream: &mut TextStream) -> Option<P>
     ensures { MatchOption result (stream.new ≡ stream.old)
         (λ x. MustRead {A = A} (λ s. s) (λ s v. v) (λ x. x) (space_at ▷ P.text.reading) stream.old (Ok x)
         stream.new) }

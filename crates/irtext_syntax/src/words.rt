@@ -1,9 +1,9 @@
 //! The dotted words that types and attributes begin with, such as `builtin.integer`.
 ghost use Rattle.std.specs.Prelude.{◌≡◌, ◌⊎◌, ◌++◌, ℕ, List, MatchOption};
 ghost use Rattle.std.specs.Str.{encode_utf8_all};
-ghost use Rattle.irtext_base.specs.Answers.{Answers, Gives, StarvesHere, FailsBehind, unless_failed};
+ghost use Rattle.irtext_base.specs.Answers.{Answers, Gives, RunsOutHere, FailsAfter, unless_failed};
 ghost use Rattle.irtext_base.specs.Faults.{Demand, demand_of, OwnText};
-ghost use Rattle.irtext_base.specs.Places.{StandsBehind};
+ghost use Rattle.irtext_base.specs.Places.{IsPlaceAfter};
 ghost use Rattle.irtext_base.specs.Text.{front, in_dotted};
 ghost use Rattle.irtext_tokens.specs.Reads.{TakesFront};
 ghost use Rattle.irtext_syntax.specs.Words.{dotted_at};
@@ -20,10 +20,10 @@ use irtext_tokens::irfmt::parsers::{Class, skip_class};
 #[cold]
 #[inline(never)]
 fn unregistered<A>(stream: &mut TextStream, place: Place, refusal: &str) -> ParseFault<A>
-    requires { (passed taken : List ℕ) × (passed ++ taken ≡ stream.old.passed) × StandsBehind place passed }
-    ensures { (passed taken : List ℕ) → passed ++ taken ≡ stream.old.passed → StandsBehind place passed →
-        StarvesHere (λ s. s) (λ s v. v) stream.old result stream.new ⊎
-        FailsBehind (λ s. s) (λ s v. v)
+    requires { (passed taken : List ℕ) × (passed ++ taken ≡ stream.old.passed) × IsPlaceAfter place passed }
+    ensures { (passed taken : List ℕ) → passed ++ taken ≡ stream.old.passed → IsPlaceAfter place passed →
+        RunsOutHere (λ s. s) (λ s v. v) stream.old result stream.new ⊎
+        FailsAfter (λ s. s) (λ s v. v)
         (OwnText (refusal.now ++ encode_utf8_all taken)) passed stream.old result stream.new }
 {
     let word = stream.text_since(place);

@@ -40,7 +40,7 @@ pub fn done_or_cause<X, A>(
 }
 
 /// The text of a fault: its place and its cause, and `!` if it is committed.
-pub fn told<A>(alloc: Global, fault: &ParseFault<A>) -> Result<String, Fail> {
+pub fn result_text<A>(alloc: Global, fault: &ParseFault<A>) -> Result<String, Fail> {
     let mark = if fault.committed { "!" } else { "" };
     Ok(format!(in alloc; "{}: {}{mark}", fault.pos, fault.cause)?)
 }
@@ -49,20 +49,20 @@ pub fn told<A>(alloc: Global, fault: &ParseFault<A>) -> Result<String, Fail> {
 pub fn line<X: fmt::Display, A>(alloc: Global, answer: &ParseResult<X, A>) -> Result<String, Fail> {
     match answer {
         Ok(value) => Ok(format!(in alloc; "{value}")?),
-        Err(fault) => told(alloc, fault),
+        Err(fault) => result_text(alloc, fault),
     }
 }
 
 /// The text of a fault, and the next character of the stream if the fault is uncommitted.
 pub fn left<A>(alloc: Global, fault: &ParseFault<A>, next: Option<char>) -> Result<String, Fail> {
     if fault.committed {
-        return told(alloc, fault);
+        return result_text(alloc, fault);
     }
     Ok(format!(in alloc; "{}: {}|{next:?}", fault.pos, fault.cause)?)
 }
 
 /// The text of the result of a parser: the value with the next character of the stream, or the fault.
-pub fn behind<X: fmt::Display, A>(
+pub fn with_next<X: fmt::Display, A>(
     alloc: Global,
     answer: &ParseResult<X, A>,
     next: Option<char>,

@@ -144,8 +144,8 @@ pub fn block_inside(
 
 /// Puts an operation, or a placeholder, last into a block.
 pub fn into_block(ctx: &mut Ctx, op: Ptr<Operation>, block: Ptr<BasicBlock>) -> Result<(), Fail> {
-    let stands = ctx.graph().contains(Object::TheOperation(op));
-    if !stands || !ctx.contains_block(block) || !op.can_insert_at_back(block, ctx) {
+    let alive = ctx.graph().contains(Object::TheOperation(op));
+    if !alive || !ctx.contains_block(block) || !op.can_insert_at_back(block, ctx) {
         return Err(Fail::from("not to be inserted"));
     }
     Ok(op.insert_at_back(block, ctx)?)

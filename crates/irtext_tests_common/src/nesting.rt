@@ -8,7 +8,7 @@ pub fn between(
     depth: usize,
     before: &str,
     inside: &str,
-    behind: &str,
+    following: &str,
 ) -> Result<String, AllocError> {
     let mut text = String::new(alloc);
     for _ in 0..depth {
@@ -16,7 +16,7 @@ pub fn between(
     }
     text.push_str(inside)?;
     for _ in 0..depth {
-        text.push_str(behind)?;
+        text.push_str(following)?;
     }
     Ok(text)
 }

@@ -3,7 +3,7 @@ ghost use Rattle.irtext_names.specs.Tied.{MatchesGraph};
 
 use crate::held::Held::{Definition, Waits};
 use crate::held::{Held, holds_all};
-use crate::steps::Answer::{Done, Lacks, NoScope, NotIsolated, Twice};
+use crate::steps::Answer::{Done, NoScope, NotIsolated, Twice, Undefined};
 use crate::steps::{Answer, Made, Names, Tested, step};
 use irtext_graph::graph::Graph;
 use irtext_graph::object::Defined;
@@ -94,7 +94,7 @@ fn row_of(word: &str) -> (Call, &str, Answer) {
     let (call, name) = call_of(called);
     match refusal(answer) {
         Some(refusal) => (call, name, refusal),
-        None => (call, answer, Lacks),
+        None => (call, answer, Undefined),
     }
 }
 

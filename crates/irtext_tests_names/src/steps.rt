@@ -30,8 +30,8 @@ pub(crate) enum Answer {
     NoScope,
     NotIsolated,
     Twice,
-    Lacks,
-    LacksAnother,
+    Undefined,
+    UndefinedOther,
     NoMemory,
 }
 
@@ -175,9 +175,9 @@ fn left(names: &mut Names, graph: &Tested, isolated: bool, name: usize) -> Answe
         None => Answer::Done,
         Some(lacking) => {
             if lacking == name {
-                Answer::Lacks
+                Answer::Undefined
             } else {
-                Answer::LacksAnother
+                Answer::UndefinedOther
             }
         }
     }

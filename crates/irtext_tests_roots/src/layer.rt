@@ -3,5 +3,5 @@ mod apart;
 mod checked;
 mod dialects;
 mod graphs;
-mod handed_on;
 mod macros;
+mod reexports;

@@ -1,6 +1,6 @@
 -- Worked locations, which are their texts, and a root with one of them.
 use Rattle.std.specs.Prelude.{true, not, ◌==◌, codes, None}
-use Rattle.irtext_base.specs.Own.{found, Standing}
+use Rattle.irtext_base.specs.Own.{found, Verdict}
 use Rattle.irtext_base.specs.Text.{after, front, Text}
 use Rattle.irtext_grammar.specs.Grammar.Forest.{no_regions, region, no_blocks, block, no_operations, operation}
 use Rattle.irtext_grammar.specs.Graphs.Graph.{Graph}
@@ -8,7 +8,7 @@ use Rattle.irtext_grammar.specs.Graphs.Same.{Locations}
 use Rattle.irtext_tests_rows.specs.Graphs.{first_block, module_m, noted, on_line_one}
 
 -- a location is parsed up to `]`
-abbrev pub up_to_bracket : Text → Standing Text
+abbrev pub up_to_bracket : Text → Verdict Text
 up_to_bracket text = found (front (λ c. not (c == 93)) text) (after (λ c. not (c == 93)) text)
 
 -- a location is its text, and each is a position

@@ -35,12 +35,12 @@ module_three = record {
 }
 
 -- the errors in entries after builtin.module @m {} !3
-abbrev pub wrong_behind : List TextEntry → List (Failure Text ℕ)
-wrong_behind entries = failures_of isolated module_three entries
+abbrev pub wrong_after : List TextEntry → List (Failure Text ℕ)
+wrong_after entries = failures_of isolated module_three entries
 
 -- a module with a dictionary after its region: { ^a(x: t, x: t): } [builtin_given_names: test.dbg "s"]
-abbrev pub dictionary_behind : TextTree
-dictionary_behind = record module_three {
+abbrev pub dictionary_after : TextTree
+dictionary_after = record module_three {
   own = record { place = 90; names = []; id = builtin (codes "module"); body = tree.custom (tree.region 0 ∷ tree.piece (tree.dictionary ((at 60 (codes "builtin_given_names"), own (codes "s")) ∷ [])) ∷ []); mark = None };
   regions = region (shown 75) (block (record { label = at 74 (codes "a"); arguments = (at 73 (codes "x"), codes "t") ∷ (at 72 (codes "x"), codes "t") ∷ []; attributes = None; mark = None }) no_operations no_blocks) no_regions;
 }

@@ -3,14 +3,14 @@
 ghost use Rattle.std.specs.Prelude.{◌≡◌, ℕ, List, [], ◌∷◌, ◌++◌, codes, length, pos, Some, None, true};
 ghost use Rattle.irtext_base.specs.Format as format;
 ghost use Rattle.irtext_base.specs.Locations.{location, src_pos};
-ghost use Rattle.irtext_base.specs.Text.{after_space, column_behind, line_behind};
+ghost use Rattle.irtext_base.specs.Text.{after_space, column_after, line_after};
 ghost use Rattle.irtext_base.specs.declared.location.Source.TheVariants.{InMemory};
 ghost use Rattle.irtext_tests_rows.specs.Demo.{counted_demo, demo, inline_printing, isolated, labelled_printing, plain_printing};
 ghost use Rattle.irtext_tests_rows.specs.Formats.{Breaks, Kept};
 ghost use Rattle.irtext_tests_rows.specs.Graphs.{global_pointer, one_note_twice, two_branches, use_before_definition};
 ghost use Rattle.irtext_tests_rows.specs.Located.{note_on_line_one, text_locations, up_to_bracket};
 ghost use Rattle.irtext_tests_rows.specs.LocationRows.{place};
-ghost use Rattle.irtext_tests_rows.specs.Sections.{dictionary_behind, early_and_marked, early_built, for_item, note_and_location, note_nine, wrong_behind, wrong_names};
+ghost use Rattle.irtext_tests_rows.specs.Sections.{dictionary_after, early_and_marked, early_built, for_item, note_and_location, note_nine, wrong_after, wrong_names};
 ghost use Rattle.irtext_tests_rows.specs.Trees as trees;
 ghost use Rattle.irtext_tests_rows.specs.Trees.{empty_block, failure, marked, only_modules, wrong};
 ghost use Rattle.irtext_grammar.specs.Grammar.Reads.{reads};
@@ -81,10 +81,10 @@ pub fn refused_formats()
         × Breaks 6 (format.attribute (codes "builtin_given_names") ∷ [])
         × Breaks 6 (format.dictionary ∷ format.dictionary ∷ [])
         × Breaks 6 (format.header ∷ format.attribute (codes "builtin_sym_name") ∷ []) }
-    ensures behind_regions { Breaks 7 (format.region 0 ∷ format.operand 0 ∷ [])
+    ensures after_regions { Breaks 7 (format.region 0 ∷ format.operand 0 ∷ [])
         × Breaks 7 (format.region 0 ∷ format.operands ∷ [])
         × Breaks 7 (format.region 0 ∷ format.result_type 0 ∷ []) }
-    ensures behind_lists { Breaks 8 (format.successors ∷ [])
+    ensures after_lists { Breaks 8 (format.successors ∷ [])
         × Breaks 8 (format.operands ∷ format.word (codes "to") ∷ [])
         × Breaks 8 (format.operands ∷ format.attribute (codes "k") ∷ [])
         × Breaks 8 (format.operands ∷ format.operand 0 ∷ [])
@@ -107,7 +107,7 @@ pub fn accepted_formats()
         × Kept (format.region 0 ∷ format.attribute (codes "k") ∷ []) }
     ensures keys { Kept (format.attribute (codes "builtin_sym_name") ∷ [])
         × Kept (format.header ∷ format.dictionary ∷ []) }
-    ensures behind_lists { Kept (format.operands ∷ format.word (codes "->") ∷ [])
+    ensures after_lists { Kept (format.operands ∷ format.word (codes "->") ∷ [])
         × Kept (format.operands ∷ format.dictionary ∷ []) × Kept (format.operands ∷ format.header ∷ [])
         × Kept (format.successors ∷ format.operand 0 ∷ [])
         × Kept (format.operands ∷ format.successors ∷ format.word (codes ":") ∷ [])
@@ -163,24 +163,24 @@ pub fn marks_of_one_index()
 
 /// Entries after `builtin.module @m {} !3`.
 pub fn entries_of_a_section()
-    ensures accepted { wrong_behind (for_item 60 3 (note_nine ∷ [])
+    ensures accepted { wrong_after (for_item 60 3 (note_nine ∷ [])
         ∷ of_once (marked 40 9) (own (codes "s")) ∷ []) ≡ [] }
-    ensures without_entry { wrong_behind [] ≡ [] }
-    ensures unknown_attribute { wrong_behind (for_item 60 3 (note_nine ∷ []) ∷ [])
+    ensures without_entry { wrong_after [] ≡ [] }
+    ensures unknown_attribute { wrong_after (for_item 60 3 (note_nine ∷ []) ∷ [])
         ≡ failure (UnknownPrintOnce 9) 48 ∷ [] }
-    ensures second_entry { wrong_behind (for_item 60 3 [] ∷ for_item 50 3 [] ∷ [])
+    ensures second_entry { wrong_after (for_item 60 3 [] ∷ for_item 50 3 [] ∷ [])
         ≡ failure (UnknownIndex 3) 50 ∷ [] }
-    ensures no_item { wrong_behind (for_item 60 4 [] ∷ []) ≡ failure (UnknownIndex 4) 60 ∷ [] }
-    ensures reserved_key { wrong_behind (for_item 60 3 (wrong_names 50 ∷ []) ∷ [])
+    ensures no_item { wrong_after (for_item 60 4 [] ∷ []) ≡ failure (UnknownIndex 4) 60 ∷ [] }
+    ensures reserved_key { wrong_after (for_item 60 3 (wrong_names 50 ∷ []) ∷ [])
         ≡ failure (ReservedKey (codes "builtin_given_names")) 50 ∷ [] }
 {}
 
 /// Entries and keys are reported in the order of the text, references after the last entry, and a dictionary after the region before it.
 pub fn order_of_reports()
-    ensures section { wrong_behind (for_item 60 3 (note_nine ∷ []) ∷ for_item 45 7 (wrong_names 44 ∷ []) ∷ [])
+    ensures section { wrong_after (for_item 60 3 (note_nine ∷ []) ∷ for_item 45 7 (wrong_names 44 ∷ []) ∷ [])
         ≡ failure (UnknownIndex 7) 45 ∷ failure (ReservedKey (codes "builtin_given_names")) 44
         ∷ failure (UnknownPrintOnce 9) 48 ∷ [] }
-    ensures dictionary { wrong dictionary_behind ≡ failure (MultipleDefinitions (codes "x")) 72
+    ensures dictionary { wrong dictionary_after ≡ failure (MultipleDefinitions (codes "x")) 72
         ∷ failure (ReservedKey (codes "builtin_given_names")) 60 ∷ [] }
 {}
 
@@ -225,12 +225,12 @@ pub fn premises_of_a_section()
 
 /// The position of a place after a text, in lines and characters.
 pub fn lines_and_columns()
-    ensures beginning { (line_behind [] ≡ 1) × (column_behind [] ≡ 1) }
-    ensures second_line { (line_behind (codes "ab\nc") ≡ 2) × (column_behind (codes "ab\nc") ≡ 2) }
+    ensures beginning { (line_after [] ≡ 1) × (column_after [] ≡ 1) }
+    ensures second_line { (line_after (codes "ab\nc") ≡ 2) × (column_after (codes "ab\nc") ≡ 2) }
 {}
 
 /// The place one character before the end of two lines is in the second.
-pub fn where_a_place_stands()
+pub fn where_a_place_is()
     ensures { location_of {A = ⊥} [] InMemory (codes "ab\ncd") 1
         ≡ src_pos None (record { line = pos 2; column = pos 2 }) }
 {}

@@ -16,8 +16,8 @@ ghost use Rattle.irtext_grammar.specs.Graphs.Identifiers.{HasIdentifiers};
 ghost use Rattle.irtext_grammar.specs.Graphs.Regained.{Named};
 ghost use Rattle.irtext_grammar.specs.Graphs.ReservedKeys.{GraphKeepsKeys};
 ghost use Rattle.irtext_grammar.specs.Graphs.RoundTrip.{GraphHeld};
-ghost use Rattle.irtext_grammar.specs.Graphs.Same.{SmallGraph, stood};
-ghost use Rattle.irtext_grammar.specs.Graphs.StandsFor.{Distinct, StandsFor};
+ghost use Rattle.irtext_grammar.specs.Graphs.Same.{SmallGraph, resolved_root};
+ghost use Rattle.irtext_grammar.specs.Graphs.Represents.{Distinct, Represents};
 ghost use Rattle.irtext_grammar.specs.Names.Acts.{failures_of};
 ghost use Rattle.irtext_grammar.specs.Spelling.Section.{text};
 ghost use Rattle.irtext_grammar.specs.Spelling.SectionEntries.{SmallSection};
@@ -85,8 +85,8 @@ pub fn premises_of_labels()
         × SmallGraph a_and_b isolated two_branches × GraphKeepsKeys two_branches
         × GraphHeld up_to_bracket text_locations two_branches × Closed a_and_b isolated two_branches
         × SmallSection a_and_b two_branches × Named a_and_b two_branches }
-    ensures stands { (failures_of {X = List ℕ} isolated branches_as_read [] ≡ [])
-        × StandsFor (stood a_and_b isolated two_branches)
+    ensures represented { (failures_of {X = List ℕ} isolated branches_as_read [] ≡ [])
+        × Represents (resolved_root a_and_b isolated two_branches)
         (build {X = List ℕ} isolated (λ (place : ℕ). codes "first") [] branches_as_read)
         × Distinct a_and_b isolated two_branches }
 {}

@@ -133,8 +133,8 @@ module _ {S : Type 0} (l : Lens S) where
       record { answers = rw f g }
 
   -- a required value after a fixed text that was consumed is parsed, and the whole with it
-  pub behind_word : {V W A : Type 0} {sees : W → V} {next : Text → Outcome V} {word rest : Text} {old mid new : S} {r : Result W (ParseFault A)} → (l.view old).failed ≡ false → Takes l.view l.at word rest old mid → ((l.view mid).failed ≡ false → MustRead l.view l.at sees next mid r new) → MayRead l.view l.at sees (text_at word ▷ next) old r new
-  behind_word {A = A} {next = next} {word = word} {rest = rest} {old = old} {mid = mid} f k h =
+  pub after_word : {V W A : Type 0} {sees : W → V} {next : Text → Outcome V} {word rest : Text} {old mid new : S} {r : Result W (ParseFault A)} → (l.view old).failed ≡ false → Takes l.view l.at word rest old mid → ((l.view mid).failed ≡ false → MustRead l.view l.at sees next mid r new) → MayRead l.view l.at sees (text_at word ▷ next) old r new
+  after_word {A = A} {next = next} {word = word} {rest = rest} {old = old} {mid = mid} f k h =
       let fine : (l.view mid).failed ≡ false = ap (λ v. v.failed) (seen_after l.view l.at l.view_at l.at_at old mid word rest k) ∙ f in
       let b = word_read {A = A} word rest old mid f k in
       begun_by l (λ _ t. next t) b (last l (begins_with l (λ _ t. next t) b) (h fine))

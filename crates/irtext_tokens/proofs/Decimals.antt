@@ -19,7 +19,7 @@ no_sign c e = grind (arith, nat_tests)
 -- the text begins with no sign and no white space
 pub record Plain (text : Text) : Type 0 where
   pub sign : sign_of text ≡ []
-  pub behind : after_sign text ≡ text
+  pub following : after_sign text ≡ text
   pub space : begins is_whitespace text ≡ false
 
 -- a text that begins with digits
@@ -29,6 +29,6 @@ plain (c ∷ s) rest some all =
     let digit = and_left (is_ascii_digit c) (list_all is_ascii_digit s) all in
     record {
       sign = ap (λ b. cond b (c ∷ []) []) (no_sign c digit);
-      behind = ap (λ b. cond b (s ++ rest) (c ∷ (s ++ rest))) (no_sign c digit);
+      following = ap (λ b. cond b (s ++ rest) (c ∷ (s ++ rest))) (no_sign c digit);
       space = word_no_space c (digit_in_word c digit);
     }

@@ -4,5 +4,5 @@ use Rattle.std.specs.Result.{IsErrAnd}
 use Rattle.std.proofs.lemmas.Result.{err_from_is_err_and}
 
 -- an error that is returned by `?` is the result
-pub handed_on : {T E : Type 0} {e : E} (r : Result T E) → IsErrAnd r (λ y. y ≡ e) → r ≡ Err e
-handed_on r h = let p = err_from_is_err_and r h in p.1 ∙ ap Err p.2
+pub propagated : {T E : Type 0} {e : E} (r : Result T E) → IsErrAnd r (λ y. y ≡ e) → r ≡ Err e
+propagated r h = let p = err_from_is_err_and r h in p.1 ∙ ap Err p.2

@@ -4,7 +4,7 @@ use Rattle.std.specs.Char.{is_whitespace}
 use Rattle.irtext_base.specs.Text.{Text, begins, front, after}
 use Rattle.irtext_base.specs.Reading.{the}
 use Rattle.irtext_base.specs.Stream.{first_of, advanced}
-use Rattle.irtext_base.specs.Answers.{Outcome, Read, Missing, Bad, Takes, Answers, Starves, Refuses, Gives, demanded, prefixed, followed, unless_failed}
+use Rattle.irtext_base.specs.Answers.{Outcome, Read, Missing, Bad, Takes, Answers, RunsOut, Refuses, Gives, demanded, prefixed, followed, unless_failed}
 use Rattle.irtext_base.specs.declared.parsable.fault.ParseFault.{ParseFault}
 use Rattle.irtext_base.proofs.Along.{falls}
 use Rattle.irtext_base.proofs.Compose.{takes_none, seen_after}
@@ -21,15 +21,15 @@ module _ {X : Type 0} (sep : ℕ) (item : Text → Outcome X) where
   items_stop (suc n) found text e = rw e refl
 
   -- what follows a separator
-  abbrev pub behind_separator : ℕ → List X → Unit {0} → Text → Outcome (List X)
-  behind_separator n found u t = followed (space_at t) (λ _ u. followed (item_after sep item found u) (λ more v. items_after sep item n more v))
+  abbrev pub after_separator : ℕ → List X → Unit {0} → Text → Outcome (List X)
+  after_separator n found u t = followed (space_at t) (λ _ u. followed (item_after sep item found u) (λ more v. items_after sep item n more v))
 
   -- an item after a separator and white space
-  abbrev pub behind_space : ℕ → List X → Unit {0} → Text → Outcome (List X)
-  behind_space n found u t = followed (item_after sep item found t) (λ more v. items_after sep item n more v)
+  abbrev pub after_spaces : ℕ → List X → Unit {0} → Text → Outcome (List X)
+  after_spaces n found u t = followed (item_after sep item found t) (λ more v. items_after sep item n more v)
 
   -- a separator, and what follows it
-  items_go_on : (n : ℕ) (found : List X) (text : Text) → begins (the sep) text ≡ true → items_after sep item (suc n) found text ≡ followed (text_at (sep ∷ []) text) (behind_separator n found)
+  items_go_on : (n : ℕ) (found : List X) (text : Text) → begins (the sep) text ≡ true → items_after sep item (suc n) found text ≡ followed (text_at (sep ∷ []) text) (after_separator n found)
   items_go_on n found text e = rw e refl
 
   module _ {S : Type 0} (l : Lens S) where
@@ -54,10 +54,10 @@ module _ {X : Type 0} (sep : ℕ) (item : Text → Outcome X) where
 
     -- where one follows, more is to be parsed
     pub goes_on : {first found : List X} {old now : S} → begins (the sep) (l.view now).rest ≡ true → (f : Found first old now found)
-        → (n : ℕ) × (f.room ≡ suc n) × Passed l (λ t. items_after sep item (length t) first t) (λ t. followed (text_at (sep ∷ []) t) (behind_separator n found)) old now
+        → (n : ℕ) × (f.room ≡ suc n) × Passed l (λ t. items_after sep item (length t) first t) (λ t. followed (text_at (sep ∷ []) t) (after_separator n found)) old now
     goes_on {found = found} {now = now} e f =
         let n = has_one f.room (l.view now).rest e f.enough in
-        (n.0, n.1, onward l (items_after sep item f.room found) (λ t. followed (text_at (sep ∷ []) t) (behind_separator n.0 found)) (ap (λ z. items_after sep item z found (l.view now).rest) n.1 ∙ items_go_on n.0 found (l.view now).rest e) f.passed)
+        (n.0, n.1, onward l (items_after sep item f.room found) (λ t. followed (text_at (sep ∷ []) t) (after_separator n.0 found)) (ap (λ z. items_after sep item z found (l.view now).rest) n.1 ∙ items_go_on n.0 found (l.view now).rest e) f.passed)
 
 module _ {S : Type 0} (l : Lens S) where
   taken_le : (old new : S) (t r : Text) → Takes l.view l.at t r old new → length (l.view new).rest ≤ length (l.view old).rest
@@ -71,8 +71,8 @@ module _ {S : Type 0} (l : Lens S) where
   given_le (Bad cause upto) old new x h = absurd h
 
   -- less text is left after a character, white space and a value
-  pub falls_behind : {X Y A : Type 0} {see : Y → X} {f : Text → Outcome X} {now mid later new : S} {y : Y} (c : ℕ) → begins (the c) (l.view now).rest ≡ true → mid ≡ l.at now (advanced (l.view now)) → Takes l.view l.at (front is_whitespace (l.view mid).rest) (after is_whitespace (l.view mid).rest) mid later → MustRead {A = A} l.view l.at see f later (Ok y) new → length (l.view new).rest < length (l.view now).rest
-  falls_behind {see = see} {f = f} {now = now} {mid = mid} {later = later} {new = new} {y = y} c b n k h =
+  pub falls_after : {X Y A : Type 0} {see : Y → X} {f : Text → Outcome X} {now mid later new : S} {y : Y} (c : ℕ) → begins (the c) (l.view now).rest ≡ true → mid ≡ l.at now (advanced (l.view now)) → Takes l.view l.at (front is_whitespace (l.view mid).rest) (after is_whitespace (l.view mid).rest) mid later → MustRead {A = A} l.view l.at see f later (Ok y) new → length (l.view new).rest < length (l.view now).rest
+  falls_after {see = see} {f = f} {now = now} {mid = mid} {later = later} {new = new} {y = y} c b n k h =
       let first = begins_the c (l.view now).rest b in
       let a = falls l.view l.at l.view_at l.at_at now mid c (ap first_of (sym first.1)) n in
       let d = taken_le mid later (front is_whitespace (l.view mid).rest) (after is_whitespace (l.view mid).rest) k in
@@ -85,8 +85,8 @@ demanded_or (Missing cause) text = refl
 demanded_or (Bad cause upto) text = refl
 
 -- a list is never missing
-pub separated_stands : {X : Type 0} (sep : ℕ) (item : Text → Outcome X) (text : Text) → demanded (separated_at sep item text) ≡ separated_at sep item text
-separated_stands sep item text = demanded_or (followed (item_after sep item [] text) (λ found t. items_after sep item (length t) found t)) text
+pub separated_never_missing : {X : Type 0} (sep : ℕ) (item : Text → Outcome X) (text : Text) → demanded (separated_at sep item text) ≡ separated_at sep item text
+separated_never_missing sep item text = demanded_or (followed (item_after sep item [] text) (λ found t. items_after sep item (length t) found t)) text
 
 -- what was taken is not missing
 or_prefixed : {X : Type 0} (t text : Text) (o : Outcome (List X)) → or_empty (prefixed t o) text ≡ prefixed t o
@@ -101,7 +101,7 @@ module _ {S X : Type 0} (l : Lens S) (k : List X → Text → Outcome (List X)) 
   read_first false (Missing cause) text s new x h = absurd h
   read_first false (Bad cause upto) text s new x h = absurd h
 
-  missing_first : {A : Type 0} (b : Bool) (o : Outcome (List X)) (s new : S) (fault : ParseFault A) → fault.committed ≡ false → Starves l.view l.at s fault new ⊎ Refuses l.view l.at (unless_failed b o) s fault new → Gives l.view l.at (unless_failed b (or_empty (followed o k) (l.view s).rest)) s [] new
+  missing_first : {A : Type 0} (b : Bool) (o : Outcome (List X)) (s new : S) (fault : ParseFault A) → fault.committed ≡ false → RunsOut l.view l.at s fault new ⊎ Refuses l.view l.at (unless_failed b o) s fault new → Gives l.view l.at (unless_failed b (or_empty (followed o k) (l.view s).rest)) s [] new
   missing_first b o s new fault e (inl h) = absurd (true≢false (sym h.committed ∙ e))
   missing_first true o s new fault e (inr h) = absurd (true≢false (sym h.committed ∙ e))
   missing_first false (Read y t r) s new fault e (inr h) = absurd h

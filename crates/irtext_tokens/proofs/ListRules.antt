@@ -6,10 +6,10 @@ use Rattle.std.specs.Char.{is_whitespace}
 use Rattle.irtext_base.specs.Text.{Text, begins}
 use Rattle.irtext_base.specs.Stream.{StreamView, advanced, advanced_by, after_failure}
 use Rattle.irtext_base.specs.Faults.{Fault}
-use Rattle.irtext_base.specs.Answers.{SameStream, StarvesHere, Commits, Passes}
+use Rattle.irtext_base.specs.Answers.{SameStream, RunsOutHere, Commits, Passes}
 use Rattle.irtext_base.specs.declared.parsable.fault.ParseFault.{ParseFault}
 use Rattle.irtext_base.proofs.Along.{front_after}
-use Rattle.irtext_tokens.specs.Lists.{Calls, AlwaysKeepsRules, KeepsRules, HandsOn, Insisted, Skips, Opens, Items, missing, bad, empty, no_room, more, SpacedItems, Tail, none, insisted, no_more_room, next, Separated, no_item, bad_item, no_first_room, an_item, Delimited, no_left, bad_inside, no_right, closed, Spaced, read, refused, refused_behind, listed, prepended, skipped, spaces}
+use Rattle.irtext_tokens.specs.Lists.{Calls, AlwaysKeepsRules, KeepsRules, MovesOn, Insisted, Skips, Opens, Items, missing, bad, empty, no_room, more, SpacedItems, Tail, none, insisted, no_more_room, next, Separated, no_item, bad_item, no_first_room, an_item, Delimited, no_left, bad_inside, no_right, closed, Spaced, read, refused, refused_after, listed, prepended, skipped, spaces}
 use Rattle.irtext_tokens.proofs.ListSteps.{rules_at}
 
 -- what one step does to the parts of a stream
@@ -18,11 +18,11 @@ advanced_parts passed [] b = ([], refl, sym (append-nil passed), refl)
 advanced_parts passed (c ∷ rest) b = (c ∷ [], refl, refl, refl)
 
 module _ {S : Type 0} (view : S → StreamView) (at : S → StreamView → S) where
-  hands_none : (s : S) → HandsOn view at s s
+  hands_none : (s : S) → MovesOn view at s s
   hands_none s = record { taken = []; same = refl; passed = sym (append-nil (view s).passed); fails = refl }
 
   -- one item after another leaves the old text or a suffix of it
-  pub hands_more : (s t u : S) → HandsOn view at s t → HandsOn view at t u → HandsOn view at s u
+  pub hands_more : (s t u : S) → MovesOn view at s t → MovesOn view at t u → MovesOn view at s u
   hands_more s t u h k = record {
     taken = h.taken ++ k.taken;
     same = append_assoc h.taken k.taken (view u).rest ∙ (ap (λ z. h.taken ++ z) k.same ∙ h.same);
@@ -32,14 +32,14 @@ module _ {S : Type 0} (view : S → StreamView) (at : S → StreamView → S) wh
 
   -- a value leaves the old text or a suffix of it, and an error is committed and leaves the stream failed
   abbrev pub Settles : {Y A : Type 0} → S → Result Y (ParseFault A) → S → Type 0
-  Settles old (Ok y) new = HandsOn view at old new
+  Settles old (Ok y) new = MovesOn view at old new
   Settles old (Err fault) new = (fault.committed ≡ true) × ((view new).failed ≡ true)
 
   pub settles_keeps : {Y A : Type 0} (s : S) (r : Result Y (ParseFault A)) (u : S) → Settles s r u → KeepsRules view at s r u
   settles_keeps s (Ok y) u h = h
   settles_keeps s (Err fault) u h = (λ e. absurd (let q : true ≡ false = sym h.0 ∙ e in cc), λ e. h.1)
 
-  hands_settle : {Y A : Type 0} (s b : S) (r : Result Y (ParseFault A)) (u : S) → HandsOn view at s b → Settles b r u → Settles s r u
+  hands_settle : {Y A : Type 0} (s b : S) (r : Result Y (ParseFault A)) (u : S) → MovesOn view at s b → Settles b r u → Settles s r u
   hands_settle s b (Ok y) u h k = hands_more s b u h k
   hands_settle s b (Err fault) u h k = k
 
@@ -53,22 +53,22 @@ module _ {S : Type 0} (view : S → StreamView) (at : S → StreamView → S) wh
   keeps_listed s (Err fault) u h = h
 
   module _ (view_at : (s : S) (v : StreamView) → view (at s v) ≡ v) where
-    hands_skips : (s t : S) → Skips view at s t → HandsOn view at s t
+    hands_skips : (s t : S) → Skips view at s t → MovesOn view at s t
     hands_skips s t e =
         let v : view t ≡ skipped (view s) = ap view e ∙ view_at s (skipped (view s)) in
         record { taken = spaces (view s).rest; same = ap (λ w. spaces (view s).rest ++ w.rest) v ∙ front_after is_whitespace (view s).rest; passed = ap (λ w. w.passed) v; fails = ap (λ w. w.failed) v }
 
-    hands_advanced : (s t : S) → t ≡ at s (advanced (view s)) → HandsOn view at s t
+    hands_advanced : (s t : S) → t ≡ at s (advanced (view s)) → MovesOn view at s t
     hands_advanced s t e =
         let v : view t ≡ advanced (view s) = ap view e ∙ view_at s (advanced (view s)) in
         let p = advanced_parts (view s).passed (view s).rest (view s).failed in
         record { taken = p.0; same = ap (λ w. p.0 ++ w.rest) v ∙ p.1; passed = ap (λ w. w.passed) v ∙ p.2; fails = ap (λ w. w.failed) v ∙ p.3 }
 
-    hands_opens : (c : ℕ) (s t : S) → Opens view at c s t → HandsOn view at s t
+    hands_opens : (c : ℕ) (s t : S) → Opens view at c s t → MovesOn view at s t
     hands_opens c s t o = hands_more s o.mid t (hands_advanced s o.mid o.taken) (hands_skips o.mid t o.skips)
 
-    stands_failed : (s u : S) → SameStream view at true s u → (view u).failed ≡ true
-    stands_failed s u k = ap (λ z. (view z).failed) k.is ∙ (ap (λ w. w.failed) (view_at s k.seen) ∙ k.fails)
+    same_stream_failed : (s u : S) → SameStream view at true s u → (view u).failed ≡ true
+    same_stream_failed s u k = ap (λ z. (view z).failed) k.is ∙ (ap (λ w. w.failed) (view_at s k.seen) ∙ k.fails)
 
     module _ {A : Type 0} where
       -- an error of a required item is committed, and the stream has failed
@@ -76,36 +76,36 @@ module _ {S : Type 0} (view : S → StreamView) (at : S → StreamView → S) wh
       insisted_settles X true fault last s t u e k i = (i.committed, ap (λ z. (view z).failed) (i.already e) ∙ k.1 e)
       insisted_settles X false fault last s t u e k i = (i.committed, ap (λ z. (view z).failed) (i.failing e) ∙ ap (λ w. w.failed) (view_at t (after_failure (view t))))
 
-      starves_settles : (s t : S) (fault : ParseFault A) (u : S) → StarvesHere view at t fault u → (fault.committed ≡ true) × ((view u).failed ≡ true)
-      starves_settles s t fault u k = (k.committed, ap (λ z. (view z).failed) k.left ∙ ap (λ w. w.failed) (view_at t (after_failure (view t))))
+      runs_out_settles : (s t : S) (fault : ParseFault A) (u : S) → RunsOutHere view at t fault u → (fault.committed ≡ true) × ((view u).failed ≡ true)
+      runs_out_settles s t fault u k = (k.committed, ap (λ z. (view z).failed) k.left ∙ ap (λ w. w.failed) (view_at t (after_failure (view t))))
 
       commits_settles : (cause : Fault) (upto : Text) (t : S) (fault : ParseFault A) (u : S) → Commits view at cause upto t fault u → (fault.committed ≡ true) × ((view u).failed ≡ true)
-      commits_settles cause upto t fault u k = (k.committed, stands_failed t u k.left)
+      commits_settles cause upto t fault u k = (k.committed, same_stream_failed t u k.left)
 
       passes_keeps : (Y : Type 0) (cause : Fault) (s : S) (fault : ParseFault A) (u : S) → Passes view at cause s fault u → KeepsRules view at {Y = Y} s (Err fault) u
       passes_keeps Y cause s fault u k = (λ e. k.left, λ e. absurd (let q : true ≡ false = sym e ∙ k.committed in cc))
 
       module _ {F X : Type 0} (calls : F → S → Result X (ParseFault A) → F → S → Type 0) (keeps : (f : F) (s : S) (r : Result X (ParseFault A)) (g : F) (t : S) → calls f s r g t → KeepsRules view at s r t) where
         items_settle : (f : F) (s : S) (r : Result (List X) (ParseFault A)) (u : S) → Items view at calls f s r u → Settles s r u
-        items_settle _ _ _ _ (missing f s fault g t called free) = subst (λ z. HandsOn view at s z) (sym ((keeps f s (Err fault) g t called).0 free)) (hands_none s)
+        items_settle _ _ _ _ (missing f s fault g t called free) = subst (λ z. MovesOn view at s z) (sym ((keeps f s (Err fault) g t called).0 free)) (hands_none s)
         items_settle _ _ _ _ (bad f s fault g t called shut) = (shut, (keeps f s (Err fault) g t called).1 shut)
         items_settle _ _ _ _ (empty f s x g t fault u called same commits) = commits_settles _ [] t fault u commits
-        items_settle _ _ _ _ (no_room f s x g t fault u called starves) = starves_settles s t fault u starves
+        items_settle _ _ _ _ (no_room f s x g t fault u called runs_out) = runs_out_settles s t fault u runs_out
         items_settle _ _ _ _ (more f s x g t b r q u called less skips later same) =
             settles_prepended (x ∷ []) s r q u same (hands_settle s b r u (hands_more s t b (keeps f s (Ok x) g t called) (hands_skips t b skips)) (items_settle g b r u later))
 
         tail_settles : (sep : ℕ) (f : F) (s : S) (r : Result (List X) (ParseFault A)) (u : S) → Tail view at calls sep f s r u → Settles s r u
         tail_settles sep _ _ _ _ (none f s stops) = hands_none s
         tail_settles sep _ _ _ _ (insisted f s b fault last g t u opens called must) = insisted_settles X fault.committed fault last b t u refl (keeps f b (Err fault) g t called) must
-        tail_settles sep _ _ _ _ (no_more_room f s b x g t fault u opens called starves) = starves_settles s t fault u starves
+        tail_settles sep _ _ _ _ (no_more_room f s b x g t fault u opens called runs_out) = runs_out_settles s t fault u runs_out
         tail_settles sep _ _ _ _ (next f s b x g t d r q u opens called skips later same) =
             let before = hands_more s b d (hands_opens sep s b opens) (hands_more b t d (keeps f b (Ok x) g t called) (hands_skips t d skips)) in
             settles_prepended (x ∷ []) s r q u same (hands_settle s d r u before (tail_settles sep g d r u later))
 
         separated_settles : (sep : ℕ) (f : F) (s : S) (r : Result (List X) (ParseFault A)) (u : S) → Separated view at calls sep f s r u → Settles s r u
-        separated_settles sep _ _ _ _ (no_item f s fault g t called free) = subst (λ z. HandsOn view at s z) (sym ((keeps f s (Err fault) g t called).0 free)) (hands_none s)
+        separated_settles sep _ _ _ _ (no_item f s fault g t called free) = subst (λ z. MovesOn view at s z) (sym ((keeps f s (Err fault) g t called).0 free)) (hands_none s)
         separated_settles sep _ _ _ _ (bad_item f s fault g t called shut) = (shut, (keeps f s (Err fault) g t called).1 shut)
-        separated_settles sep _ _ _ _ (no_first_room f s x g t fault u called starves) = starves_settles s t fault u starves
+        separated_settles sep _ _ _ _ (no_first_room f s x g t fault u called runs_out) = runs_out_settles s t fault u runs_out
         separated_settles sep _ _ _ _ (an_item f s x g t b q u called skips later) =
             hands_settle s b q u (hands_more s t b (keeps f s (Ok x) g t called) (hands_skips t b skips)) (settles_prepended (x ∷ []) b later.0 q u later.2 (tail_settles sep g b later.0 u later.1))
 
@@ -120,9 +120,9 @@ module _ {S : Type 0} (view : S → StreamView) (at : S → StreamView → S) wh
             hands_more s b u (hands_opens left s b opens) (hands_more b t u (separated_settles sep f b (Ok xs) t inside) (hands_advanced t u last))
 
         spaced_keeps : (f : F) (s : S) (r : Result X (ParseFault A)) (u : S) → Spaced view at calls f s r u → KeepsRules view at s r u
-        spaced_keeps f s _ _ (read b x g t u skips called behind) = hands_more s b u (hands_skips s b skips) (hands_more b t u (keeps f b (Ok x) g t called) (hands_skips t u behind))
+        spaced_keeps f s _ _ (read b x g t u skips called following) = hands_more s b u (hands_skips s b skips) (hands_more b t u (keeps f b (Ok x) g t called) (hands_skips t u following))
         spaced_keeps f s _ _ (refused fault g u stops called) = keeps f s (Err fault) g u called
-        spaced_keeps f s _ _ (refused_behind b fault last g t u begins skips called must) = settles_keeps {Y = X} s (Err last) u (insisted_settles X fault.committed fault last b t u refl (keeps f b (Err fault) g t called) must)
+        spaced_keeps f s _ _ (refused_after b fault last g t u begins skips called must) = settles_keeps {Y = X} s (Err last) u (insisted_settles X fault.committed fault last b t u refl (keeps f b (Err fault) g t called) must)
 
       -- a list of an item that keeps the rules keeps them
       module _ {F R X : Type 0} (seen : R → Result X (ParseFault A)) (item : Mut F (MutBor S × Unit {0}) (R × (MutBor S × Unit {0}))) (rules : AlwaysKeepsRules view at seen item) where

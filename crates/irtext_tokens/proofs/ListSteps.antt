@@ -14,7 +14,7 @@ use Rattle.irtext_base.specs.Answers.{Takes, Demands}
 use Rattle.irtext_base.specs.declared.parsable.fault.ParseFault.{ParseFault}
 use Rattle.irtext_base.proofs.Along.{front_after, falls}
 use Rattle.irtext_tokens.proofs.Spelling.{takes_none_is}
-use Rattle.irtext_tokens.specs.Lists.{Calls, AlwaysKeepsRules, KeepsRules, Insisted, UnlessFailed, prepended, skipped, HandsOn, Skips, Opens}
+use Rattle.irtext_tokens.specs.Lists.{Calls, AlwaysKeepsRules, KeepsRules, Insisted, UnlessFailed, prepended, skipped, MovesOn, Skips, Opens}
 
 not_zero : (n : ℕ) → 0 < n → (n == 0) ≡ false
 not_zero n h = grind (arith, nat_tests)
@@ -57,11 +57,11 @@ begun c (d ∷ text) h = (d, refl)
 
 module _ {S : Type 0} (view : S → StreamView) (at : S → StreamView → S) where
   -- no character was taken
-  pub none_taken : (s t : S) (h : HandsOn view at s t) → h.taken ≡ [] → (view t).rest ≡ (view s).rest
+  pub none_taken : (s t : S) (h : MovesOn view at s t) → h.taken ≡ [] → (view t).rest ≡ (view s).rest
   none_taken s t h n = sym (ap (λ z. z ++ (view t).rest) n) ∙ h.same
 
   -- one was
-  pub some_taken : (s t : S) (h : HandsOn view at s t) → (h.taken ≡ [] → ⊥) → length (view t).rest < length (view s).rest
+  pub some_taken : (s t : S) (h : MovesOn view at s t) → (h.taken ≡ [] → ⊥) → length (view t).rest < length (view s).rest
   some_taken s t h n = taken_lt h.taken (view t).rest (view s).rest n h.same
 
   pub after_le : (p : ℕ → Bool) (text : Text) → length (after p text) ≤ length text
@@ -81,10 +81,10 @@ module _ {S : Type 0} (view : S → StreamView) (at : S → StreamView → S) (v
   pub skipped_lt : (s t u : S) → length (view t).rest < length (view s).rest → Skips view at t u → length (view u).rest < length (view s).rest
   skipped_lt s t u a e = let k = skip_le t u e in omega (arith, a, k)
 
-  hand_le : (b t : S) → HandsOn view at b t → length (view t).rest ≤ length (view b).rest
+  hand_le : (b t : S) → MovesOn view at b t → length (view t).rest ≤ length (view b).rest
   hand_le b t h = omega (arith, ap length h.same, length-append h.taken (view t).rest)
 
-  pub tail_lt : (s b t u : S) (sep : ℕ) → Opens view at sep s b → HandsOn view at b t → Skips view at t u → length (view u).rest < length (view s).rest
+  pub tail_lt : (s b t u : S) (sep : ℕ) → Opens view at sep s b → MovesOn view at b t → Skips view at t u → length (view u).rest < length (view s).rest
   tail_lt s b t u sep o h k =
       let f = begun sep (view s).rest o.begins_so in
       let i : length (view o.mid).rest < length (view s).rest = falls view at view_at at_at s o.mid f.0 (sym f.1) o.taken in

@@ -7,7 +7,7 @@ use Rattle.irtext_base.specs.Reading.{the}
 use Rattle.irtext_base.specs.Answers.{Outcome, Read, Missing, Bad, demanded, prefixed, followed}
 use Rattle.irtext_base.proofs.Along.{front_after}
 use Rattle.irtext_tokens.specs.Lists.{spaces}
-use Rattle.irtext_tokens.specs.ListTexts.{item_before, TailAt, ended, none_behind, bad_behind, one_behind, SeparatedAt, none_first, bad_first, one_first}
+use Rattle.irtext_tokens.specs.ListTexts.{item_before, TailAt, ended, none_follows, bad_after, one_after, SeparatedAt, none_first, bad_first, one_first}
 use Rattle.irtext_tokens.specs.ListOutcomes.{item_after, items_after, or_empty, separated_at}
 
 -- the items found before
@@ -31,10 +31,10 @@ first_moved text x k b (Read xs taken rest) e = refl
 first_moved text x k b (Missing cause) e = absurd (cc)
 first_moved text x k b (Bad cause upto) e = refl
 
-before_stands : {X : Type 0} (x : X) (k : Text) (o : Outcome (List X)) → demanded o ≡ o → demanded (item_before x k o) ≡ item_before x k o
-before_stands x k (Read xs taken rest) e = refl
-before_stands x k (Missing cause) e = absurd (cc)
-before_stands x k (Bad cause upto) e = refl
+before_demanded : {X : Type 0} (x : X) (k : Text) (o : Outcome (List X)) → demanded o ≡ o → demanded (item_before x k o) ≡ item_before x k o
+before_demanded x k (Read xs taken rest) e = refl
+before_demanded x k (Missing cause) e = absurd (cc)
+before_demanded x k (Bad cause upto) e = refl
 
 -- a character is itself
 the-same : (c : ℕ) → the c c ≡ true
@@ -52,11 +52,11 @@ module _ {X : Type 0} (sep : ℕ) (item : Text → Outcome X) where
     pub is : item text ≡ o
     pub fits : Fits text o
 
-  stands : (text : Text) (o : Outcome (List X)) → TailAt Says sep text o → demanded o ≡ o
-  stands _ _ (ended text e) = refl
-  stands _ _ (none_behind text left cause e h) = refl
-  stands _ _ (bad_behind text left cause upto e h) = refl
-  stands _ _ (one_behind text left x taken rest o q e h t s) = subst (λ z. demanded z ≡ z) (sym s) (before_stands x (((sep ∷ spaces left) ++ taken) ++ spaces rest) o (stands (after_space rest) o t))
+  stays_demanded : (text : Text) (o : Outcome (List X)) → TailAt Says sep text o → demanded o ≡ o
+  stays_demanded _ _ (ended text e) = refl
+  stays_demanded _ _ (none_follows text left cause e h) = refl
+  stays_demanded _ _ (bad_after text left cause upto e h) = refl
+  stays_demanded _ _ (one_after text left x taken rest o q e h t s) = subst (λ z. demanded z ≡ z) (sym s) (before_demanded x (((sep ∷ spaces left) ++ taken) ++ spaces rest) o (stays_demanded (after_space rest) o t))
 
   go_on : (n : ℕ) (found : List X) (left : Text)
       → items_after sep item (suc n) found (sep ∷ left) ≡ prefixed (sep ∷ []) (prefixed (spaces left) (followed (item_after sep item found (after_space left)) (λ more v. items_after sep item n more v)))
@@ -68,15 +68,15 @@ module _ {X : Type 0} (sep : ℕ) (item : Text → Outcome X) where
   tail_is : (n : ℕ) (found : List X) (text : Text) (o : Outcome (List X)) → length text ≤ n → TailAt Says sep text o → items_after sep item n found text ≡ found_before found o
   tail_is zero found _ _ h (ended text e) = ap (λ z. Read z [] text) (sym (append-nil found))
   tail_is (suc n) found _ _ h (ended text e) = rw (e, append-nil found) refl
-  tail_is zero found _ _ h (none_behind text left cause e r) = absurd (omega (arith, h, ap length e))
-  tail_is (suc n) found _ _ h (none_behind text left cause e r) = rw e (go_on n found left ∙ rw r.is refl)
-  tail_is zero found _ _ h (bad_behind text left cause upto e r) = absurd (omega (arith, h, ap length e))
-  tail_is (suc n) found _ _ h (bad_behind text left cause upto e r) = rw e (go_on n found left ∙ rw r.is refl)
-  tail_is zero found _ _ h (one_behind text left x taken rest o q e r t s) = absurd (omega (arith, h, ap length e))
-  tail_is (suc n) found _ _ h (one_behind text left x taken rest o q e r t s) =
+  tail_is zero found _ _ h (none_follows text left cause e r) = absurd (omega (arith, h, ap length e))
+  tail_is (suc n) found _ _ h (none_follows text left cause e r) = rw e (go_on n found left ∙ rw r.is refl)
+  tail_is zero found _ _ h (bad_after text left cause upto e r) = absurd (omega (arith, h, ap length e))
+  tail_is (suc n) found _ _ h (bad_after text left cause upto e r) = rw e (go_on n found left ∙ rw r.is refl)
+  tail_is zero found _ _ h (one_after text left x taken rest o q e r t s) = absurd (omega (arith, h, ap length e))
+  tail_is (suc n) found _ _ h (one_after text left x taken rest o q e r t s) =
       let l = less n left taken rest (subst (λ z. length z ≤ suc n) e h) r.fits in
       let i = tail_is n (found ++ (x ∷ [])) (after_space rest) o l t in
-      rw (e, s) (go_on n found left ∙ (rw r.is (ap (λ z. prefixed (sep ∷ []) (prefixed (spaces left) (prefixed (taken ++ spaces rest) z))) i) ∙ moved found x sep (spaces left) taken (spaces rest) o (stands (after_space rest) o t)))
+      rw (e, s) (go_on n found left ∙ (rw r.is (ap (λ z. prefixed (sep ∷ []) (prefixed (spaces left) (prefixed (taken ++ spaces rest) z))) i) ∙ moved found x sep (spaces left) taken (spaces rest) o (stays_demanded (after_space rest) o t)))
 
   -- a list of the relation is the one that the function gives
   pub separated_is : (text : Text) (o : Outcome (List X)) → SeparatedAt Says sep text o → o ≡ separated_at sep item text
@@ -84,4 +84,4 @@ module _ {X : Type 0} (sep : ℕ) (item : Text → Outcome X) where
   separated_is _ _ (bad_first text cause upto r) = rw r.is refl
   separated_is _ _ (one_first text x taken rest o q r t s) =
       let i = tail_is (length (after_space rest)) (x ∷ []) (after_space rest) o (omega arith) t in
-      rw (s, r.is) (first_moved text x taken (spaces rest) o (stands (after_space rest) o t) ∙ ap (λ z. or_empty (prefixed (taken ++ spaces rest) z) text) (sym i))
+      rw (s, r.is) (first_moved text x taken (spaces rest) o (stays_demanded (after_space rest) o t) ∙ ap (λ z. or_empty (prefixed (taken ++ spaces rest) z) text) (sym i))

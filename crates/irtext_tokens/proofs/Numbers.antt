@@ -14,7 +14,7 @@ use Rattle.irtext_base.specs.Answers.{Outcome, Read, Missing, Bad, Answers, Dema
 use Rattle.irtext_base.specs.declared.parsable.fault.ParseFault.{ParseFault}
 use Rattle.irtext_base.proofs.Compose.{answers_demanded}
 use Rattle.irtext_tokens.specs.Digits.{base, fitting, appended, value_in}
-use Rattle.irtext_tokens.specs.Integers.{unsigned_below, signed_below, integer_by, within, ranged, no_digit_behind, numeral_at, signed_integer, int_at}
+use Rattle.irtext_tokens.specs.Integers.{unsigned_below, signed_below, integer_by, within, ranged, no_digit_after, numeral_at, signed_integer, int_at}
 use Rattle.irtext_tokens.specs.MustRead.{MustRead}
 use Rattle.irtext_tokens.specs.Reads.{SparesMemory}
 use Rattle.irtext_tokens.specs.Tokens.{is_sign, sign_of, after_sign, value_of, negated, numbered, no_digit, number_at, integer_of, integered, no_integer, integer_at}
@@ -73,7 +73,7 @@ unsigned_read : (sign digits rest : Text) (minus : Bool) (n : ℕ) → begins (t
 unsigned_read sign digits rest true n e = rw (none_below n) (elim (nat_lt n (2 ^ 64)) as (λ b. ranged (sign ++ digits) rest None ≡ mapped pos (numbered sign digits rest (cond b (Some n) None))) [ true ↦ rw e refl | false ↦ refl ])
 unsigned_read sign digits rest false n e = elim (nat_lt n (2 ^ 64)) as (λ b. ranged (sign ++ digits) rest (cond b (Some (integer_by false n)) None) ≡ mapped pos (numbered sign digits rest (cond b (Some n) None))) [ true ↦ rw e refl | false ↦ refl ]
 
-no_unsigned : (below : Bool → ℕ) (sign text : Text) → numeral_at is_ascii_digit (signed_integer below) (no_digit_behind sign text) ≡ mapped pos (no_digit sign text)
+no_unsigned : (below : Bool → ℕ) (sign text : Text) → numeral_at is_ascii_digit (signed_integer below) (no_digit_after sign text) ≡ mapped pos (no_digit sign text)
 no_unsigned below [] text = refl
 no_unsigned below (c ∷ sign) text = refl
 
@@ -84,7 +84,7 @@ number_is text =
     let sign = sign_of text in
     let digits = front is_ascii_digit (after_sign text) in
     let rest = after is_ascii_digit (after_sign text) in
-    elim (begins is_ascii_digit (after_sign text)) as (λ b. numeral_at is_ascii_digit (signed_integer (unsigned_below 64)) (cond b (Read sign sign (after_sign text)) (no_digit_behind sign (after_sign text))) ≡ mapped pos (cond b (numbered sign digits rest (value_of digits)) (no_digit sign (after_sign text)))) [
+    elim (begins is_ascii_digit (after_sign text)) as (λ b. numeral_at is_ascii_digit (signed_integer (unsigned_below 64)) (cond b (Read sign sign (after_sign text)) (no_digit_after sign (after_sign text))) ≡ mapped pos (cond b (numbered sign digits rest (value_of digits)) (no_digit sign (after_sign text)))) [
       | true ↦ unsigned_read sign digits rest (begins (the 45) sign) (digits_value 10 digits) refl
       | false ↦ no_unsigned (unsigned_below 64) sign (after_sign text)
     ]
@@ -118,7 +118,7 @@ ranged_integer : (sign digits rest : Text) (o : Option ℤ) → ranged (sign ++ 
 ranged_integer sign digits rest None = refl
 ranged_integer sign digits rest (Some z) = refl
 
-no_signed : (below : Bool → ℕ) (sign text : Text) → numeral_at is_ascii_digit (signed_integer below) (no_digit_behind sign text) ≡ no_integer sign text
+no_signed : (below : Bool → ℕ) (sign text : Text) → numeral_at is_ascii_digit (signed_integer below) (no_digit_after sign text) ≡ no_integer sign text
 no_signed below [] text = refl
 no_signed below (c ∷ sign) text = refl
 
@@ -129,7 +129,7 @@ integer_is text =
     let sign = sign_of text in
     let digits = front is_ascii_digit (after_sign text) in
     let rest = after is_ascii_digit (after_sign text) in
-    elim (begins is_ascii_digit (after_sign text)) as (λ b. numeral_at is_ascii_digit (signed_integer (signed_below 32)) (cond b (Read sign sign (after_sign text)) (no_digit_behind sign (after_sign text))) ≡ cond b (integered sign digits rest (integer_of sign (value_of digits))) (no_integer sign (after_sign text))) [
+    elim (begins is_ascii_digit (after_sign text)) as (λ b. numeral_at is_ascii_digit (signed_integer (signed_below 32)) (cond b (Read sign sign (after_sign text)) (no_digit_after sign (after_sign text))) ≡ cond b (integered sign digits rest (integer_of sign (value_of digits))) (no_integer sign (after_sign text))) [
       | true ↦ ap (ranged (sign ++ digits) rest) (signed_fits sign (begins (the 45) sign) (digits_value 10 digits) refl) ∙ ranged_integer sign digits rest (integer_of sign (value_of digits))
       | false ↦ no_signed (signed_below 32) sign (after_sign text)
     ]

@@ -9,14 +9,14 @@ use Rattle.std.specs.Str.Parse.{digits_value}
 use Rattle.irtext_base.specs.Text.{Text, begins, front, after}
 use Rattle.irtext_base.specs.Reading.{the}
 use Rattle.irtext_base.specs.Stream.{first_of}
-use Rattle.irtext_base.specs.Places.{StandsBehind}
+use Rattle.irtext_base.specs.Places.{IsPlaceAfter}
 use Rattle.irtext_base.specs.Faults.{Fault, NumberRange, Unexpected, Word, AHexadecimalDigit}
-use Rattle.irtext_base.specs.Answers.{Outcome, Read, Missing, Bad, Takes, Starves, StarvesHere, FailsBehind, Refuses, Gives, NeedsNoMemory, unless_failed, prefixed, followed}
+use Rattle.irtext_base.specs.Answers.{Outcome, Read, Missing, Bad, Takes, RunsOut, RunsOutHere, FailsAfter, Refuses, Gives, NeedsNoMemory, unless_failed, prefixed, followed}
 use Rattle.irtext_base.specs.declared.parsable.fault.ParseFault.{ParseFault}
 use Rattle.irtext_stream.specs.declared.position.Place.{Place}
-use Rattle.irtext_base.proofs.Compose.{seen_after, takes_more, starves_behind, refuses_before}
+use Rattle.irtext_base.proofs.Compose.{seen_after, takes_more, runs_out_after, refuses_before}
 use Rattle.irtext_tokens.specs.Tokens.{sign_of, after_sign, fitting, text_at, spelled_at}
-use Rattle.irtext_tokens.specs.Integers.{within, within_of, signed_integer, hexadecimal_integer, signed_text, sign_text, no_digit_behind, sign_at, before_hexadecimal, hexadecimal_mark_at, ranged, numeral_at}
+use Rattle.irtext_tokens.specs.Integers.{within, within_of, signed_integer, hexadecimal_integer, signed_text, sign_text, no_digit_after, sign_at, before_hexadecimal, hexadecimal_mark_at, ranged, numeral_at}
 use Rattle.irtext_tokens.proofs.Numbers.{encodes-sign}
 use Rattle.irtext_tokens.proofs.Steps.{Lens}
 use Rattle.irtext_tokens.proofs.Words.{encodes-front_digits}
@@ -54,14 +54,14 @@ same_value : {X : Type 0} (x y : X) (t u r s : Text) → ◌≡◌ {A = Outcome 
 same_value x y t u r s e = cc
 
 -- where no digit follows, no sign is parsed
-no_digit_reads : {X : Type 0} (sign text : Text) (x : X) (taken rest : Text) → no_digit_behind sign text ≡ Read x taken rest → ⊥
+no_digit_reads : {X : Type 0} (sign text : Text) (x : X) (taken rest : Text) → no_digit_after sign text ≡ Read x taken rest → ⊥
 no_digit_reads [] text x taken rest e = absurd (cc)
 no_digit_reads (c ∷ sign) text x taken rest e = absurd (cc)
 
 -- what is taken of a sign is the sign, and its bytes
 sign_read : (text sign taken rest : Text) → sign_at text ≡ Read sign taken rest → (sign ≡ sign_of text) × (taken ≡ sign_of text)
 sign_read text sign taken rest =
-    elim (begins is_ascii_digit (after_sign text)) as (λ b. ◌≡◌ {A = Outcome Text} (cond b (Read (sign_of text) (sign_of text) (after_sign text)) (no_digit_behind (sign_of text) (after_sign text))) (Read sign taken rest) → (sign ≡ sign_of text) × (taken ≡ sign_of text)) [
+    elim (begins is_ascii_digit (after_sign text)) as (λ b. ◌≡◌ {A = Outcome Text} (cond b (Read (sign_of text) (sign_of text) (after_sign text)) (no_digit_after (sign_of text) (after_sign text))) (Read sign taken rest) → (sign ≡ sign_of text) × (taken ≡ sign_of text)) [
       | true ↦ (λ e. (sym (same_value (sign_of text) sign (sign_of text) taken (after_sign text) rest e), sym (same_taken (sign_of text) sign (sign_of text) taken (after_sign text) rest e)))
       | false ↦ (λ e. absurd (no_digit_reads (sign_of text) (after_sign text) sign taken rest e))
     ]
@@ -148,7 +148,7 @@ module _ {S : Type 0} (l : Lens S) where
   pub numbered : {L : Type 0} (digit : ℕ → Bool) (o : Outcome L) (lead : L) (old mid new : S) → Gives l.view l.at (unless_failed (l.view old).failed o) old lead mid → Takes l.view l.at (front digit (l.view mid).rest) (after digit (l.view mid).rest) mid new → Numbered digit o lead old mid new
   numbered digit o lead old mid new h d = record { led = led (l.view old).failed o lead old mid h; digits = d }
 
-  refused : {L X A : Type 0} (digit : ℕ → Bool) (make : L → Text → Option X) (failed : Bool) (o : Outcome L) (old new : S) (fault : ParseFault A) → Starves l.view l.at old fault new ⊎ Refuses l.view l.at (unless_failed failed o) old fault new → Starves l.view l.at old fault new ⊎ Refuses l.view l.at (unless_failed failed (numeral_at digit make o)) old fault new
+  refused : {L X A : Type 0} (digit : ℕ → Bool) (make : L → Text → Option X) (failed : Bool) (o : Outcome L) (old new : S) (fault : ParseFault A) → RunsOut l.view l.at old fault new ⊎ Refuses l.view l.at (unless_failed failed o) old fault new → RunsOut l.view l.at old fault new ⊎ Refuses l.view l.at (unless_failed failed (numeral_at digit make o)) old fault new
   refused digit make true o old new fault h = h
   refused digit make false o old new fault (inl s) = inl s
   refused digit make false (Read x t r) old new fault (inr e) = absurd e
@@ -156,8 +156,8 @@ module _ {S : Type 0} (l : Lens S) where
   refused digit make false (Bad cause upto) old new fault (inr e) = inr e
 
   -- if what precedes the digits is an error, the number is
-  pub lead_refused : {L X A : Type 0} (digit : ℕ → Bool) (make : L → Text → Option X) (o : Outcome L) (old new : S) (fault : ParseFault A) → Starves l.view l.at old fault new ⊎ Refuses l.view l.at (unless_failed (l.view old).failed o) old fault new
-      → Starves l.view l.at old fault new ⊎ Refuses l.view l.at (unless_failed (l.view old).failed (numeral_at digit make o)) old fault new
+  pub lead_refused : {L X A : Type 0} (digit : ℕ → Bool) (make : L → Text → Option X) (o : Outcome L) (old new : S) (fault : ParseFault A) → RunsOut l.view l.at old fault new ⊎ Refuses l.view l.at (unless_failed (l.view old).failed o) old fault new
+      → RunsOut l.view l.at old fault new ⊎ Refuses l.view l.at (unless_failed (l.view old).failed (numeral_at digit make o)) old fault new
   lead_refused digit make o old new fault h = refused digit make (l.view old).failed o old new fault h
 
   module _ {L : Type 0} {digit : ℕ → Bool} {o : Outcome L} {lead : L} {old mid new : S} (n : Numbered digit o lead old mid new) where
@@ -175,7 +175,7 @@ module _ {S : Type 0} (l : Lens S) where
     number_passed = sym (ap (λ v. v.passed) (seen_after l.view l.at l.view_at l.at_at old new number_text (after digit n.led.rest) number_taken))
 
     -- what was passed since the number began
-    pub number_since : {place : Place} → StandsBehind place (l.view old).passed → (passed taken : Text) × (passed ++ taken ≡ (l.view new).passed) × StandsBehind place passed
+    pub number_since : {place : Place} → IsPlaceAfter place (l.view old).passed → (passed taken : Text) × (passed ++ taken ≡ (l.view new).passed) × IsPlaceAfter place passed
     number_since p = ((l.view old).passed, number_text, number_passed, p)
 
     number_outcome : {X : Type 0} (make : L → Text → Option X) (v : Option X) → make lead (front digit (l.view mid).rest) ≡ v → unless_failed (l.view old).failed (numeral_at digit make o) ≡ ranged number_text (after digit n.led.rest) v
@@ -191,15 +191,15 @@ module _ {S : Type 0} (l : Lens S) where
 
     -- the number doesn't fit
     pub number_refused : {X A : Type 0} {place : Place} (make : L → Text → Option X) (last : S) (fault : ParseFault A) → make lead (front digit (l.view mid).rest) ≡ None → ((taken rest : Text) → o ≡ Read lead taken rest → encode_utf8_all taken ≡ taken) → ((text : Text) → encode_utf8_all (front digit text) ≡ front digit text)
-        → StandsBehind place (l.view old).passed → ((passed taken : Text) → passed ++ taken ≡ (l.view new).passed → StandsBehind place passed → StarvesHere l.view l.at new fault last ⊎ FailsBehind l.view l.at (NumberRange (encode_utf8_all taken)) passed new fault last)
-        → Starves l.view l.at old fault last ⊎ Refuses l.view l.at (unless_failed (l.view old).failed (numeral_at digit make o)) old fault last
+        → IsPlaceAfter place (l.view old).passed → ((passed taken : Text) → passed ++ taken ≡ (l.view new).passed → IsPlaceAfter place passed → RunsOutHere l.view l.at new fault last ⊎ FailsAfter l.view l.at (NumberRange (encode_utf8_all taken)) passed new fault last)
+        → RunsOut l.view l.at old fault last ⊎ Refuses l.view l.at (unless_failed (l.view old).failed (numeral_at digit make o)) old fault last
     number_refused make last fault e a b p h =
-        let k = subst (λ z. StarvesHere l.view l.at new fault last ⊎ FailsBehind l.view l.at (NumberRange z) (l.view old).passed new fault last) (number_encodes a b) (h (l.view old).passed number_text number_passed p) in
+        let k = subst (λ z. RunsOutHere l.view l.at new fault last ⊎ FailsAfter l.view l.at (NumberRange z) (l.view old).passed new fault last) (number_encodes a b) (h (l.view old).passed number_text number_passed p) in
         rw (number_outcome make None e) (refuses_before l.view l.at l.view_at l.at_at (NumberRange number_text) old new last number_text (after digit n.led.rest) fault n.led.not_failed number_taken k)
 
     -- out of memory after the number
-    pub number_starves : {A : Type 0} (last : S) (fault : ParseFault A) → StarvesHere l.view l.at new fault last → Starves l.view l.at old fault last
-    number_starves last fault h = starves_behind l.view l.at l.view_at l.at_at old new last number_text (after digit n.led.rest) fault n.led.not_failed number_taken h
+    pub number_runs_out : {A : Type 0} (last : S) (fault : ParseFault A) → RunsOutHere l.view l.at new fault last → RunsOut l.view l.at old fault last
+    number_runs_out last fault h = runs_out_after l.view l.at l.view_at l.at_at old new last number_text (after digit n.led.rest) fault n.led.not_failed number_taken h
 
     -- a number that doesn't fit is not parsed
     pub number_spares : {X A : Type 0} (Y : Type 0) (make : L → Text → Option X) (fault : ParseFault A) → make lead (front digit (l.view mid).rest) ≡ None → NeedsNoMemory {Y = Y} (unless_failed (l.view old).failed (numeral_at digit make o)) (Err fault)
@@ -214,7 +214,7 @@ module _ {S : Type 0} (l : Lens S) where
   marked old mid new h d = numbered is_ascii_hexdigit (hexadecimal_mark_at (l.view old).rest) tt old mid new h d
 
   -- the text of a number is parsed
-  pub text_read : {sign : Text} {old mid new : S} {place : Place} (n : Numbered is_ascii_digit (sign_at (l.view old).rest) sign old mid new) (bytes : List ℕ) → StandsBehind place (l.view old).passed → ((passed taken : Text) → passed ++ taken ≡ (l.view new).passed → StandsBehind place passed → bytes ≡ encode_utf8_all taken)
+  pub text_read : {sign : Text} {old mid new : S} {place : Place} (n : Numbered is_ascii_digit (sign_at (l.view old).rest) sign old mid new) (bytes : List ℕ) → IsPlaceAfter place (l.view old).passed → ((passed taken : Text) → passed ++ taken ≡ (l.view new).passed → IsPlaceAfter place passed → bytes ≡ encode_utf8_all taken)
       → Gives l.view l.at (unless_failed (l.view old).failed (numeral_at is_ascii_digit signed_text (sign_at (l.view old).rest))) old bytes new
   text_read {sign = sign} {old = old} {mid = mid} n bytes p h =
       let text = (l.view old).rest in

@@ -7,10 +7,10 @@ use Rattle.irtext_base.specs.Text.{Text, begins, front, after}
 use Rattle.irtext_base.specs.Reading.{the}
 use Rattle.irtext_base.specs.Stream.{StreamView, first_of, advanced, advanced_by}
 use Rattle.irtext_base.specs.Faults.{Fault, Word, Unexpected, AHexadecimalDigit, AnEscapedCharacter, BadEscape, BadUnicodeEscape}
-use Rattle.irtext_base.specs.Answers.{Outcome, Read, Missing, Bad, Takes, Starves, StarvesHere, FailsBehind, Commits, Answers, Gives, Refuses, demanded, prefixed, mapped, followed, unless_failed}
+use Rattle.irtext_base.specs.Answers.{Outcome, Read, Missing, Bad, Takes, RunsOut, RunsOutHere, FailsAfter, Commits, Answers, Gives, Refuses, demanded, prefixed, mapped, followed, unless_failed}
 use Rattle.irtext_base.specs.declared.parsable.fault.ParseFault.{ParseFault}
 use Rattle.irtext_stream.proofs.Bytes.{first_some}
-use Rattle.irtext_base.proofs.Compose.{takes_none, takes_fine, seen_after, takes_more, starves_after, starves_behind, commits_after, refuses_before, answers_after}
+use Rattle.irtext_base.proofs.Compose.{takes_none, takes_fine, seen_after, takes_more, runs_out_in_rest, runs_out_after, commits_after, refuses_before, answers_after}
 use Rattle.irtext_tokens.specs.QuotedTexts.{is_plain, escape_of, character_of, closed, braced, unicode_at, unit_at, units_at}
 use Rattle.irtext_tokens.proofs.Spelling.{begins_the, takes_next}
 use Rattle.irtext_tokens.specs.Digits.{value_in}
@@ -163,30 +163,30 @@ module _ {S : Type 0} (view : S → StreamView) (at : S → StreamView → S) wh
 
     module _ {A : Type 0} where
       -- a unit that is bad at the stream's position
-      unit_refused : (before mid new : S) (t r : Text) (cause : Fault) (fault : ParseFault A) → Takes view at t r before mid → unit_at (view before).rest ≡ Bad cause t → Commits view at cause [] mid fault new → Starves view at before fault new ⊎ Refuses view at (unit_at (view before).rest) before fault new
+      unit_refused : (before mid new : S) (t r : Text) (cause : Fault) (fault : ParseFault A) → Takes view at t r before mid → unit_at (view before).rest ≡ Bad cause t → Commits view at cause [] mid fault new → RunsOut view at before fault new ⊎ Refuses view at (unit_at (view before).rest) before fault new
       unit_refused before mid new t r cause fault k e c =
           rw e (inr (subst (λ z. Commits view at cause z before fault new) (append-nil t) (commits_after view at view_at at_at cause [] before mid new t r fault k c)))
 
-      pub unopened : (before mid new : S) (fault : ParseFault A) → Takes view at (codes "\\u") (view mid).rest before mid → begins (the 123) (view mid).rest ≡ false → Commits view at (Unexpected (first_of (view mid).rest) (Word (codes "{"))) [] mid fault new → Starves view at before fault new ⊎ Refuses view at (unit_at (view before).rest) before fault new
+      pub unopened : (before mid new : S) (fault : ParseFault A) → Takes view at (codes "\\u") (view mid).rest before mid → begins (the 123) (view mid).rest ≡ false → Commits view at (Unexpected (first_of (view mid).rest) (Word (codes "{"))) [] mid fault new → RunsOut view at before fault new ⊎ Refuses view at (unit_at (view before).rest) before fault new
       unopened before mid new fault k q c =
           unit_refused before mid new (codes "\\u") (view mid).rest (Unexpected (first_of (view mid).rest) (Word (codes "{"))) fault k (unit_unicode (view before).rest (view mid).rest k.same ∙ unicode_unopened (view mid).rest q) c
 
-      pub uncounted : (before mid new : S) (fault : ParseFault A) → Opened before mid → begins is_ascii_hexdigit (view mid).rest ≡ false → Commits view at (Unexpected (first_of (view mid).rest) AHexadecimalDigit) [] mid fault new → Starves view at before fault new ⊎ Refuses view at (unit_at (view before).rest) before fault new
+      pub uncounted : (before mid new : S) (fault : ParseFault A) → Opened before mid → begins is_ascii_hexdigit (view mid).rest ≡ false → Commits view at (Unexpected (first_of (view mid).rest) AHexadecimalDigit) [] mid fault new → RunsOut view at before fault new ⊎ Refuses view at (unit_at (view before).rest) before fault new
       uncounted before mid new fault o q c =
           unit_refused before mid new (codes "\\u{") (view mid).rest (Unexpected (first_of (view mid).rest) AHexadecimalDigit) fault o.takes (o.unit ∙ braced_none (view mid).rest q) c
 
-      pub unclosed : (before mid new : S) (digits : Text) (fault : ParseFault A) → Counted before mid digits → begins (the 125) (view mid).rest ≡ false → Commits view at (Unexpected (first_of (view mid).rest) (Word (codes "}"))) [] mid fault new → Starves view at before fault new ⊎ Refuses view at (unit_at (view before).rest) before fault new
+      pub unclosed : (before mid new : S) (digits : Text) (fault : ParseFault A) → Counted before mid digits → begins (the 125) (view mid).rest ≡ false → Commits view at (Unexpected (first_of (view mid).rest) (Word (codes "}"))) [] mid fault new → RunsOut view at before fault new ⊎ Refuses view at (unit_at (view before).rest) before fault new
       unclosed before mid new digits fault h q c =
           unit_refused before mid new (codes "\\u{" ++ digits) (view mid).rest (Unexpected (first_of (view mid).rest) (Word (codes "}"))) fault h.takes (h.unit ∙ closed_open digits (view mid).rest q) c
 
       -- a unit that is bad at its beginning, or out of memory
       pub refused_before : (before mid new : S) (t r : Text) (cause : Fault) (fault : ParseFault A) → Takes view at t r before mid → unit_at (view before).rest ≡ Bad cause [] →
-          (view before).failed ≡ false → StarvesHere view at mid fault new ⊎ FailsBehind view at cause (view before).passed mid fault new → Starves view at before fault new ⊎ Refuses view at (unit_at (view before).rest) before fault new
+          (view before).failed ≡ false → RunsOutHere view at mid fault new ⊎ FailsAfter view at cause (view before).passed mid fault new → RunsOut view at before fault new ⊎ Refuses view at (unit_at (view before).rest) before fault new
       refused_before before mid new t r cause fault k u f h = rw u (refuses_before view at view_at at_at cause before mid new t r fault f k h)
 
       -- an escape that ends with its backslash
       pub unescaped : (old mid last new : S) (a : ℕ) (fault : ParseFault A) → a ≡ 92 → Some a ≡ first_of (view old).rest → mid ≡ at old (advanced (view old)) → None ≡ first_of (view mid).rest → last ≡ at mid (advanced (view mid)) →
-          Commits view at (Unexpected (first_of (view last).rest) AnEscapedCharacter) [] last fault new → Starves view at old fault new ⊎ Refuses view at (unit_at (view old).rest) old fault new
+          Commits view at (Unexpected (first_of (view last).rest) AnEscapedCharacter) [] last fault new → RunsOut view at old fault new ⊎ Refuses view at (unit_at (view old).rest) old fault new
       unescaped old mid last new a fault p e m f n c =
           let x = first_some (view old).rest a e in
           let k = takes_next view at view_at at_view at_at old mid 92 x.0 (x.1 ∙ ap (λ z. z ∷ x.0) p) m in
@@ -199,27 +199,27 @@ module _ {S : Type 0} (view : S → StreamView) (at : S → StreamView → S) wh
 
       -- a character after a backslash that is no escape
       pub unknown_escape : (old mid last new : S) (a b : ℕ) (fault : ParseFault A) → a ≡ 92 → Some a ≡ first_of (view old).rest → mid ≡ at old (advanced (view old)) → Some b ≡ first_of (view mid).rest → last ≡ at mid (advanced (view mid)) → (b ≡ 117 → ⊥) → None ≡ escape_of b →
-          (view old).failed ≡ false → FailsBehind view at (BadEscape b) (view old).passed last fault new → Starves view at old fault new ⊎ Refuses view at (unit_at (view old).rest) old fault new
+          (view old).failed ≡ false → FailsAfter view at (BadEscape b) (view old).passed last fault new → RunsOut view at old fault new ⊎ Refuses view at (unit_at (view old).rest) old fault new
       unknown_escape old mid last new a b fault p e m f n q h g l =
           let k = two_taken old mid last a b p e m f n in
           refused_before old last new (92 ∷ b ∷ []) (view last).rest (BadEscape b) fault k (unit_unknown (view old).rest (view last).rest b k.same q h) g (inr l)
 
       -- digits that name no character
       pub unnamed : (before opens now new : S) (fault : ParseFault A) → let digits = front is_ascii_hexdigit (view opens).rest in Counted before now digits → begins (the 125) (view now).rest ≡ true → character_of (value_in 16 digits) ≡ None →
-          (view before).failed ≡ false → StarvesHere view at now fault new ⊎ FailsBehind view at (BadUnicodeEscape (encode_utf8_all digits)) (view before).passed now fault new → Starves view at before fault new ⊎ Refuses view at (unit_at (view before).rest) before fault new
+          (view before).failed ≡ false → RunsOutHere view at now fault new ⊎ FailsAfter view at (BadUnicodeEscape (encode_utf8_all digits)) (view before).passed now fault new → RunsOut view at before fault new ⊎ Refuses view at (unit_at (view before).rest) before fault new
       unnamed before opens now new fault h q e f k =
           let digits = front is_ascii_hexdigit (view opens).rest in
           let m = begins_the 125 (view now).rest q in
           let u : unit_at (view before).rest ≡ Bad (BadUnicodeEscape digits) [] = h.unit ∙ (ap (closed digits) m.1 ∙ named_none digits m.0 e) in
           let b : encode_utf8_all digits ≡ digits = encodes-front_hexdigits (view opens).rest in
-          refused_before before now new (codes "\\u{" ++ digits) (view now).rest (BadUnicodeEscape digits) fault h.takes u f (subst (λ z. StarvesHere view at now fault new ⊎ FailsBehind view at (BadUnicodeEscape z) (view before).passed now fault new) b k)
+          refused_before before now new (codes "\\u{" ++ digits) (view now).rest (BadUnicodeEscape digits) fault h.takes u f (subst (λ z. RunsOutHere view at now fault new ⊎ FailsAfter view at (BadUnicodeEscape z) (view before).passed now fault new) b k)
 
       -- out of memory after what was parsed
-      pub starved_within : (start now new : S) (cs taken : Text) (fault : ParseFault A) → Within start now cs taken → Starves view at now fault new → Starves view at start fault new
-      starved_within start now new cs taken fault w s = starves_after view at view_at at_at start now new taken (view now).rest fault w.takes s
+      pub ran_out_within : (start now new : S) (cs taken : Text) (fault : ParseFault A) → Within start now cs taken → RunsOut view at now fault new → RunsOut view at start fault new
+      ran_out_within start now new cs taken fault w s = runs_out_in_rest view at view_at at_at start now new taken (view now).rest fault w.takes s
 
-      pub starved_here : (start now new : S) (cs taken : Text) (fault : ParseFault A) → (view start).failed ≡ false → Within start now cs taken → StarvesHere view at now fault new → Starves view at start fault new
-      starved_here start now new cs taken fault f w s = starves_behind view at view_at at_at start now new taken (view now).rest fault f w.takes s
+      pub ran_out_here : (start now new : S) (cs taken : Text) (fault : ParseFault A) → (view start).failed ≡ false → Within start now cs taken → RunsOutHere view at now fault new → RunsOut view at start fault new
+      ran_out_here start now new cs taken fault f w s = runs_out_after view at view_at at_at start now new taken (view now).rest fault f w.takes s
 
       bad_by : (u : Outcome ℕ) (text : Text) (old new : S) (f : ParseFault A) → unit_at text ≡ u → Refuses view at u old f new → (cause : Fault) × (upto : Text) × (u ≡ Bad cause upto) × Commits view at cause upto old f new
       bad_by (Read x t r) text old new f n g = absurd g
@@ -227,17 +227,17 @@ module _ {S : Type 0} (view : S → StreamView) (at : S → StreamView → S) wh
       bad_by (Bad e u) text old new f n g = (e, u, refl, g)
 
       -- a unit that is an error
-      pub spoiled : (start now new : S) (cs taken : Text) (f : ParseFault A) → Within start now cs taken → begins (the 34) (view now).rest ≡ false → Starves view at now f new ⊎ Refuses view at (unit_at (view now).rest) now f new →
-          Starves view at start f new ⊎ Refuses view at (mapped encode_utf8_all (demanded (units_at [] (view start).rest))) start f new
-      spoiled start now new cs taken f w q (inl s) = inl (starves_after view at view_at at_at start now new taken (view now).rest f w.takes s)
+      pub spoiled : (start now new : S) (cs taken : Text) (f : ParseFault A) → Within start now cs taken → begins (the 34) (view now).rest ≡ false → RunsOut view at now f new ⊎ Refuses view at (unit_at (view now).rest) now f new →
+          RunsOut view at start f new ⊎ Refuses view at (mapped encode_utf8_all (demanded (units_at [] (view start).rest))) start f new
+      spoiled start now new cs taken f w q (inl s) = inl (runs_out_in_rest view at view_at at_at start now new taken (view now).rest f w.takes s)
       spoiled start now new cs taken f w q (inr g) =
           let b = bad_by (unit_at (view now).rest) (view now).rest now new f refl g in
           let o : demanded (units_at [] (view start).rest) ≡ Bad b.0 (taken ++ b.1) = w.so_far ∙ whole_bad cs taken (view now).rest q b.0 b.1 b.2 in
           rw o (inr (commits_after view at view_at at_at b.0 b.1 start now new taken (view now).rest f w.takes b.3))
 
       -- the mark that begins a quoted text is not there, or the stream has failed
-      pub unquoted : (b : Bool) (o : Outcome Unit) (old new : S) (f : ParseFault A) → Starves view at old f new ⊎ Refuses view at (unless_failed b o) old f new →
-          Starves view at old f new ⊎ Refuses view at (unless_failed b (mapped encode_utf8_all (followed o (λ mark text. units_at [] text)))) old f new
+      pub unquoted : (b : Bool) (o : Outcome Unit) (old new : S) (f : ParseFault A) → RunsOut view at old f new ⊎ Refuses view at (unless_failed b o) old f new →
+          RunsOut view at old f new ⊎ Refuses view at (unless_failed b (mapped encode_utf8_all (followed o (λ mark text. units_at [] text)))) old f new
       unquoted true o old new f h = h
       unquoted false (Read x t r) old new f (inl s) = inl s
       unquoted false (Read x t r) old new f (inr e) = absurd e

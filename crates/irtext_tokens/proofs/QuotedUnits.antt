@@ -11,7 +11,7 @@ use Rattle.irtext_base.specs.Faults.{Word, AHexadecimalDigit, AnEscapedCharacter
 use Rattle.irtext_base.specs.Answers.{Outcome, Read, Missing, Bad, prefixed, mapped, followed, demanded}
 use Rattle.irtext_base.proofs.Along.{front_after}
 use Rattle.irtext_base.proofs.Characters.{is_false}
-use Rattle.irtext_tokens.specs.QuotedTexts.{is_plain, escape_of, escaped, named, closed, braced, unicode_at, escape_at, unit_at, behind_first, unit_before, units_at}
+use Rattle.irtext_tokens.specs.QuotedTexts.{is_plain, escape_of, escaped, named, closed, braced, unicode_at, escape_at, unit_at, after_first, unit_before, units_at}
 
 -- a unit takes the first character, and what it takes is a prefix of the text
 abbrev pub UnitBegins : ℕ → Text → Outcome ℕ → Type 0
@@ -99,7 +99,7 @@ unit_and u = followed u (λ c rest. mapped (λ cs. c ∷ cs) (units_at [] rest))
 
 by_unit : (c : ℕ) (text : Text) (u : Outcome ℕ) → UnitBegins c text u → unit_before u (λ left. units_at left text) ≡ unit_and u
 by_unit c text (Read d taken rest) h =
-    ap (λ z. prefixed taken (mapped (λ cs. d ∷ cs) z)) (ap (λ z. units_at (behind_first z) text) h.1 ∙ (ap (units_at h.0) (sym h.2) ∙ units_skip h.0 rest))
+    ap (λ z. prefixed taken (mapped (λ cs. d ∷ cs) z)) (ap (λ z. units_at (after_first z) text) h.1 ∙ (ap (units_at h.0) (sym h.2) ∙ units_skip h.0 rest))
 by_unit c text (Missing e) h = absurd h
 by_unit c text (Bad e u) h = refl
 

@@ -14,8 +14,8 @@ use Rattle.irtext_base.proofs.Sincere.{Of, of_read, of_missing, of_bad, of_here,
 use Rattle.irtext_tokens.specs.Tokens.{is_sign, sign_of, after_sign, spelled_at, text_at, space_at}
 use Rattle.irtext_tokens.specs.Demanded.{spaced_at}
 use Rattle.irtext_tokens.specs.ListOutcomes.{item_after, items_after, or_empty, separated_at}
-use Rattle.irtext_tokens.specs.Integers.{sign_at, numeral_at, ranged, signed_integer, no_digit_behind, int_at}
-use Rattle.irtext_tokens.specs.QuotedTexts.{escape_of, escaped, named, closed, braced, unicode_at, escape_at, unit_at, behind_first, unit_before, units_at, quoted_at}
+use Rattle.irtext_tokens.specs.Integers.{sign_at, numeral_at, ranged, signed_integer, no_digit_after, int_at}
+use Rattle.irtext_tokens.specs.QuotedTexts.{escape_of, escaped, named, closed, braced, unicode_at, escape_at, unit_at, after_first, unit_before, units_at, quoted_at}
 use Rattle.irtext_tokens.proofs.QuotedUnits.{UnitBegins, unit_begun}
 
 -- ---- fixed texts
@@ -32,7 +32,7 @@ sign_after : (text : Text) → sign_of text ++ after_sign text ≡ text
 sign_after [] = refl
 sign_after (c ∷ text) = elim (is_sign c) as (λ b. cond b (c ∷ []) [] ++ cond b text (c ∷ text) ≡ c ∷ text) [ true ↦ refl | false ↦ refl ]
 
-of_no_digit : {X : Type 0} (sign text whole : Text) → sign ++ text ≡ whole → Of {X = X} whole (no_digit_behind sign text)
+of_no_digit : {X : Type 0} (sign text whole : Text) → sign ++ text ≡ whole → Of {X = X} whole (no_digit_after sign text)
 of_no_digit [] text whole e = of_missing whole _ refl
 of_no_digit (c ∷ sign) text whole e = of_bad whole _ (c ∷ sign) text refl e
 
@@ -73,9 +73,9 @@ of_unicode : (text : Text) → Of (92 ∷ 117 ∷ text) (unicode_at text)
 of_unicode [] = of_bad _ _ (codes "\\u") [] refl refl
 of_unicode (c ∷ text) =
     let digits = front is_ascii_hexdigit text in
-    let behind = after is_ascii_hexdigit text in
-    elim (c == 123) as (λ b. (c == 123) ≡ b → Of (92 ∷ 117 ∷ c ∷ text) (cond b (braced digits behind) (Bad (Unexpected (Some c) (Word (codes "{"))) (codes "\\u")))) [
-      | true ↦ (λ q. subst (λ z. Of (92 ∷ 117 ∷ z ∷ text) (braced digits behind)) (sym (eqb-true c 123 q)) (subst (λ z. Of (92 ∷ 117 ∷ 123 ∷ z) (braced digits behind)) (front_after is_ascii_hexdigit text) (of_braced digits behind)))
+    let following = after is_ascii_hexdigit text in
+    elim (c == 123) as (λ b. (c == 123) ≡ b → Of (92 ∷ 117 ∷ c ∷ text) (cond b (braced digits following) (Bad (Unexpected (Some c) (Word (codes "{"))) (codes "\\u")))) [
+      | true ↦ (λ q. subst (λ z. Of (92 ∷ 117 ∷ z ∷ text) (braced digits following)) (sym (eqb-true c 123 q)) (subst (λ z. Of (92 ∷ 117 ∷ 123 ∷ z) (braced digits following)) (front_after is_ascii_hexdigit text) (of_braced digits following)))
       | false ↦ (λ q. of_bad _ _ (codes "\\u") (c ∷ text) refl refl)
     ] refl
 
@@ -102,8 +102,8 @@ of_unit c text =
 -- a unit that was begun, and what holds of the text after it
 of_before : (c : ℕ) (text : Text) (o : Outcome ℕ) (next : Text → Outcome Text) → Of (c ∷ text) o → UnitBegins c text o → ((left rest : Text) → left ++ rest ≡ text → Of rest (next left)) → Of (c ∷ text) (unit_before o next)
 of_before c text (Read d taken rest) next h b k =
-    let m = of_mapped rest (λ cs. d ∷ cs) (next (behind_first taken)) (subst (λ z. Of rest (next (behind_first z))) (sym b.1) (k b.0 rest b.2)) in
-    subst (λ z. Of z (prefixed taken (mapped (λ cs. d ∷ cs) (next (behind_first taken))))) h.says (of_prefixed taken rest _ m)
+    let m = of_mapped rest (λ cs. d ∷ cs) (next (after_first taken)) (subst (λ z. Of rest (next (after_first z))) (sym b.1) (k b.0 rest b.2)) in
+    subst (λ z. Of z (prefixed taken (mapped (λ cs. d ∷ cs) (next (after_first taken))))) h.says (of_prefixed taken rest _ m)
 of_before c text (Missing cause) next h b k = of_missing (c ∷ text) cause h.says
 of_before c text (Bad cause upto) next h b k = of_bad (c ∷ text) cause upto h.says.1.0 h.says.0 h.says.1.1
 

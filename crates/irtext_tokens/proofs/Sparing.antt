@@ -7,7 +7,7 @@ use Rattle.irtext_base.specs.Stream.{StreamView}
 use Rattle.irtext_base.specs.Answers.{Outcome, Read, Missing, Bad, Takes, Gives, DemandsOf, NeedsNoMemory, mapped, followed, unless_failed}
 use Rattle.irtext_base.specs.declared.parsable.fault.ParseFault.{ParseFault}
 use Rattle.irtext_base.proofs.Compose.{seen_after}
-use Rattle.irtext_tokens.specs.Integers.{no_digit_behind, sign_at, before_hexadecimal, numeral_at, bool_at}
+use Rattle.irtext_tokens.specs.Integers.{no_digit_after, sign_at, before_hexadecimal, numeral_at, bool_at}
 use Rattle.irtext_tokens.specs.Tokens.{text_at, sign_of, after_sign}
 
 module _ {X A : Type 0} where
@@ -56,7 +56,7 @@ module _ {X A : Type 0} where
 
 module _ {A : Type 0} where
   -- where no digit follows, nothing is parsed
-  pub no_digit_spares : (X Y : Type 0) (sign text : Text) (fault : ParseFault A) → NeedsNoMemory {X = X} {Y = Y} (no_digit_behind sign text) (Err fault)
+  pub no_digit_spares : (X Y : Type 0) (sign text : Text) (fault : ParseFault A) → NeedsNoMemory {X = X} {Y = Y} (no_digit_after sign text) (Err fault)
   no_digit_spares X Y [] text fault = tt
   no_digit_spares X Y (c ∷ sign) text fault = tt
 

@@ -2,11 +2,11 @@
 use Rattle.std.proofs.Common.{◌≡◌, ℕ, Bool, true, false, Err, [], ◌∷◌, ◌++◌, refl, sym, ◌∙◌, ap, subst, append_assoc, append-nil, inr, ◌⊎◌, arith}
 use Rattle.irtext_base.specs.Text.{Text, begins}
 use Rattle.irtext_base.specs.Reading.{the}
-use Rattle.irtext_base.specs.Stream.{StreamView, first_of, advanced, advanced_by, behind}
+use Rattle.irtext_base.specs.Stream.{StreamView, first_of, advanced, advanced_by, after_taken}
 use Rattle.irtext_base.specs.Faults.{Unexpected, Word}
-use Rattle.irtext_base.specs.Answers.{Outcome, Read, Missing, Bad, Takes, Passes, Starves, StarvesHere, Gives, Refuses, NeedsNoMemory, prefixed}
+use Rattle.irtext_base.specs.Answers.{Outcome, Read, Missing, Bad, Takes, Passes, RunsOut, RunsOutHere, Gives, Refuses, NeedsNoMemory, prefixed}
 use Rattle.irtext_base.specs.declared.parsable.fault.ParseFault.{ParseFault}
-use Rattle.irtext_base.proofs.Compose.{answers_after, starves_behind, takes_none, seen_after, takes_more}
+use Rattle.irtext_base.proofs.Compose.{answers_after, runs_out_after, takes_none, seen_after, takes_more}
 use Rattle.std.proofs.lemmas.Bool.Decides.{nat_tests}
 use Rattle.irtext_tokens.specs.Spelled.{begun_by, Spelling, Differs, Misses}
 use Rattle.irtext_tokens.specs.Tokens.{spelled_at, text_at}
@@ -59,7 +59,7 @@ module _ {S : Type 0} (view : S → StreamView) (at : S → StreamView → S) wh
     spelling_more word old now next begun taken left c s e n =
         let f = begins_the c (view now).rest e in
         let k = takes_next now next c f.0 f.1 n in
-        let v : view next ≡ behind (view now) (c ∷ []) f.0 = seen_after view at view_at at_at now next (c ∷ []) f.0 k in
+        let v : view next ≡ after_taken (view now) (c ∷ []) f.0 = seen_after view at view_at at_at now next (c ∷ []) f.0 k in
         let r : (view next).rest ≡ f.0 = ap (λ z. z.rest) v in
         let t = takes_more view at view_at at_at old now next taken (view now).rest (c ∷ []) f.0 s.takes k in
         let more : spelled_at word (c ∷ left) (view now).rest ≡ prefixed (c ∷ []) (spelled_at word left f.0) = ap (spelled_at word (c ∷ left)) f.1 ∙ spelled-more word left f.0 c (the-same c) in
@@ -75,12 +75,12 @@ module _ {S : Type 0} (view : S → StreamView) (at : S → StreamView → S) wh
     spelling_all word old now false taken s = rw s.so_far (refl, rw (sym (s.untaken refl)) s.takes)
 
     -- a text that was passed whole was parsed
-    pub whole_gives : (word rest : Text) (old new : S) → (view old).rest ≡ word ++ rest → new ≡ at old (behind (view old) word rest) → Gives view at (text_at word (view old).rest) old tt new
+    pub whole_gives : (word rest : Text) (old new : S) → (view old).rest ≡ word ++ rest → new ≡ at old (after_taken (view old) word rest) → Gives view at (text_at word (view old).rest) old tt new
     whole_gives word rest old new s n = rw (text_at-literal word (view old).rest rest s) (refl, record { is = n; same = sym s })
 
     module _ {A : Type 0} where
       -- the next character of the word doesn't come
-      pub spelling_refused : (word : Text) (old now new : S) (begun : Bool) (fault : ParseFault A) → Differs view at word old begun now → Misses view at begun (Unexpected (first_of (view now).rest) (Word word)) now fault new → Starves view at old fault new ⊎ Refuses view at (text_at word (view old).rest) old fault new
+      pub spelling_refused : (word : Text) (old now new : S) (begun : Bool) (fault : ParseFault A) → Differs view at word old begun now → Misses view at begun (Unexpected (first_of (view now).rest) (Word word)) now fault new → RunsOut view at old fault new ⊎ Refuses view at (text_at word (view old).rest) old fault new
       spelling_refused word old now new true fault h m =
           let o : Outcome Unit = Missing (Unexpected (first_of (view now).rest) (Word word)) in
           let q : text_at word (view old).rest ≡ prefixed h.taken o = h.spelling.so_far ∙ ap (prefixed h.taken) (spelled-misses word h.left (view now).rest h.next h.other) in
@@ -100,5 +100,5 @@ module _ {S : Type 0} (view : S → StreamView) (at : S → StreamView → S) wh
           rw q tt
 
       -- out of memory after the characters that were taken
-      pub spelling_starved : (word : Text) (old now new : S) (begun : Bool) (fault : ParseFault A) → (view old).failed ≡ false → Differs view at word old begun now → StarvesHere view at now fault new → Starves view at old fault new
-      spelling_starved word old now new begun fault f h s = starves_behind view at view_at at_at old now new h.taken (view now).rest fault f h.spelling.takes s
+      pub spelling_ran_out : (word : Text) (old now new : S) (begun : Bool) (fault : ParseFault A) → (view old).failed ≡ false → Differs view at word old begun now → RunsOutHere view at now fault new → RunsOut view at old fault new
+      spelling_ran_out word old now new begun fault f h s = runs_out_after view at view_at at_at old now new h.taken (view now).rest fault f h.spelling.takes s

@@ -3,12 +3,12 @@ use Rattle.std.proofs.Common.{◌≡◌, ℕ, Bool, true, false, Result, Ok, Err
 use Rattle.std.specs.Char.{is_whitespace}
 use Rattle.irtext_base.specs.Text.{Text, begins, front, after}
 use Rattle.irtext_base.specs.Reading.{the}
-use Rattle.irtext_base.specs.Stream.{StreamView, advanced, behind}
-use Rattle.irtext_base.specs.Answers.{Outcome, Read, Missing, Bad, Takes, Starves, StarvesHere, Refuses, Answers, Gives, DemandsOf, demanded, prefixed, mapped, followed, unless_failed}
+use Rattle.irtext_base.specs.Stream.{StreamView, advanced, after_taken}
+use Rattle.irtext_base.specs.Answers.{Outcome, Read, Missing, Bad, Takes, RunsOut, RunsOutHere, Refuses, Answers, Gives, DemandsOf, demanded, prefixed, mapped, followed, unless_failed}
 use Rattle.irtext_base.specs.declared.parsable.fault.ParseFault.{ParseFault}
-use Rattle.irtext_base.proofs.Compose.{takes_none, takes_fine, seen_after, takes_more, answers_after, answers_demanded, starves_behind, refuses_first, refuses_mapped_demanded}
+use Rattle.irtext_base.proofs.Compose.{takes_none, takes_fine, seen_after, takes_more, answers_after, answers_demanded, runs_out_after, refuses_first, refuses_mapped_demanded}
 use Rattle.irtext_base.proofs.Along.{front_after}
-use Rattle.irtext_stream.specs.Classes.{behind_space}
+use Rattle.irtext_stream.specs.Classes.{after_spaces}
 use Rattle.irtext_tokens.specs.Tokens.{space_at, text_at}
 use Rattle.irtext_tokens.specs.MustRead.{MustRead, MayRead}
 use Rattle.irtext_tokens.proofs.Grammar.{text_at-literal}
@@ -109,7 +109,7 @@ module _ {S : Type 0} (l : Lens S) where
       let a : Answers l.view l.at see (demanded (f (l.view mid).rest)) mid r new = rw v at h.answers in
       record { answers = rw (p.fine, p.so_far) (answers_after l.view l.at l.view_at l.at_at see (f (l.view mid).rest) old mid new p.taken (l.view mid).rest r p.takes a) }
 
-  refused : {X V A : Type 0} (o : Outcome X) (k : X → Text → Outcome V) (s : S) (fault : ParseFault A) (new : S) → Starves l.view l.at s fault new ⊎ Refuses l.view l.at (demanded o) s fault new → Starves l.view l.at s fault new ⊎ Refuses l.view l.at (demanded (followed o k)) s fault new
+  refused : {X V A : Type 0} (o : Outcome X) (k : X → Text → Outcome V) (s : S) (fault : ParseFault A) (new : S) → RunsOut l.view l.at s fault new ⊎ Refuses l.view l.at (demanded o) s fault new → RunsOut l.view l.at s fault new ⊎ Refuses l.view l.at (demanded (followed o k)) s fault new
   refused o k s fault new (inl h) = inl h
   refused (Read x taken rest) k s fault new (inr h) = absurd h
   refused (Missing cause) k s fault new (inr h) = inr h
@@ -160,14 +160,14 @@ module _ {S : Type 0} (l : Lens S) where
   read_demanded false (Bad cause upto) s new x h = h
 
   -- white space was consumed, and after it the whole of a fixed text
-  pub spaced_whole : {V : Type 0} (k : Unit {0} → Text → Outcome V) (word rest : Text) (old new : S) → (l.view old).failed ≡ false → after is_whitespace (l.view old).rest ≡ word ++ rest → new ≡ l.at old (behind (behind_space (l.view old)) word rest) → Passed (λ t. followed (space_at t) (λ _ u. followed (text_at word u) k)) (k tt) old new
+  pub spaced_whole : {V : Type 0} (k : Unit {0} → Text → Outcome V) (word rest : Text) (old new : S) → (l.view old).failed ≡ false → after is_whitespace (l.view old).rest ≡ word ++ rest → new ≡ l.at old (after_taken (after_spaces (l.view old)) word rest) → Passed (λ t. followed (space_at t) (λ _ u. followed (text_at word u) k)) (k tt) old new
   spaced_whole k word rest old new f e n =
       let out : Text → Outcome _ = λ t. followed (space_at t) (λ _ u. followed (text_at word u) k) in
-      let v = behind_space (l.view old) in
+      let v = after_spaces (l.view old) in
       let mid = l.at old v in
       let seen = l.view_at old v in
       let p = spaced {new = mid} (λ _ u. followed (text_at word u) k) (starts out out old f refl) (record { is = refl; same = front_after is_whitespace (l.view old).rest }) in
-      let there : new ≡ l.at mid (behind (l.view mid) word rest) = n ∙ (sym (l.at_at old v (behind v word rest)) ∙ ap (λ w. l.at mid (behind w word rest)) (sym seen)) in
+      let there : new ≡ l.at mid (after_taken (l.view mid) word rest) = n ∙ (sym (l.at_at old v (after_taken v word rest)) ∙ ap (λ w. l.at mid (after_taken w word rest)) (sym seen)) in
       let g = whole_gives l.view l.at l.view_at l.at_view l.at_at word rest mid new (ap (λ w. w.rest) seen ∙ e) there in
       passed out (text_at word (l.view mid).rest) false k old mid new p.taken tt p.fine p.takes p.so_far (read_demanded false (text_at word (l.view mid).rest) mid new tt g)
 
@@ -198,8 +198,8 @@ module _ {S : Type 0} (l : Lens S) where
       record { answers = rw (p.fine, p.so_far) g }
 
   -- out of memory at the stream's position
-  pub starved : {W V A : Type 0} {sees : W → V} {outcome next : Text → Outcome V} {old mid new : S} {fault : ParseFault A} → Passed outcome next old mid → StarvesHere l.view l.at mid fault new → MustRead l.view l.at sees outcome old (Err fault) new
-  starved {old = old} {mid = mid} {new = new} {fault = fault} p h = record { answers = inl (starves_behind l.view l.at l.view_at l.at_at old mid new p.taken (l.view mid).rest fault p.fine p.takes h) }
+  pub ran_out : {W V A : Type 0} {sees : W → V} {outcome next : Text → Outcome V} {old mid new : S} {fault : ParseFault A} → Passed outcome next old mid → RunsOutHere l.view l.at mid fault new → MustRead l.view l.at sees outcome old (Err fault) new
+  ran_out {old = old} {mid = mid} {new = new} {fault = fault} p h = record { answers = inl (runs_out_after l.view l.at l.view_at l.at_at old mid new p.taken (l.view mid).rest fault p.fine p.takes h) }
 
   -- what is to be parsed is seen in another way
   pub onward : {V : Type 0} {outcome : Text → Outcome V} {old mid : S} (next last : Text → Outcome V) → next (l.view mid).rest ≡ last (l.view mid).rest → Passed outcome next old mid → Passed outcome last old mid

@@ -5,7 +5,7 @@ use Rattle.std.specs.Str.{all_scalars}
 use Rattle.irtext_base.specs.Text.{Text, begins, front, after_space, begins_word, in_dotted}
 use Rattle.irtext_base.specs.Reading.{keyword}
 use Rattle.irtext_base.specs.Answers.{Outcome, Read, Missing, Bad, mapped}
-use Rattle.irtext_base.specs.Own.{found, missing, standing, texts_of, Ends, Lawful, Sincere, Unreserved}
+use Rattle.irtext_base.specs.Own.{found, missing, verdict, texts_of, Ends, Lawful, Sincere, Unreserved}
 use Rattle.irtext_base.proofs.Characters.{or_left}
 use Rattle.irtext_base.proofs.Sincere.{of_either, of_mapped, of_sincere, sincere_of}
 use Rattle.irtext_base.specs.Families.{is_one_of, AreApart, BeginsWithWord}
@@ -15,18 +15,18 @@ use Rattle.irtext_tokens.specs.declared.either.Either.{Either}
 use Rattle.irtext_tokens.specs.declared.either.Either.TheVariants.{Left, Right}
 
 -- an outcome that is missing is so under each view
-mapped_missing : {X Y : Type 0} (see : X → Y) (o : Outcome X) → standing o ≡ missing → standing (mapped see o) ≡ missing
+mapped_missing : {X Y : Type 0} (see : X → Y) (o : Outcome X) → verdict o ≡ missing → verdict (mapped see o) ≡ missing
 mapped_missing see (Read x taken left) e = absurd (cc)
 mapped_missing see (Missing cause) e = refl
 mapped_missing see (Bad cause upto) e = absurd (cc)
 
 -- a value that is found is found under each view
-mapped_found : {X Y : Type 0} (see : X → Y) (o : Outcome X) (x : X) (left : Text) → standing o ≡ found x left → standing (mapped see o) ≡ found (see x) left
+mapped_found : {X Y : Type 0} (see : X → Y) (o : Outcome X) (x : X) (left : Text) → verdict o ≡ found x left → verdict (mapped see o) ≡ found (see x) left
 mapped_found see (Read y taken more) x left e = cc
 mapped_found see (Missing cause) x left e = absurd (cc)
 mapped_found see (Bad cause upto) x left e = absurd (cc)
 
-missed_by : {X : Type 0} (test : Bool) (o p : Outcome X) → standing o ≡ missing → standing p ≡ missing → standing (cond test o p) ≡ missing
+missed_by : {X : Type 0} (test : Bool) (o p : Outcome X) → verdict o ≡ missing → verdict p ≡ missing → verdict (cond test o p) ≡ missing
 missed_by true o p h k = h
 missed_by false o p h k = k
 
@@ -51,16 +51,16 @@ module _ {L R W : Type 0} (words others : List Text) (left_at : Text → Outcome
       starts (Left x) rest = l.starts x rest
       starts (Right y p) rest = r.starts y rest
 
-      misses : (text : Text) → begins begins_word text ≡ false → standing (at text) ≡ missing
+      misses : (text : Text) → begins begins_word text ≡ false → verdict (at text) ≡ missing
       misses text e = missed_by (is_one_of words (front in_dotted text)) _ _ (mapped_missing Left (left_at text) (l.misses text e)) (mapped_missing right (right_at text) (r.misses text e))
 
-      ours : (text : Text) (x : L) (left : Text) → is_one_of words (front in_dotted text) ≡ true → standing (left_at text) ≡ found x left → standing (at text) ≡ found (Left x) left
-      ours text x left b e = ap (λ z. standing (cond z (mapped Left (left_at text)) (mapped right (right_at text)))) b ∙ mapped_found Left (left_at text) x left e
+      ours : (text : Text) (x : L) (left : Text) → is_one_of words (front in_dotted text) ≡ true → verdict (left_at text) ≡ found x left → verdict (at text) ≡ found (Left x) left
+      ours text x left b e = ap (λ z. verdict (cond z (mapped Left (left_at text)) (mapped right (right_at text)))) b ∙ mapped_found Left (left_at text) x left e
 
-      theirs : (text : Text) (y : R) (left : Text) → is_one_of words (front in_dotted text) ≡ false → standing (right_at text) ≡ found y left → standing (at text) ≡ found (right y) left
-      theirs text y left b e = ap (λ z. standing (cond z (mapped Left (left_at text)) (mapped right (right_at text)))) b ∙ mapped_found right (right_at text) y left e
+      theirs : (text : Text) (y : R) (left : Text) → is_one_of words (front in_dotted text) ≡ false → verdict (right_at text) ≡ found y left → verdict (at text) ≡ found (right y) left
+      theirs text y left b e = ap (λ z. verdict (cond z (mapped Left (left_at text)) (mapped right (right_at text)))) b ∙ mapped_found right (right_at text) y left e
 
-      again : (x : Either L R W) (rest : Text) → Ends rest → (left : Text) × (standing (at (text_of x ++ rest)) ≡ found x left) × (after_space left ≡ after_space rest)
+      again : (x : Either L R W) (rest : Text) → Ends rest → (left : Text) × (verdict (at (text_of x ++ rest)) ≡ found x left) × (after_space left ≡ after_space rest)
       again (Left x) rest e = let k = l.again x rest e in (k.0, ours (left_text x ++ rest) x k.0 (ll.leads x rest e) k.1, k.2)
       again (Right y p) rest e = let k = r.again y rest e in (k.0, theirs (right_text y ++ rest) y k.0 (not_one_of words others _ (none_shared words others d) (rl.leads y rest e)) k.1, k.2)
 

@@ -52,13 +52,13 @@ sign_text None = []
 sign_text (Some c) = c ∷ []
 
 -- a required digit is missing: committed after a sign, and otherwise uncommitted
-abbrev pub no_digit_behind : {X : Type 0} → Text → Text → Outcome X
-no_digit_behind [] text = Missing (Unexpected (first_of text) ADigit)
-no_digit_behind (c ∷ sign) text = Bad (Unexpected (first_of text) ADigit) (c ∷ sign)
+abbrev pub no_digit_after : {X : Type 0} → Text → Text → Outcome X
+no_digit_after [] text = Missing (Unexpected (first_of text) ADigit)
+no_digit_after (c ∷ sign) text = Bad (Unexpected (first_of text) ADigit) (c ∷ sign)
 
 -- an optional sign that is followed by a digit
 abbrev pub sign_at : Text → Outcome Text
-sign_at text = cond (begins is_ascii_digit (after_sign text)) (Read (sign_of text) (sign_of text) (after_sign text)) (no_digit_behind (sign_of text) (after_sign text))
+sign_at text = cond (begins is_ascii_digit (after_sign text)) (Read (sign_of text) (sign_of text) (after_sign text)) (no_digit_after (sign_of text) (after_sign text))
 
 -- consumes nothing, if a hexadecimal digit comes next
 abbrev pub before_hexadecimal : Text → Outcome Unit

@@ -16,9 +16,9 @@ module _ {X : Type 0} (R : Text → Outcome X → Type 0) where
   -- Separators and items, as long as a separator comes next, with white space after each. An item is required after each separator.
   pub data TailAt (sep : ℕ) : Text → Outcome (List X) → Type 0 where
     ended : (text : Text) → begins (the sep) text ≡ false → TailAt sep text (Read [] [] text)
-    none_behind : (text left : Text) (cause : Fault) → text ≡ sep ∷ left → R (after_space left) (Missing cause) → TailAt sep text (Bad cause (sep ∷ spaces left))
-    bad_behind : (text left : Text) (cause : Fault) (upto : Text) → text ≡ sep ∷ left → R (after_space left) (Bad cause upto) → TailAt sep text (Bad cause ((sep ∷ spaces left) ++ upto))
-    one_behind : (text left : Text) (x : X) (taken rest : Text) (o q : Outcome (List X)) → text ≡ sep ∷ left → R (after_space left) (Read x taken rest) → TailAt sep (after_space rest) o
+    none_follows : (text left : Text) (cause : Fault) → text ≡ sep ∷ left → R (after_space left) (Missing cause) → TailAt sep text (Bad cause (sep ∷ spaces left))
+    bad_after : (text left : Text) (cause : Fault) (upto : Text) → text ≡ sep ∷ left → R (after_space left) (Bad cause upto) → TailAt sep text (Bad cause ((sep ∷ spaces left) ++ upto))
+    one_after : (text left : Text) (x : X) (taken rest : Text) (o q : Outcome (List X)) → text ≡ sep ∷ left → R (after_space left) (Read x taken rest) → TailAt sep (after_space rest) o
         → q ≡ item_before x (((sep ∷ spaces left) ++ taken) ++ spaces rest) o → TailAt sep text q
 
   -- Items with a separator between them, and white space after each item and each separator.

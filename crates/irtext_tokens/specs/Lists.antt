@@ -5,9 +5,9 @@ use Rattle.std.specs.Borrow.{MutBor}
 use Rattle.std.specs.Char.{is_whitespace}
 use Rattle.irtext_base.specs.Text.{Text, begins, front, after_space}
 use Rattle.irtext_base.specs.Reading.{the}
-use Rattle.irtext_base.specs.Stream.{StreamView, first_of, advanced, behind, after_failure}
+use Rattle.irtext_base.specs.Stream.{StreamView, first_of, advanced, after_taken, after_failure}
 use Rattle.irtext_base.specs.Faults.{Failed, EmptyItem, BadSeparator, Unexpected, Word}
-use Rattle.irtext_base.specs.Answers.{StarvesHere, Commits, Passes}
+use Rattle.irtext_base.specs.Answers.{RunsOutHere, Commits, Passes}
 use Rattle.irtext_base.specs.declared.parsable.fault.ParseFault.{ParseFault}
 use Rattle.irtext_base.specs.declared.printable.ListSeparator.{ListSeparator}
 use Rattle.irtext_base.specs.declared.printable.ListSeparator.TheVariants as separator
@@ -18,7 +18,7 @@ spaces text = front is_whitespace text
 
 -- the stream after the white space that comes next
 abbrev pub skipped : StreamView → StreamView
-skipped v = behind v (spaces v.rest) (after_space v.rest)
+skipped v = after_taken v (spaces v.rest) (after_space v.rest)
 
 -- the character of a separator, if it has one
 abbrev pub character_of : ListSeparator → Option ℕ
@@ -46,7 +46,7 @@ pub record Calls {S F R X A : Type 0} (seen : R → Result X (ParseFault A)) (it
 
 module _ {S : Type 0} (view : S → StreamView) (at : S → StreamView → S) where
   -- what an item that is parsed does to a stream: the text that is left is the old one or a suffix of it
-  pub record HandsOn (old new : S) : Type 0 where
+  pub record MovesOn (old new : S) : Type 0 where
     pub taken : Text
     pub same : taken ++ (view new).rest ≡ (view old).rest
     pub passed : (view new).passed ≡ (view old).passed ++ taken
@@ -55,7 +55,7 @@ module _ {S : Type 0} (view : S → StreamView) (at : S → StreamView → S) wh
   -- the rules of errors: a value leaves the old text or a suffix of it, an uncommitted error leaves the stream unchanged, and a committed
   -- error leaves it failed
   abbrev pub KeepsRules : {Y A : Type 0} → S → Result Y (ParseFault A) → S → Type 0
-  KeepsRules old (Ok y) new = HandsOn old new
+  KeepsRules old (Ok y) new = MovesOn old new
   KeepsRules old (Err fault) new = (fault.committed ≡ false → new ≡ old) × (fault.committed ≡ true → (view new).failed ≡ true)
 
   -- the error of a required item: an uncommitted one becomes committed, and the stream is marked as failed
@@ -93,7 +93,7 @@ module _ {S : Type 0} (view : S → StreamView) (at : S → StreamView → S) wh
       missing : (f : F) (s : S) (fault : ParseFault A) (g : F) (t : S) → calls f s (Err fault) g t → fault.committed ≡ false → Items f s (Ok []) t
       bad : (f : F) (s : S) (fault : ParseFault A) (g : F) (t : S) → calls f s (Err fault) g t → fault.committed ≡ true → Items f s (Err fault) t
       empty : (f : F) (s : S) (x : X) (g : F) (t : S) (fault : ParseFault A) (u : S) → calls f s (Ok x) g t → (view t).rest ≡ (view s).rest → Commits view at EmptyItem [] t fault u → Items f s (Err fault) u
-      no_room : (f : F) (s : S) (x : X) (g : F) (t : S) (fault : ParseFault A) (u : S) → calls f s (Ok x) g t → StarvesHere view at t fault u → Items f s (Err fault) u
+      no_room : (f : F) (s : S) (x : X) (g : F) (t : S) (fault : ParseFault A) (u : S) → calls f s (Ok x) g t → RunsOutHere view at t fault u → Items f s (Err fault) u
       more : (f : F) (s : S) (x : X) (g : F) (t b : S) (r q : Result (List X) (ParseFault A)) (u : S) → calls f s (Ok x) g t → length (view t).rest < length (view s).rest → Skips t b
           → Items g b r u → q ≡ prepended (x ∷ []) r → Items f s q u
 
@@ -107,7 +107,7 @@ module _ {S : Type 0} (view : S → StreamView) (at : S → StreamView → S) wh
     pub data Tail (sep : ℕ) : F → S → Result (List X) (ParseFault A) → S → Type 0 where
       none : (f : F) (s : S) → begins (the sep) (view s).rest ≡ false → Tail sep f s (Ok []) s
       insisted : (f : F) (s b : S) (fault last : ParseFault A) (g : F) (t u : S) → Opens sep s b → calls f b (Err fault) g t → Insisted fault t last u → Tail sep f s (Err last) u
-      no_more_room : (f : F) (s b : S) (x : X) (g : F) (t : S) (fault : ParseFault A) (u : S) → Opens sep s b → calls f b (Ok x) g t → StarvesHere view at t fault u → Tail sep f s (Err fault) u
+      no_more_room : (f : F) (s b : S) (x : X) (g : F) (t : S) (fault : ParseFault A) (u : S) → Opens sep s b → calls f b (Ok x) g t → RunsOutHere view at t fault u → Tail sep f s (Err fault) u
       next : (f : F) (s b : S) (x : X) (g : F) (t d : S) (r q : Result (List X) (ParseFault A)) (u : S) → Opens sep s b → calls f b (Ok x) g t → Skips t d
           → Tail sep g d r u → q ≡ prepended (x ∷ []) r → Tail sep f s q u
 
@@ -119,7 +119,7 @@ module _ {S : Type 0} (view : S → StreamView) (at : S → StreamView → S) wh
     pub data Separated (sep : ℕ) : F → S → Result (List X) (ParseFault A) → S → Type 0 where
       no_item : (f : F) (s : S) (fault : ParseFault A) (g : F) (t : S) → calls f s (Err fault) g t → fault.committed ≡ false → Separated sep f s (Ok []) t
       bad_item : (f : F) (s : S) (fault : ParseFault A) (g : F) (t : S) → calls f s (Err fault) g t → fault.committed ≡ true → Separated sep f s (Err fault) t
-      no_first_room : (f : F) (s : S) (x : X) (g : F) (t : S) (fault : ParseFault A) (u : S) → calls f s (Ok x) g t → StarvesHere view at t fault u → Separated sep f s (Err fault) u
+      no_first_room : (f : F) (s : S) (x : X) (g : F) (t : S) (fault : ParseFault A) (u : S) → calls f s (Ok x) g t → RunsOutHere view at t fault u → Separated sep f s (Err fault) u
       an_item : (f : F) (s : S) (x : X) (g : F) (t b : S) (q : Result (List X) (ParseFault A)) (u : S) → calls f s (Ok x) g t → Skips t b → TailAfter sep (x ∷ []) g b q u → Separated sep f s q u
 
     -- The left character, white space, the list of items with a separator, and the right character.
@@ -145,4 +145,4 @@ module _ {S : Type 0} (view : S → StreamView) (at : S → StreamView → S) wh
     pub data Spaced (f : F) (s : S) : Result X (ParseFault A) → S → Type 0 where
       read : (b : S) (x : X) (g : F) (t u : S) → Skips s b → calls f b (Ok x) g t → Skips t u → Spaced f s (Ok x) u
       refused : (fault : ParseFault A) (g : F) (u : S) → begins is_whitespace (view s).rest ≡ false → calls f s (Err fault) g u → Spaced f s (Err fault) u
-      refused_behind : (b : S) (fault last : ParseFault A) (g : F) (t u : S) → begins is_whitespace (view s).rest ≡ true → Skips s b → calls f b (Err fault) g t → Insisted fault t last u → Spaced f s (Err last) u
+      refused_after : (b : S) (fault last : ParseFault A) (g : F) (t u : S) → begins is_whitespace (view s).rest ≡ true → Skips s b → calls f b (Err fault) g t → Insisted fault t last u → Spaced f s (Err last) u

@@ -55,13 +55,13 @@ unit_at [] = Bad (Unexpected None (Word (codes "\""))) []
 unit_at (c ∷ text) = cond (c == 92) (escape_at text) (Read c (c ∷ []) text)
 
 -- the text without its first character
-abbrev pub behind_first : Text → Text
-behind_first [] = []
-behind_first (c ∷ text) = text
+abbrev pub after_first : Text → Text
+after_first [] = []
+after_first (c ∷ text) = text
 
 -- a unit and the units after it, which are given by a function of the unit's characters but the first
 abbrev pub unit_before : Outcome ℕ → (Text → Outcome Text) → Outcome Text
-unit_before (Read c taken text) next = prefixed taken (mapped (λ cs. c ∷ cs) (next (behind_first taken)))
+unit_before (Read c taken text) next = prefixed taken (mapped (λ cs. c ∷ cs) (next (after_first taken)))
 unit_before (Missing cause) next = Missing cause
 unit_before (Bad cause upto) next = Bad cause upto
 

@@ -3,7 +3,7 @@ use Rattle.std.specs.Prelude.{ℕ, Bool, ◌⊎◌, Result}
 use Rattle.irtext_base.specs.Text.{Text, front, after}
 use Rattle.irtext_base.specs.Stream.{StreamView}
 use Rattle.irtext_base.specs.Faults.{Fault}
-use Rattle.irtext_base.specs.Answers.{Outcome, Answers, NeedsNoMemory, Takes, StarvesHere, FailsBehind, unless_failed}
+use Rattle.irtext_base.specs.Answers.{Outcome, Answers, NeedsNoMemory, Takes, RunsOutHere, FailsAfter, unless_failed}
 use Rattle.irtext_base.specs.declared.parsable.fault.ParseFault.{ParseFault}
 
 -- the stream consumed the longest run of characters of a kind that came next
@@ -19,5 +19,5 @@ abbrev pub SparesMemory : {S A X Y : Type 0} → (S → StreamView) → (Text �
 SparesMemory view outcome old result = NeedsNoMemory (unless_failed (view old).failed (outcome (view old).rest)) result
 
 -- the error `Memory` at the current position, or this error after the text `passed`
-abbrev pub StarvesOrFails : {S A : Type 0} → (S → StreamView) → (S → StreamView → S) → Fault → Text → S → ParseFault A → S → Type 0
-StarvesOrFails view at cause passed old fault new = StarvesHere view at old fault new ⊎ FailsBehind view at cause passed old fault new
+abbrev pub RunsOutOrFails : {S A : Type 0} → (S → StreamView) → (S → StreamView → S) → Fault → Text → S → ParseFault A → S → Type 0
+RunsOutOrFails view at cause passed old fault new = RunsOutHere view at old fault new ⊎ FailsAfter view at cause passed old fault new

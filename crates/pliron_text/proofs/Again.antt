@@ -11,7 +11,7 @@ use Rattle.irtext_grammar.specs.Contexts.Nested.{pointers, printing_over, seen_o
 use Rattle.irtext_grammar.specs.Graphs.Closed.{Fit}
 use Rattle.irtext_grammar.specs.Graphs.Graph.{Graph}
 use Rattle.irtext_grammar.specs.Graphs.Regained.{Named}
-use Rattle.irtext_grammar.specs.Graphs.StandsFor.{Distinct}
+use Rattle.irtext_grammar.specs.Graphs.Represents.{Distinct}
 use Rattle.irtext_parse_spec.specs.ContextParts.{KeepsAll}
 use Rattle.irtext_print_ir.specs.Printers.Printed.{block_round}
 use Rattle.irtext_promises.specs.OnlyNew.{OnlyNew}

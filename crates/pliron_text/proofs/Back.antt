@@ -23,8 +23,8 @@ use Rattle.irtext_grammar.specs.Grammar.Marked.{AllShown}
 use Rattle.irtext_grammar.specs.Graphs.Closed.{Fit}
 use Rattle.irtext_grammar.specs.Graphs.Graph.{Graph, Printing, written}
 use Rattle.irtext_grammar.specs.Graphs.Regained.{Named}
-use Rattle.irtext_grammar.specs.Graphs.StandsFor.{Distinct}
-use Rattle.irtext_grammar.proofs.Graphs.StandsClosed.{found_closed}
+use Rattle.irtext_grammar.specs.Graphs.Represents.{Distinct}
+use Rattle.irtext_grammar.proofs.Graphs.RepresentsClosed.{found_closed}
 use Rattle.irtext_parse_spec.specs.Promises.Root.{UnlessMemory}
 use Rattle.irtext_print.specs.Printers.PrintedOperation.{levels}
 use Rattle.irtext_print.specs.Printers.Shown.{Shown}
@@ -39,7 +39,7 @@ use Rattle.irtext_tokens.specs.AttrTexts.{attr_at}
 use Rattle.irtext_parse_spec.specs.Back.{ClosedRoot, HeldBack, HeldWhole}
 use Rattle.irtext_parse_spec.specs.RootParts.{KeptRoot}
 use Rattle.irtext_promises.specs.PrintedRoot.{PrintedRoot}
-use Rattle.irtext_promises.proofs.PrintedBack.{stands_back, stands_whole, not_refused, none_read}
+use Rattle.irtext_promises.proofs.PrintedBack.{gives_back_root, gives_back_whole, not_refused, none_read}
 use Rattle.pliron_text.specs.Calls.{IsClosed, IsPrinted, ComesBack, ComesBackWhole, ReadsText, RefusesText}
 use Rattle.pliron_text.proofs.Fitting.{fits_whole}
 
@@ -118,7 +118,7 @@ module _ {T A : Type 0} (types : ir_text.Ghosts T A) (owns : ir_text.Ghosts A A)
       reads_back closed q left r = (
         r.new.stream.rest,
         subst (λ (z : ContextView T A). HeldBack texts own_texts attr C (isolated ctx.dialects) g r.new.stream.rest (held_root z q)) r.ends
-            (stands_back texts owns.reading owns.written types_law owns_law unreserved attributes.outlined attributes.print_once same sound reflexive ctx p g layout.width layout.indent bytes wholly (closed fits_there) r.old (r.starts.text ∙ ap chars text_is)
+            (gives_back_root texts owns.reading owns.written types_law owns_law unreserved attributes.outlined attributes.print_once same sound reflexive ctx p g layout.width layout.indent bytes wholly (closed fits_there) r.old (r.starts.text ∙ ap chars text_is)
             (ap (λ (v : ContextView T A). v.dialects) r.starts.context ∙ same_dialects) q r.new r.builds),
       )
 
@@ -127,7 +127,7 @@ module _ {T A : Type 0} (types : ir_text.Ghosts T A) (owns : ir_text.Ghosts A A)
       reads_whole closed q left r = let k = closed fits_there in (
         r.new.stream.rest,
         subst (λ (z : ContextView T A). HeldWhole texts own_texts attr C (isolated ctx.dialects) g r.new.stream.rest (held_root z q)) r.ends
-            (stands_whole texts owns.reading owns.written types_law owns_law unreserved attributes.outlined attributes.print_once same sound reflexive ctx p g layout.width layout.indent bytes wholly k.0 r.old (r.starts.text ∙ ap chars text_is)
+            (gives_back_whole texts owns.reading owns.written types_law owns_law unreserved attributes.outlined attributes.print_once same sound reflexive ctx p g layout.width layout.indent bytes wholly k.0 r.old (r.starts.text ∙ ap chars text_is)
             (ap (λ (v : ContextView T A). v.dialects) r.starts.context ∙ same_dialects) k.1 q r.new r.builds),
       )
 

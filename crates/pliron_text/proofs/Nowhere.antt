@@ -14,7 +14,7 @@ use Rattle.irtext_graph.proofs.Inside.{within_self}
 use Rattle.irtext_parse_spec.proofs.Kin.{not_above}
 use Rattle.irtext_print_ir.specs.Printers.Printed.{block_round}
 use Rattle.irtext_promises.specs.OnlyNew.{OnlyNew}
-use Rattle.irtext_promises.proofs.Ages.{here_stands, stands_here}
+use Rattle.irtext_promises.proofs.Ages.{here_is_live, live_here}
 
 module _ {T A : Type 0} (old new : ContextView T A) (op : Ptr Operation) (before : Nested (children old.graph) (parent old.graph)) (after : Nested (children new.graph) (parent new.graph)) (only : OnlyNew op old new) where
   -- an operation in a block is there
@@ -36,11 +36,11 @@ module _ {T A : Type 0} (old new : ContextView T A) (op : Ptr Operation) (before
   in_no_block : (b : Ptr BasicBlock) → parent new.graph (TheOperation op) ≡ Some (TheBlock b) → ⊥
   in_no_block b e =
       let at = after.listed (TheOperation op) (TheBlock b) e in
-      elim (only.live (TheBlock b) (here_stands new.graph (TheBlock b) (block_there b at.0 (TheOperation op) at.1))) [
+      elim (only.live (TheBlock b) (here_is_live new.graph (TheBlock b) (block_there b at.0 (TheOperation op) at.1))) [
         | inl was ↦
-            let same = only.blocks b (stands_here old.graph (TheBlock b) was) in
+            let same = only.blocks b (live_here old.graph (TheBlock b) was) in
             let child : slice_get (children old.graph (TheBlock b)) at.0 ≡ Some (TheOperation op) = sym (ap (λ z. slice_get (map TheOperation (children_of z)) at.0) same) ∙ at.1 in
-            only.is_new (TheOperation op) (within_self (parent new.graph) (TheOperation op)) (here_stands old.graph (TheOperation op) (parent_there op b (before.down (TheBlock b) at.0 (TheOperation op) child)))
+            only.is_new (TheOperation op) (within_self (parent new.graph) (TheOperation op)) (here_is_live old.graph (TheOperation op) (parent_there op b (before.down (TheBlock b) at.0 (TheOperation op) child)))
         | inr inside ↦ not_above after (TheBlock b) (TheOperation op) e inside
       ]
 

@@ -17,7 +17,7 @@ use Rattle.irtext_graph.specs.declared.object.Operation.{Operation}
 use Rattle.irtext_grammar.specs.Contexts.Formats.{isolated}
 use Rattle.irtext_grammar.specs.Contexts.Nested.{seen_root}
 use Rattle.irtext_grammar.specs.Graphs.Graph.{Graph, Printing}
-use Rattle.irtext_grammar.specs.Graphs.Same.{Found, stood}
+use Rattle.irtext_grammar.specs.Graphs.Same.{Found, resolved_root}
 use Rattle.irtext_grammar.specs.Spelling.Section.{text}
 use Rattle.irtext_grammar.specs.Spelling.Writable.{has_region}
 use Rattle.irtext_parse_spec.specs.Promises.Root.{UnlessMemory}
@@ -47,7 +47,7 @@ pub record IsClosed {T A : Type 0} (written : A → Text) (C : Printing T A) (ct
   pub operands : g.own.operands ≡ []
   pub successors : g.own.successors ≡ []
   pub alone : has_region g.regions ≡ true → isolated ctx.dialects g.own.id ≡ true
-  pub found : Found (stood C (isolated ctx.dialects) g)
+  pub found : Found (resolved_root C (isolated ctx.dialects) g)
   pub unlabelled : HoldsNoLabels g
 
 module _ {T A : Type 0} (types : ir_text.Ghosts T A) (owns : ir_text.Ghosts A A) (attributes : attr_text.Ghosts A A) (same : A → A → Bool) (ctx : ContextView T A) (p : Ptr Operation) where

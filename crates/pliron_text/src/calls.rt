@@ -11,7 +11,7 @@ ghost use Rattle.irtext_grammar.specs.Graphs.Graph.{Graph, written};
 ghost use Rattle.irtext_grammar.specs.Graphs.Regained.{Named};
 ghost use Rattle.irtext_parse_spec.specs.ContextParts.{KeepsAll};
 ghost use Rattle.irtext_parse_spec.specs.Promises.Root.{IsFresh, UnlessMemory};
-ghost use Rattle.irtext_parse_spec.specs.Promises.Section.{IsStarved};
+ghost use Rattle.irtext_parse_spec.specs.Promises.Section.{IsOutOfMemory};
 ghost use Rattle.irtext_print.specs.Printers.Appended.{fresh};
 ghost use Rattle.irtext_print.specs.Printers.PrintedOperation.{levels};
 ghost use Rattle.irtext_print_ir.specs.Printers.Printed.{block_round};
@@ -88,7 +88,7 @@ fn bytes_counted(text: &str)
 
 /// The fault that says that there was no memory to copy the text: committed, at line 1, column 1.
 fn no_memory<A>() -> ParseFault<A>
-    ensures { IsStarved result }
+    ensures { IsOutOfMemory result }
 {
     ParseFault {
         pos: SourcePosition { line: 1, column: 1 },

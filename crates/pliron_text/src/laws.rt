@@ -18,7 +18,7 @@ ghost use Rattle.irtext_grammar.specs.Names.Placeholders.{AgreesWith, In, fresh_
 ghost use Rattle.irtext_grammar.specs.Grammar.Section.{Entry};
 ghost use Rattle.irtext_grammar.specs.Grammar.Reads.{reads};
 ghost use Rattle.irtext_grammar.specs.Names.Resolves.{Resolves};
-ghost use Rattle.irtext_grammar.specs.Graphs.Same.{SameShapes, SmallGraph, stood};
+ghost use Rattle.irtext_grammar.specs.Graphs.Same.{SameShapes, SmallGraph, resolved_root};
 ghost use Rattle.irtext_grammar.specs.Names.Scopes.{bound, failures, no_scope};
 ghost use Rattle.irtext_grammar.specs.Names.Script.{Place, User, done};
 ghost use Rattle.irtext_grammar.specs.Spelling.Section.{section, text};
@@ -26,7 +26,7 @@ ghost use Rattle.irtext_grammar.specs.Spelling.Spell.{spelled};
 ghost use Rattle.irtext_grammar.specs.Names.TextScopes.{Script};
 ghost use Rattle.irtext_grammar.specs.Grammar.Tree.{Tree};
 ghost use Rattle.irtext_grammar.specs.Graphs.Identifiers.{HasIdentifiers};
-ghost use Rattle.irtext_grammar.specs.Spelling.Writable.{Behind, BehindRoot, Writable};
+ghost use Rattle.irtext_grammar.specs.Spelling.Writable.{AfterOperation, AfterRoot, Writable};
 
 pub mod attributes;
 pub mod building;
@@ -46,11 +46,11 @@ pub fn one_tree<T: IrText<A>, A: AttrText<A>>()
         reads l x t u → reads l y t v → (x ≡ y) × (u ≡ v) }
 {}
 
-/// The printed text of a tree parses back to that tree, if it is followed by what may follow an operation in printed IR (`Behind`).
+/// The printed text of a tree parses back to that tree, if it is followed by what may follow an operation in printed IR (`AfterOperation`).
 pub fn reads_back<T: IrText<A>, A: AttrText<A>>()
     ensures { (formats : Id → Option Format) (width n : ℕ) (t : Tree ⊤ T A) (f : List ℕ) →
         let l = unplaced (texts_of T.reading T.written) (texts_of A.reading A.written) formats in
-        Writable l t → Behind t.own.mark f →
+        Writable l t → AfterOperation t.own.mark f →
         (read : Tree ℕ T A) × (u : List ℕ) ×
         reads (language (texts_of T.reading T.written) (texts_of A.reading A.written) formats) read
         (spelled l width n t ++ f) u
@@ -112,7 +112,7 @@ pub fn names_come_back<T, A, X>()
     ensures shapes { (C : Printing T A) (isolated : Id → Bool) (first : ℕ → X) (es : List (Entry ℕ A X))
         (g : Graph T A) (t : Tree ℕ T A) →
         Fit C isolated g → SmallGraph C isolated g →
-        bare t ≡ written C None g → SameShapes (stood C isolated g) (build isolated first es t) }
+        bare t ≡ written C None g → SameShapes (resolved_root C isolated g) (build isolated first es t) }
 {}
 
 /// The printed text of a closed root whose operations fit accepted formats parses as a tree that resolves, if it is followed by what
@@ -124,20 +124,20 @@ pub fn round_trip<T: IrText<A>, A: AttrText<A>, X>()
         let types = texts_of T.reading T.written in
         let owns = texts_of A.reading A.written in
         HasIdentifiers C g → Fit C isolated g → SmallGraph C isolated g → GraphKeepsKeys g →
-        Closed C isolated g → Behind (written C None g).own.mark f →
+        Closed C isolated g → AfterOperation (written C None g).own.mark f →
         (t : Tree ℕ T A) × (u : List ℕ) ×
         reads (language types owns C.format_of) t
         (spelled (unplaced types owns C.format_of) width n (written C None g) ++ f) u
         × (after_space u ≡ after_space f) × (bare t ≡ written C None g)
         × (failures same_text no_scope (tree_script isolated t done) ≡ [])
-        × SameShapes (stood C isolated g) (build isolated first es t) }
+        × SameShapes (resolved_root C isolated g) (build isolated first es t) }
 {}
 
 /// The printed text of a tree also parses back to that tree if a section follows.
 pub fn root_reads_back<T: IrText<A>, A: AttrText<A>>()
     ensures { (formats : Id → Option Format) (width n : ℕ) (t : Tree ⊤ T A) (f : List ℕ) →
         let l = unplaced (texts_of T.reading T.written) (texts_of A.reading A.written) formats in
-        Writable l t → BehindRoot l t f →
+        Writable l t → AfterRoot l t f →
         (read : Tree ℕ T A) × (u : List ℕ) ×
         reads (language (texts_of T.reading T.written) (texts_of A.reading A.written) formats) read
         (spelled l width n t ++ f) u
@@ -152,7 +152,7 @@ pub fn root_before_section<T: IrText<A>, A: AttrText<A>>()
         let owns = texts_of A.reading A.written in
         let l = unplaced types owns C.format_of in
         HasIdentifiers C g → Fit C isolated g → SmallGraph C isolated g
-        → Behind (written C None g).own.mark f →
+        → AfterOperation (written C None g).own.mark f →
         (t : Tree ℕ T A) × (u : List ℕ) × reads (language types owns C.format_of) t
         (text l C g n width None ++ f) u
         × (bare t ≡ written C None g) × (after_space u
@@ -166,7 +166,7 @@ pub fn left_out_is_refused<T: IrText<A>, A: AttrText<A>>()
         let types = texts_of T.reading T.written in
         let owns = texts_of A.reading A.written in
         HasIdentifiers C g → Fit C isolated g → SmallGraph C isolated g →
-        Behind (written C limit g).own.mark f → (AllShown (written C limit g) → ⊥) →
+        AfterOperation (written C limit g).own.mark f → (AllShown (written C limit g) → ⊥) →
         reads (language types owns C.format_of) t
         (text (unplaced types owns C.format_of) C g n width limit ++ f) u → ⊥ }
 {}

@@ -120,10 +120,16 @@ fn check(
     errors: &[u8],
 ) {
     let mut written = Vec::new(rt.alloc());
-    let mut told = Vec::new(rt.alloc());
+    let mut written_errors = Vec::new(rt.alloc());
     let mut left = input;
-    let ended = run(rt.alloc(), words, &mut left, &mut written, &mut told);
-    assert_eq!(rt; told.as_slice(), errors);
+    let ended = run(
+        rt.alloc(),
+        words,
+        &mut left,
+        &mut written,
+        &mut written_errors,
+    );
+    assert_eq!(rt; written_errors.as_slice(), errors);
     assert_eq!(rt; written.as_slice(), output);
     assert_eq!(rt; ended, status);
 }
@@ -153,7 +159,7 @@ fn regions_are_elided(rt: HostRuntime) {
 }
 
 #[test]
-fn other_words_are_told_the_usage(rt: HostRuntime) {
+fn other_words_get_the_usage(rt: HostRuntime) {
     for words in UNKNOWN {
         check(
             &rt,
@@ -209,7 +215,7 @@ impl Read for Failing<'_> {
 }
 
 #[test]
-fn a_reader_that_fails_is_told(rt: HostRuntime) -> Result<(), Fail> {
+fn a_reader_that_fails_is_reported(rt: HostRuntime) -> Result<(), Fail> {
     let mut input = Failing {
         text: b"builtin.module @m {}",
     };

@@ -108,7 +108,7 @@ impl<T: IrText<A>, A: AttrText<A>> Context<T, A> {
 
     /// Whether a pointer refers to a live operation that is no placeholder.
     pub fn contains_operation(&self, p: Ptr<Operation>) -> bool
-        ensures stands { IsTrue result ↔ IsSome (operation self.now p) }
+        ensures alive { IsTrue result ↔ IsSome (operation self.now p) }
         ensures graph { IsTrue result → IsLive self.now.graph (TheOperation p) }
     {
         self.graph.contains(Object::TheOperation(p)) && self.graph.operation(p).is_some()
@@ -116,7 +116,7 @@ impl<T: IrText<A>, A: AttrText<A>> Context<T, A> {
 
     /// Whether a pointer refers to a live block.
     pub fn contains_block(&self, p: Ptr<BasicBlock>) -> bool
-        ensures stands { IsTrue result ↔ IsSome (block self.now p) }
+        ensures alive { IsTrue result ↔ IsSome (block self.now p) }
         ensures graph { IsTrue result → IsLive self.now.graph (TheBlock p) }
     {
         self.graph.contains(Object::TheBlock(p))
@@ -124,7 +124,7 @@ impl<T: IrText<A>, A: AttrText<A>> Context<T, A> {
 
     /// Whether a pointer refers to a live region.
     pub fn contains_region(&self, p: Ptr<Region>) -> bool
-        ensures stands { IsTrue result ↔ IsSome (region self.now p) }
+        ensures alive { IsTrue result ↔ IsSome (region self.now p) }
         ensures graph { IsTrue result → IsLive self.now.graph (TheRegion p) }
     {
         self.graph.contains(Object::TheRegion(p))

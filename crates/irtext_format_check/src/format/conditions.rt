@@ -83,7 +83,7 @@ fn keys_are_free(directives: &[Directive]) -> bool
 }
 
 /// The same, and whether there are at most one dictionary and at most one header.
-fn entries_stand_once(directives: &[Directive]) -> bool
+fn entries_occur_once(directives: &[Directive]) -> bool
     ensures { result ≡ (free_keys (directives_of directives.now)
         && nat_lt (count is_dictionary (directives_of directives.now)) 2 && nat_lt
         (count is_header (directives_of directives.now)) 2) }
@@ -94,7 +94,7 @@ fn entries_stand_once(directives: &[Directive]) -> bool
 }
 
 /// Whether there is no directive for the key of the symbol's name beside a header.
-fn name_stands_once(directives: &[Directive]) -> bool
+fn name_occurs_once(directives: &[Directive]) -> bool
     ensures { result ≡ (not (nat_lt 0 (count is_header (directives_of directives.now)))
         || not (has same_text sym_name_key (keys (directives_of directives.now)))) }
 {
@@ -105,7 +105,7 @@ fn name_stands_once(directives: &[Directive]) -> bool
 fn c6(directives: &[Directive]) -> bool
     ensures { result ≡ c6 (directives_of directives.now) }
 {
-    entries_stand_once(directives) && name_stands_once(directives)
+    entries_occur_once(directives) && name_occurs_once(directives)
 }
 
 fn c7(directives: &[Directive]) -> bool

@@ -4,7 +4,7 @@ ghost use Rattle.std.specs.List.{list_all};
 ghost use Rattle.irtext_base.specs.FormatViews.{directive_of, directives_of};
 ghost use Rattle.irtext_format_check.specs.Directives.{place_of, places_of, key_of};
 ghost use Rattle.irtext_format_check.specs.Directives.{again, keeps, all_keep, is_region, is_named};
-ghost use Rattle.irtext_base.specs.Format.{same_text, keys, distinct, none_behind, is_regions, is_any_region, c8};
+ghost use Rattle.irtext_base.specs.Format.{same_text, keys, distinct, none_follows, is_regions, is_any_region, c8};
 
 use crate::format::parts::{Part, Sole};
 use crate::format::{followers, parts};
@@ -98,14 +98,14 @@ pub(crate) fn keys_differ(directives: &[Directive]) -> bool
 
 /// Whether no single region comes after a list of regions.
 pub(crate) fn regions_last(directives: &[Directive]) -> bool
-    ensures { result ≡ none_behind is_regions is_region (directives_of directives.now) }
+    ensures { result ≡ none_follows is_regions is_region (directives_of directives.now) }
 {
     all_keep(Rule::RegionsBefore, directives)
 }
 
 /// Whether no names and no type come after regions.
 pub(crate) fn names_first(directives: &[Directive]) -> bool
-    ensures { result ≡ none_behind is_any_region is_named (directives_of directives.now) }
+    ensures { result ≡ none_follows is_any_region is_named (directives_of directives.now) }
 {
     all_keep(Rule::NamesBefore, directives)
 }

@@ -214,14 +214,14 @@ module _ {P T A : Type 0} (L : Language P T A) (types : Lawful T L.types) (owns 
   oneof_right xs ys (c ∷ t) (inr e) = inr (has_right (kind c) xs ys e)
 
   -- what the text begins with, if something is written here, or the text after it, if nothing is written
-  oneof_behind : (xs ys : List ℕ) (b : Bool) (t t' : Text) → (b ≡ true) × (t ≡ t') ⊎ Begins xs t → OneOf ys t' → OneOf (xs ++ cond b ys []) t
-  oneof_behind xs ys b t t' (inl (e, q)) o = oneof_right xs (cond b ys []) t (subst (λ b. OneOf (cond b ys []) t) (sym e) (subst (λ s. OneOf ys s) (sym q) o))
-  oneof_behind xs ys b t t' (inr e) o = oneof_left xs (cond b ys []) t e
+  oneof_after : (xs ys : List ℕ) (b : Bool) (t t' : Text) → (b ≡ true) × (t ≡ t') ⊎ Begins xs t → OneOf ys t' → OneOf (xs ++ cond b ys []) t
+  oneof_after xs ys b t t' (inl (e, q)) o = oneof_right xs (cond b ys []) t (subst (λ b. OneOf (cond b ys []) t) (sym e) (subst (λ s. OneOf ys s) (sym q) o))
+  oneof_after xs ys b t t' (inr e) o = oneof_left xs (cond b ys []) t e
 
-  behind : {R : Reading} {t g : Text} (xs ys : List ℕ) (b : Bool) (r : Reaches R t g) → (b ≡ true) × (r.left ≡ after_space t) ⊎ Begins xs (after_space t)
+  following : {R : Reading} {t g : Text} (xs ys : List ℕ) (b : Bool) (r : Reaches R t g) → (b ≡ true) × (r.left ≡ after_space t) ⊎ Begins xs (after_space t)
       → OneOf ys (after_space g) → OneOf (xs ++ cond b ys []) (after_space t)
-  behind {R} {t} {g} xs ys b r (inl (e, q)) o = oneof_behind xs ys b (after_space t) (after_space g) (inl (e, sym (after_twice is_whitespace t) ∙ ap after_space (sym q) ∙ r.same)) o
-  behind {R} {t} {g} xs ys b r (inr e) o = oneof_behind xs ys b (after_space t) (after_space g) (inr e) o
+  following {R} {t} {g} xs ys b r (inl (e, q)) o = oneof_after xs ys b (after_space t) (after_space g) (inl (e, sym (after_twice is_whitespace t) ∙ ap after_space (sym q) ∙ r.same)) o
+  following {R} {t} {g} xs ys b r (inr e) o = oneof_after xs ys b (after_space t) (after_space g) (inr e) o
 
   follows : (p : Piece P T A) (f : Text) → Ends f → NoneOf (continuing p) (after_space f) → FollowsWell p f
   follows (tree.word s) f h e = tt
@@ -280,47 +280,47 @@ module _ {P T A : Type 0} (L : Language P T A) (types : Lawful T L.types) (owns 
     back_parts last n [] no_regions f c g en b h o = record { thru = record { left = after_space f; reading = refl; same = after_twice is_whitespace f }; begin = o }
     back_parts last n [] (region brace bs rs) f c g en b h o = absurd en
     back_parts last n (tree.piece p ∷ ps) rs f c g en b h o =
-        let behind_it = back_parts last n ps rs f c.1 g.1 en b h o in
+        let after_it = back_parts last n ps rs f c.1 g.1 en b h o in
         let texts = spell.region_texts L width n rs in
         let left = spell.parts L ps texts in
-        let stops : NoneOf (continuing p) (after_space (left ++ f)) = apart_none (continuing p) (starts last ps rs) (after_space (left ++ f)) c.0 behind_it.begin in
+        let stops : NoneOf (continuing p) (after_space (left ++ f)) = apart_none (continuing p) (starts last ps rs) (after_space (left ++ f)) c.0 after_it.begin in
         let r : Reaches (reads.piece L p) ((spell.space L p ++ (spell.piece L p ++ left)) ++ f) (left ++ f) =
         reaches_from (space_white p (spell.piece L p ++ left) f ∙ ap after_space (append_assoc (spell.piece L p) left f)) (back_piece p (left ++ f) g.0 (follows p (left ++ f) (ends_parts ps texts f h) stops)) in
         let t = after_space ((spell.space L p ++ (spell.piece L p ++ left)) ++ f) in
         record {
-          thru = reaches_part ps (reads.region_readings L rs) r behind_it.thru;
-          begin = behind (first (directive_of_piece p)) (starts last ps rs) (listed (directive_of_piece p)) r (piece_first p t r.left g.0 r.reading) behind_it.begin;
+          thru = reaches_part ps (reads.region_readings L rs) r after_it.thru;
+          begin = following (first (directive_of_piece p)) (starts last ps rs) (listed (directive_of_piece p)) r (piece_first p t r.left g.0 r.reading) after_it.begin;
         }
     back_parts last n (tree.region i ∷ ps) no_regions f c g en b h o = absurd en
     back_parts last n (tree.region i ∷ ps) (region brace bs rs) f c g en b h o =
-        let behind_it = back_parts last n ps rs f c g en b.1 h o in
+        let after_it = back_parts last n ps rs f c g en b.1 h o in
         let ss = spell.block_texts L width (n + width) bs in
         let x = spell.region_text L width n brace ss in
         let left = spell.parts L ps (spell.region_texts L width n rs) in
         let e = ap after_space (append_assoc x left f) in
         let r : Reaches (reads.region_read L brace (reads.block_readings L bs)) (32 ∷ ((x ++ left) ++ f)) (left ++ f) = reaches_from e (b.0 (left ++ f)) in
         record {
-          thru = reaches_part ps (reads.region_readings L rs) r behind_it.thru;
+          thru = reaches_part ps (reads.region_readings L rs) r after_it.thru;
           begin = inr (ap (begins (λ c. has ◌==◌ (kind c) (codes "{"))) e ∙ region_first n brace ss (left ++ f));
         }
     back_parts last n (tree.regions ∷ ps) no_regions f c g en b h o =
-        let behind_it = back_parts last n ps no_regions f c.1 g en tt h o in
+        let after_it = back_parts last n ps no_regions f c.1 g en tt h o in
         let left = spell.parts L ps [] in
-        let stops : begins (the 123) (after_space (left ++ f)) ≡ false = none_the (codes "{") 123 (after_space (left ++ f)) refl (apart_none (codes "{") (starts last ps no_regions) (after_space (left ++ f)) c.0 behind_it.begin) in
+        let stops : begins (the 123) (after_space (left ++ f)) ≡ false = none_the (codes "{") 123 (after_space (left ++ f)) refl (apart_none (codes "{") (starts last ps no_regions) (after_space (left ++ f)) c.0 after_it.begin) in
         let r : Reaches (repeated (the 123) []) (32 ∷ (left ++ f)) (left ++ f) = reaches_from refl (reaches_ends (the 123) (left ++ f) stops) in
         record {
-          thru = reaches_part ps [] r behind_it.thru;
-          begin = oneof_right (codes "{") (starts last ps no_regions) (after_space (left ++ f)) behind_it.begin;
+          thru = reaches_part ps [] r after_it.thru;
+          begin = oneof_right (codes "{") (starts last ps no_regions) (after_space (left ++ f)) after_it.begin;
         }
     back_parts last n (tree.regions ∷ ps) (region brace bs rs) f c g en b h o =
-        let behind_it = back_parts last n ps no_regions f c.1 g en tt h o in
+        let after_it = back_parts last n ps no_regions f c.1 g en tt h o in
         let ss = spell.block_texts L width (n + width) bs in
         let x = spell.region_text L width n brace ss in
         let j = joined_from [] (spell.region_texts L width n rs) in
         let left = spell.parts L ps [] in
-        let stops : begins (the 123) (after_space (left ++ f)) ≡ false = none_the (codes "{") 123 (after_space (left ++ f)) refl (apart_none (codes "{") (starts last ps no_regions) (after_space (left ++ f)) c.0 behind_it.begin) in
+        let stops : begins (the 123) (after_space (left ++ f)) ≡ false = none_the (codes "{") 123 (after_space (left ++ f)) refl (apart_none (codes "{") (starts last ps no_regions) (after_space (left ++ f)) c.0 after_it.begin) in
         let r : Reaches (repeated (the 123) (reads.region_readings L (region brace bs rs))) (32 ∷ (((x ++ j) ++ left) ++ f)) (left ++ f) = reaches_from (ap after_space (append_assoc (x ++ j) left f)) (back_regions n (region brace bs rs) (left ++ f) b stops) in
         record {
-          thru = reaches_part ps [] r behind_it.thru;
+          thru = reaches_part ps [] r after_it.thru;
           begin = inr (ap (begins (λ c. has ◌==◌ (kind c) (codes "{"))) (ap after_space (regroup_joined x j left f)) ∙ region_first n brace ss (j ++ (left ++ f)));
         }

@@ -12,7 +12,7 @@ use Rattle.irtext_grammar.proofs.Grammar.Follows.{none_the, none_word, NoneOf, D
 use Rattle.irtext_grammar.proofs.Grammar.Back.{regroup, newline_white, here, back_name, back_type, back_dictionary, unwhite, oneof_right, ends_parts, back_parts}
 use Rattle.irtext_grammar.proofs.Grammar.Apart.{Apart, apart_inside, apart_outside}
 use Rattle.irtext_grammar.proofs.Grammar.Canonical.{back_canonical}
-use Rattle.irtext_grammar.specs.Spelling.Writable.{OneOf, Behind, BehindRoot, Deep, has_region, IsSpellableBody, IsSpellableOp, IsSpellableHead, IsSpellableArgument, AreSpellableEntries, IsRead, WritableRegions, WritableBlocks, WritableOperations, Writable}
+use Rattle.irtext_grammar.specs.Spelling.Writable.{OneOf, AfterOperation, AfterRoot, Deep, has_region, IsSpellableBody, IsSpellableOp, IsSpellableHead, IsSpellableArgument, AreSpellableEntries, IsRead, WritableRegions, WritableBlocks, WritableOperations, Writable}
 use Rattle.irtext_grammar.specs.Spelling.Spellable.{Each, IsIdentifier, IsName, IsSpellableMark}
 use Rattle.irtext_grammar.specs.Grammar.Tree.{Name, Mark, Attribute, Body, Op, Head, Brace, shown, elided, Tree, IsOf, parts_of}
 use Rattle.irtext_grammar.specs.Spelling.Spell.{joined, joined_from, comma, newline}
@@ -70,7 +70,7 @@ module _ {P T A : Type 0} (L : Language P T A) (types : Lawful T L.types) (owns 
   mark_ends None f b = b
   mark_ends (Some m) f b = inr refl
 
-  mark_one : (m : Option (Mark P)) (f : Text) → Behind m f → OneOf (followers []) (after_space (spell.mark_if L m ++ f))
+  mark_one : (m : Option (Mark P)) (f : Text) → AfterOperation m f → OneOf (followers []) (after_space (spell.mark_if L m ++ f))
   mark_one None f b = (oneof_right L types owns unreserved anywhere) (codes "!") (codes ";}^") (after_space f) (b.one refl)
   mark_one (Some m) f b = inr refl
 
@@ -137,7 +137,7 @@ module _ {P T A : Type 0} (L : Language P T A) (types : Lawful T L.types) (owns 
   closes_inside format.canonical (tree.custom ps) rs fine = absurd fine
 
   -- before what can follow any operation
-  back_inside : (n : ℕ) (op : Op P T A) (rs : Inner) (f : Text) → IsSpellableOp L op rs → BackRegions n rs → Behind op.mark f
+  back_inside : (n : ℕ) (op : Op P T A) (rs : Inner) (f : Text) → IsSpellableOp L op rs → BackRegions n rs → AfterOperation op.mark f
       → Reaches (reads.operation_read L op (reads.region_readings L rs)) (spell.operation_text L op (spell.region_texts L width n rs) ++ f) f
   back_inside n op rs f fine b h = back_operation (followers []) n op rs f fine (closes_inside fine.its_format op.body rs fine.body) b
       (record { ends = h.ends; one = mark_one op.mark f h; unmarked = λ e. no_bang (after_space f) (h.one e) })
@@ -172,33 +172,33 @@ module _ {P T A : Type 0} (L : Language P T A) (types : Lawful T L.types) (owns 
   -- the text of each of the operations is parsed back
   abbrev pub BackOperations : ℕ → Steps → Type 0
   BackOperations n no_operations = ⊤
-  BackOperations n (operation o rs os) = ((f : Text) → Behind o.mark f → Reaches (reads.operation_read L o (reads.region_readings L rs)) (spell.operation_text L o (spell.region_texts L width n rs) ++ f) f) × BackOperations n os
+  BackOperations n (operation o rs os) = ((f : Text) → AfterOperation o.mark f → Reaches (reads.operation_read L o (reads.region_readings L rs)) (spell.operation_text L o (spell.region_texts L width n rs) ++ f) f) × BackOperations n os
 
   -- what may follow a block
-  pub record BehindBlock (f : Text) : Type 0 where
+  pub record AfterBlock (f : Text) : Type 0 where
     pub ends : Ends f
     pub one : OneOf (codes "}^") (after_space f)
 
-  behind_block : (m : Option (Mark P)) (f : Text) → BehindBlock f → Behind m f
-  behind_block m f h = record { ends = h.ends; one = λ e. (oneof_right L types owns unreserved anywhere) (codes ";") (codes "}^") (after_space f) h.one }
+  after_block : (m : Option (Mark P)) (f : Text) → AfterBlock f → AfterOperation m f
+  after_block m f h = record { ends = h.ends; one = λ e. (oneof_right L types owns unreserved anywhere) (codes ";") (codes "}^") (after_space f) h.one }
 
   abbrev apart : ℕ → Text
   apart k = 59 ∷ newline k
 
-  behind_semicolon : (m : Option (Mark P)) (k : ℕ) (t f : Text) → Behind m ((apart k ++ t) ++ f)
-  behind_semicolon m k t f = record { ends = inr refl; one = λ e. inr refl }
+  after_semicolon : (m : Option (Mark P)) (k : ℕ) (t f : Text) → AfterOperation m ((apart k ++ t) ++ f)
+  after_semicolon m k t f = record { ends = inr refl; one = λ e. inr refl }
 
-  behind_more : (n k : ℕ) (m : Option (Mark P)) (os : Steps) (f : Text) → BehindBlock f → Behind m (joined_from (apart k) (spell.operation_texts L width n os) ++ f)
-  behind_more n k m no_operations f h = behind_block m f h
-  behind_more n k m (operation o rs os) f h = behind_semicolon m k (spell.operation_text L o (spell.region_texts L width n rs) ++ joined_from (apart k) (spell.operation_texts L width n os)) f
+  after_further : (n k : ℕ) (m : Option (Mark P)) (os : Steps) (f : Text) → AfterBlock f → AfterOperation m (joined_from (apart k) (spell.operation_texts L width n os) ++ f)
+  after_further n k m no_operations f h = after_block m f h
+  after_further n k m (operation o rs os) f h = after_semicolon m k (spell.operation_text L o (spell.region_texts L width n rs) ++ joined_from (apart k) (spell.operation_texts L width n os)) f
 
-  back_steps_more : (n k : ℕ) (os : Steps) (f : Text) → BackOperations n os → BehindBlock f
+  back_steps_more : (n k : ℕ) (os : Steps) (f : Text) → BackOperations n os → AfterBlock f
       → Reaches (more 59 (reads.operation_readings L os)) (joined_from (apart k) (spell.operation_texts L width n os) ++ f) f
   back_steps_more n k no_operations f b h = reaches_ends (the 59) f (none_the (codes ";") 59 (after_space f) refl (disjoint_none (codes ";") (codes "}^") (after_space f) refl h.one))
   back_steps_more n k (operation o rs os) f b h =
       let x = spell.operation_text L o (spell.region_texts L width n rs) in
       let j = joined_from (apart k) (spell.operation_texts L width n os) in
-      let r = reaches_then (b.0 (j ++ f) (behind_more n k o.mark os f h)) (back_steps_more n k os f b.1 h) in
+      let r = reaches_then (b.0 (j ++ f) (after_further n k o.mark os f h)) (back_steps_more n k os f b.1 h) in
       reaches_then (reaches_literal 59 [] ((newline k ++ (x ++ j)) ++ f) refl)
       (reaches_from (ap after_space (append_assoc (newline k) (x ++ j) f) ∙ newline_white k ((x ++ j) ++ f) ∙ ap after_space (append_assoc x j f)) r)
 
@@ -210,7 +210,7 @@ module _ {P T A : Type 0} (L : Language P T A) (types : Lawful T L.types) (owns 
       both_false true b e f = e
       both_false false b e f = f
 
-  back_steps : (n k : ℕ) (os : Steps) (f : Text) → BackOperations n os → BehindBlock f
+  back_steps : (n k : ℕ) (os : Steps) (f : Text) → BackOperations n os → AfterBlock f
       → Reaches (separated 59 reads.no_operation (reads.operation_readings L os)) (joined (apart k) (spell.operation_texts L width n os) ++ f) f
   back_steps n k no_operations f b h = record {
     left = after_space f;
@@ -225,7 +225,7 @@ module _ {P T A : Type 0} (L : Language P T A) (types : Lawful T L.types) (owns 
       let x = spell.operation_text L o (spell.region_texts L width n rs) in
       let j = joined_from (apart k) (spell.operation_texts L width n os) in
       let r : Reaches (reads.operation_read L o (reads.region_readings L rs) ▹ more 59 (reads.operation_readings L os)) ((x ++ j) ++ f) f =
-      reaches_then (reaches_from (ap after_space (append_assoc x j f)) (b.0 (j ++ f) (behind_more n k o.mark os f h))) (back_steps_more n k os f b.1 h) in
+      reaches_then (reaches_from (ap after_space (append_assoc x j f)) (b.0 (j ++ f) (after_further n k o.mark os f h))) (back_steps_more n k os f b.1 h) in
       record { left = r.left; reading = r.reading; same = r.same }
 
   back_argument : (a : Name P × T) (f : Text) → IsSpellableArgument L a → Ends f → Reaches (reads.argument L a) (spell.argument L a ++ f) f
@@ -244,7 +244,7 @@ module _ {P T A : Type 0} (L : Language P T A) (types : Lawful T L.types) (owns 
       ≡ 94 ∷ (l ++ (40 ∷ (a ++ (41 ∷ (d ++ (m ++ (58 ∷ (k ++ (o ++ f)))))))))
   regroup_block l a d m k o f = simp append_assoc
 
-  back_block : (n : ℕ) (h : Head P T A) (os : Steps) (f : Text) → IsSpellableHead L h → BackOperations (n + width) os → BehindBlock f
+  back_block : (n : ℕ) (h : Head P T A) (os : Steps) (f : Text) → IsSpellableHead L h → BackOperations (n + width) os → AfterBlock f
       → Reaches (reads.block_read L h (reads.operation_readings L os)) (spell.block_text L width n h (spell.operation_texts L width (n + width) os) ++ f) f
   back_block n h os f fine b e =
       let k = n + width in
@@ -267,7 +267,7 @@ module _ {P T A : Type 0} (L : Language P T A) (types : Lawful T L.types) (owns 
   -- regions
   abbrev pub BackBlocks : ℕ → Leaves → Type 0
   BackBlocks n no_blocks = ⊤
-  BackBlocks n (block h os bs) = ((f : Text) → BehindBlock f → Reaches (reads.block_read L h (reads.operation_readings L os)) (spell.block_text L width n h (spell.operation_texts L width (n + width) os) ++ f) f) × BackBlocks n bs
+  BackBlocks n (block h os bs) = ((f : Text) → AfterBlock f → Reaches (reads.block_read L h (reads.operation_readings L os)) (spell.block_text L width n h (spell.operation_texts L width (n + width) os) ++ f) f) × BackBlocks n bs
 
   abbrev gap : ℕ → Text
   gap k = 10 ∷ newline k
@@ -275,9 +275,9 @@ module _ {P T A : Type 0} (L : Language P T A) (types : Lawful T L.types) (owns 
   abbrev shut : ℕ → Text → Text
   shut n f = newline n ++ (125 ∷ f)
 
-  behind_blocks : (n k m : ℕ) (bs : Leaves) (f : Text) → BehindBlock (joined_from (gap k) (spell.block_texts L width m bs) ++ shut n f)
-  behind_blocks n k m no_blocks f = record { ends = inr refl; one = subst (λ t. OneOf (codes "}^") t) (sym (newline_white n (125 ∷ f))) (inr refl) }
-  behind_blocks n k m (block h os bs) f =
+  after_blocks : (n k m : ℕ) (bs : Leaves) (f : Text) → AfterBlock (joined_from (gap k) (spell.block_texts L width m bs) ++ shut n f)
+  after_blocks n k m no_blocks f = record { ends = inr refl; one = subst (λ t. OneOf (codes "}^") t) (sym (newline_white n (125 ∷ f))) (inr refl) }
+  after_blocks n k m (block h os bs) f =
       let x = spell.block_text L width m h (spell.operation_texts L width (m + width) os) in
       let j = joined_from (gap k) (spell.block_texts L width m bs) in
       record { ends = inr refl; one = subst (λ t. OneOf (codes "}^") t) (sym (ap after_space (append_assoc (newline k) (x ++ j) (shut n f)) ∙ newline_white k ((x ++ j) ++ shut n f))) (inr refl) }
@@ -289,7 +289,7 @@ module _ {P T A : Type 0} (L : Language P T A) (types : Lawful T L.types) (owns 
   back_leaf n k m h os bs f b r =
       let x = spell.block_text L width m h (spell.operation_texts L width (m + width) os) in
       let j = joined_from (gap k) (spell.block_texts L width m bs) in
-      let first : Reaches (repeated (the 94) (reads.block_readings L (block h os bs))) (x ++ (j ++ shut n f)) (shut n f) = reaches_then (b.0 (j ++ shut n f) (behind_blocks n k m bs f)) r in
+      let first : Reaches (repeated (the 94) (reads.block_readings L (block h os bs))) (x ++ (j ++ shut n f)) (shut n f) = reaches_then (b.0 (j ++ shut n f) (after_blocks n k m bs f)) r in
       reaches_from (ap after_space (append_assoc x j (shut n f))) first
 
   back_leaves_more : (n k m : ℕ) (bs : Leaves) (f : Text) → BackBlocks m bs → Reaches (repeated (the 94) (reads.block_readings L bs)) (joined_from (gap k) (spell.block_texts L width m bs) ++ shut n f) (shut n f)
@@ -339,11 +339,11 @@ module _ {P T A : Type 0} (L : Language P T A) (types : Lawful T L.types) (owns 
       (r.left, (anywhere t.own.place text, (r.reading.1.0, subst (λ s. X s r.left) (after_twice is_whitespace text) r.reading.1.1)), r.same)
 
   -- What is written of a tree parses as that tree, up to what follows.
-  pub reads_back : (n : ℕ) (t : Tree P T A) (f : Text) → Writable L t → Behind t.own.mark f → (u : Text) × reads.reads L t (spell.spelled L width n t ++ f) u × (after_space u ≡ after_space f)
+  pub reads_back : (n : ℕ) (t : Tree P T A) (f : Text) → Writable L t → AfterOperation t.own.mark f → (u : Text) × reads.reads L t (spell.spelled L width n t ++ f) u × (after_space u ≡ after_space f)
   reads_back n t f w h = reading_of n t f (back_inside n t.own t.regions f w.0 (regions_back n t.regions w.1) h)
 
   -- The same of a root, before a section too.
-  pub root_reads_back : (n : ℕ) (t : Tree P T A) (f : Text) → Writable L t → BehindRoot L t f → (u : Text) × reads.reads L t (spell.spelled L width n t ++ f) u × (after_space u ≡ after_space f)
+  pub root_reads_back : (n : ℕ) (t : Tree P T A) (f : Text) → Writable L t → AfterRoot L t f → (u : Text) × reads.reads L t (spell.spelled L width n t ++ f) u × (after_space u ≡ after_space f)
   root_reads_back n t f w h = go t.own.mark refl
     where
       go : (m : Option (Mark P)) → t.own.mark ≡ m → (u : Text) × reads.reads L t (spell.spelled L width n t ++ f) u × (after_space u ≡ after_space f)

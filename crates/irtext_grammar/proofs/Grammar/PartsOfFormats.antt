@@ -50,8 +50,8 @@ module _ {P T A : Type 0} (L : Language P T A) where
   Own = Regions (Op P T A) (Head P T A) (Brace P)
 
   op_read : (o : Op P T A) (rs : Own) (text rest : Text) → KnownAccepted o → operation_read L o (region_readings L rs) text rest → FormedOp o rs × AllUsed (region_readings L rs)
-  op_read o rs text rest a (at, ((f, known, is), (between, names, (behind, id, (last, body, mark))))) =
-      let r = parts_used L (parts_of o.body) rs behind last body in
+  op_read o rs text rest a (at, ((f, known, is), (between, names, (following, id, (last, body, mark))))) =
+      let r = parts_used L (parts_of o.body) rs following last body in
       (record { format = f; accepted = a f known; is_of = is; enough = r.0 }, r.1)
 
   module _ (none : NoneLeftOut) where

@@ -3,7 +3,7 @@ use Rattle.std.specs.Prelude.{◌≡◌, Bool, true, false, List, [], ◌∷◌,
 use Rattle.std.proofs.Common.{sym, ◌∙◌, ap, ap₂, subst, true≢false}
 use Rattle.irtext_base.specs.Text.{Text, begins, after_space, begins_word}
 use Rattle.irtext_base.specs.Reading.{◌▹◌, the, literal, separated, repeated}
-use Rattle.irtext_base.specs.Own.{Language, Lawful, Standing}
+use Rattle.irtext_base.specs.Own.{Language, Lawful, Verdict}
 use Rattle.irtext_base.proofs.Characters.{word_tight}
 use Rattle.irtext_grammar.specs.Grammar.Tree.{Name, Mark, Attribute, Tree}
 use Rattle.irtext_grammar.specs.Grammar.Reads as reads
@@ -13,7 +13,7 @@ use Rattle.irtext_grammar.specs.Grammar.Marked.{marked, section_if, reads_root}
 use Rattle.irtext_grammar.proofs.Grammar.Unique.{Sure, agree_map, agree_then, one_literal, clash, sure_separated, agree_ends, attribute_begins, sure_name, sure_mark, same_found, name_begins, sure_attribute, agree_white, one_tree}
 
 module _ {P T A X : Type 0} (L : Language P T A) (types : Lawful T L.types) (owns : Lawful A L.owns) (one_place : (p q : P) (t : Text) → L.at p t → L.at q t → p ≡ q) (only : (t u : Text) → L.left_out t u → literal (codes "{..}") t u)
-    (location_at : Text → Standing X) where
+    (location_at : Text → Verdict X) where
   sure_location : Sure (read.location L location_at)
   sure_location x y t u v a b = same_found L types owns one_place only x y u v (sym a ∙ b)
 

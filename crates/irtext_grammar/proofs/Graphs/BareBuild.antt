@@ -12,7 +12,7 @@ use Rattle.irtext_grammar.specs.Names.Scopes.{Fact, facts}
 use Rattle.irtext_grammar.specs.Grammar.Section.{Entry}
 use Rattle.irtext_grammar.specs.Names.Acts.{blocks_script}
 use Rattle.irtext_grammar.specs.Graphs.Build.{built_op, built_head, built_regions, built_blocks, built_operations, build}
-use Rattle.irtext_grammar.specs.Graphs.Same.{StoodOp, StoodBlock, SameShape, SameBlockShape, SameShapes}
+use Rattle.irtext_grammar.specs.Graphs.Same.{ResolvedOp, ResolvedBlock, SameShape, SameBlockShape, SameShapes}
 use Rattle.irtext_grammar.proofs.Names.Natural.{facts_as, facts_natural}
 use Rattle.irtext_grammar.proofs.Graphs.BareScript.{any_script, fact_same, mapped_twice, bare_operand_names, bare_successor_labels, bare_result_types, same_itself, blocks_bare}
 
@@ -29,7 +29,7 @@ module _ {P T A X Y : Type 0} (isolated : Id → Bool) (first : P → X) (es : L
   labels_bare : (p : Path) (bs : Blocks (Op P T A) (Head P T A) (Brace P)) → (facts same_text (blocks_script isolated p 0 (bare_blocks bs))).labels ≡ (facts same_text (blocks_script isolated p 0 bs)).labels
   labels_bare p bs = ap (λ z. z.labels) (facts_bare p bs) ∙ fact_same (facts same_text (blocks_script isolated p 0 bs)).labels
 
-  shape_op : (a : StoodOp T A) (w m v l : List (Fact Text)) (o : Op P T A) → w ≡ v → m ≡ l → SameShape a (built_op isolated bare_first bare_es w m (bare_op o)) → SameShape a (built_op isolated first es v l o)
+  shape_op : (a : ResolvedOp T A) (w m v l : List (Fact Text)) (o : Op P T A) → w ≡ v → m ≡ l → SameShape a (built_op isolated bare_first bare_es w m (bare_op o)) → SameShape a (built_op isolated first es v l o)
   shape_op a w m v l o e f s = record {
     id = s.id;
     result_types = s.result_types ∙ bare_result_types o.body;
@@ -37,11 +37,11 @@ module _ {P T A X Y : Type 0} (isolated : Id → Bool) (first : P → X) (es : L
     successors = s.successors ∙ looked l m (successor_labels o) (successor_labels (bare_op o)) (bare_successor_labels o) f;
   }
 
-  shape_head : (a : StoodBlock T A) (h : Head P T A) → SameBlockShape a (built_head isolated bare_first bare_es (bare_head h)) → SameBlockShape a (built_head isolated first es h)
+  shape_head : (a : ResolvedBlock T A) (h : Head P T A) → SameBlockShape a (built_head isolated bare_first bare_es (bare_head h)) → SameBlockShape a (built_head isolated first es h)
   shape_head a h s = record { argument_types = s.argument_types ∙ mapped_twice bare_argument (λ (x : Name ⊤ × T). x.1) h.arguments }
 
   mutual
-    shape_regions : (a : Regions (StoodOp T A) (StoodBlock T A) ⊤) (w v : List (Fact Text)) (p : Path) (j : ℕ) (iso : Bool) (rs : Regions (Op P T A) (Head P T A) (Brace P)) → w ≡ v
+    shape_regions : (a : Regions (ResolvedOp T A) (ResolvedBlock T A) ⊤) (w v : List (Fact Text)) (p : Path) (j : ℕ) (iso : Bool) (rs : Regions (Op P T A) (Head P T A) (Brace P)) → w ≡ v
         → MatchRegions SameShape SameBlockShape (λ r s. ⊤) a (built_regions isolated bare_first bare_es w p j iso (bare_regions rs)) → MatchRegions SameShape SameBlockShape (λ r s. ⊤) a (built_regions isolated first es v p j iso rs)
     shape_regions no_regions w v p j iso no_regions e s = tt
     shape_regions no_regions w v p j iso (region b bs rs) e s = absurd s
@@ -52,14 +52,14 @@ module _ {P T A X Y : Type 0} (isolated : Id → Bool) (first : P → X) (es : L
       shape_regions ds w v p (suc j) iso rs e s.2,
     )
 
-    shape_blocks : (a : Blocks (StoodOp T A) (StoodBlock T A) ⊤) (w m v l : List (Fact Text)) (p : Path) (k : ℕ) (bs : Blocks (Op P T A) (Head P T A) (Brace P)) → w ≡ v → m ≡ l
+    shape_blocks : (a : Blocks (ResolvedOp T A) (ResolvedBlock T A) ⊤) (w m v l : List (Fact Text)) (p : Path) (k : ℕ) (bs : Blocks (Op P T A) (Head P T A) (Brace P)) → w ≡ v → m ≡ l
         → MatchBlocks SameShape SameBlockShape (λ r s. ⊤) a (built_blocks isolated bare_first bare_es w m p k (bare_blocks bs)) → MatchBlocks SameShape SameBlockShape (λ r s. ⊤) a (built_blocks isolated first es v l p k bs)
     shape_blocks no_blocks w m v l p k no_blocks e f s = tt
     shape_blocks no_blocks w m v l p k (block h os bs) e f s = absurd s
     shape_blocks (block c cs ds) w m v l p k no_blocks e f s = absurd s
     shape_blocks (block c cs ds) w m v l p k (block h os bs) e f s = (shape_head c h s.0, shape_operations cs w m v l (k ∷ p) 0 os e f s.1, shape_blocks ds w m v l p (suc k) bs e f s.2)
 
-    shape_operations : (a : Operations (StoodOp T A) (StoodBlock T A) ⊤) (w m v l : List (Fact Text)) (p : Path) (i : ℕ) (os : Operations (Op P T A) (Head P T A) (Brace P)) → w ≡ v → m ≡ l
+    shape_operations : (a : Operations (ResolvedOp T A) (ResolvedBlock T A) ⊤) (w m v l : List (Fact Text)) (p : Path) (i : ℕ) (os : Operations (Op P T A) (Head P T A) (Brace P)) → w ≡ v → m ≡ l
         → MatchOperations SameShape SameBlockShape (λ r s. ⊤) a (built_operations isolated bare_first bare_es w m p i (bare_operations os)) → MatchOperations SameShape SameBlockShape (λ r s. ⊤) a (built_operations isolated first es v l p i os)
     shape_operations no_operations w m v l p i no_operations e f s = tt
     shape_operations no_operations w m v l p i (operation o rs os) e f s = absurd s
@@ -67,5 +67,5 @@ module _ {P T A X Y : Type 0} (isolated : Id → Bool) (first : P → X) (es : L
     shape_operations (operation c cs ds) w m v l p i (operation o rs os) e f s = (shape_op c w m v l o e f s.0, shape_regions cs w v (i ∷ p) 0 (isolated o.id) rs e s.1, shape_operations ds w m v l p (suc i) os e f s.2)
 
   -- what has the shape of a tree built without its places has that of the tree built
-  pub shapes_bare : (a : Root (StoodOp T A) (StoodBlock T A) ⊤) (t : Tree P T A) → SameShapes a (build isolated bare_first bare_es (bare t)) → SameShapes a (build isolated first es t)
+  pub shapes_bare : (a : Root (ResolvedOp T A) (ResolvedBlock T A) ⊤) (t : Tree P T A) → SameShapes a (build isolated bare_first bare_es (bare t)) → SameShapes a (build isolated first es t)
   shapes_bare a t s = (shape_op a.own [] [] [] [] t.own refl refl s.0, shape_regions a.regions [] [] [] 0 (isolated t.own.id) t.regions refl s.1)

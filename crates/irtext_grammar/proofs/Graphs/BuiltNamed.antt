@@ -18,9 +18,9 @@ use Rattle.irtext_grammar.specs.Graphs.Build.{put, put_all, read_names, plain_en
 use Rattle.irtext_grammar.specs.Graphs.ReservedKeys.{KeepsRule, KeepsKeys, OpKeepsKeys, BlockKeepsKeys, GraphKeepsKeys}
 use Rattle.irtext_grammar.specs.Names.Resolves.{KeysKept, is_kept, EntryKept, CountsAgree, OpKeysKept, HeadKeysKept, texts, Resolves}
 use Rattle.irtext_grammar.specs.Graphs.Closed.{Thing}
-use Rattle.irtext_grammar.specs.Graphs.Same.{stood_op, stood_block, stood_regions, stood_blocks, stood_operations, stood}
+use Rattle.irtext_grammar.specs.Graphs.Same.{resolved_op, resolved_block, resolved_regions, resolved_blocks, resolved_operations, resolved_root}
 use Rattle.irtext_grammar.specs.Graphs.Regained.{HoldsNames, OpNamed, BlockNamed, Named}
-use Rattle.irtext_grammar.specs.Graphs.StandsFor.{StandsForOp, StandsForBlock, StandsFor}
+use Rattle.irtext_grammar.specs.Graphs.Represents.{RepresentsOp, RepresentsBlock, Represents}
 use Rattle.irtext_grammar.specs.Spelling.Writable.{has_region}
 use Rattle.irtext_grammar.proofs.Graphs.FitsFormat.{meets, and_left, and_right}
 use Rattle.irtext_grammar.proofs.Grammar.PartsOfFormats.{FormedOp, FormedRegions, FormedBlocks, FormedOperations, Formed}
@@ -221,11 +221,11 @@ module _ {P T A X : Type 0} (C : Printing T A) (isolated : Id → Bool) (first :
   Marked ms = (i : ℕ) → is_among i ms ≡ true → is_among i B ≡ true
 
   module _ (OfO : GraphOp T A → Type 0) (OfB : GraphBlock T A → Type 0)
-      (op : (o : GraphOp T A) (x : Op P T A) (rs : Regions (Op P T A) (Head P T A) (Brace P)) (v l : List (Fact Thing)) (w m : List (Fact Text)) → StandsForOp (stood_op C isolated v l o) (built_op isolated first es w m x) → CountsAgree x → OpKeysKept x → FormedOp x rs → OfO o)
-      (head : (b : GraphBlock T A) (h : Head P T A) → StandsForBlock (stood_block C isolated b) (built_head isolated first es h) → HeadKeysKept h → Marked (marked_as h.mark) → OfB b) where
+      (op : (o : GraphOp T A) (x : Op P T A) (rs : Regions (Op P T A) (Head P T A) (Brace P)) (v l : List (Fact Thing)) (w m : List (Fact Text)) → RepresentsOp (resolved_op C isolated v l o) (built_op isolated first es w m x) → CountsAgree x → OpKeysKept x → FormedOp x rs → OfO o)
+      (head : (b : GraphBlock T A) (h : Head P T A) → RepresentsBlock (resolved_block C isolated b) (built_head isolated first es h) → HeadKeysKept h → Marked (marked_as h.mark) → OfB b) where
     mutual
       regions_of : (v : List (Fact Thing)) (w : List (Fact Text)) (p q : Path) (j k : ℕ) (iso yet : Bool) (rs : Regions (GraphOp T A) (GraphBlock T A) ⊤) (ts : Regions (Op P T A) (Head P T A) (Brace P))
-          → MatchRegions StandsForOp StandsForBlock (λ r s. ⊤) (stood_regions C isolated v p j iso rs) (built_regions isolated first es w q k yet ts) → AllRegions CountsAgree (λ h. ⊤) (λ r. ⊤) ts → AllRegions OpKeysKept HeadKeysKept (λ r. ⊤) ts → FormedRegions ts → Marked (block_marks_in_regions ts) → AllRegions OfO OfB (λ r. ⊤) rs
+          → MatchRegions RepresentsOp RepresentsBlock (λ r s. ⊤) (resolved_regions C isolated v p j iso rs) (built_regions isolated first es w q k yet ts) → AllRegions CountsAgree (λ h. ⊤) (λ r. ⊤) ts → AllRegions OpKeysKept HeadKeysKept (λ r. ⊤) ts → FormedRegions ts → Marked (block_marks_in_regions ts) → AllRegions OfO OfB (λ r. ⊤) rs
       regions_of v w p q j k iso yet no_regions ts s c e f m = tt
       regions_of v w p q j k iso yet (region r bs rs) no_regions s c e f m = absurd s
       regions_of v w p q j k iso yet (region r bs rs) (region elided cs ts) s c e f m = absurd f
@@ -236,7 +236,7 @@ module _ {P T A X : Type 0} (C : Printing T A) (isolated : Id → Bool) (first :
       )
 
       blocks_of : (v l : List (Fact Thing)) (w u : List (Fact Text)) (p q : Path) (j k : ℕ) (bs : Blocks (GraphOp T A) (GraphBlock T A) ⊤) (cs : Blocks (Op P T A) (Head P T A) (Brace P))
-          → MatchBlocks StandsForOp StandsForBlock (λ r s. ⊤) (stood_blocks C isolated v l p j bs) (built_blocks isolated first es w u q k cs) → AllBlocks CountsAgree (λ h. ⊤) (λ r. ⊤) cs → AllBlocks OpKeysKept HeadKeysKept (λ r. ⊤) cs → FormedBlocks cs → Marked (block_marks_in_blocks cs) → AllBlocks OfO OfB (λ r. ⊤) bs
+          → MatchBlocks RepresentsOp RepresentsBlock (λ r s. ⊤) (resolved_blocks C isolated v l p j bs) (built_blocks isolated first es w u q k cs) → AllBlocks CountsAgree (λ h. ⊤) (λ r. ⊤) cs → AllBlocks OpKeysKept HeadKeysKept (λ r. ⊤) cs → FormedBlocks cs → Marked (block_marks_in_blocks cs) → AllBlocks OfO OfB (λ r. ⊤) bs
       blocks_of v l w u p q j k no_blocks cs s c e f m = tt
       blocks_of v l w u p q j k (block b os bs) no_blocks s c e f m = absurd s
       blocks_of v l w u p q j k (block b os bs) (block h xs cs) s c e f m =
@@ -249,7 +249,7 @@ module _ {P T A X : Type 0} (C : Printing T A) (isolated : Id → Bool) (first :
           )
 
       operations_of : (v l : List (Fact Thing)) (w u : List (Fact Text)) (p q : Path) (j k : ℕ) (os : Operations (GraphOp T A) (GraphBlock T A) ⊤) (xs : Operations (Op P T A) (Head P T A) (Brace P))
-          → MatchOperations StandsForOp StandsForBlock (λ r s. ⊤) (stood_operations C isolated v l p j os) (built_operations isolated first es w u q k xs) → AllOperations CountsAgree (λ h. ⊤) (λ r. ⊤) xs → AllOperations OpKeysKept HeadKeysKept (λ r. ⊤) xs → FormedOperations xs → Marked (block_marks_in_operations xs) → AllOperations OfO OfB (λ r. ⊤) os
+          → MatchOperations RepresentsOp RepresentsBlock (λ r s. ⊤) (resolved_operations C isolated v l p j os) (built_operations isolated first es w u q k xs) → AllOperations CountsAgree (λ h. ⊤) (λ r. ⊤) xs → AllOperations OpKeysKept HeadKeysKept (λ r. ⊤) xs → FormedOperations xs → Marked (block_marks_in_operations xs) → AllOperations OfO OfB (λ r. ⊤) os
       operations_of v l w u p q j k no_operations xs s c e f m = tt
       operations_of v l w u p q j k (operation o rs os) no_operations s c e f m = absurd s
       operations_of v l w u p q j k (operation o rs os) (operation x ts xs) s c e f m =
@@ -260,11 +260,11 @@ module _ {P T A X : Type 0} (C : Printing T A) (isolated : Id → Bool) (first :
             operations_of v l w u p q (suc j) (suc k) os xs s.2 c.2 e.2 f.1 (λ i g. m i (among_right i ms ns g)),
           )
 
-  op_named : (o : GraphOp T A) (x : Op P T A) (rs : Regions (Op P T A) (Head P T A) (Brace P)) (v l : List (Fact Thing)) (w m : List (Fact Text)) → StandsForOp (stood_op C isolated v l o) (built_op isolated first es w m x)
+  op_named : (o : GraphOp T A) (x : Op P T A) (rs : Regions (Op P T A) (Head P T A) (Brace P)) (v l : List (Fact Thing)) (w m : List (Fact Text)) → RepresentsOp (resolved_op C isolated v l o) (built_op isolated first es w m x)
       → CountsAgree x → OpKeysKept x → FormedOp x rs → OpNamed C o
   op_named o x rs v l w m s c k f = holds_names o.results (map (λ n. n.text) x.names) o.attributes (inline_entries x) (content es x.mark) (λ e. none_named o.results (result_types x.body) x.names s.shape.result_types c e) s.attributes
 
-  block_named : (b : GraphBlock T A) (h : Head P T A) → StandsForBlock (stood_block C isolated b) (built_head isolated first es h) → HeadKeysKept h → Marked (marked_as h.mark) → BlockNamed C b
+  block_named : (b : GraphBlock T A) (h : Head P T A) → RepresentsBlock (resolved_block C isolated b) (built_head isolated first es h) → HeadKeysKept h → Marked (marked_as h.mark) → BlockNamed C b
   block_named b h s k m = (
     ap is_some s.label,
     holds_names b.arguments (map (λ a. a.0.text) h.arguments) b.attributes (map plain_entry (entries_if h.attributes)) (but_label (content es h.mark)) (λ e. none_typed b.arguments h.arguments s.shape.argument_types e) s.attributes,
@@ -274,7 +274,7 @@ module _ {P T A X : Type 0} (C : Printing T A) (isolated : Id → Bool) (first :
     abbrev rules : ℕ → Rule A
     rules i = cond (is_among i B) keeps_label_key may_hold
 
-    op_kept : (o : GraphOp T A) (x : Op P T A) (rs : Regions (Op P T A) (Head P T A) (Brace P)) (v l : List (Fact Thing)) (w m : List (Fact Text)) → StandsForOp (stood_op C isolated v l o) (built_op isolated first es w m x)
+    op_kept : (o : GraphOp T A) (x : Op P T A) (rs : Regions (Op P T A) (Head P T A) (Brace P)) (v l : List (Fact Thing)) (w m : List (Fact Text)) → RepresentsOp (resolved_op C isolated v l o) (built_op isolated first es w m x)
         → CountsAgree x → OpKeysKept x → FormedOp x rs → OpKeepsKeys o
     op_kept o x rs v l w m s c k f =
         subst KeepsKeys (sym s.attributes)
@@ -295,7 +295,7 @@ module _ {P T A X : Type 0} (C : Printing T A) (isolated : Id → Bool) (first :
         of_mark None = tt
         of_mark (Some m) = each m.index (content_in es es m.index) (content_in_keeps rules es es m.index kept)
 
-    block_kept : (b : GraphBlock T A) (h : Head P T A) → StandsForBlock (stood_block C isolated b) (built_head isolated first es h) → HeadKeysKept h → Marked (marked_as h.mark) → BlockKeepsKeys b
+    block_kept : (b : GraphBlock T A) (h : Head P T A) → RepresentsBlock (resolved_block C isolated b) (built_head isolated first es h) → HeadKeysKept h → Marked (marked_as h.mark) → BlockKeepsKeys b
     block_kept b h s k m =
         subst (KeepsRule block_may_hold) (sym s.attributes)
         (with_kept rules es block_may_hold _ (but_label (content es h.mark))
@@ -363,7 +363,7 @@ module _ {P T A : Type 0} where
   no_successor_labels : (o : Op P T A) → views (λ p. elim p [ tree.successor i n ↦ n ∷ [] | tree.successors ns ↦ ns | _ ↦ [] ]) (parts_of o.body) ≡ [] → successor_labels o ≡ []
   no_successor_labels o e = let q = none_branched (parts_of o.body) e in ap₂ (λ (a : List (ℕ × Name P)) (b : List (Name P)). in_order a ++ b) q.0 q.1
 
-module _ {P T A X : Type 0} (C : Printing T A) (isolated : Id → Bool) (first : P → X) (es : List (Entry P A X)) (g : Graph T A) (t : Tree P T A) (s : StandsFor (stood C isolated g) (build isolated first es t)) (f : Formed t) (r : Resolves isolated t es) where
+module _ {P T A X : Type 0} (C : Printing T A) (isolated : Id → Bool) (first : P → X) (es : List (Entry P A X)) (g : Graph T A) (t : Tree P T A) (s : Represents (resolved_root C isolated g) (build isolated first es t)) (f : Formed t) (r : Resolves isolated t es) where
   abbrev B : List ℕ
   B = block_marks_in_regions t.regions
 
@@ -399,7 +399,7 @@ module _ {P T A X : Type 0} (C : Printing T A) (isolated : Id → Bool) (first :
   isolated_if e = ap isolated s.0.shape.id ∙ r.is_isolated (regions_too [] [] [] 0 0 (isolated g.own.id) (isolated t.own.id) g.regions t.regions s.1 e)
     where
       regions_too : (v : List (Fact Thing)) (w : List (Fact Text)) (p : Path) (j k : ℕ) (iso yet : Bool) (rs : Regions (GraphOp T A) (GraphBlock T A) ⊤) (ts : Regions (Op P T A) (Head P T A) (Brace P))
-          → MatchRegions StandsForOp StandsForBlock (λ r s. ⊤) (stood_regions C isolated v p j iso rs) (built_regions isolated first es w p k yet ts) → has_region rs ≡ true → has_region ts ≡ true
+          → MatchRegions RepresentsOp RepresentsBlock (λ r s. ⊤) (resolved_regions C isolated v p j iso rs) (built_regions isolated first es w p k yet ts) → has_region rs ≡ true → has_region ts ≡ true
       regions_too v w p j k iso yet no_regions ts s e = absurd (true≢false (sym e))
       regions_too v w p j k iso yet (region q bs rs) no_regions s e = absurd s
       regions_too v w p j k iso yet (region q bs rs) (region z cs ts) s e = refl

@@ -17,7 +17,7 @@ use Rattle.irtext_grammar.specs.Graphs.Build.{stored, plain_entry, inline_entrie
 use Rattle.irtext_grammar.specs.Graphs.Closed.{Thing, a_block, printed, FitsFormat, FitRegions, FitBlocks, FitOperations, Fit}
 use Rattle.irtext_grammar.specs.Graphs.ReservedKeys.{KeepsRule, KeepsKeys, OpKeepsKeys, BlockKeepsKeys, GraphKeepsKeys}
 use Rattle.irtext_grammar.specs.Graphs.RoundTrip.{KeysDiffer, GraphKeysDiffer}
-use Rattle.irtext_grammar.specs.Graphs.Same.{SmallGraph, stood_op, stood_block, stood_regions, stood_blocks, stood_operations, stood, Locations, SameShape, SameBlockShape, SameDictionary, SameLocation, SameLabel, SameOp, SameBlock, SameShapes, UpToFillings}
+use Rattle.irtext_grammar.specs.Graphs.Same.{SmallGraph, resolved_op, resolved_block, resolved_regions, resolved_blocks, resolved_operations, resolved_root, Locations, SameShape, SameBlockShape, SameDictionary, SameLocation, SameLabel, SameOp, SameBlock, SameShapes, UpToFillings}
 use Rattle.irtext_grammar.specs.Spelling.SectionEntries.{own_content}
 use Rattle.irtext_grammar.specs.Graphs.Contents.{as_text, OpContent, BlockContent, Contents}
 use Rattle.irtext_grammar.specs.Graphs.Links.{OpLinked}
@@ -131,7 +131,7 @@ module _ {P T A X : Type 0} (C : Printing T A) (isolated : Id → Bool) (K : Loc
   label_same l o ds m name t e k s = same_label o name t _ e (ap (labelled t) s.1 ∙ content_label C l o ds t s.0 k)
 
   op_same : (w m : List (Fact Thing)) (v l : List (Fact Text)) (o : GraphOp T A) (p : Op P T A) (n : ℕ) → FitsFormat C isolated (C.format_of o.id) o n → OpKeepsKeys o → KeysDiffer o.attributes → WrittenOp C o p
-      → SaysOf C K es o.location (op_outlined C o) p.mark → SameShape (stood_op C isolated w m o) (built_op isolated first es v l p) → OpLinked (built_op isolated first es v l p) → SameOp K (stood_op C isolated w m o) (built_op isolated first es v l p)
+      → SaysOf C K es o.location (op_outlined C o) p.mark → SameShape (resolved_op C isolated w m o) (built_op isolated first es v l p) → OpLinked (built_op isolated first es v l p) → SameOp K (resolved_op C isolated w m o) (built_op isolated first es v l p)
   op_same w m v l o p n f k d r s h t = record {
     shape = h;
     operands_there = t.0;
@@ -150,8 +150,8 @@ module _ {P T A X : Type 0} (C : Printing T A) (isolated : Id → Bool) (K : Loc
   kept : (b : GraphBlock T A) → BlockKeepsKeys b → KeepsRule block_may_hold (outlined_entries C b.attributes)
   kept b k = keeps_filter block_may_hold (λ e. outlined C e.1) b.attributes k
 
-  block_same : (b : GraphBlock T A) (h : Head P T A) → BlockKeepsKeys b → KeysDiffer b.attributes → WrittenBlock C b h → SaysOf C K es b.location (block_outlined C b) h.mark → SameBlockShape (stood_block C isolated b) (built_head isolated first es h)
-      → SameBlock K (stood_block C isolated b) (built_head isolated first es h)
+  block_same : (b : GraphBlock T A) (h : Head P T A) → BlockKeepsKeys b → KeysDiffer b.attributes → WrittenBlock C b h → SaysOf C K es b.location (block_outlined C b) h.mark → SameBlockShape (resolved_block C isolated b) (built_head isolated first es h)
+      → SameBlock K (resolved_block C isolated b) (built_head isolated first es h)
   block_same b h k d r s e = record {
     shape = e;
     label = label_same b.location (C.label b.place) (outlined_entries C b.attributes) h.mark (printed C (a_block b.place)) h.label.text (ap (λ z. z.label.text) r.1) (kept b k) s;
@@ -176,21 +176,21 @@ module _ {P T A X : Type 0} (C : Printing T A) (isolated : Id → Bool) (K : Loc
 
   mutual
     regions_same : (a : Regions (GraphOp T A) (GraphBlock T A) ⊤) (r : Regions (Op P T A) (Head P T A) (Brace P)) (w : List (Fact Thing)) (v : List (Fact Text)) (q : Path) (j : ℕ) (iso also : Bool)
-        → FitRegions C isolated a → AllRegions OpKeepsKeys BlockKeepsKeys (λ r. ⊤) a → AllRegions Differ BlockDiffer (λ r. ⊤) a → MatchRegions (WrittenOp C) (WrittenBlock C) (λ x y. ⊤) a r → MatchRegions Says BlockSays (λ x y. ⊤) a r → MatchRegions SameShape SameBlockShape (λ x y. ⊤) (stood_regions C isolated w q j iso a) (built_regions isolated first es v q j also r) → AllRegions OpLinked (λ b. ⊤) (λ r. ⊤) (built_regions isolated first es v q j also r) → MatchRegions (SameOp K) (SameBlock K) (λ x y. ⊤) (stood_regions C isolated w q j iso a) (built_regions isolated first es v q j also r)
+        → FitRegions C isolated a → AllRegions OpKeepsKeys BlockKeepsKeys (λ r. ⊤) a → AllRegions Differ BlockDiffer (λ r. ⊤) a → MatchRegions (WrittenOp C) (WrittenBlock C) (λ x y. ⊤) a r → MatchRegions Says BlockSays (λ x y. ⊤) a r → MatchRegions SameShape SameBlockShape (λ x y. ⊤) (resolved_regions C isolated w q j iso a) (built_regions isolated first es v q j also r) → AllRegions OpLinked (λ b. ⊤) (λ r. ⊤) (built_regions isolated first es v q j also r) → MatchRegions (SameOp K) (SameBlock K) (λ x y. ⊤) (resolved_regions C isolated w q j iso a) (built_regions isolated first es v q j also r)
     regions_same no_regions no_regions w v q j iso also f k d r s h t = tt
     regions_same (region c cs ss) (region b bs rs) w v q j iso also f k d r s h t =
         (tt, blocks_same cs bs _ _ _ _ (j ∷ q) 0 f.0 k.1 d.1 r.1 s.1 h.1 t.1, regions_same ss rs w v q (suc j) iso also f.1 k.2 d.2 r.2 s.2 h.2 t.2)
     regions_same _ _ w v q j iso also f k d r s h t = absurd r
 
     blocks_same : (a : Blocks (GraphOp T A) (GraphBlock T A) ⊤) (r : Blocks (Op P T A) (Head P T A) (Brace P)) (w m : List (Fact Thing)) (v l : List (Fact Text)) (q : Path) (i : ℕ)
-        → FitBlocks C isolated a → AllBlocks OpKeepsKeys BlockKeepsKeys (λ r. ⊤) a → AllBlocks Differ BlockDiffer (λ r. ⊤) a → MatchBlocks (WrittenOp C) (WrittenBlock C) (λ x y. ⊤) a r → MatchBlocks Says BlockSays (λ x y. ⊤) a r → MatchBlocks SameShape SameBlockShape (λ x y. ⊤) (stood_blocks C isolated w m q i a) (built_blocks isolated first es v l q i r) → AllBlocks OpLinked (λ b. ⊤) (λ r. ⊤) (built_blocks isolated first es v l q i r) → MatchBlocks (SameOp K) (SameBlock K) (λ x y. ⊤) (stood_blocks C isolated w m q i a) (built_blocks isolated first es v l q i r)
+        → FitBlocks C isolated a → AllBlocks OpKeepsKeys BlockKeepsKeys (λ r. ⊤) a → AllBlocks Differ BlockDiffer (λ r. ⊤) a → MatchBlocks (WrittenOp C) (WrittenBlock C) (λ x y. ⊤) a r → MatchBlocks Says BlockSays (λ x y. ⊤) a r → MatchBlocks SameShape SameBlockShape (λ x y. ⊤) (resolved_blocks C isolated w m q i a) (built_blocks isolated first es v l q i r) → AllBlocks OpLinked (λ b. ⊤) (λ r. ⊤) (built_blocks isolated first es v l q i r) → MatchBlocks (SameOp K) (SameBlock K) (λ x y. ⊤) (resolved_blocks C isolated w m q i a) (built_blocks isolated first es v l q i r)
     blocks_same no_blocks no_blocks w m v l q i f k d r s h t = tt
     blocks_same (block c cs ds) (block g os bs) w m v l q i f k d r s h t =
         (block_same c g k.0 d.0 r.0 (says_of C K es c.location (block_outlined C c) _ s.0) h.0, operations_same cs os w m v l (i ∷ q) 0 f.0 k.1 d.1 r.1 s.1 h.1 t.1, blocks_same ds bs w m v l q (suc i) f.1 k.2 d.2 r.2 s.2 h.2 t.2)
     blocks_same _ _ w m v l q i f k d r s h t = absurd r
 
     operations_same : (a : Operations (GraphOp T A) (GraphBlock T A) ⊤) (r : Operations (Op P T A) (Head P T A) (Brace P)) (w m : List (Fact Thing)) (v l : List (Fact Text)) (q : Path) (i : ℕ)
-        → FitOperations C isolated a → AllOperations OpKeepsKeys BlockKeepsKeys (λ r. ⊤) a → AllOperations Differ BlockDiffer (λ r. ⊤) a → MatchOperations (WrittenOp C) (WrittenBlock C) (λ x y. ⊤) a r → MatchOperations Says BlockSays (λ x y. ⊤) a r → MatchOperations SameShape SameBlockShape (λ x y. ⊤) (stood_operations C isolated w m q i a) (built_operations isolated first es v l q i r) → AllOperations OpLinked (λ b. ⊤) (λ r. ⊤) (built_operations isolated first es v l q i r) → MatchOperations (SameOp K) (SameBlock K) (λ x y. ⊤) (stood_operations C isolated w m q i a) (built_operations isolated first es v l q i r)
+        → FitOperations C isolated a → AllOperations OpKeepsKeys BlockKeepsKeys (λ r. ⊤) a → AllOperations Differ BlockDiffer (λ r. ⊤) a → MatchOperations (WrittenOp C) (WrittenBlock C) (λ x y. ⊤) a r → MatchOperations Says BlockSays (λ x y. ⊤) a r → MatchOperations SameShape SameBlockShape (λ x y. ⊤) (resolved_operations C isolated w m q i a) (built_operations isolated first es v l q i r) → AllOperations OpLinked (λ b. ⊤) (λ r. ⊤) (built_operations isolated first es v l q i r) → MatchOperations (SameOp K) (SameBlock K) (λ x y. ⊤) (resolved_operations C isolated w m q i a) (built_operations isolated first es v l q i r)
     operations_same no_operations no_operations w m v l q i f k d r s h t = tt
     operations_same (operation c cs ds) (operation o rs os) w m v l q i f k d r s h t =
         (op_same w m v l c o (length (regions_list cs)) f.0 k.0 d.0 r.0 (says_of C K es c.location (op_outlined C c) _ s.0) h.0 t.0, regions_same cs rs w v (i ∷ q) 0 _ _ f.1 k.1 d.1 r.1 s.1 h.1 t.1, operations_same ds os w m v l q (suc i) f.2 k.2 d.2 r.2 s.2 h.2 t.2)
@@ -198,9 +198,9 @@ module _ {P T A X : Type 0} (C : Printing T A) (isolated : Id → Bool) (K : Loc
 
   -- what is built of a tree that is written of a graph is equal to the graph up to fillings
   pub fillings : (g : Graph T A) (t : Tree P T A) (x : Script Text P) → Fit C isolated g → SmallGraph C isolated g → GraphKeepsKeys g → GraphKeysDiffer g → bare t ≡ written C None g → Formed t
-      → failures same_text no_scope (tree_script isolated t x) ≡ [] → Contents C K.text es g t → UpToFillings K (stood C isolated g) (build isolated first es t)
+      → failures same_text no_scope (tree_script isolated t x) ≡ [] → Contents C K.text es g t → UpToFillings K (resolved_root C isolated g) (build isolated first es t)
   fillings g t x f small k d e formed resolves s =
-      let h = shapes_bare isolated first es (λ (p : ⊤). p) [] (stood C isolated g) t (subst (λ z. SameShapes (stood C isolated g) (build isolated (λ (p : ⊤). p) [] z)) (sym e) (same_shapes C isolated (λ (p : ⊤). p) [] g f small)) in
+      let h = shapes_bare isolated first es (λ (p : ⊤). p) [] (resolved_root C isolated g) t (subst (λ z. SameShapes (resolved_root C isolated g) (build isolated (λ (p : ⊤). p) [] z)) (sym e) (same_shapes C isolated (λ (p : ⊤). p) [] g f small)) in
       let w = written_as C g t e in
       let t' = all_there isolated first es t formed x resolves in
       (op_same [] [] [] [] g.own t.own (length (regions_list g.regions)) f.0 k.0 d.0 w.0 (says_of C K es g.own.location (op_outlined C g.own) t.own.mark s.0) h.0 t'.0, regions_same g.regions t.regions [] [] [] 0 _ _ f.1 k.1 d.1 w.1 s.1 h.1 t'.1)

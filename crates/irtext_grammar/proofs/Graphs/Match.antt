@@ -15,7 +15,7 @@ use Rattle.irtext_grammar.specs.Grammar.Section.{Entry}
 use Rattle.irtext_grammar.specs.Names.Acts.{all_of, blocks_script}
 use Rattle.irtext_grammar.specs.Graphs.Build.{built_op, built_regions, built_blocks, built_operations, build}
 use Rattle.irtext_grammar.specs.Graphs.Closed.{Thing, a_value, a_block, same_thing, printed, uses_of_values, uses_of_blocks, defined_results, defined_arguments, use_if, use_block_if, directives_script, body_script, graph_regions, graph_blocks, graph_operations, graph_script, FitRegions, FitBlocks, FitOperations, Fit, Small}
-use Rattle.irtext_grammar.specs.Graphs.Same.{SmallOp, SmallBlock, SmallGraph, stood_op, stood_regions, stood_blocks, stood_operations, stood, SameShape, SameBlockShape, SameShapes}
+use Rattle.irtext_grammar.specs.Graphs.Same.{SmallOp, SmallBlock, SmallGraph, resolved_op, resolved_regions, resolved_blocks, resolved_operations, resolved_root, SameShape, SameBlockShape, SameShapes}
 use Rattle.irtext_grammar.proofs.Names.Natural.{AllFacts, AllScript, fact_as, facts_as, facts_natural, of_script, lookup_as}
 use Rattle.irtext_grammar.proofs.Names.Plainly.{unmarked, facts_plain}
 use Rattle.irtext_grammar.proofs.Names.Injective.{names_agree}
@@ -138,7 +138,7 @@ module _ {T A : Type 0} (C : Printing T A) (isolated : Id → Bool) where
 
   module _ {X : Type 0} (first : ⊤ → X) (es : List (Entry ⊤ A X)) where
     same_op : (n k : ℕ) (v l : List (Fact Text)) (w m : List (Fact Thing)) (o : GraphOp T A) (rs : Regions (GraphOp T A) (GraphBlock T A) ⊤) → FitOperations C isolated (operation o rs no_operations) → SmallOp C isolated o → Scoped v w → Scoped l m
-        → SameShape (stood_op C isolated w m o) (built_op isolated first es v l (tree_op C k o))
+        → SameShape (resolved_op C isolated w m o) (built_op isolated first es v l (tree_op C k o))
     same_op n k v l w m o rs f e s t =
         let b = names_back C isolated o (length (regions_list rs)) k (C.format_of o.id) refl f.0 in
         record {
@@ -150,28 +150,28 @@ module _ {T A : Type 0} (C : Printing T A) (isolated : Id → Bool) where
 
     mutual
       same_regions : (n : ℕ) (v : List (Fact Text)) (w : List (Fact Thing)) (p : Path) (j : ℕ) (iso : Bool) (rs : Regions (GraphOp T A) (GraphBlock T A) ⊤) → FitRegions C isolated rs → AllRegions (SmallOp C isolated) (SmallBlock C isolated) (λ r. ⊤) rs → Scoped v w
-          → MatchRegions SameShape SameBlockShape (λ r s. ⊤) (stood_regions C isolated w p j iso rs) (built_regions isolated first es v p j iso (tree_regions C None n rs))
+          → MatchRegions SameShape SameBlockShape (λ r s. ⊤) (resolved_regions C isolated w p j iso rs) (built_regions isolated first es v p j iso (tree_regions C None n rs))
       same_regions n v w p j iso no_regions f e s = tt
       same_regions n v w p j iso (region r bs rs) f e s =
           let i = inside_blocks n (j ∷ p) bs f.0 e.1 in
           (tt, same_blocks n _ _ _ _ (j ∷ p) 0 bs f.0 e.1 (scoped_if iso _ v _ w i.values s) i.labels, same_regions (n + marks_in_blocks C None bs) v w p (suc j) iso rs f.1 e.2 s)
 
       same_blocks : (n : ℕ) (v l : List (Fact Text)) (w m : List (Fact Thing)) (p : Path) (k : ℕ) (bs : Blocks (GraphOp T A) (GraphBlock T A) ⊤) → FitBlocks C isolated bs → AllBlocks (SmallOp C isolated) (SmallBlock C isolated) (λ r. ⊤) bs → Scoped v w → Scoped l m
-          → MatchBlocks SameShape SameBlockShape (λ r s. ⊤) (stood_blocks C isolated w m p k bs) (built_blocks isolated first es v l p k (tree_blocks C None n bs))
+          → MatchBlocks SameShape SameBlockShape (λ r s. ⊤) (resolved_blocks C isolated w m p k bs) (built_blocks isolated first es v l p k (tree_blocks C None n bs))
       same_blocks n v l w m p k no_blocks f e s t = tt
       same_blocks n v l w m p k (block h os bs) f e s t =
           let q = n + own_marks C h.location (block_outlined C h) in
           (record { argument_types = types_back h.arguments }, same_operations q v l w m (k ∷ p) 0 os f.0 e.1 s t, same_blocks (q + marks_in_operations C None os) v l w m p (suc k) bs f.1 e.2 s t)
 
       same_operations : (n : ℕ) (v l : List (Fact Text)) (w m : List (Fact Thing)) (p : Path) (i : ℕ) (os : Operations (GraphOp T A) (GraphBlock T A) ⊤) → FitOperations C isolated os → AllOperations (SmallOp C isolated) (SmallBlock C isolated) (λ r. ⊤) os → Scoped v w → Scoped l m
-          → MatchOperations SameShape SameBlockShape (λ r s. ⊤) (stood_operations C isolated w m p i os) (built_operations isolated first es v l p i (tree_operations C None n os))
+          → MatchOperations SameShape SameBlockShape (λ r s. ⊤) (resolved_operations C isolated w m p i os) (built_operations isolated first es v l p i (tree_operations C None n os))
       same_operations n v l w m p i no_operations f e s t = tt
       same_operations n v l w m p i (operation o rs os) f e s t =
           let q = n + marks_in_regions C None rs in
           (same_op n q v l w m o rs (f.0, f.1, tt) e.0 s t, same_regions n v w (i ∷ p) 0 (isolated o.id) rs f.1 e.1 s, same_operations (q + own_marks C o.location (op_outlined C o)) v l w m p (suc i) os f.2 e.2 s t)
 
     -- what the written tree builds has the shape of the graph
-    pub same_shapes : (g : Graph T A) → Fit C isolated g → SmallGraph C isolated g → SameShapes (stood C isolated g) (build isolated first es (written C None g))
+    pub same_shapes : (g : Graph T A) → Fit C isolated g → SmallGraph C isolated g → SameShapes (resolved_root C isolated g) (build isolated first es (written C None g))
     same_shapes g f e =
         let nothing : Scoped [] [] = record { same = refl; small = tt } in
         (same_op 0 (marks_in_regions C None g.regions) [] [] [] [] g.own g.regions (f.0, f.1, tt) e.0 nothing nothing, same_regions 0 [] [] [] 0 (isolated g.own.id) g.regions f.1 e.1 nothing)

@@ -6,7 +6,7 @@ use Rattle.std.specs.Char.{is_ascii_digit, is_ascii_graphic}
 use Rattle.std.proofs.lemmas.Bool.Decides.{nat_tests}
 use Rattle.irtext_base.specs.Text.{Text, begins, begins_word, in_word, is_identifier}
 use Rattle.irtext_base.specs.Format as format
-use Rattle.irtext_base.specs.Format.{Format, Directive, same_text, word_prints, count, operand_places, successor_places, region_places, is_regions, none_behind, ascend, sym_name_key, Id}
+use Rattle.irtext_base.specs.Format.{Format, Directive, same_text, word_prints, count, operand_places, successor_places, region_places, is_regions, none_follows, ascend, sym_name_key, Id}
 use Rattle.irtext_grammar.specs.Grammar.Forest.{Regions, no_regions, region, Blocks, no_blocks, block, Operations, no_operations, operation, regions_list, AllRegions, AllBlocks, AllOperations}
 use Rattle.irtext_grammar.specs.Grammar.Tree as tree
 use Rattle.irtext_grammar.specs.Grammar.Tree.{Name, Attribute, given_names, ident, own, Piece, Part, shown, elided}
@@ -99,7 +99,7 @@ room_none (_ ∷ rest) e c = room_none rest e c
 
 -- regions that fit have a place or a list each
 pub room : (rest : List Directive) (n : ℕ) → Fitted (length (region_places rest)) (count is_regions rest) n ≡ true → nat_lt (count is_regions rest) 2 ≡ true
-    → none_behind is_regions (λ d. elim d [ format.region i ↦ true | _ ↦ false ]) rest ≡ true → Room rest n
+    → none_follows is_regions (λ d. elim d [ format.region i ↦ true | _ ↦ false ]) rest ≡ true → Room rest n
 room [] n e f b = same_character n 0 e
 room (format.region i ∷ rest) zero e f b = fitted_none (length (region_places rest)) (count is_regions rest == 0) e
 room (format.region i ∷ rest) (suc n) e f b = room rest n (fitted_less (length (region_places rest)) n (count is_regions rest == 0) e) f b
@@ -233,14 +233,14 @@ module _ {T A : Type 0} (C : Printing T A) (isolated : Id → Bool) (given : (v 
         let five = c.fifth in
         let a = and_left (ascend 0 (region_places ds) && nat_lt (count is_regions ds) 2) _ five in
         let few = and_right (ascend 0 (region_places ds)) (nat_lt (count is_regions ds) 2) a in
-        let behind = and_right (ascend 0 (region_places ds) && nat_lt (count is_regions ds) 2) _ five in (
+        let following = and_right (ascend 0 (region_places ds) && nat_lt (count is_regions ds) 2) _ five in (
           format.custom ds,
           refl,
           (
             c.eighth,
             has_directives C isolated ds o (length (regions_list rs)) c f.1,
             parts_fine ds o w s ds c.first,
-            enough ds o ds (tree_regions C l m rs) (subst (Room ds) (sym (same_length l m rs)) (room ds (length (regions_list rs)) f.1.regions few behind)),
+            enough ds o ds (tree_regions C l m rs) (subst (Room ds) (sym (same_length l m rs)) (room ds (length (regions_list rs)) f.1.regions few following)),
           ),
         )
 

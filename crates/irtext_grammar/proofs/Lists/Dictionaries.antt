@@ -66,24 +66,24 @@ module _ {V : Type 0} (test : V → Bool) (es : List (Text × V)) where
     pub each : Each (λ (e : Text × V). (lookup e.0 es ≡ Some e.1) × (test e.1 ≡ true)) xs
     pub all : (key : Text) (v : V) → lookup key es ≡ Some v → test v ≡ true → is_some (last_of key xs) ≡ true
 
-  abbrev Stands : Text → Option V → Type 0
-  Stands key None = ⊤
-  Stands key (Some v) = (lookup key es ≡ Some v) × (test v ≡ true)
+  abbrev IsStored : Text → Option V → Type 0
+  IsStored key None = ⊤
+  IsStored key (Some v) = (lookup key es ≡ Some v) × (test v ≡ true)
 
-  last_stands : (key : Text) (xs : List (Text × V)) → Each (λ (e : Text × V). (lookup e.0 es ≡ Some e.1) × (test e.1 ≡ true)) xs → Stands key (last_of key xs)
-  last_stands key [] h = tt
-  last_stands key (x ∷ xs) h = go (last_of key xs) (last_stands key xs h.1) (same_text key x.0) refl
+  last_is_stored : (key : Text) (xs : List (Text × V)) → Each (λ (e : Text × V). (lookup e.0 es ≡ Some e.1) × (test e.1 ≡ true)) xs → IsStored key (last_of key xs)
+  last_is_stored key [] h = tt
+  last_is_stored key (x ∷ xs) h = go (last_of key xs) (last_is_stored key xs h.1) (same_text key x.0) refl
     where
-      go : (o : Option V) → Stands key o → (b : Bool) → same_text key x.0 ≡ b → Stands key (or_else o (cond b (Some x.1) None))
+      go : (o : Option V) → IsStored key o → (b : Bool) → same_text key x.0 ≡ b → IsStored key (or_else o (cond b (Some x.1) None))
       go (Some v) s b k = s
       go None s true k = (ap (λ z. lookup z es) (same_text_true key x.0 k) ∙ h.0.0, h.0.1)
       go None s false k = tt
 
   -- the last value of a key among the entries that are picked: its entry in the dictionary, if that passes
   pub last_passing : (xs : List (Text × V)) → Picks xs → (key : Text) → last_of key xs ≡ passing test (lookup key es)
-  last_passing xs p key = go (last_of key xs) (last_stands key xs p.each) (lookup key es) refl (p.all key)
+  last_passing xs p key = go (last_of key xs) (last_is_stored key xs p.each) (lookup key es) refl (p.all key)
     where
-      go : (o : Option V) → Stands key o → (q : Option V) → lookup key es ≡ q → ((v : V) → lookup key es ≡ Some v → test v ≡ true → is_some o ≡ true) → o ≡ passing test q
+      go : (o : Option V) → IsStored key o → (q : Option V) → lookup key es ≡ q → ((v : V) → lookup key es ≡ Some v → test v ≡ true → is_some o ≡ true) → o ≡ passing test q
       go (Some v) s q k a = sym (ap (passing test) (sym k ∙ s.0) ∙ ap (λ b. cond b (Some v) None) s.1)
       go None s None k a = refl
       go None s (Some w) k a = one (test w) refl
@@ -101,11 +101,11 @@ or_none true b h = absurd (true≢false (sym h))
 or_none false b h = (refl, h)
 
 module _ {V : Type 0} where
-  behind : (e : Text × V) (es fs : List (Text × V)) → not (has same_text e.0 (map (λ f. f.0) fs)) ≡ true → Each (λ (f : Text × V). lookup f.0 es ≡ Some f.1) fs → Each (λ (f : Text × V). lookup f.0 (e ∷ es) ≡ Some f.1) fs
-  behind e es [] n h = tt
-  behind e es (f ∷ fs) n h =
+  following : (e : Text × V) (es fs : List (Text × V)) → not (has same_text e.0 (map (λ f. f.0) fs)) ≡ true → Each (λ (f : Text × V). lookup f.0 es ≡ Some f.1) fs → Each (λ (f : Text × V). lookup f.0 (e ∷ es) ≡ Some f.1) fs
+  following e es [] n h = tt
+  following e es (f ∷ fs) n h =
       let r = or_none (same_text e.0 f.0) (has same_text e.0 (map (λ f. f.0) fs)) n in
-      (ap (λ b. cond b (Some e.1) (lookup f.0 es)) (differ f.0 e.0 r.0) ∙ h.0, behind e es fs r.1 h.1)
+      (ap (λ b. cond b (Some e.1) (lookup f.0 es)) (differ f.0 e.0 r.0) ∙ h.0, following e es fs r.1 h.1)
 
   -- in a list without a key twice, each key has its own entry
   pub own_lookups : (es : List (Text × V)) → distinct same_text (map (λ e. e.0) es) ≡ true → Each (λ (e : Text × V). lookup e.0 es ≡ Some e.1) es
@@ -113,7 +113,7 @@ module _ {V : Type 0} where
   own_lookups (e ∷ es) d =
       let ks = map (λ (f : Text × V). f.0) es in (
         ap (λ b. cond b (Some e.1) (lookup e.0 es)) (same_text_refl e.0),
-        behind e es es (and_left (not (has same_text e.0 ks)) (distinct same_text ks) d) (own_lookups es (and_right (not (has same_text e.0 ks)) (distinct same_text ks) d)),
+        following e es es (and_left (not (has same_text e.0 ks)) (distinct same_text ks) d) (own_lookups es (and_right (not (has same_text e.0 ks)) (distinct same_text ks) d)),
       )
 
   each_passes : (Q : Text × V → Type 0) (test : V → Bool) (es : List (Text × V)) → Each Q es → Each (λ (e : Text × V). Q e × (test e.1 ≡ true)) (filter (λ e. test e.1) es)

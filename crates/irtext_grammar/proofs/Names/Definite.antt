@@ -5,7 +5,7 @@ use Rattle.irtext_base.specs.Format.{has}
 use Rattle.irtext_grammar.specs.Spelling.Spellable.{Each}
 use Rattle.irtext_grammar.specs.Names.Script.{UnresolvedReference, MultipleDefinitions, Place, User, Act, use_value, use_label, define_value, define_label, mark, entry, claim, Script, done, does, within}
 use Rattle.irtext_grammar.specs.Names.Scopes.{fail, Fact, uses, defines, Scopes, ◌⊳◌, fact_of, inside, lookup, unresolved, outward, facts, act_failures, left_open, failures}
-use Rattle.irtext_grammar.specs.Graphs.StandsFor.{made}
+use Rattle.irtext_grammar.specs.Graphs.Represents.{made}
 use Rattle.irtext_grammar.proofs.Names.Plainly.{append_empty}
 use Rattle.irtext_grammar.proofs.Lists.Fresh.{Fresh, fresh_left, fresh_right, has_both, neither_left, neither_right}
 use Rattle.irtext_grammar.proofs.Names.UsesMean.{meant, Means, Known}

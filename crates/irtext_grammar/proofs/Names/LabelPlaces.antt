@@ -62,10 +62,10 @@ module _ (brace : ℕ) (all : List Fact) (name : Text) (absent : is_some (lookup
       in_right (record { cause = UnresolvedReference name; at = Some brace }) (cond (is_some (lookup m all)) [] (fail (UnresolvedReference m) brace)) (unresolved brace all scope) (use_left scope u h)
 
 -- a label that is used in a region and not defined there is reported at the region's brace
-pub left_at_brace : (s : Scopes) (iso : Bool) (brace : ℕ) (body behind : Script) (name : Text) (u : User) → In (uses name u) (facts body).labels → (IsDefined name (facts body).labels → ⊥)
-    → In (record { cause = UnresolvedReference name; at = Some brace }) (failures s (within iso brace body behind))
-left_at_brace s iso brace body behind name u h d =
-    in_left x (not_isolated iso s.values ++ (failures (inside iso s) body ++ left_open brace iso (facts body))) (failures (s ⊳ outward iso (facts body)) behind)
+pub left_at_brace : (s : Scopes) (iso : Bool) (brace : ℕ) (body following : Script) (name : Text) (u : User) → In (uses name u) (facts body).labels → (IsDefined name (facts body).labels → ⊥)
+    → In (record { cause = UnresolvedReference name; at = Some brace }) (failures s (within iso brace body following))
+left_at_brace s iso brace body following name u h d =
+    in_left x (not_isolated iso s.values ++ (failures (inside iso s) body ++ left_open brace iso (facts body))) (failures (s ⊳ outward iso (facts body)) following)
     (in_right x (not_isolated iso s.values) (failures (inside iso s) body ++ left_open brace iso (facts body))
     (in_right x (failures (inside iso s) body) (left_open brace iso (facts body)) (either iso)))
   where

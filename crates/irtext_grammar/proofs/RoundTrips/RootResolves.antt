@@ -3,12 +3,12 @@ use Rattle.std.proofs.Common.{◌≡◌, ℕ, ◌+◌, ◌<◌, ◌^◌, Bool, t
 use Rattle.std.specs.Prelude.{⊤}
 use Rattle.irtext_base.specs.Text.{Text}
 use Rattle.irtext_base.specs.Format.{same_text, Id}
-use Rattle.irtext_base.specs.Own.{Texts, Language, language, unplaced, Lawful, Unreserved, Standing}
+use Rattle.irtext_base.specs.Own.{Texts, Language, language, unplaced, Lawful, Unreserved, Verdict}
 use Rattle.irtext_grammar.specs.Grammar.Forest.{Regions, no_regions, region, Blocks, no_blocks, block, Operations, no_operations, operation, AllRegions, AllBlocks, AllOperations}
 use Rattle.irtext_grammar.specs.Grammar.Tree.{Attribute, given_names, ident, own, Tree}
 use Rattle.irtext_grammar.specs.Grammar.Bare.{bare}
 use Rattle.irtext_grammar.specs.Spelling.Spellable.{Each, IsIdentifier}
-use Rattle.irtext_grammar.specs.Spelling.Writable.{BehindRoot}
+use Rattle.irtext_grammar.specs.Spelling.Writable.{AfterRoot}
 use Rattle.irtext_grammar.specs.Spelling.Spell.{spelled}
 use Rattle.irtext_grammar.specs.Graphs.Identifiers.{EntryHasIdentifiers, OpHasIdentifiers, BlockHasIdentifiers, HasIdentifiers}
 use Rattle.irtext_grammar.specs.Graphs.ReservedKeys.{GraphKeepsKeys}
@@ -35,9 +35,9 @@ use Rattle.irtext_grammar.proofs.Sections.EntryRules.{entries_ruled}
 use Rattle.irtext_grammar.proofs.Sections.Once.{Mention, Mentions, place_below, each_shared}
 use Rattle.irtext_grammar.proofs.Graphs.WrittenSpellable.{written_fine}
 use Rattle.irtext_grammar.proofs.Grammar.BackTree as back
-use Rattle.irtext_grammar.proofs.Sections.BehindRoot.{section_behind}
+use Rattle.irtext_grammar.proofs.Sections.AfterRoot.{section_after}
 use Rattle.irtext_grammar.proofs.Grammar.Placed as placed
-use Rattle.irtext_grammar.proofs.RoundTrips.RootBack.{AreSpellableItems, RootRead, TreeRead, root_behind}
+use Rattle.irtext_grammar.proofs.RoundTrips.RootBack.{AreSpellableItems, RootRead, TreeRead, root_after}
 use Rattle.irtext_grammar.proofs.Lists.Each.{each_filter}
 
 from_zero : (a b : ℕ) → 0 + a ≡ b → a ≡ b
@@ -94,7 +94,7 @@ module _ {T A : Type 0} (C : Printing T A) where
       graph_each C EntryWordy (OpHasIdentifiers C) (BlockHasIdentifiers C) (λ o k. own_each EntryWordy o.location (op_outlined C o) (outlined_wordy o.attributes k.attributes))
       (λ b k. own_each EntryWordy b.location (block_outlined C b) (label_wordy (C.label b.place) (outlined_entries C b.attributes) (w.label b.place) (outlined_wordy b.attributes k.attributes))) g w.own w.regions
 
-  module _ {X : Type 0} (location_at : Text → Standing X) (K : Locations X) where
+  module _ {X : Type 0} (location_at : Text → Verdict X) (K : Locations X) where
     abbrev EntryLocated : graph.Entry C → Type 0
     EntryLocated e = LocationReads location_at K e.location
 
@@ -136,7 +136,7 @@ module _ {T A : Type 0} (C : Printing T A) where
     pub root_resolves : {P X : Type 0} (text : X → Text) (t : Tree P T A) (es : List (Entry P A X)) → bare t ≡ written C None g → bare_section text es ≡ written_section C all → failures_of isolated t es ≡ []
     root_resolves text t es e f = root_resolves_bare text isolated t es (ap₂ (failures_of isolated) e f ∙ written_resolves)
 
-module _ {T A X : Type 0} (types : Texts T) (owns : Texts A) (types_law : Lawful T types) (owns_law : Lawful A owns) (unreserved : Unreserved A owns) (location_at : Text → Standing X) (K : Locations X)
+module _ {T A X : Type 0} (types : Texts T) (owns : Texts A) (types_law : Lawful T types) (owns_law : Lawful A owns) (unreserved : Unreserved A owns) (location_at : Text → Verdict X) (K : Locations X)
     (C : Printing T A) (sound : (a b : A) → C.same_own a b ≡ true → a ≡ b) (reflexive : (a : A) → C.same_own a a ≡ true) where
   abbrev L : Language ℕ T A
   L = language types owns C.format_of
@@ -169,18 +169,18 @@ module _ {T A X : Type 0} (types : Texts T) (owns : Texts A) (types_law : Lawful
       (each_two (EntryWordy C) (Mentions C sound once) (λ e. EntryWordy C e × Mentions C sound once e) (λ e h k. (h, k)) all (entries_wordy C g w) (each_shared C sound reflexive all))
 
   -- the root's text is followed by its section, and nothing more
-  behind : (isolated : Id → Bool) (g : Graph T A) → Fit C isolated g → BehindRoot B (written C None g) (section.section B C (entries_of C None g))
-  behind isolated g fit =
+  following : (isolated : Id → Bool) (g : Graph T A) → Fit C isolated g → AfterRoot B (written C None g) (section.section B C (entries_of C None g))
+  following isolated g fit =
       let t = written C None g in
       let f = section.section B C (entries_of C None g) in
-      subst (BehindRoot B t) (append-nil f) (section_behind C isolated B (λ i. refl) None g [] fit (record { ends = inl refl; one = λ e. inl refl }))
+      subst (AfterRoot B t) (append-nil f) (section_after C isolated B (λ i. refl) None g [] fit (record { ends = inl refl; one = λ e. inl refl }))
 
   tree_read : (isolated : Id → Bool) (g : Graph T A) (width n : ℕ) → HasIdentifiers C g → Fit C isolated g → SmallGraph C isolated g
       → let f = section.section B C (entries_of C None g) in TreeRead types owns types_law owns_law unreserved location_at K C (written C None g) (spelled B width n (written C None g) ++ f) f
   tree_read isolated g width n wordy fit small =
       let t = written C None g in
       let f = section.section B C (entries_of C None g) in
-      let r = back.root_reads_back B types_law owns_law unreserved (λ p t. tt) width n t f (written_fine C isolated types owns g wordy fit small) (behind isolated g fit) in
+      let r = back.root_reads_back B types_law owns_law unreserved (λ p t. tt) width n t f (written_fine C isolated types owns g wordy fit small) (following isolated g fit) in
       let q = placed.placed L length (λ t. refl) t (spelled B width n t ++ f) r.0 r.1 in
       (q.0, r.0, q.1, q.2, r.2)
 
@@ -188,4 +188,4 @@ module _ {T A X : Type 0} (types : Texts T) (owns : Texts A) (types_law : Lawful
   pub text_back : (isolated : Id → Bool) (g : Graph T A) (width n : ℕ) → HasIdentifiers C g → Fit C isolated g → SmallGraph C isolated g → GraphHeld location_at K g → SmallSection C g
       → RootRead types owns types_law owns_law unreserved location_at K C (written C None g) (written_section C (entries_of C None g)) (section.text B C g n width None)
   text_back isolated g width n wordy fit small held numbers =
-      root_behind types owns types_law owns_law unreserved location_at K C g width n (tree_read isolated g width n wordy fit small) numbers (fine_items g wordy held numbers)
+      root_after types owns types_law owns_law unreserved location_at K C g width n (tree_read isolated g width n wordy fit small) numbers (fine_items g wordy held numbers)

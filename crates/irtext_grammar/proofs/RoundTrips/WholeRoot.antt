@@ -4,7 +4,7 @@ use Rattle.std.proofs.Common.{None, ◌≡◌, ℕ, Bool, true, refl, List, [], 
 use Rattle.std.specs.Prelude.{⊤}
 use Rattle.irtext_base.specs.Text.{Text, after_space}
 use Rattle.irtext_base.specs.Format.{Id}
-use Rattle.irtext_base.specs.Own.{Texts, Language, language, Lawful, Unreserved, Standing, unplaced}
+use Rattle.irtext_base.specs.Own.{Texts, Language, language, Lawful, Unreserved, Verdict, unplaced}
 use Rattle.irtext_grammar.specs.Grammar.Forest.{Regions, no_regions, region, Blocks, no_blocks, block, Operations, no_operations, operation, AllRegions, AllBlocks, AllOperations}
 use Rattle.irtext_grammar.specs.Graphs.Graph.{Graph, GraphOp, GraphBlock, Printing}
 use Rattle.irtext_grammar.specs.Names.Script.{done, does_all}
@@ -12,7 +12,7 @@ use Rattle.irtext_grammar.specs.Names.Acts.{section_acts, failures_of, rule_of}
 use Rattle.irtext_grammar.specs.Graphs.Closed.{Fit, Closed}
 use Rattle.irtext_grammar.specs.Graphs.ReservedKeys.{GraphKeepsKeys}
 use Rattle.irtext_grammar.specs.Graphs.RoundTrip.{GraphKeysDiffer, KeysDiffer, Held, GraphHeld, ComesBack}
-use Rattle.irtext_grammar.specs.Graphs.Same.{Locations, SmallGraph, stood, UpToFillings}
+use Rattle.irtext_grammar.specs.Graphs.Same.{Locations, SmallGraph, resolved_root, UpToFillings}
 use Rattle.irtext_grammar.specs.Graphs.Identifiers.{HasIdentifiers}
 use Rattle.irtext_grammar.specs.Spelling.SectionEntries.{SmallSection}
 use Rattle.irtext_grammar.specs.Grammar.Tree.{Tree}
@@ -28,7 +28,7 @@ use Rattle.irtext_grammar.proofs.Sections.Content.{contents_back}
 use Rattle.irtext_grammar.proofs.Graphs.WrittenAs.{accepted_written}
 
 -- what the arenas keep of dictionaries is a part of what they keep
-module _ {T A X : Type 0} (location_at : Text → Standing X) (K : Locations X) where
+module _ {T A X : Type 0} (location_at : Text → Verdict X) (K : Locations X) where
   abbrev HeldOp : GraphOp T A → Type 0
   HeldOp o = Held location_at K o.location o.attributes
 
@@ -58,7 +58,7 @@ module _ {T A X : Type 0} (location_at : Text → Standing X) (K : Locations X) 
   pub held_differ : (g : Graph T A) → GraphHeld location_at K g → GraphKeysDiffer g
   held_differ g h = (h.0.1, regions_differ g.regions h.1)
 
-module _ {T A X : Type 0} (types : Texts T) (owns : Texts A) (types_law : Lawful T types) (owns_law : Lawful A owns) (unreserved : Unreserved A owns) (location_at : Text → Standing X) (K : Locations X) (first : ℕ → X)
+module _ {T A X : Type 0} (types : Texts T) (owns : Texts A) (types_law : Lawful T types) (owns_law : Lawful A owns) (unreserved : Unreserved A owns) (location_at : Text → Verdict X) (K : Locations X) (first : ℕ → X)
     (position : (p : ℕ) → K.is_position (first p) ≡ true) (C : Printing T A) (sound : (a b : A) → C.same_own a b ≡ true → a ≡ b) (reflexive : (a : A) → C.same_own a a ≡ true) (isolated : Id → Bool) where
   abbrev L : Language ℕ T A
   L = language types owns C.format_of
@@ -78,10 +78,10 @@ module _ {T A X : Type 0} (types : Texts T) (owns : Texts A) (types_law : Lawful
   -- whatever the text parses as is that
   pub each_comes_back : (g : Graph T A) (width n : ℕ) → ComesBack types owns location_at K first C isolated g width n
       → (t : Tree ℕ T A) (es : List (Entry ℕ A X)) (u : Text) → reads_root L location_at t es (text (unplaced types owns C.format_of) C g n width None) u
-      → (after_space u ≡ []) × (failures_of isolated t es ≡ []) × UpToFillings K (stood C isolated g) (build isolated first es t)
+      → (after_space u ≡ []) × (failures_of isolated t es ≡ []) × UpToFillings K (resolved_root C isolated g) (build isolated first es t)
   each_comes_back g width n (t', es', u', r, left, resolves, same) t es u q =
       let o = one_root L types_law owns_law (λ p q t e f. e ∙ sym f) (λ t u e. absurd e) location_at t t' es es' (text (unplaced types owns C.format_of) C g n width None) u u' q r in (
         ap after_space o.2 ∙ left,
         ap₂ (failures_of isolated) o.0 o.1 ∙ resolves,
-        subst (λ z. UpToFillings K (stood C isolated g) (build isolated first z t)) (sym o.1) (subst (λ z. UpToFillings K (stood C isolated g) (build isolated first es' z)) (sym o.0) same),
+        subst (λ z. UpToFillings K (resolved_root C isolated g) (build isolated first z t)) (sym o.1) (subst (λ z. UpToFillings K (resolved_root C isolated g) (build isolated first es' z)) (sym o.0) same),
       )

@@ -4,7 +4,7 @@ use Rattle.std.specs.Prelude.{⊤, codes, decimal}
 use Rattle.std.specs.Char.{is_whitespace}
 use Rattle.irtext_base.specs.Text.{Text, begins, after_space}
 use Rattle.irtext_base.specs.Reading.{Reading, ◌▹◌, white, the, literal, separated, more, repeated}
-use Rattle.irtext_base.specs.Own.{Language, found, Lawful, Unreserved, Ends, Standing}
+use Rattle.irtext_base.specs.Own.{Language, found, Lawful, Unreserved, Ends, Verdict}
 use Rattle.irtext_grammar.specs.Grammar.Tree.{Name, Mark, Attribute, given_names, ident, own}
 use Rattle.irtext_grammar.specs.Spelling.Spellable.{Each, IsIdentifier, IsSpellableAttribute}
 use Rattle.irtext_grammar.specs.Graphs.Identifiers.{EntryHasIdentifiers}
@@ -62,7 +62,7 @@ module _ {X Y Z : Type 0} (F : X → Reading) (bare : X → Z) (what : Y → Z) 
       record { item = x.item ∷ xs.item; thru = record { left = r.left; reading = r.reading; same = r.same }; same = ap₂ ◌∷◌ x.same xs.same }
 
 module _ {P T A X : Type 0} (L : Language P T A) (types : Lawful T L.types) (owns : Lawful A L.owns) (unreserved : Unreserved A L.owns) (spot : Text → P) (at_spot : (t : Text) → L.at (spot t) t)
-    (location_at : Text → Standing X) (K : Locations X) (C : Printing T A) where
+    (location_at : Text → Verdict X) (K : Locations X) (C : Printing T A) where
   -- the same language without places, in which the section is written
   abbrev B : Language ⊤ T A
   B = record { at = λ p t. ⊤; types = L.types; owns = L.owns; format_of = L.format_of; left_out = L.left_out }

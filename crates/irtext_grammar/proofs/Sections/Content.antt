@@ -23,17 +23,17 @@ length-both [] ys = omega arith
 length-both (x ∷ xs) ys = let e = length-both xs ys in omega arith
 
 -- a list is part of another, from a place on
-pub record Stands {X : Type 0} (all : List X) (n : ℕ) (xs : List X) : Type 0 where
+pub record IsSublist {X : Type 0} (all : List X) (n : ℕ) (xs : List X) : Type 0 where
   pub before : List X
   pub after : List X
   pub is : all ≡ before ++ (xs ++ after)
   pub place : length before ≡ n
 
-stands_left : {X : Type 0} {all : List X} {n : ℕ} (xs ys : List X) → Stands all n (xs ++ ys) → Stands all n xs
-stands_left xs ys s = record { before = s.before; after = ys ++ s.after; is = s.is ∙ ap (λ z. s.before ++ z) (append_assoc xs ys s.after); place = s.place }
+sublist_left : {X : Type 0} {all : List X} {n : ℕ} (xs ys : List X) → IsSublist all n (xs ++ ys) → IsSublist all n xs
+sublist_left xs ys s = record { before = s.before; after = ys ++ s.after; is = s.is ∙ ap (λ z. s.before ++ z) (append_assoc xs ys s.after); place = s.place }
 
-stands_right : {X : Type 0} {all : List X} {n : ℕ} (m : ℕ) (xs ys : List X) → Stands all n (xs ++ ys) → n + length xs ≡ m → Stands all m ys
-stands_right {n = n} m xs ys s e =
+sublist_right : {X : Type 0} {all : List X} {n : ℕ} (m : ℕ) (xs ys : List X) → IsSublist all n (xs ++ ys) → n + length xs ≡ m → IsSublist all m ys
+sublist_right {n = n} m xs ys s e =
     let l = length-both s.before xs in
     let p = s.place in
     record { before = s.before ++ xs; after = s.after; is = s.is ∙ (ap (λ z. s.before ++ z) (append_assoc xs ys s.after) ∙ sym (append_assoc s.before xs (ys ++ s.after))); place = omega arith }
@@ -41,9 +41,9 @@ stands_right {n = n} m xs ys s e =
 abbrev Nothing : {R S : Type 0} → R → S → Type 0
 Nothing r s = ⊤
 
-each_stands : {X : Type 0} (Q : X → Type 0) (before after : List X) (x : X) → Each Q (before ++ (x ∷ after)) → Q x
-each_stands Q [] after x h = h.0
-each_stands Q (y ∷ before) after x h = each_stands Q before after x h.1
+each_in_middle : {X : Type 0} (Q : X → Type 0) (before after : List X) (x : X) → Each Q (before ++ (x ∷ after)) → Q x
+each_in_middle Q [] after x h = h.0
+each_in_middle Q (y ∷ before) after x h = each_in_middle Q before after x h.1
 
 length_three : {X : Type 0} (xs ys zs : List X) → length (xs ++ (ys ++ zs)) ≡ length xs + (length ys + length zs)
 length_three xs ys zs = omega (arith, length-both xs (ys ++ zs), length-both ys zs)
@@ -116,19 +116,19 @@ module _ {T A : Type 0} (C : Printing T A) where
         apart n i h = grind (arith, nat_tests)
 
     -- the entry at a place has its index
-    content_there : (n : ℕ) (e : graph.Entry C) → Stands all n (e ∷ []) → content {P = ⊤} W (Some (mark_of n)) ≡ Some (e.location, e.attributes)
+    content_there : (n : ℕ) (e : graph.Entry C) → IsSublist all n (e ∷ []) → content {P = ⊤} W (Some (mark_of n)) ≡ Some (e.location, e.attributes)
     content_there n e s =
         let once = shared C all in
         let last = written_once (length all) once in
         let k : n ≡ 0 + length s.before = sym s.place ∙ omega arith in
-        let h = each_stands (Mentions C sound once) s.before s.after e (subst (Each (Mentions C sound once)) s.is (each_shared C sound reflexive all)) in
+        let h = each_in_middle (Mentions C sound once) s.before s.after e (subst (Each (Mentions C sound once)) s.is (each_shared C sound reflexive all)) in
         ap (λ i. content_in W W i) k ∙ (ap (λ z. content_in W (written_items C (length all) once 0 z ++ last) (0 + length s.before)) s.is
         ∙ (content_items 0 s.before e s.after last ∙ ap (λ z. Some (e.location, z)) (all_resolved e.attributes h)))
 
-    own_there : (n : ℕ) (l : Option Text) (es : List (Text × Attribute A)) → Stands all n (own_entry C l es) → content W (mark_at C n l es) ≡ own_content C l es
+    own_there : (n : ℕ) (l : Option Text) (es : List (Text × Attribute A)) → IsSublist all n (own_entry C l es) → content W (mark_at C n l es) ≡ own_content C l es
     own_there n l es = go (is_marked C l es)
       where
-        go : (b : Bool) → Stands {X = graph.Entry C} all n (cond b (record { location = l; attributes = es } ∷ []) [])
+        go : (b : Bool) → IsSublist {X = graph.Entry C} all n (cond b (record { location = l; attributes = es } ∷ []) [])
             → content {P = ⊤} W (cond b (Some (mark_of n)) None) ≡ cond b (Some (l, es)) None
         go true s = content_there n (record { location = l; attributes = es }) s
         go false s = refl
@@ -140,24 +140,24 @@ module _ {T A : Type 0} (C : Printing T A) where
     WrittenBlock h x = content W x.mark ≡ own_content C h.location (block_outlined C h)
 
     mutual
-      regions_content : (n : ℕ) (rs : Regions (GraphOp T A) (GraphBlock T A) ⊤) → Stands all n (entries_of_regions C None rs) → MatchRegions WrittenOp WrittenBlock Nothing rs (tree_regions C None n rs)
+      regions_content : (n : ℕ) (rs : Regions (GraphOp T A) (GraphBlock T A) ⊤) → IsSublist all n (entries_of_regions C None rs) → MatchRegions WrittenOp WrittenBlock Nothing rs (tree_regions C None n rs)
       regions_content n no_regions s = tt
       regions_content n (region r bs rs) s =
           let x = entries_of_blocks C None bs in
           let y = entries_of_regions C None rs in
-          (tt, blocks_content n bs (stands_left x y s), regions_content (n + marks_in_blocks C None bs) rs (stands_right _ x y s (ap (λ k. n + k) (blocks_length None bs))))
+          (tt, blocks_content n bs (sublist_left x y s), regions_content (n + marks_in_blocks C None bs) rs (sublist_right _ x y s (ap (λ k. n + k) (blocks_length None bs))))
 
-      blocks_content : (n : ℕ) (bs : Blocks (GraphOp T A) (GraphBlock T A) ⊤) → Stands all n (entries_of_blocks C None bs) → MatchBlocks WrittenOp WrittenBlock Nothing bs (tree_blocks C None n bs)
+      blocks_content : (n : ℕ) (bs : Blocks (GraphOp T A) (GraphBlock T A) ⊤) → IsSublist all n (entries_of_blocks C None bs) → MatchBlocks WrittenOp WrittenBlock Nothing bs (tree_blocks C None n bs)
       blocks_content n no_blocks s = tt
       blocks_content n (block h os bs) s =
           let q = n + own_marks C h.location (block_outlined C h) in
           let x = own_entry C h.location (block_outlined C h) in
           let y = entries_of_operations C None os in
           let z = entries_of_blocks C None bs in
-          let r = stands_right q x (y ++ z) s (ap (λ k. n + k) (own_length h.location (block_outlined C h))) in
-          (own_there n h.location (block_outlined C h) (stands_left x (y ++ z) s), operations_content q os (stands_left y z r), blocks_content (q + marks_in_operations C None os) bs (stands_right _ y z r (ap (λ k. q + k) (operations_length None os))))
+          let r = sublist_right q x (y ++ z) s (ap (λ k. n + k) (own_length h.location (block_outlined C h))) in
+          (own_there n h.location (block_outlined C h) (sublist_left x (y ++ z) s), operations_content q os (sublist_left y z r), blocks_content (q + marks_in_operations C None os) bs (sublist_right _ y z r (ap (λ k. q + k) (operations_length None os))))
 
-      operations_content : (n : ℕ) (os : Operations (GraphOp T A) (GraphBlock T A) ⊤) → Stands all n (entries_of_operations C None os) → MatchOperations WrittenOp WrittenBlock Nothing os (tree_operations C None n os)
+      operations_content : (n : ℕ) (os : Operations (GraphOp T A) (GraphBlock T A) ⊤) → IsSublist all n (entries_of_operations C None os) → MatchOperations WrittenOp WrittenBlock Nothing os (tree_operations C None n os)
       operations_content n no_operations s = tt
       operations_content n (operation o rs os) s =
           let q = n + marks_in_regions C None rs in
@@ -165,8 +165,8 @@ module _ {T A : Type 0} (C : Printing T A) where
           let x = entries_of_regions C None rs in
           let y = own_entry C o.location (op_outlined C o) in
           let z = entries_of_operations C None os in
-          let r = stands_right q x (y ++ z) s (ap (λ k. n + k) (regions_length None rs)) in
-          (own_there q o.location (op_outlined C o) (stands_left y z r), regions_content n rs (stands_left x (y ++ z) s), operations_content w os (stands_right w y z r (ap (λ k. q + k) (own_length o.location (op_outlined C o)))))
+          let r = sublist_right q x (y ++ z) s (ap (λ k. n + k) (regions_length None rs)) in
+          (own_there q o.location (op_outlined C o) (sublist_left y z r), regions_content n rs (sublist_left x (y ++ z) s), operations_content w os (sublist_right w y z r (ap (λ k. q + k) (own_length o.location (op_outlined C o)))))
 
   module _ (sound : (a b : A) → C.same_own a b ≡ true → a ≡ b) (reflexive : (a : A) → C.same_own a a ≡ true) where
     -- each item of what is written of a graph has its own entry
@@ -176,8 +176,8 @@ module _ {T A : Type 0} (C : Printing T A) where
         let all = entries_of C None g in
         let x = entries_of_regions C None g.regions in
         let y = own_entry C g.own.location (op_outlined C g.own) in
-        let whole : Stands all 0 (x ++ y) = record { before = []; after = []; is = sym (append-nil (x ++ y)); place = refl } in
-        (own_there sound reflexive all q g.own.location (op_outlined C g.own) (stands_right q x y whole (ap (λ k. 0 + k) (regions_length None g.regions) ∙ omega arith)), regions_content sound reflexive all 0 g.regions (stands_left x y whole))
+        let whole : IsSublist all 0 (x ++ y) = record { before = []; after = []; is = sym (append-nil (x ++ y)); place = refl } in
+        (own_there sound reflexive all q g.own.location (op_outlined C g.own) (sublist_right q x y whole (ap (λ k. 0 + k) (regions_length None g.regions) ∙ omega arith)), regions_content sound reflexive all 0 g.regions (sublist_left x y whole))
 
 -- what matches a tree without its places matches the tree
 module _ {O B R P T A : Type 0} (F : O → Op ⊤ T A → Type 0) (G : B → Head ⊤ T A → Type 0) (F' : O → Op P T A → Type 0) (G' : B → Head P T A → Type 0) (f : (o : O) (x : Op P T A) → F o (bare_op x) → F' o x) (g : (h : B) (x : Head P T A) → G h (bare_head x) → G' h x) where

@@ -122,8 +122,8 @@ module _ {T A : Type 0} (C : Printing T A) where
     ruled_both n [] ys h k = let e : n + 0 ≡ n = omega arith in subst (λ z. Ruled C rules z ys) e k
     ruled_both n (x ∷ xs) ys h k = let e : n + suc (length xs) ≡ suc n + length xs = omega arith in (h.0, ruled_both (suc n) xs ys h.1 (subst (λ z. Ruled C rules z ys) e k))
 
-    ruled_behind : (n m : ℕ) (xs ys : List (graph.Entry C)) → length xs ≡ m → Ruled C rules n xs → Ruled C rules (n + m) ys → Ruled C rules n (xs ++ ys)
-    ruled_behind n m xs ys e h k = ruled_both n xs ys h (subst (λ z. Ruled C rules (n + z) ys) (sym e) k)
+    ruled_after : (n m : ℕ) (xs ys : List (graph.Entry C)) → length xs ≡ m → Ruled C rules n xs → Ruled C rules (n + m) ys → Ruled C rules n (xs ++ ys)
+    ruled_after n m xs ys e h k = ruled_both n xs ys h (subst (λ z. Ruled C rules (n + z) ys) (sym e) k)
 
     -- an item's own entry, where its mark is a block's, or not
     block_ruled : (n : ℕ) (l : Option Text) (es : List (Text × Attribute A)) → Each (Keeps keeps_label_key) es → Local n (n + own_marks C l es) (marked_as (mark_at C n l es)) → Ruled C rules n (own_entry C l es)
@@ -148,7 +148,7 @@ module _ {T A : Type 0} (C : Printing T A) where
           let m = n + marks_in_blocks C None bs in
           let xs = block_marks_in_blocks (tree_blocks C None n bs) in
           let ys = block_marks_in_regions (tree_regions C None m rs) in
-          ruled_behind n (marks_in_blocks C None bs) (entries_of_blocks C None bs) (entries_of_regions C None rs) (blocks_length C None bs)
+          ruled_after n (marks_in_blocks C None bs) (entries_of_blocks C None bs) (entries_of_regions C None rs) (blocks_length C None bs)
           (blocks_ruled n bs h.1 (λ i a b. k i a (omega arith) ∙ among_first i xs ys (regions_out C m rs i (λ c d. omega arith))))
           (regions_ruled m rs h.2 (λ i a b. k i (omega arith) (omega arith) ∙ among_second i xs ys (blocks_out C n bs i (λ c d. omega arith))))
 
@@ -162,9 +162,9 @@ module _ {T A : Type 0} (C : Printing T A) where
           let xs = marked_as (mark_at C n b.location (block_outlined C b)) in
           let ys = block_marks_in_operations (tree_operations C None m os) in
           let zs = block_marks_in_blocks (tree_blocks C None q bs) in
-          ruled_behind n own (own_entry C b.location (block_outlined C b)) (entries_of_operations C None os ++ entries_of_blocks C None bs) (own_length C b.location (block_outlined C b))
+          ruled_after n own (own_entry C b.location (block_outlined C b)) (entries_of_operations C None os ++ entries_of_blocks C None bs) (own_length C b.location (block_outlined C b))
           (block_ruled n b.location (block_outlined C b) (block_may b h.0) (λ i c d. k i c (omega arith) ∙ among_first i xs (ys ++ zs) (among_both i ys zs (operations_out C m os i (λ e f. omega arith)) (blocks_out C q bs i (λ e f. omega arith)))))
-          (ruled_behind m (marks_in_operations C None os) (entries_of_operations C None os) (entries_of_blocks C None bs) (operations_length C None os)
+          (ruled_after m (marks_in_operations C None os) (entries_of_operations C None os) (entries_of_blocks C None bs) (operations_length C None os)
           (operations_ruled m os h.1 (λ i c d. k i (omega arith) (omega arith) ∙ (among_second i xs (ys ++ zs) (mark_out C n b.location (block_outlined C b) i (λ e f. omega arith)) ∙ among_first i ys zs (blocks_out C q bs i (λ e f. omega arith)))))
           (blocks_ruled q bs h.2 (λ i c d. k i (omega arith) (omega arith) ∙ (among_second i xs (ys ++ zs) (mark_out C n b.location (block_outlined C b) i (λ e f. omega arith)) ∙ among_second i ys zs (operations_out C m os i (λ e f. omega arith))))))
 
@@ -177,9 +177,9 @@ module _ {T A : Type 0} (C : Printing T A) where
           let q = m + own in
           let xs = block_marks_in_regions (tree_regions C None n rs) in
           let ys = block_marks_in_operations (tree_operations C None q os) in
-          ruled_behind n (marks_in_regions C None rs) (entries_of_regions C None rs) (own_entry C o.location (op_outlined C o) ++ entries_of_operations C None os) (regions_length C None rs)
+          ruled_after n (marks_in_regions C None rs) (entries_of_regions C None rs) (own_entry C o.location (op_outlined C o) ++ entries_of_operations C None os) (regions_length C None rs)
           (regions_ruled n rs h.1 (λ i c d. k i c (omega arith) ∙ among_first i xs ys (operations_out C q os i (λ e f. omega arith))))
-          (ruled_behind m own (own_entry C o.location (op_outlined C o)) (entries_of_operations C None os) (own_length C o.location (op_outlined C o))
+          (ruled_after m own (own_entry C o.location (op_outlined C o)) (entries_of_operations C None os) (own_length C o.location (op_outlined C o))
           (op_ruled m o.location (op_outlined C o) (op_may o h.0) (λ i c d. k i (omega arith) (omega arith) ∙ among_both i xs ys (regions_out C n rs i (λ e f. omega arith)) (operations_out C q os i (λ e f. omega arith))))
           (operations_ruled q os h.2 (λ i c d. k i (omega arith) (omega arith) ∙ among_second i xs ys (regions_out C n rs i (λ e f. omega arith)))))
 
@@ -189,6 +189,6 @@ module _ {T A : Type 0} (C : Printing T A) where
       let B = block_marks_in_regions (tree_regions C None 0 g.regions) in
       let m = marks_in_regions C None g.regions in
       let e : 0 + m ≡ m = omega arith in
-      ruled_behind B 0 m (entries_of_regions C None g.regions) (own_entry C g.own.location (op_outlined C g.own)) (regions_length C None g.regions)
+      ruled_after B 0 m (entries_of_regions C None g.regions) (own_entry C g.own.location (op_outlined C g.own)) (regions_length C None g.regions)
       (regions_ruled B 0 g.regions h.1 (λ i a b. refl))
       (op_ruled B (0 + m) g.own.location (op_outlined C g.own) (op_may g.own h.0) (λ i a b. regions_out C 0 g.regions i (λ c d. omega arith)))

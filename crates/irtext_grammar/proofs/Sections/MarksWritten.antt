@@ -179,8 +179,8 @@ module _ {T A : Type 0} (C : Printing T A) where
         let five = (meets ds h.0).fifth in
         let a = and_left (ascend 0 (region_places ds) && nat_lt (count is_regions ds) 2) _ five in
         let few = and_right (ascend 0 (region_places ds)) (nat_lt (count is_regions ds) 2) a in
-        let behind = and_right (ascend 0 (region_places ds) && nat_lt (count is_regions ds) 2) _ five in
-        enough C isolated given label ds o ds (tree_regions C l n rs) (subst (λ z. Room ds z) (sym (same_length l n rs)) (room ds (length (regions_list rs)) h.1.regions few behind))
+        let following = and_right (ascend 0 (region_places ds) && nat_lt (count is_regions ds) 2) _ five in
+        enough C isolated given label ds o ds (tree_regions C l n rs) (subst (λ z. Room ds z) (sym (same_length l n rs)) (room ds (length (regions_list rs)) h.1.regions few following))
 
     mutual
       regions_numbered : (l : Limit) (n : ℕ) (p : Path) (j : ℕ) (iso : Bool) (rs : Regions (GraphOp T A) (GraphBlock T A) ⊤) → FitRegions C isolated rs → NumberedRegions n (n + marks_in_regions C l rs) (region_scripts isolated p j iso (tree_regions C l n rs))

@@ -83,9 +83,9 @@ module _ {T A : Type 0} (C : Printing T A) (sound : (a b : A) → C.same_own a b
           let k : n + suc (place_in C xs a) ≡ suc n + place_in C xs a = omega arith in
           ap (λ o. elim o [ Some z ↦ Some z | None ↦ cond (n == (n + suc (place_in C xs a))) (Some (own b)) None ]) (ap (λ i. shared_attribute i (written_once (suc n) xs)) k ∙ more h)
 
-  once_behind : (i items : ℕ) (ones : List A) (n : ℕ) (es : List (graph.Entry C)) (last : List (Entry ⊤ A Text)) → shared_attribute i (written_items C items ones n es ++ last) ≡ shared_attribute i last
-  once_behind i items ones n [] last = refl
-  once_behind i items ones n (e ∷ es) last = once_behind i items ones (suc n) es last
+  once_after : (i items : ℕ) (ones : List A) (n : ℕ) (es : List (graph.Entry C)) (last : List (Entry ⊤ A Text)) → shared_attribute i (written_items C items ones n es ++ last) ≡ shared_attribute i last
+  once_after i items ones n [] last = refl
+  once_after i items ones n (e ∷ es) last = once_after i items ones (suc n) es last
 
   -- mentions
   abbrev pub mentions : List (graph.Entry C) → List A
@@ -96,10 +96,10 @@ module _ {T A : Type 0} (C : Printing T A) (sound : (a b : A) → C.same_own a b
   Mention ms (own a) = C.own_once a ≡ true → has C.same_own a ms ≡ true
   Mention ms _ = ⊤
 
-  mention_behind : (ns ms : List A) (a : Attribute A) → Mention ms a → Mention (ns ++ ms) a
-  mention_behind ns ms (given_names xs) h = tt
-  mention_behind ns ms (ident n) h = tt
-  mention_behind ns ms (own a) h = λ e. has_right C.same_own a ns ms (h e)
+  mention_after : (ns ms : List A) (a : Attribute A) → Mention ms a → Mention (ns ++ ms) a
+  mention_after ns ms (given_names xs) h = tt
+  mention_after ns ms (ident n) h = tt
+  mention_after ns ms (own a) h = λ e. has_right C.same_own a ns ms (h e)
 
   mention_before : (ms ns : List A) (a : Attribute A) → Mention ms a → Mention (ms ++ ns) a
   mention_before ms ns (given_names xs) h = tt
@@ -124,7 +124,7 @@ module _ {T A : Type 0} (C : Printing T A) (sound : (a b : A) → C.same_own a b
     each_attribute [] = tt
     each_attribute (e ∷ es) =
         let ms = flat_map (λ (a : Text × Attribute A). once C a.1) es in
-        (mention_before (once C e.1) ms e.1 (mention_once e.1), each_of (λ x. Mention ms x.1) (λ x. Mention (once C e.1 ++ ms) x.1) (λ x h. mention_behind (once C e.1) ms x.1 h) es (each_attribute es))
+        (mention_before (once C e.1) ms e.1 (mention_once e.1), each_of (λ x. Mention ms x.1) (λ x. Mention (once C e.1 ++ ms) x.1) (λ x h. mention_after (once C e.1) ms x.1 h) es (each_attribute es))
 
     -- each attribute of each entry that is written once is mentioned
     each_mentions : (es : List (graph.Entry C)) → Each (Mentions (mentions es)) es
@@ -133,7 +133,7 @@ module _ {T A : Type 0} (C : Printing T A) (sound : (a b : A) → C.same_own a b
         let own_ms = flat_map (λ (a : Text × Attribute A). once C a.1) e.attributes in (
           each_of (λ x. Mention own_ms x.1) (λ x. Mention (own_ms ++ mentions es) x.1) (λ x h. mention_before own_ms (mentions es) x.1 h) e.attributes (each_attribute e.attributes),
           each_of (Mentions (mentions es)) (Mentions (own_ms ++ mentions es))
-              (λ y h. each_of (λ x. Mention (mentions es) x.1) (λ x. Mention (own_ms ++ mentions es) x.1) (λ x k. mention_behind own_ms (mentions es) x.1 k) y.attributes h) es (each_mentions es),
+              (λ y h. each_of (λ x. Mention (mentions es) x.1) (λ x. Mention (own_ms ++ mentions es) x.1) (λ x k. mention_after own_ms (mentions es) x.1 k) y.attributes h) es (each_mentions es),
         )
 
     shared_mention : (es : List (graph.Entry C)) (a : Attribute A) → Mention (mentions es) a → Mention (shared C es) a
@@ -148,4 +148,4 @@ module _ {T A : Type 0} (C : Printing T A) (sound : (a b : A) → C.same_own a b
 
   -- the index that is written of an attribute is that of its entry
   pub once_written : (es : List (graph.Entry C)) (a : A) → has C.same_own a (shared C es) ≡ true → shared_attribute (length es + place_in C (shared C es) a) (written_section C es) ≡ Some (own a)
-  once_written es a h = once_behind (length es + place_in C (shared C es) a) (length es) (shared C es) 0 es (written_once (length es) (shared C es)) ∙ once_place a (length es) (shared C es) h
+  once_written es a h = once_after (length es + place_in C (shared C es) a) (length es) (shared C es) 0 es (written_once (length es) (shared C es)) ∙ once_place a (length es) (shared C es) h

@@ -9,11 +9,11 @@ module _ {T A : Type 0} (C : Printing T A) (sound : (a b : A) → C.same_own a b
   -- what is known is not among the first mentions
   known_apart : (a : A) (known ms : List A) → has C.same_own a known ≡ true → has C.same_own a (firsts C known ms) ≡ false
   known_apart a known [] e = refl
-  known_apart a known (b ∷ rest) e = go (has C.same_own b known) refl (known_apart a known rest e) (known_apart a (b ∷ known) rest (behind (C.same_own a b) e))
+  known_apart a known (b ∷ rest) e = go (has C.same_own b known) refl (known_apart a known rest e) (known_apart a (b ∷ known) rest (following (C.same_own a b) e))
     where
-      behind : (p : Bool) → has C.same_own a known ≡ true → (p || has C.same_own a known) ≡ true
-      behind true h = refl
-      behind false h = h
+      following : (p : Bool) → has C.same_own a known ≡ true → (p || has C.same_own a known) ≡ true
+      following true h = refl
+      following false h = h
 
       apart : (p : Bool) → C.same_own a b ≡ p → has C.same_own b known ≡ false → p ≡ false
       apart true s k = absurd (true≢false (sym e ∙ (ap (λ z. has C.same_own z known) (sound a b s) ∙ k)))

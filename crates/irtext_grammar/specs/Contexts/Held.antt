@@ -35,5 +35,5 @@ abbrev pub whole : StreamView → Text
 whole v = v.passed ++ v.rest
 
 -- the position has the line and the column of this place of the text; a place is the number of characters from it to the end
-abbrev pub StandsAt : Text → ℕ → SourcePosition → Type 0
-StandsAt text place at = IsAt at.line at.column (take (length text - place) text)
+abbrev pub IsPosition : Text → ℕ → SourcePosition → Type 0
+IsPosition text place at = IsAt at.line at.column (take (length text - place) text)

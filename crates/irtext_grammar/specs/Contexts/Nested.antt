@@ -87,9 +87,9 @@ module _ {A : Type 0} where
   named_from attributes i (v ∷ vs) = record { number = v.number; of_type = v.of_type; given = given_at i attributes } ∷ named_from attributes (suc i) vs
 
 -- what a function returns for an object; nothing if there is no object
-abbrev pub standing : {X Y : Type 0} → (Entry X → List Y) → Option (Entry X) → List Y
-standing f None = []
-standing f (Some e) = f e
+abbrev pub if_live : {X Y : Type 0} → (Entry X → List Y) → Option (Entry X) → List Y
+if_live f None = []
+if_live f (Some e) = f e
 
 -- the value with this number
 abbrev pub numbered_as : {T : Type 0} → ℕ → List (NamedValue T) → Option (NamedValue T)
@@ -111,7 +111,7 @@ module _ {T A : Type 0} where
 
   -- the values of a context: results of operations, placeholders included, and arguments of blocks
   abbrev pub values_of : ContextView T A → List (NamedValue T)
-  values_of ctx = flat_map (λ c. standing named_results c.object) ctx.graph.operations.cells ++ flat_map (λ c. standing named_arguments c.object) ctx.graph.blocks.cells
+  values_of ctx = flat_map (λ c. if_live named_results c.object) ctx.graph.operations.cells ++ flat_map (λ c. if_live named_arguments c.object) ctx.graph.blocks.cells
 
   -- the given name of the value with this number, if it has one
   abbrev pub given_to : ContextView T A → ℕ → Option Text

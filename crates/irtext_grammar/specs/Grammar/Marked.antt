@@ -4,7 +4,7 @@ use Rattle.irtext_grammar.specs.Grammar.Forest.{Regions, no_regions, region, Blo
 use Rattle.irtext_base.specs.Text.{Text}
 use Rattle.irtext_base.specs.Reading.{Reading, ◌▸◌, nothing}
 use Rattle.irtext_grammar.specs.Grammar.Tree.{Op, Head, Brace, Tree, shown, elided}
-use Rattle.irtext_base.specs.Own.{Language, Standing}
+use Rattle.irtext_base.specs.Own.{Language, Verdict}
 use Rattle.irtext_grammar.specs.Grammar.Reads.{reads}
 use Rattle.irtext_grammar.specs.Grammar.Section.{Entry, section}
 
@@ -30,13 +30,13 @@ module _ {P T A : Type 0} where
   marked t = is_some t.own.mark || regions_marked t.regions
 
 -- the section if the flag is true; otherwise no text and no entry
-abbrev pub section_if : {P T A X : Type 0} → Language P T A → (Text → Standing X) → Bool → List (Entry P A X) → Reading
+abbrev pub section_if : {P T A X : Type 0} → Language P T A → (Text → Verdict X) → Bool → List (Entry P A X) → Reading
 section_if L location_at true es = section L location_at es
 section_if L location_at false [] = nothing
 section_if L location_at false (e ∷ es) = λ text rest. ⊥
 
 -- the text of a root: its tree, and then its section exactly if the tree has a mark
-abbrev pub reads_root : {P T A X : Type 0} → Language P T A → (Text → Standing X) → Tree P T A → List (Entry P A X) → Reading
+abbrev pub reads_root : {P T A X : Type 0} → Language P T A → (Text → Verdict X) → Tree P T A → List (Entry P A X) → Reading
 reads_root L location_at t es = reads L t ▸ section_if L location_at (marked t) es
 
 -- the region is shown, not elided

@@ -3,7 +3,7 @@ use Rattle.std.specs.Prelude.{◌≡◌, List, map, Option, Some, None, codes}
 use Rattle.irtext_base.specs.Text.{Text}
 use Rattle.irtext_base.specs.Reading.{Reading, ◌▹◌, ends, white, the, literal, separated, repeated}
 use Rattle.irtext_grammar.specs.Grammar.Tree.{Name, Mark, Attribute}
-use Rattle.irtext_base.specs.Own.{Language, found, Standing}
+use Rattle.irtext_base.specs.Own.{Language, found, Verdict}
 use Rattle.irtext_grammar.specs.Grammar.Reads.{mark, name, attribute, no_word}
 
 -- an attribute, or a reference to a print-once attribute
@@ -16,7 +16,7 @@ pub data Entry (P A X : Type 0) : Type 0 where
   of_item : Mark P → Option X → List (Name P × Item P A) → Entry P A X
   of_once : Mark P → Attribute A → Entry P A X
 
-module _ {P T A X : Type 0} (L : Language P T A) (location_at : Text → Standing X) where
+module _ {P T A X : Type 0} (L : Language P T A) (location_at : Text → Verdict X) where
   -- a location, by the parser of locations
   abbrev pub location : X → Reading
   location x text rest = location_at text ≡ found x rest

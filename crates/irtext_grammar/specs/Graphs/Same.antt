@@ -15,7 +15,7 @@ use Rattle.irtext_grammar.specs.Graphs.Build.{BuiltOp, BuiltBlock, Built}
 use Rattle.irtext_grammar.specs.Graphs.Closed.{Thing, a_value, a_block, same_thing, printed, graph_blocks}
 
 -- an operation of a graph; its operands and successors are the places of their definitions, if they have one
-pub record StoodOp (T A : Type 0) : Type 0 where
+pub record ResolvedOp (T A : Type 0) : Type 0 where
   pub id : Id
   pub result_types : List T
   pub result_names : List Text
@@ -25,7 +25,7 @@ pub record StoodOp (T A : Type 0) : Type 0 where
   pub location : Option Text
 
 -- a block of a graph, with its label, if it has one, and its printed name
-pub record StoodBlock (T A : Type 0) : Type 0 where
+pub record ResolvedBlock (T A : Type 0) : Type 0 where
   pub label : Option Text
   pub name : Text
   pub argument_types : List T
@@ -35,8 +35,8 @@ pub record StoodBlock (T A : Type 0) : Type 0 where
 
 module _ {T A : Type 0} (C : Printing T A) (isolated : Id → Bool) where
   -- the operation, without its regions; v and l are the facts of the whole scopes around it
-  abbrev pub stood_op : List (Fact Thing) → List (Fact Thing) → GraphOp T A → StoodOp T A
-  stood_op v l o = record {
+  abbrev pub resolved_op : List (Fact Thing) → List (Fact Thing) → GraphOp T A → ResolvedOp T A
+  resolved_op v l o = record {
     id = o.id;
     result_types = map (λ (r : ℕ × T). r.1) o.results;
     result_names = map (λ (r : ℕ × T). printed C (a_value r.0)) o.results;
@@ -47,8 +47,8 @@ module _ {T A : Type 0} (C : Printing T A) (isolated : Id → Bool) where
   }
 
   -- the block, without its operations
-  abbrev pub stood_block : GraphBlock T A → StoodBlock T A
-  stood_block h = record {
+  abbrev pub resolved_block : GraphBlock T A → ResolvedBlock T A
+  resolved_block h = record {
     label = C.label h.place;
     name = printed C (a_block h.place);
     argument_types = map (λ (r : ℕ × T). r.1) h.arguments;
@@ -59,26 +59,26 @@ module _ {T A : Type 0} (C : Printing T A) (isolated : Id → Bool) where
 
   abbrev mutual
     -- regions; j is the index of the first
-    pub stood_regions : List (Fact Thing) → Path → ℕ → Bool → Regions (GraphOp T A) (GraphBlock T A) ⊤ → Regions (StoodOp T A) (StoodBlock T A) ⊤
-    stood_regions v p j iso no_regions = no_regions
-    stood_regions v p j iso (region r bs rs) =
-        region tt (stood_blocks (cond iso (facts same_thing (graph_blocks C isolated (j ∷ p) 0 bs)).values v) (facts same_thing (graph_blocks C isolated (j ∷ p) 0 bs)).labels (j ∷ p) 0 bs)
-        (stood_regions v p (suc j) iso rs)
+    pub resolved_regions : List (Fact Thing) → Path → ℕ → Bool → Regions (GraphOp T A) (GraphBlock T A) ⊤ → Regions (ResolvedOp T A) (ResolvedBlock T A) ⊤
+    resolved_regions v p j iso no_regions = no_regions
+    resolved_regions v p j iso (region r bs rs) =
+        region tt (resolved_blocks (cond iso (facts same_thing (graph_blocks C isolated (j ∷ p) 0 bs)).values v) (facts same_thing (graph_blocks C isolated (j ∷ p) 0 bs)).labels (j ∷ p) 0 bs)
+        (resolved_regions v p (suc j) iso rs)
 
     -- blocks; k is the index of the first
-    pub stood_blocks : List (Fact Thing) → List (Fact Thing) → Path → ℕ → Blocks (GraphOp T A) (GraphBlock T A) ⊤ → Blocks (StoodOp T A) (StoodBlock T A) ⊤
-    stood_blocks v l p k no_blocks = no_blocks
-    stood_blocks v l p k (block h os bs) = block (stood_block h) (stood_operations v l (k ∷ p) 0 os) (stood_blocks v l p (suc k) bs)
+    pub resolved_blocks : List (Fact Thing) → List (Fact Thing) → Path → ℕ → Blocks (GraphOp T A) (GraphBlock T A) ⊤ → Blocks (ResolvedOp T A) (ResolvedBlock T A) ⊤
+    resolved_blocks v l p k no_blocks = no_blocks
+    resolved_blocks v l p k (block h os bs) = block (resolved_block h) (resolved_operations v l (k ∷ p) 0 os) (resolved_blocks v l p (suc k) bs)
 
     -- operations; i is the index of the first
-    pub stood_operations : List (Fact Thing) → List (Fact Thing) → Path → ℕ → Operations (GraphOp T A) (GraphBlock T A) ⊤ → Operations (StoodOp T A) (StoodBlock T A) ⊤
-    stood_operations v l p i no_operations = no_operations
-    stood_operations v l p i (operation o rs os) =
-        operation (stood_op v l o) (stood_regions v (i ∷ p) 0 (isolated o.id) rs) (stood_operations v l p (suc i) os)
+    pub resolved_operations : List (Fact Thing) → List (Fact Thing) → Path → ℕ → Operations (GraphOp T A) (GraphBlock T A) ⊤ → Operations (ResolvedOp T A) (ResolvedBlock T A) ⊤
+    resolved_operations v l p i no_operations = no_operations
+    resolved_operations v l p i (operation o rs os) =
+        operation (resolved_op v l o) (resolved_regions v (i ∷ p) 0 (isolated o.id) rs) (resolved_operations v l p (suc i) os)
 
   -- the graph with each number replaced by the place of its definition, which is looked up in the scope around the use
-  abbrev pub stood : Graph T A → Root (StoodOp T A) (StoodBlock T A) ⊤
-  stood g = record { own = stood_op [] [] g.own; regions = stood_regions [] [] 0 (isolated g.own.id) g.regions }
+  abbrev pub resolved_root : Graph T A → Root (ResolvedOp T A) (ResolvedBlock T A) ⊤
+  resolved_root g = record { own = resolved_op [] [] g.own; regions = resolved_regions [] [] 0 (isolated g.own.id) g.regions }
 
   -- the operation's numbers, places and generations are below 2 ^ 64
   pub record SmallOp (o : GraphOp T A) : Type 0 where
@@ -100,11 +100,11 @@ module _ {T A : Type 0} (C : Printing T A) (isolated : Id → Bool) where
   SmallGraph g = SmallOp g.own × SmallRegions g.regions
 
 -- each operand and each successor of the operation has a definition in the scopes around it
-abbrev pub OpFound : {T A : Type 0} → StoodOp T A → Type 0
+abbrev pub OpFound : {T A : Type 0} → ResolvedOp T A → Type 0
 OpFound o = (list_all is_some o.operands ≡ true) × (list_all is_some o.successors ≡ true)
 
 -- the same of a root and everything nested in it
-abbrev pub Found : {T A : Type 0} → Root (StoodOp T A) (StoodBlock T A) ⊤ → Type 0
+abbrev pub Found : {T A : Type 0} → Root (ResolvedOp T A) (ResolvedBlock T A) ⊤ → Type 0
 Found r = OpFound r.own × AllRegions OpFound (λ h. ⊤) (λ r. ⊤) r.regions
 
 -- the text of a location, and whether it is a position
@@ -114,14 +114,14 @@ pub record Locations (X : Type 0) : Type 0 where
 
 module _ {T A X : Type 0} where
   -- ids, result types, operands and successors are equal
-  pub record SameShape (a : StoodOp T A) (b : BuiltOp T A X) : Type 0 where
+  pub record SameShape (a : ResolvedOp T A) (b : BuiltOp T A X) : Type 0 where
     pub id : a.id ≡ b.id
     pub result_types : a.result_types ≡ b.result_types
     pub operands : a.operands ≡ b.operands
     pub successors : a.successors ≡ b.successors
 
   -- types of arguments are equal
-  pub record SameBlockShape (a : StoodBlock T A) (b : BuiltBlock T A X) : Type 0 where
+  pub record SameBlockShape (a : ResolvedBlock T A) (b : BuiltBlock T A X) : Type 0 where
     pub argument_types : a.argument_types ≡ b.argument_types
 
 -- Dictionaries are equal as maps, but given names may be filled in: the printed names, if there were none and there is something to name.
@@ -141,7 +141,7 @@ SameLabel name (Some k) l = l ≡ k
 
 module _ {T A X : Type 0} (L : Locations X) where
   -- an operation and what was built of it are equal up to fillings
-  pub record SameOp (a : StoodOp T A) (b : BuiltOp T A X) : Type 0 where
+  pub record SameOp (a : ResolvedOp T A) (b : BuiltOp T A X) : Type 0 where
     pub shape : SameShape a b
     pub operands_there : list_all is_some b.operands ≡ true
     pub successors_there : list_all is_some b.successors ≡ true
@@ -149,16 +149,16 @@ module _ {T A X : Type 0} (L : Locations X) where
     pub location : SameLocation L a.location b.location
 
   -- a block and what was built of it are equal up to fillings
-  pub record SameBlock (a : StoodBlock T A) (b : BuiltBlock T A X) : Type 0 where
+  pub record SameBlock (a : ResolvedBlock T A) (b : BuiltBlock T A X) : Type 0 where
     pub shape : SameBlockShape a b
     pub label : SameLabel a.name a.label b.label
     pub dictionary : SameDictionary a.argument_names a.attributes b.attributes
     pub location : SameLocation L a.location b.location
 
   -- equal up to fillings: the same shape, and the data at each node are equal up to fillings
-  abbrev pub UpToFillings : Root (StoodOp T A) (StoodBlock T A) ⊤ → Built T A X → Type 0
+  abbrev pub UpToFillings : Root (ResolvedOp T A) (ResolvedBlock T A) ⊤ → Built T A X → Type 0
   UpToFillings a b = MatchRoots SameOp SameBlock (λ r s. ⊤) a b
 
 -- the same of shapes alone: dictionaries, labels and locations may differ
-abbrev pub SameShapes : {T A X : Type 0} → Root (StoodOp T A) (StoodBlock T A) ⊤ → Built T A X → Type 0
+abbrev pub SameShapes : {T A X : Type 0} → Root (ResolvedOp T A) (ResolvedBlock T A) ⊤ → Built T A X → Type 0
 SameShapes a b = MatchRoots SameShape SameBlockShape (λ r s. ⊤) a b

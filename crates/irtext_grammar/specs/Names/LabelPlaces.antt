@@ -12,8 +12,8 @@ IsDefined name scope = (place : Place) × In (defines name place) scope
 
 -- the act fails with exactly this failure, which comes before the failures of all that follows the act
 abbrev pub Fails : Scopes → Act → Failure → Type 0
-Fails scopes act failure = (behind : Script) → failures scopes (does act behind) ≡ failure ∷ failures (scopes ⊳ fact_of act) behind
+Fails scopes act failure = (following : Script) → failures scopes (does act following) ≡ failure ∷ failures (scopes ⊳ fact_of act) following
 
 -- the act does not fail: the failures are those of what follows it
 abbrev pub Passes : Scopes → Act → Type 0
-Passes scopes act = (behind : Script) → failures scopes (does act behind) ≡ failures (scopes ⊳ fact_of act) behind
+Passes scopes act = (following : Script) → failures scopes (does act following) ≡ failures (scopes ⊳ fact_of act) following

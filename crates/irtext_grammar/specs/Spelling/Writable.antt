@@ -15,7 +15,7 @@ abbrev pub OneOf : List ℕ → Text → Type 0
 OneOf kinds t = (t ≡ []) ⊎ (begins (λ c. has ◌==◌ (kind c) kinds) t ≡ true)
 
 -- What printed IR has after an operation: its own mark, or `;`, or white space and then `}` or `^`, or nothing.
-pub record Behind {P : Type 0} (mark : Option (Mark P)) (f : Text) : Type 0 where
+pub record AfterOperation {P : Type 0} (mark : Option (Mark P)) (f : Text) : Type 0 where
   pub ends : Ends f
   pub one : mark ≡ None → OneOf (codes ";}^") (after_space f)
 
@@ -89,6 +89,6 @@ module _ {P T A : Type 0} (L : Language P T A) where
     pub regions_last : (directives : List format.Directive) → L.format_of t.own.id ≡ Some (format.custom directives) → c7 directives ≡ true
 
   -- What printed IR has after a root: what follows any operation, or, if the root has a region, the section's first word.
-  pub record BehindRoot (t : Tree P T A) (f : Text) : Type 0 where
+  pub record AfterRoot (t : Tree P T A) (f : Text) : Type 0 where
     pub ends : Ends f
     pub one : t.own.mark ≡ None → OneOf (codes ";}^") (after_space f) ⊎ Deep t × OneOf (codes "_") (after_space f)

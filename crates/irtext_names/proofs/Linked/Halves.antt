@@ -15,9 +15,9 @@ use Rattle.irtext_grammar.specs.Names.Scopes.{uses, defines, fact_of, outside, n
 use Rattle.irtext_grammar.specs.Names.TextScopes.{Fact, Facts, Word, defined_before}
 use Rattle.irtext_grammar.specs.Names.History.{State, act, after, onto, outcome, step, top}
 use Rattle.irtext_names.specs.Kinds.{NamesOf, NamesOf.{values, labels}, Other, other, defined_as, scopes_of, use_of, definition_of}
-use Rattle.irtext_names.specs.Linked.{Known, Became, Holds, AreLinked, AreMade, StandsAt}
+use Rattle.irtext_names.specs.Linked.{Known, Became, Holds, AreLinked, AreMade, NamesAgree}
 use Rattle.irtext_names.specs.Tied.{MatchesGraph}
-use Rattle.irtext_names.proofs.Linked.Kept.{stands_by}
+use Rattle.irtext_names.proofs.Linked.Kept.{agrees_by}
 
 -- the facts of the open scopes of a kind
 abbrev pub facts_of : {V : Type 0} → NamesOf V → State → List (List Fact)
@@ -59,22 +59,22 @@ became_of values known p v b = b
 became_of labels known p v b = b
 
 module _ {O B T : Type 0} where
-  pub links_of : {V : Type 0} (kind : NamesOf V) (names : NameTracker Value (Ptr BasicBlock)) (g : GraphView (Option O) B T) (known : Known) (held : List (User × Defined)) (st : State) → StandsAt names g known held st
+  pub links_of : {V : Type 0} (kind : NamesOf V) (names : NameTracker Value (Ptr BasicBlock)) (g : GraphView (Option O) B T) (known : Known) (held : List (User × Defined)) (st : State) → NamesAgree names g known held st
       → AreLinked names.names (defined_as kind) (made_of kind known) known.sites held g (facts_of kind st) (scopes_of kind names)
   links_of values names g known held st s = s.value_links
   links_of labels names g known held st s = s.label_links
 
-  pub all_made_of : {V : Type 0} (kind : NamesOf V) (names : NameTracker Value (Ptr BasicBlock)) (g : GraphView (Option O) B T) (known : Known) (held : List (User × Defined)) (st : State) → StandsAt names g known held st
+  pub all_made_of : {V : Type 0} (kind : NamesOf V) (names : NameTracker Value (Ptr BasicBlock)) (g : GraphView (Option O) B T) (known : Known) (held : List (User × Defined)) (st : State) → NamesAgree names g known held st
       → AreMade (defined_as kind) (made_of kind known) (scopes_of kind names) g
   all_made_of values names g known held st s = s.values_made
   all_made_of labels names g known held st s = s.blocks_made
 
   -- the agreement after one fact more about a name of a kind, from what it says of each kind
-  pub stands_after : {V : Type 0} (kind : NamesOf V) (names : NameTracker Value (Ptr BasicBlock)) (g : GraphView (Option O) B T) (known : Known) (held : List (User × Defined)) (st : State) (f : Fact) (ns : List Text) (ss : List (Scope V)) (others : List (Scope (Other kind)))
+  pub agrees_after : {V : Type 0} (kind : NamesOf V) (names : NameTracker Value (Ptr BasicBlock)) (g : GraphView (Option O) B T) (known : Known) (held : List (User × Defined)) (st : State) (f : Fact) (ns : List Text) (ss : List (Scope V)) (others : List (Scope (Other kind)))
       → names.names ≡ ns → scopes_of kind names ≡ ss → scopes_of (other kind) names ≡ others → AreDistinct ns → MatchesGraph names.values names.labels g
       → AreLinked ns (defined_as kind) (made_of kind known) known.sites held g (onto (facts_of kind st) (f ∷ [])) ss
       → AreLinked ns (defined_as (other kind)) (made_of (other kind) known) known.sites held g (onto (facts_of (other kind) st) []) others
       → AreMade (defined_as kind) (made_of kind known) ss g → AreMade (defined_as (other kind)) (made_of (other kind) known) others g
-      → ((u : User) (p : Place) → Among (u, p) (st.bound ++ []) → (d : Defined) × Became known p d × Holds known.sites held g u d) → StandsAt names g known held (after st (one_fact kind f))
-  stands_after values names g known held st f ns ss others e same rest distinct tied own links made others_made bound = stands_by names g known held (after st (one_fact values f)) ns ss others e same rest distinct tied own links made others_made bound
-  stands_after labels names g known held st f ns ss others e same rest distinct tied own links made others_made bound = stands_by names g known held (after st (one_fact labels f)) ns others ss e rest same distinct tied links own others_made made bound
+      → ((u : User) (p : Place) → Among (u, p) (st.bound ++ []) → (d : Defined) × Became known p d × Holds known.sites held g u d) → NamesAgree names g known held (after st (one_fact kind f))
+  agrees_after values names g known held st f ns ss others e same rest distinct tied own links made others_made bound = agrees_by names g known held (after st (one_fact values f)) ns ss others e same rest distinct tied own links made others_made bound
+  agrees_after labels names g known held st f ns ss others e same rest distinct tied own links made others_made bound = agrees_by names g known held (after st (one_fact labels f)) ns others ss e rest same distinct tied links own others_made made bound

@@ -14,7 +14,7 @@ use Rattle.irtext_grammar.specs.Names.History.{State}
 use Rattle.irtext_scopes.specs.declared.tracker.NameTracker.{NameTracker}
 use Rattle.irtext_scopes.specs.Names.{KeepsNames, AreDistinct}
 use Rattle.irtext_scopes.specs.Scopes.{Scope}
-use Rattle.irtext_names.specs.Linked.{Known, AreLinked, StandsAt}
+use Rattle.irtext_names.specs.Linked.{Known, AreLinked, NamesAgree}
 use Rattle.irtext_names.proofs.Linked.Scopes.{means_named, used_before}
 
 module _ {O B T V : Type 0} (names more : List Text) (keeps : KeepsNames names more) (distinct : AreDistinct more) (of : V → Defined) (made : List (Place × V)) (sites : List (User × Site)) (held : List (User × Defined)) (g : GraphView (Option O) B T) where
@@ -27,7 +27,7 @@ module _ {O B T V : Type 0} (names more : List Text) (keeps : KeepsNames names m
 -- what a call leaves that keeps a name, by what it ensures
 pub interned : {O B T : Type 0} (g : GraphView (Option O) B T) (old new : NameTracker Value (Ptr BasicBlock)) → KeepsNames old.names new.names → AreDistinct new.names
     → (new.values ≡ old.values) × (new.labels ≡ old.labels)
-    → (known : Known) (held : List (User × Defined)) (st : State) → StandsAt old g known held st → StandsAt new g known held st
+    → (known : Known) (held : List (User × Defined)) (st : State) → NamesAgree old g known held st → NamesAgree new g known held st
 interned g old new keeps distinct same known held st s = record {
   distinct = distinct;
   tied = rw (same.0, same.1) s.tied;

@@ -17,7 +17,7 @@ use Rattle.irtext_scopes.specs.Scopes.{Scope, innermost, in_innermost, is_open, 
 use Rattle.irtext_grammar.specs.Names.Script.{Place, User}
 use Rattle.irtext_grammar.specs.Names.TextScopes.{Fact}
 use Rattle.irtext_grammar.specs.Names.History.{State, onto, top}
-use Rattle.irtext_names.specs.Linked.{Known, Became, Holds, Means, AreLinked, AreMade, StandsAt}
+use Rattle.irtext_names.specs.Linked.{Known, Became, Holds, Means, AreLinked, AreMade, NamesAgree}
 use Rattle.irtext_names.specs.Tied.{entry_at, MatchesGraph}
 use Rattle.irtext_names.proofs.Entries.{entry_mentioned, entry_defined}
 use Rattle.irtext_names.proofs.Loses.{Loses}
@@ -26,12 +26,12 @@ use Rattle.irtext_names.proofs.Linked.Moving.{among_split, holds_moves, links_mo
 
 module _ {O B T : Type 0} where
   -- the agreement, from its parts
-  pub stands_by : (names : NameTracker Value (Ptr BasicBlock)) (g : GraphView (Option O) B T) (known : Known) (held : List (User × Defined)) (st : State) (ns : List Text) (vs : List (Scope Value)) (ls : List (Scope (Ptr BasicBlock)))
+  pub agrees_by : (names : NameTracker Value (Ptr BasicBlock)) (g : GraphView (Option O) B T) (known : Known) (held : List (User × Defined)) (st : State) (ns : List Text) (vs : List (Scope Value)) (ls : List (Scope (Ptr BasicBlock)))
       → names.names ≡ ns → names.values ≡ vs → names.labels ≡ ls → AreDistinct ns → MatchesGraph names.values names.labels g
       → AreLinked ns OfValue known.values known.sites held g st.values vs → AreLinked ns OfBlock known.blocks known.sites held g st.labels ls
       → AreMade OfValue known.values vs g → AreMade OfBlock known.blocks ls g
-      → ((u : User) (p : Place) → Among (u, p) st.bound → (d : Defined) × Became known p d × Holds known.sites held g u d) → StandsAt names g known held st
-  stands_by names g known held st ns vs ls e f h distinct tied values labels values_made blocks_made bound = record {
+      → ((u : User) (p : Place) → Among (u, p) st.bound → (d : Defined) × Became known p d × Holds known.sites held g u d) → NamesAgree names g known held st
+  agrees_by names g known held st ns vs ls e f h distinct tied values labels values_made blocks_made bound = record {
     distinct = rw e distinct;
     tied = tied;
     value_links = rw (e, f) values;

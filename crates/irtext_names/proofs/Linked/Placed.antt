@@ -20,12 +20,12 @@ use Rattle.irtext_scopes.specs.declared.tracker.NameTracker.{NameTracker}
 use Rattle.irtext_scopes.specs.Scopes.{Scope, value_of}
 use Rattle.irtext_grammar.specs.Names.Script.{User}
 use Rattle.irtext_grammar.specs.Names.History.{State}
-use Rattle.irtext_names.specs.Linked.{Known, StandsAt}
+use Rattle.irtext_names.specs.Linked.{Known, NamesAgree}
 use Rattle.irtext_names.specs.Placeholders.{IsBlank, IsPlaceholder}
 use Rattle.irtext_names.specs.Tied.{entry_at, Tied, MatchesGraph, ArePending, IsNoPlaceholder}
 use Rattle.irtext_names.proofs.SameBut.{same_defined, same_blank}
 use Rattle.irtext_names.proofs.Linked.InPlace.{in_place_same}
-use Rattle.irtext_names.proofs.Linked.Steps.{stands_kept}
+use Rattle.irtext_names.proofs.Linked.Steps.{agrees_kept}
 
 module _ {O B T : Type 0} {g k : GraphView (Option O) B T} {h c : Object} (a : Appends g k h c) where
   -- ---- what is unchanged, whatever was appended to what
@@ -37,7 +37,7 @@ module _ {O B T : Type 0} {g k : GraphView (Option O) B T} {h c : Object} (a : A
 
   still_waits : (d : Defined) → owner d ≢ h → owner d ≢ c → IsPlaceholder g d → IsPlaceholder k d
   still_waits d ne ne' p = record {
-    stands = still_there d p.stands;
+    alive = still_there d p.alive;
     blank = same_blank g k d (ap (option_map without_uses) (a.objects.contents (owner d))) (a.parents (owner d) ne') p.blank;
     free = a.parents (owner d) ne' ∙ p.free;
     empty = a.others (owner d) ne ∙ p.empty;
@@ -58,8 +58,8 @@ module _ {O B T : Type 0} {g k : GraphView (Option O) B T} {h c : Object} (a : A
   appended_ties vs ls values labels t = record { value_ties = tied_appended OfValue vs values t.value_ties; label_ties = tied_appended OfBlock ls labels t.label_ties }
 
   -- names and graph agree with the state of the machine, if names match the graph
-  pub appended_stands : (names : NameTracker Value (Ptr BasicBlock)) (known : Known) (held : List (User × Defined)) (st : State) → MatchesGraph names.values names.labels k → StandsAt names g known held st → StandsAt names k known held st
-  appended_stands names known held st tied s = stands_kept g k names known held st still_there (λ s d i. in_place_same g k s d (a.objects.contents (TheOperation (user s))) i) tied s
+  pub appended_agrees : (names : NameTracker Value (Ptr BasicBlock)) (known : Known) (held : List (User × Defined)) (st : State) → MatchesGraph names.values names.labels k → NamesAgree names g known held st → NamesAgree names k known held st
+  appended_agrees names known held st tied s = agrees_kept g k names known held st still_there (λ s d i. in_place_same g k s d (a.objects.contents (TheOperation (user s))) i) tied s
 
 -- ---- a block was appended to a region
 module _ {O B T : Type 0} {g k : GraphView (Option O) B T} (r : Ptr Region) (b : Ptr BasicBlock) (a : Appends g k (TheRegion r) (TheBlock b)) where
@@ -76,8 +76,8 @@ module _ {O B T : Type 0} {g k : GraphView (Option O) B T} (r : Ptr Region) (b :
   block_placed_ties vs ls none t = appended_ties a vs ls (λ i n x f. value_apart x (t.value_ties.held i n x f)) (block_apart ls none) t
 
   -- names and graph agree with the state of the machine
-  pub block_placed : (names : NameTracker Value (Ptr BasicBlock)) (known : Known) (held : List (User × Defined)) (st : State) → IsNoPlaceholder names.labels b → StandsAt names g known held st → StandsAt names k known held st
-  block_placed names known held st none s = appended_stands a names known held st (block_placed_ties names.values names.labels none s.tied) s
+  pub block_placed : (names : NameTracker Value (Ptr BasicBlock)) (known : Known) (held : List (User × Defined)) (st : State) → IsNoPlaceholder names.labels b → NamesAgree names g known held st → NamesAgree names k known held st
+  block_placed names known held st none s = appended_agrees a names known held st (block_placed_ties names.values names.labels none s.tied) s
 
   -- what was new is as new
   same_new : (m : ℕ) (q : Object) → is_older m (content k q) ≡ is_older m (content g q)

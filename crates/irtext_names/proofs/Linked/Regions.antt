@@ -26,7 +26,7 @@ use Rattle.irtext_scopes.specs.declared.tracker.NameTracker.{NameTracker}
 use Rattle.irtext_scopes.specs.Scopes.{Scope, innermost, outer, is_open, first_pending, value_of}
 use Rattle.irtext_scopes.specs.Tracker.{entered, left, first_value}
 use Rattle.irtext_scopes.specs.Tracker as tracker
-use Rattle.irtext_names.specs.Linked.{Known, nothing_made, Became, Holds, AreLinked, AreMade, StandsAt, Takes, FailsBy}
+use Rattle.irtext_names.specs.Linked.{Known, nothing_made, Became, Holds, AreLinked, AreMade, NamesAgree, Takes, FailsBy}
 use Rattle.irtext_names.specs.Tied.{entry_at, MatchesGraph}
 use Rattle.irtext_names.proofs.Linked.Scopes.{means_nothing, bound_means, Leaves, pending_means}
 
@@ -94,8 +94,8 @@ module _ {O B T V : Type 0} (of : V → Defined) (made : List (Place × V)) (g :
 
 -- ---- no names
 module _ {O B T : Type 0} (g : GraphView (Option O) B T) where
-  pub none_stand : (names : NameTracker Value (Ptr BasicBlock)) → names.names ≡ [] → names.values ≡ [] → names.labels ≡ [] → MatchesGraph names.values names.labels g → StandsAt names g nothing_made [] start
-  none_stand names a b c tied = record {
+  pub none_agrees : (names : NameTracker Value (Ptr BasicBlock)) → names.names ≡ [] → names.values ≡ [] → names.labels ≡ [] → MatchesGraph names.values names.labels g → NamesAgree names g nothing_made [] start
+  none_agrees names a b c tied = record {
     distinct = rw a (λ i j t e f. absurd (cc));
     tied = tied;
     value_links = rw b tt;
@@ -107,9 +107,9 @@ module _ {O B T : Type 0} (g : GraphView (Option O) B T) where
 
 -- ---- a region begins
 module _ {O B T : Type 0} (g : GraphView (Option O) B T) (old new : NameTracker Value (Ptr BasicBlock)) where
-  enter_stands : (isolated : Bool) → new.names ≡ old.names → new.values ≡ entered isolated old.values → new.labels ≡ [] ∷ old.labels → MatchesGraph new.values new.labels g
-      → (known : Known) (st : State) → StandsAt old g known [] st → StandsAt new g known [] (history.entered isolated st)
-  enter_stands true a b c tied known st s = record {
+  enter_agrees : (isolated : Bool) → new.names ≡ old.names → new.values ≡ entered isolated old.values → new.labels ≡ [] ∷ old.labels → MatchesGraph new.values new.labels g
+      → (known : Known) (st : State) → NamesAgree old g known [] st → NamesAgree new g known [] (history.entered isolated st)
+  enter_agrees true a b c tied known st s = record {
     distinct = rw a s.distinct;
     tied = tied;
     value_links = links_same old.names OfValue known.values known.sites [] g new.names ([] ∷ st.values) ([] ∷ old.values) new.values a b (links_entered old.names OfValue known.values known.sites [] g st.values old.values s.value_links);
@@ -118,7 +118,7 @@ module _ {O B T : Type 0} (g : GraphView (Option O) B T) (old new : NameTracker 
     blocks_made = rw c (made_entered OfBlock known.blocks g old.labels s.blocks_made);
     bound = s.bound;
   }
-  enter_stands false a b c tied known st s = record {
+  enter_agrees false a b c tied known st s = record {
     distinct = rw a s.distinct;
     tied = tied;
     value_links = links_same old.names OfValue known.values known.sites [] g new.names st.values old.values new.values a b s.value_links;
@@ -128,7 +128,7 @@ module _ {O B T : Type 0} (g : GraphView (Option O) B T) (old new : NameTracker 
     bound = s.bound;
   }
 
-  enter_steps : (isolated : Bool) → (isolated ≡ false → is_open old.values ≡ true) → (known : Known) (st : State) → StandsAt old g known [] st → step st (enter isolated) ≡ going (history.entered isolated st)
+  enter_steps : (isolated : Bool) → (isolated ≡ false → is_open old.values ≡ true) → (known : Known) (st : State) → NamesAgree old g known [] st → step st (enter isolated) ≡ going (history.entered isolated st)
   enter_steps true o known st s = refl
   enter_steps false o known st s = ap (λ us. outcome us (history.entered false st)) (links_open old.names OfValue known.values known.sites [] g st.values old.values s.value_links (o refl))
 
@@ -137,7 +137,7 @@ module _ {O B T : Type 0} (g : GraphView (Option O) B T) (old new : NameTracker 
       → ((r ≡ Err TopLevelOpRegionNotIsolatedFromAbove) ↔ ((isolated ≡ false) × (is_open old.values ≡ false))) → new.names ≡ old.names → MatchesGraph new.values new.labels g
       → OnOk r (Takes (enter isolated) (history.entered isolated) old new g)
   takes_enter (Err x) isolated b c shut a tied = tt
-  takes_enter (Ok x) isolated b c shut a tied = record { so = λ known st s. (enter_steps isolated (λ i. some_open i (is_open old.values) refl) known st s, enter_stands isolated a b c tied known st s) }
+  takes_enter (Ok x) isolated b c shut a tied = record { so = λ known st s. (enter_steps isolated (λ i. some_open i (is_open old.values) refl) known st s, enter_agrees isolated a b c tied known st s) }
     where
       some_open : isolated ≡ false → (o : Bool) → is_open old.values ≡ o → o ≡ true
       some_open i true e = refl
@@ -148,7 +148,7 @@ module _ {O B T : Type 0} (g : GraphView (Option O) B T) (old new : NameTracker 
       → r ≡ Err TopLevelOpRegionNotIsolatedFromAbove → FailsBy (enter isolated) old g (record { cause = NotIsolated; at = None })
   fails_enter r isolated shut e = let k = shut.0 e in record { so = λ known held st s. fails isolated k.0 k.1 known held st s }
     where
-      fails : (isolated : Bool) → isolated ≡ false → is_open old.values ≡ false → (known : Known) (held : List (User × Defined)) (st : State) → StandsAt old g known held st
+      fails : (isolated : Bool) → isolated ≡ false → is_open old.values ≡ false → (known : Known) (held : List (User × Defined)) (st : State) → NamesAgree old g known held st
           → step st (enter isolated) ≡ failed (record { cause = NotIsolated; at = None })
       fails true i o known held st s = absurd (true≢false i)
       fails false i o known held st s = ap (λ us. outcome us (history.entered false st)) (links_shut old.names OfValue known.values known.sites held g st.values old.values s.value_links o)
@@ -182,7 +182,7 @@ module _ {V W : Type 0} (names : List Text) (made : List (Place × V)) (made' : 
   first_of_both None None l k e = absurd (cc)
 
 module _ {O B T : Type 0} (g : GraphView (Option O) B T) (old new : NameTracker Value (Ptr BasicBlock)) where
-  module _ (known : Known) (held : List (User × Defined)) (st : State) (s : StandsAt old g known held st) where
+  module _ (known : Known) (held : List (User × Defined)) (st : State) (s : NamesAgree old g known held st) where
     values_leave : (a : ℕ) → Leaves old.names known.values (top_facts st.values) a (first_pending (innermost old.values))
     values_leave = links_leave old.names OfValue known.values known.sites held g st.values old.values s.value_links
 
@@ -220,8 +220,8 @@ module _ {O B T : Type 0} (g : GraphView (Option O) B T) (old new : NameTracker 
         → (u : User) (p : Place) → Among (u, p) (xs ++ ys) → (d : Defined) × Became known p d × Holds known.sites held g u d
     both_bound xs ys f h u p a = ⊎_elim (f u p) (h u p) (among_both (u, p) xs ys a)
 
-    leave_stands : (isolated : Bool) → new.names ≡ old.names → new.values ≡ left isolated old.values → new.labels ≡ outer old.labels → MatchesGraph new.values new.labels g → StandsAt new g known held (history.left isolated st)
-    leave_stands true a b c tied = record {
+    leave_agrees : (isolated : Bool) → new.names ≡ old.names → new.values ≡ left isolated old.values → new.labels ≡ outer old.labels → MatchesGraph new.values new.labels g → NamesAgree new g known held (history.left isolated st)
+    leave_agrees true a b c tied = record {
       distinct = rw a s.distinct;
       tied = tied;
       value_links = links_same old.names OfValue known.values known.sites held g new.names (outer_scopes st.values) (outer old.values) new.values a b (links_left old.names OfValue known.values known.sites held g st.values old.values s.value_links);
@@ -230,7 +230,7 @@ module _ {O B T : Type 0} (g : GraphView (Option O) B T) (old new : NameTracker 
       blocks_made = rw c (made_left OfBlock known.blocks g old.labels s.blocks_made);
       bound = both_bound _ _ s.bound (both_bound _ _ value_bound label_bound);
     }
-    leave_stands false a b c tied = record {
+    leave_agrees false a b c tied = record {
       distinct = rw a s.distinct;
       tied = tied;
       value_links = links_same old.names OfValue known.values known.sites held g new.names st.values old.values new.values a b s.value_links;
@@ -244,7 +244,7 @@ module _ {O B T : Type 0} (g : GraphView (Option O) B T) (old new : NameTracker 
   pub takes_leave : (o : Option ℕ) (isolated : Bool) → o ≡ tracker.unresolved isolated old.values old.labels → new.values ≡ left isolated old.values → new.labels ≡ outer old.labels → new.names ≡ old.names
       → MatchesGraph new.values new.labels g → IfNone o ((a : ℕ) → Takes (leave isolated a) (history.left isolated) old new g)
   takes_leave (Some n) isolated e b c a tied = tt
-  takes_leave None isolated e b c a tied = λ at. record { so = λ known st s. (leave_steps known [] st s isolated (sym e) at, leave_stands known [] st s isolated a b c tied) }
+  takes_leave None isolated e b c a tied = λ at. record { so = λ known st s. (leave_steps known [] st s isolated (sym e) at, leave_agrees known [] st s isolated a b c tied) }
 
   -- a region that leaves a name without a definition fails at its end
   pub fails_leave : (o : Option ℕ) (isolated : Bool) → o ≡ tracker.unresolved isolated old.values old.labels → IfSome o (λ n. n < length old.names)

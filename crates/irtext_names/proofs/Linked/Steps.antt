@@ -22,7 +22,7 @@ use Rattle.irtext_scopes.specs.Scopes.{Scope, value_of}
 use Rattle.irtext_grammar.specs.Names.Script.{Place, User}
 use Rattle.irtext_grammar.specs.Names.TextScopes.{Fact}
 use Rattle.irtext_grammar.specs.Names.History.{State}
-use Rattle.irtext_names.specs.Linked.{Known, Became, Holds, IsInPlace, AreLinked, AreMade, StandsAt}
+use Rattle.irtext_names.specs.Linked.{Known, Became, Holds, IsInPlace, AreLinked, AreMade, NamesAgree}
 use Rattle.irtext_names.specs.Tied.{MatchesGraph, IsNoPlaceholder}
 use Rattle.irtext_names.proofs.Added.{added_ties, made_none}
 use Rattle.irtext_names.proofs.Gained.{operation_added, block_added}
@@ -46,11 +46,11 @@ module _ {O B T : Type 0} (g k : GraphView (Option O) B T) where
   )
 
   -- names and graph agree with the state of the machine after more is made, if all that users refer to they still refer to
-  stands_grown : (names : NameTracker Value (Ptr BasicBlock)) (known known' : Known) (held held' : List (User × Defined)) (st : State)
+  agrees_grown : (names : NameTracker Value (Ptr BasicBlock)) (known known' : Known) (held held' : List (User × Defined)) (st : State)
       → ((p : Place) (v : Value) → Among (p, v) known.values → Among (p, v) known'.values) → ((p : Place) (b : Ptr BasicBlock) → Among (p, b) known.blocks → Among (p, b) known'.blocks)
       → ((u : User) (d : Defined) → Holds known.sites held g u d → Holds known'.sites held' k u d) → MatchesGraph names.values names.labels k
-      → AreMade OfValue known'.values names.values k → AreMade OfBlock known'.blocks names.labels k → StandsAt names g known held st → StandsAt names k known' held' st
-  stands_grown names known known' held held' st more_values more_blocks holds tied values blocks s = record {
+      → AreMade OfValue known'.values names.values k → AreMade OfBlock known'.blocks names.labels k → NamesAgree names g known held st → NamesAgree names k known' held' st
+  agrees_grown names known known' held held' st more_values more_blocks holds tied values blocks s = record {
     distinct = s.distinct;
     tied = tied;
     value_links = links_hold OfValue names.names known.values known'.values known.sites known'.sites held held' more_values holds st.values names.values s.value_links;
@@ -66,9 +66,9 @@ module _ {O B T : Type 0} (g k : GraphView (Option O) B T) where
 
   -- ---- an edit
   -- what is defined and what is in place stays so
-  pub stands_kept : (names : NameTracker Value (Ptr BasicBlock)) (known : Known) (held : List (User × Defined)) (st : State) → ((d : Defined) → IsDefined g d → IsDefined k d) → ((s : Site) (d : Defined) → IsInPlace g d s → IsInPlace k d s)
-      → MatchesGraph names.values names.labels k → StandsAt names g known held st → StandsAt names k known held st
-  stands_kept names known held st there in_place tied s = stands_grown names known known held held st (λ p v a. a) (λ p b a. a) holds tied
+  pub agrees_kept : (names : NameTracker Value (Ptr BasicBlock)) (known : Known) (held : List (User × Defined)) (st : State) → ((d : Defined) → IsDefined g d → IsDefined k d) → ((s : Site) (d : Defined) → IsInPlace g d s → IsInPlace k d s)
+      → MatchesGraph names.values names.labels k → NamesAgree names g known held st → NamesAgree names k known held st
+  agrees_kept names known held st there in_place tied s = agrees_grown names known known held held st (λ p v a. a) (λ p b a. a) holds tied
       (λ p v a. let r = s.values_made p v a in (there (OfValue v) r.0, r.1)) (λ p b a. let r = s.blocks_made p b a in (there (OfBlock b) r.0, r.1)) s
     where
       holds : (u : User) (d : Defined) → Holds known.sites held g u d → Holds known.sites held k u d
@@ -89,9 +89,9 @@ module _ {O B T : Type 0} (g k : GraphView (Option O) B T) where
       (more_values : List (Place × Value)) (more : List (User × Site)) → MakesOperation g k p (Some x) types operands successors
       → ((u : User) (d : Defined) → Among (u, d) held → (s : Site) × Among (u, s) more × (user s ≡ p) × IsUse k d s)
       → ((q : Place) (v : Value) → Among (q, v) more_values → (owner (OfValue v) ≡ TheOperation p) × IsDefined k (OfValue v))
-      → StandsAt names g known held st → StandsAt names k (record { values = known.values ++ more_values; blocks = known.blocks; sites = known.sites ++ more }) [] st
+      → NamesAgree names g known held st → NamesAgree names k (record { values = known.values ++ more_values; blocks = known.blocks; sites = known.sites ++ more }) [] st
   operation_made names known held st p x types operands successors more_values more make placed results s =
-      stands_grown names known (record { values = known.values ++ more_values; blocks = known.blocks; sites = known.sites ++ more }) held [] st
+      agrees_grown names known (record { values = known.values ++ more_values; blocks = known.blocks; sites = known.sites ++ more }) held [] st
       (λ q v a. among_left (q, v) known.values more_values a) (λ q b a. a) holds (added_ties (operation_added p make) names.values names.labels s.tied)
       (made_more OfValue names.values known.values more_values there s.values_made new_values) (λ q b a. let r = s.blocks_made q b a in (there (OfBlock b) r.0, r.1)) s
     where
@@ -113,9 +113,9 @@ module _ {O B T : Type 0} (g k : GraphView (Option O) B T) where
       (more_values : List (Place × Value)) (more_blocks : List (Place × Ptr BasicBlock)) → MakesBlock g k b x types
       → ((q : Place) (v : Value) → Among (q, v) more_values → (owner (OfValue v) ≡ TheBlock b) × IsDefined k (OfValue v))
       → ((q : Place) (c : Ptr BasicBlock) → Among (q, c) more_blocks → (c ≡ b) × IsDefined k (OfBlock c))
-      → StandsAt names g known held st → StandsAt names k (record { values = known.values ++ more_values; blocks = known.blocks ++ more_blocks; sites = known.sites }) held st
+      → NamesAgree names g known held st → NamesAgree names k (record { values = known.values ++ more_values; blocks = known.blocks ++ more_blocks; sites = known.sites }) held st
   block_made names known held st b x types more_values more_blocks make arguments blocks s =
-      stands_grown names known (record { values = known.values ++ more_values; blocks = known.blocks ++ more_blocks; sites = known.sites }) held held st
+      agrees_grown names known (record { values = known.values ++ more_values; blocks = known.blocks ++ more_blocks; sites = known.sites }) held held st
       (λ q v a. among_left (q, v) known.values more_values a) (λ q c a. among_left (q, c) known.blocks more_blocks a) holds (added_ties (block_added b make) names.values names.labels s.tied)
       (made_more OfValue names.values known.values more_values there s.values_made new_values) (made_more OfBlock names.labels known.blocks more_blocks there s.blocks_made new_blocks) s
     where

@@ -1,6 +1,6 @@
 //! Constructors of locations that contain other locations.
 ghost use Rattle.std.specs.Prelude.{◌≡◌, map, string_bytes, IfOk, IfErr, OnOk};
-ghost use Rattle.irtext_base.specs.Answers.{StarvesHere};
+ghost use Rattle.irtext_base.specs.Answers.{RunsOutHere};
 ghost use Rattle.irtext_base.specs.Locations.{location_view, attr_view_in, in_row, fused, named, call_site};
 ghost use Rattle.irtext_parse_spec.specs.Readers.NewPaths.{Makes};
 ghost use Rattle.irtext_parse_spec.specs.Readers.Streams.{itself, replaced};
@@ -14,7 +14,7 @@ use irtext_tokens::irfmt::faults::out_of_memory;
 fn boxed<X: Drop, A>(stream: &mut TextStream, value: X) -> ParseResult<Box<X>, A>
     ensures holds { IfOk result (λ made. made.value ≡ value) }
     ensures still { OnOk result (stream.new ≡ stream.old) }
-    ensures starved { IfErr result (λ fault. StarvesHere itself replaced stream.old fault stream.new) }
+    ensures ran_out { IfErr result (λ fault. RunsOutHere itself replaced stream.old fault stream.new) }
 {
     match Box::new(stream.allocator(), value) {
         Ok(made) => Ok(made),
@@ -30,7 +30,7 @@ fn both_boxed<X: Drop, Y: Drop, A>(
 ) -> ParseResult<(Box<X>, Box<Y>), A>
     ensures holds { IfOk result (λ made. (made.0.value ≡ first) × (made.1.value ≡ second)) }
     ensures still { OnOk result (stream.new ≡ stream.old) }
-    ensures starved { IfErr result (λ fault. StarvesHere itself replaced stream.old fault stream.new) }
+    ensures ran_out { IfErr result (λ fault. RunsOutHere itself replaced stream.old fault stream.new) }
 {
     let first = boxed(stream, first)?;
     let second = boxed(stream, second)?;

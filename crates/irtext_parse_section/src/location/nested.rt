@@ -11,7 +11,7 @@ ghost use Rattle.irtext_grammar.specs.Contexts.Held.{location_over};
 ghost use Rattle.irtext_parse_spec.specs.Readers.NewPaths.{AddsPaths, MayReadOver, known_location, PushesRow};
 ghost use Rattle.irtext_parse_spec.specs.Readers.Streams.{itself, replaced};
 ghost use Rattle.irtext_parse_section.specs.Frames.{progress_over, progress_kept, fused_opening_at};
-ghost use Rattle.irtext_parse_section.specs.Frames.{call_site_head_at, ReadsProgress, ReadsBehind};
+ghost use Rattle.irtext_parse_section.specs.Frames.{call_site_head_at, ReadsProgress, ReadsAfter};
 ghost use Rattle.irtext_parse_section.specs.Frames.{ReadsOpening, row_end_at};
 ghost use Rattle.irtext_parse_section.specs.Sourced.{Keeps, ReadsWithin, ReadsNested};
 ghost use Rattle.irtext_parse_section.specs.declared.location.frame.Frame.TheVariants.{Fused};
@@ -194,14 +194,14 @@ fn location_opened<T: IrText<A>, A: AttrText<A>>(
 }
 
 /// Parses what follows a location in a fused location: `,` before one more, or the end.
-fn row_behind<A: AttrText<A>>(
+fn row_after<A: AttrText<A>>(
     stream: &mut TextStream,
     metadata: Box<Option<AttrObj<A>>>,
     mut locations: Vec<Location<A>>,
     location: Location<A>,
 ) -> ParseResult<Progress<A>, A>
     requires fine { stream.old.failed ≡ false }
-    ensures { ReadsBehind (Fused metadata locations) location stream.old result stream.new }
+    ensures { ReadsAfter (Fused metadata locations) location stream.old result stream.new }
 {
     push_location(stream, &mut locations, location)?;
     if next_is(stream, ',') {
@@ -213,13 +213,13 @@ fn row_behind<A: AttrText<A>>(
 }
 
 /// Parses what follows a location inside of another one, up to the end of that one or to its next location.
-fn location_behind<A: AttrText<A>>(
+fn location_after<A: AttrText<A>>(
     stream: &mut TextStream,
     frame: Frame<A>,
     location: Location<A>,
 ) -> ParseResult<Progress<A>, A>
     requires fine { stream.old.failed ≡ false }
-    ensures { ReadsBehind frame location stream.old result stream.new }
+    ensures { ReadsAfter frame location stream.old result stream.new }
 {
     match frame {
         Frame::Named(name) => {
@@ -239,7 +239,7 @@ fn location_behind<A: AttrText<A>>(
         Frame::Fused {
             metadata,
             locations,
-        } => row_behind(stream, metadata, locations, location),
+        } => row_after(stream, metadata, locations, location),
     }
 }
 
@@ -261,12 +261,12 @@ fn nested_demanded<T: IrText<A>, A: AttrText<A>>(
                 let Some(frame) = frames.pop() else {
                     return Ok(location);
                 };
-                progress = location_behind(stream, frame, location)?;
+                progress = location_after(stream, frame, location)?;
             }
             Progress::Inside(frame) => {
                 if begins_source(stream) {
                     let place = place_demanded(stream, ctx)?;
-                    progress = location_behind(stream, frame, place)?;
+                    progress = location_after(stream, frame, place)?;
                 } else {
                     let Ok(()) = frames.push(frame) else {
                         return Err(out_of_memory(stream));

@@ -2,7 +2,7 @@
 ghost use Rattle.std.specs.Prelude.{◌≡◌};
 ghost use Rattle.std.specs.Bool.{MatchBool};
 ghost use Rattle.std.specs.Str.{chars};
-ghost use Rattle.irtext_parse_section.specs.Plain.{TakesDigits, DigitsBehind, NumberBehind, SpaceBehind, Looks, Sees, Gets, Finds, behind_source_at};
+ghost use Rattle.irtext_parse_section.specs.Plain.{TakesDigits, DigitsAfter, NumberAfter, SpaceAfter, Looks, Sees, Gets, Finds, after_source_at};
 
 use irtext_base::parsable::{CharStream, SourcePosition, TextStream};
 use irtext_tokens::irfmt::faults::begins;
@@ -14,7 +14,7 @@ use irtext_tokens::irfmt::parsers::{FromStrRadix, skip_white_space};
 /// stream is unchanged.
 #[inline(always)]
 pub(crate) fn spaced_there(stream: &mut TextStream, text: &str) -> bool
-    ensures { MatchBool result (SpaceBehind (chars text.now) stream.old stream.new)
+    ensures { MatchBool result (SpaceAfter (chars text.now) stream.old stream.new)
         (stream.new ≡ stream.old) }
 {
     if stream.has_failed() {
@@ -42,8 +42,8 @@ fn digits_there(stream: &mut TextStream) -> Option<u64>
 /// Parses this text and the digits right after it, and returns their number if it fits 64 bits. Otherwise the new position of the stream is
 /// unspecified.
 #[inline(always)]
-pub(crate) fn digits_behind(stream: &mut TextStream, before: &str) -> Option<u64>
-    ensures { Looks (DigitsBehind (chars before.now) stream.old stream.new) stream.old result stream.new }
+pub(crate) fn digits_after(stream: &mut TextStream, before: &str) -> Option<u64>
+    ensures { Looks (DigitsAfter (chars before.now) stream.old stream.new) stream.old result stream.new }
 {
     if !stream.accept(before) {
         return None;
@@ -53,27 +53,27 @@ pub(crate) fn digits_behind(stream: &mut TextStream, before: &str) -> Option<u64
 
 /// The same for a number that fits 32 bits with a sign.
 #[inline(always)]
-fn number_behind(stream: &mut TextStream, before: &str) -> Option<i32>
-    ensures { Looks (NumberBehind (chars before.now) stream.old stream.new) stream.old result stream.new }
+fn number_after_text(stream: &mut TextStream, before: &str) -> Option<i32>
+    ensures { Looks (NumberAfter (chars before.now) stream.old stream.new) stream.old result stream.new }
 {
-    let magnitude = digits_behind(stream, before)?;
+    let magnitude = digits_after(stream, before)?;
     i32::from_magnitude(false, magnitude)
 }
 
 /// Parses `:`, a line and a column.
 #[inline(always)]
 fn both_there(stream: &mut TextStream) -> Option<SourcePosition>
-    ensures { Looks (Gets behind_source_at stream.old stream.new) stream.old result stream.new }
+    ensures { Looks (Gets after_source_at stream.old stream.new) stream.old result stream.new }
 {
-    let line = number_behind(stream, ": line: ")?;
-    let column = number_behind(stream, ", column: ")?;
+    let line = number_after_text(stream, ": line: ")?;
+    let column = number_after_text(stream, ", column: ")?;
     Some(SourcePosition { line, column })
 }
 
 /// Parses `:`, a line and a column in this form. If they do not come next, or the stream has failed, returns `None` and nothing changes.
 #[inline(always)]
 pub(crate) fn position_there(stream: &mut TextStream) -> Option<SourcePosition>
-    ensures { Sees (Finds behind_source_at stream.old stream.new) stream.old result stream.new }
+    ensures { Sees (Finds after_source_at stream.old stream.new) stream.old result stream.new }
 {
     if stream.has_failed() {
         return None;

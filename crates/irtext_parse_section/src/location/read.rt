@@ -3,7 +3,7 @@ ghost use Rattle.irtext_base.specs.Faults.{characters};
 ghost use Rattle.irtext_tokens.specs.MustRead.{MustRead};
 ghost use Rattle.irtext_parse_spec.specs.Readers.Positions.{labelled_at, position_at};
 ghost use Rattle.irtext_parse_spec.specs.Readers.Streams.{itself, replaced};
-ghost use Rattle.irtext_parse_section.specs.Plain.{behind_source_at};
+ghost use Rattle.irtext_parse_section.specs.Plain.{after_source_at};
 
 use crate::location::plain::position_there;
 use irtext_base::parsable::{CharStream, ParseResult, SourcePosition, TextStream};
@@ -32,7 +32,7 @@ pub(crate) fn position_demanded<S: CharStream, A>(stream: &mut S) -> ParseResult
 #[cold]
 #[inline(never)]
 fn position_read<A>(stream: &mut TextStream) -> ParseResult<SourcePosition, A>
-    ensures { MustRead itself replaced (λ at. at) behind_source_at stream.old result stream.new }
+    ensures { MustRead itself replaced (λ at. at) after_source_at stream.old result stream.new }
 {
     spaced_text_demanded(stream, ":")?;
     position_demanded(stream)
@@ -40,8 +40,8 @@ fn position_read<A>(stream: &mut TextStream) -> ParseResult<SourcePosition, A>
 
 /// Parses `:`, a line and a column, which are required: every error is committed.
 #[inline(always)]
-pub(crate) fn position_behind<A>(stream: &mut TextStream) -> ParseResult<SourcePosition, A>
-    ensures { MustRead itself replaced (λ at. at) behind_source_at stream.old result stream.new }
+pub(crate) fn position_after<A>(stream: &mut TextStream) -> ParseResult<SourcePosition, A>
+    ensures { MustRead itself replaced (λ at. at) after_source_at stream.old result stream.new }
 {
     match position_there(stream) {
         Some(position) => Ok(position),

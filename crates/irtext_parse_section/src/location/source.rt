@@ -10,7 +10,7 @@ ghost use Rattle.irtext_parse_spec.specs.Readers.Streams.{itself, replaced};
 ghost use Rattle.irtext_parse_section.specs.Sourced.{ReadsSource, ReadsLocation};
 
 use crate::location::nested::begins_source;
-use crate::location::read::{position_behind, position_demanded};
+use crate::location::read::{position_after, position_demanded};
 use irtext_base::location::{Location, Source};
 use irtext_base::parsable::{CharStream, ParseResult, SourcePosition, TextStream};
 use irtext_base::result::{Cause, Expected};
@@ -76,7 +76,7 @@ pub(crate) fn place_demanded<T: IrText<A>, A: AttrText<A>>(
         return place_parse(stream, ctx);
     }
     if stream.accept("<in-memory>") {
-        let pos = position_behind(stream)?;
+        let pos = position_after(stream)?;
         return Ok(Location::SrcPos {
             src: Source::InMemory,
             pos,
@@ -94,7 +94,7 @@ fn place_parse<T: IrText<A>, A: AttrText<A>>(
     ensures { ReadsLocation place_at ctx.old stream.old ctx.new result stream.new }
 {
     let src = source_demanded(stream, ctx)?;
-    let pos = position_behind(stream)?;
+    let pos = position_after(stream)?;
     Ok(Location::SrcPos { src, pos })
 }
 

@@ -37,8 +37,8 @@ exact_word w = record {
 
 -- ---- one after another
 -- a text in two parts, of which the second is in two parts
-pub split_behind : (text front middle more rest taken : Text) → front ++ middle ≡ text → more ++ rest ≡ middle → front ++ more ≡ taken → taken ++ rest ≡ text
-split_behind text front middle more rest taken e f g = ap (λ t. t ++ rest) (sym g) ∙ (append_assoc front more rest ∙ (ap (λ t. front ++ t) f ∙ e))
+pub split_after_front : (text front middle more rest taken : Text) → front ++ middle ≡ text → more ++ rest ≡ middle → front ++ more ≡ taken → taken ++ rest ≡ text
+split_after_front text front middle more rest taken e f g = ap (λ t. t ++ rest) (sym g) ∙ (append_assoc front more rest ∙ (ap (λ t. front ++ t) f ∙ e))
 
 module _ {X Y : Type 0} where
   -- one parser, and after it another that depends on its value, if the value of both determines that of the first
@@ -52,7 +52,7 @@ module _ {X Y : Type 0} where
           let b = h.read text a.value a.front a.middle a.first in
           let c = (j a.value).read a.middle y a.more rest a.second in
           let same = sure a.value y a.middle rest c.0 in
-          ((a.middle, subst (λ x. r x text a.middle) same b.0, subst (λ x. s x y a.middle rest) same c.0), split_behind text a.front a.middle a.more rest taken b.1 c.1 a.whole)
+          ((a.middle, subst (λ x. r x text a.middle) same b.0, subst (λ x. s x y a.middle rest) same c.0), split_after_front text a.front a.middle a.more rest taken b.1 c.1 a.whole)
 
       back : (text : Text) (y : Y) (rest : Text) → (r (get y) ▸ s (get y) y) text rest → (taken : Text) × (followed (f text) k ≡ Read y taken rest)
       back text y rest (mid, p, q) =
@@ -102,8 +102,8 @@ module _ {X : Type 0} where
 
 module _ {X : Type 0} where
   -- a fixed text before, with white space around it
-  pub exact_behind : {g : Reader X} {s : X → Reading} (w : Text) → Exact g s → Exact (spaced_at w ▷ g) (λ x. white (literal w ▹ s x))
-  exact_behind {s = s} w j = exact_as (exact_then (exact_spaced (exact_then (exact_word w) exact_space)) j)
+  pub exact_after : {g : Reader X} {s : X → Reading} (w : Text) → Exact g s → Exact (spaced_at w ▷ g) (λ x. white (literal w ▹ s x))
+  exact_after {s = s} w j = exact_as (exact_then (exact_spaced (exact_then (exact_word w) exact_space)) j)
       (λ x text rest (mid, (m, a, e), q). (m, a, subst (λ t. s x t rest) e q)) (λ x text rest (m, a, q). (after_space m, (m, a, refl), q))
 
   -- one parser without a value after
@@ -114,7 +114,7 @@ module _ {X : Type 0} where
 -- a key, a fixed text and what is under the key
 pub exact_keyed : {K X : Type 0} {f : Reader K} {r : K → Reading} {g : Reader X} {s : X → Reading} (w : Text) → Exact f r → Exact g s → Exact {X = K × X} (f ▶ λ key. spaced_at w ▷ g ⇒ λ x. (key, x)) (λ e. r e.0 ▹ literal w ▹ s e.1)
 exact_keyed w h j = exact_as
-    (exact_so h (λ key. exact_behind w (exact_seen j (λ x. (key, x)) (λ e. e.1) (λ e. key ≡ e.0) (λ x. refl) (λ x. refl) (λ e k. ap (λ k. (k, e.1)) k))) (λ e. e.0) (λ key e text rest q. q.2.0))
+    (exact_so h (λ key. exact_after w (exact_seen j (λ x. (key, x)) (λ e. e.1) (λ e. key ≡ e.0) (λ x. refl) (λ x. refl) (λ e k. ap (λ k. (k, e.1)) k))) (λ e. e.0) (λ key e text rest q. q.2.0))
     (λ e text rest (m, a, (n, b, (k, c))). (m, a, (n, b, c))) (λ e text rest (m, a, (n, b, c)). (m, a, (n, b, (refl, c))))
 
 -- ---- one or the other

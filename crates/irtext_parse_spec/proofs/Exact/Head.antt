@@ -14,7 +14,7 @@ use Rattle.irtext_grammar.specs.Grammar.Tree.{Name, Mark, Attribute, Head}
 use Rattle.irtext_parse_spec.proofs.Joins.Answers.{Splits}
 use Rattle.irtext_parse_spec.specs.Exact.{Exact, block_head}
 use Rattle.irtext_parse_spec.specs.Heads.{argument_at, head_at}
-use Rattle.irtext_parse_spec.proofs.Exact.Combined.{exact_as, exact_word, exact_then, exact_spaced, exact_behind, exact_so, exact_seen}
+use Rattle.irtext_parse_spec.proofs.Exact.Combined.{exact_as, exact_word, exact_then, exact_spaced, exact_after, exact_so, exact_seen}
 use Rattle.irtext_parse_spec.proofs.Exact.Listed.{Starts, exact_list, loosened, tightened}
 use Rattle.irtext_parse_spec.proofs.Exact.Names.{exact_label, exact_mark_if}
 use Rattle.irtext_parse_spec.proofs.Exact.Attributes.{exact_dictionary_if}
@@ -55,14 +55,14 @@ module _ {T A : Type 0} (types_at : Text → Outcome T) (types_written : T → T
   no_argument = starts_argument types_at types_written (texts_of reading written) formats types_split (attr_at reading)
 
   -- what follows the arguments
-  abbrev behind_arguments : Head ℕ T A → Reading
-  behind_arguments h = literal (codes ")") ▹ reads.dictionary_if l h.attributes ▹ reads.mark_if l h.mark ▹ literal (codes ":")
+  abbrev after_arguments : Head ℕ T A → Reading
+  after_arguments h = literal (codes ")") ▹ reads.dictionary_if l h.attributes ▹ reads.mark_if l h.mark ▹ literal (codes ":")
 
   -- a block's header
   pub exact_head : Exact (head_at types_at (attr_at reading)) (block_head l)
   exact_head = exact_as
       (exact_so (exact_label (texts_of types_at types_written) (texts_of reading written) formats) (λ label.
-      exact_behind (codes "(") (exact_so (exact_list 44 an_argument no_argument) (λ arguments.
+      exact_after (codes "(") (exact_so (exact_list 44 an_argument no_argument) (λ arguments.
       exact_then (exact_word (codes ")")) (exact_spaced (exact_so (exact_dictionary_if (texts_of types_at types_written) reading written formats splits types_at) (λ attributes.
       exact_spaced (exact_so (exact_mark_if (texts_of types_at types_written) (texts_of reading written) formats) (λ mark.
       exact_spaced (exact_closed label arguments attributes mark))
@@ -70,6 +70,6 @@ module _ {T A : Type 0} (types_at : Text → Outcome T) (types_written : T → T
       (λ h. h.attributes) (λ attributes h text rest q. ap (λ h. h.attributes) q.2.0))))
       (λ h. h.arguments) (λ arguments h text rest q. ap (λ h. h.arguments) q.2.2.2.0)))
       (λ h. h.label) (λ label h text rest q. ap (λ h. h.label) q.2.2.2.2.2.0))
-      (λ h text rest (m, a, (n, b, (o, c, (p, d, (q, e, (r, f, (k, g))))))). (m, a, (n, b, loosened 44 an_argument no_argument h.arguments (behind_arguments h) n rest (o, c, (p, d, (q, e, (r, f, g)))))))
-      (λ h text rest (m, a, (n, b, r)). let t = tightened 44 an_argument no_argument h.arguments (behind_arguments h) n rest r in
+      (λ h text rest (m, a, (n, b, (o, c, (p, d, (q, e, (r, f, (k, g))))))). (m, a, (n, b, loosened 44 an_argument no_argument h.arguments (after_arguments h) n rest (o, c, (p, d, (q, e, (r, f, g)))))))
+      (λ h text rest (m, a, (n, b, r)). let t = tightened 44 an_argument no_argument h.arguments (after_arguments h) n rest r in
       (m, a, (n, b, (t.0, t.1, (t.2.0, t.2.1, (t.2.2.0, t.2.2.1, (t.2.2.2.0, t.2.2.2.1, (refl, t.2.2.2.2))))))))

@@ -17,14 +17,14 @@ use Rattle.irtext_tokens.specs.Tokens.{space_at, id_at}
 use Rattle.irtext_grammar.specs.Contexts.Formats.{op_id, format_of}
 use Rattle.irtext_grammar.specs.Grammar.Reads as reads
 use Rattle.irtext_grammar.specs.Grammar.Tree.{Name}
-use Rattle.irtext_parse_spec.specs.Readers.Parts.{behind}
-use Rattle.irtext_parse_spec.specs.Readers.Operations.{registered_behind}
+use Rattle.irtext_parse_spec.specs.Readers.Parts.{after_lead}
+use Rattle.irtext_parse_spec.specs.Readers.Operations.{registered_after}
 use Rattle.irtext_parse_spec.proofs.Joins.Answers.{followed_read, followed-read, mapped_read}
 use Rattle.irtext_parse_spec.proofs.Joins.Lead.{format_known}
 use Rattle.irtext_parse_spec.proofs.Joins.Tokens.{id_read, id_found, splits_space, splits_id}
 use Rattle.irtext_parse_spec.specs.Exact.{Exact, registered_lead}
 use Rattle.irtext_parse_spec.specs.Heads.{results_at, named, lead_at, led_by, led_at}
-use Rattle.irtext_parse_spec.proofs.Exact.Combined.{exact_word, exact_before, split_behind}
+use Rattle.irtext_parse_spec.proofs.Exact.Combined.{exact_word, exact_before, split_after_front}
 use Rattle.irtext_parse_spec.proofs.Exact.Listed.{exact_list, loosened, tightened}
 use Rattle.irtext_parse_spec.proofs.Exact.Names.{exact_name, starts_name}
 
@@ -96,10 +96,10 @@ module _ {T A : Type 0} (types : Texts T) (owns : Texts A) (formats : Id → Opt
           let spaced : after is_whitespace text ≡ a.middle = cc a.first in
           let b = followed_read (named (results_at a.middle) a.middle) space_next ns a.more rest a.second in
           let c = mapped_read (λ _. b.value) (space_at b.middle) ns b.more rest b.second in
-          let behind : after is_whitespace b.middle ≡ rest = cc c.1 in
+          let after_lead : after is_whitespace b.middle ≡ rest = cc c.1 in
           let k = named_read text b.value b.front b.middle (subst (λ t. named (results_at t) t ≡ Read b.value b.front b.middle) (sym spaced) b.first) in
-          let inner = split_behind a.middle b.front b.middle b.more rest a.more (k.1 ∙ spaced) (splits_space b.middle c.0 b.more rest c.1) b.whole in
-          ((b.middle, subst (λ ns. reads.results_if l ns (after_space text) b.middle) c.2 k.0, sym behind), split_behind text a.front a.middle a.more rest taken (splits_space text a.value a.front a.middle a.first) inner a.whole)
+          let inner = split_after_front a.middle b.front b.middle b.more rest a.more (k.1 ∙ spaced) (splits_space b.middle c.0 b.more rest c.1) b.whole in
+          ((b.middle, subst (λ ns. reads.results_if l ns (after_space text) b.middle) c.2 k.0, sym after_lead), split_after_front text a.front a.middle a.more rest taken (splits_space text a.value a.front a.middle a.first) inner a.whole)
 
       back : (text : Text) (ns : List (Name ℕ)) (rest : Text) → lead_read ns text rest → (taken : Text) × (lead_at text ≡ Read ns taken rest)
       back text ns rest (m, r, e) =
@@ -111,16 +111,16 @@ module _ {T A : Type 0} (types : Texts T) (owns : Texts A) (formats : Id → Opt
 
 -- ---- a registered operation
 -- what follows a lead, with the lead itself
-behind_read : {X : Type 0} (lead : Text) (o : Outcome X) (x : X) (taken rest : Text) → behind lead o ≡ Read x taken rest → (a : Text) × (o ≡ Read x a rest) × (taken ≡ lead ++ a)
-behind_read [] o x taken rest e = (taken, e, refl)
-behind_read (c ∷ lead) o x taken rest e =
+after_read : {X : Type 0} (lead : Text) (o : Outcome X) (x : X) (taken rest : Text) → after_lead lead o ≡ Read x taken rest → (a : Text) × (o ≡ Read x a rest) × (taken ≡ lead ++ a)
+after_read [] o x taken rest e = (taken, e, refl)
+after_read (c ∷ lead) o x taken rest e =
     let a = followed_read (Read (tt {0}) (c ∷ lead) []) (λ _ _. o) x taken rest e in
     (a.more, a.second, sym a.whole ∙ ap (λ t. t ++ a.more) (let f : c ∷ lead ≡ a.front = cc a.first in sym f))
 
 -- and from before it
-behind_found : {X : Type 0} (lead : Text) (o : Outcome X) (x : X) (a rest : Text) → o ≡ Read x a rest → behind lead o ≡ Read x (lead ++ a) rest
-behind_found [] o x a rest e = e
-behind_found (c ∷ lead) o x a rest e = ap (prefixed (c ∷ lead)) e
+after_found : {X : Type 0} (lead : Text) (o : Outcome X) (x : X) (a rest : Text) → o ≡ Read x a rest → after_lead lead o ≡ Read x (lead ++ a) rest
+after_found [] o x a rest e = e
+after_found (c ∷ lead) o x a rest e = ap (prefixed (c ∷ lead)) e
 
 formatted : (o : Option Known) → is_some o ≡ true → (f : Format) × (option_map (λ known. known.format) o ≡ Some f)
 formatted None e = absurd (true≢false (sym e))
@@ -131,7 +131,7 @@ has_dialect None id e = e
 has_dialect (Some table) id e = refl
 
 module _ (dialects : List (Text × Table)) where
-  registered_read : (lead : Text) (o : Outcome Id) (i : Id) (taken rest : Text) → registered_behind dialects lead o ≡ Read i taken rest → (o ≡ Read i taken rest) × (is_some (table.registered dialects (op_id i)) ≡ true)
+  registered_read : (lead : Text) (o : Outcome Id) (i : Id) (taken rest : Text) → registered_after dialects lead o ≡ Read i taken rest → (o ≡ Read i taken rest) × (is_some (table.registered dialects (op_id i)) ≡ true)
   registered_read lead (Read j a r) i taken rest e = go (is_some (dialect_of dialects j.dialect)) (is_some (table.registered dialects (op_id j))) refl e
     where
       go : (b c : Bool) → is_some (table.registered dialects (op_id j)) ≡ c → cond b (cond c (Read j a r) (Bad (UnregisteredOp j) [])) (Bad (UnregisteredDialect j.dialect) lead) ≡ Read i taken rest
@@ -142,8 +142,8 @@ module _ (dialects : List (Text × Table)) where
   registered_read lead (Missing cause) i taken rest e = absurd (cc e)
   registered_read lead (Bad cause upto) i taken rest e = absurd (cc e)
 
-  registered_found : (lead : Text) (o : Outcome Id) (i : Id) (taken rest : Text) → o ≡ Read i taken rest → is_some (table.registered dialects (op_id i)) ≡ true → registered_behind dialects lead o ≡ Read i taken rest
-  registered_found lead o i taken rest e k = ap (registered_behind dialects lead) e ∙ rw (has_dialect (dialect_of dialects i.dialect) i k, k) refl
+  registered_found : (lead : Text) (o : Outcome Id) (i : Id) (taken rest : Text) → o ≡ Read i taken rest → is_some (table.registered dialects (op_id i)) ≡ true → registered_after dialects lead o ≡ Read i taken rest
+  registered_found lead o i taken rest e k = ap (registered_after dialects lead) e ∙ rw (has_dialect (dialect_of dialects i.dialect) i k, k) refl
 
   module _ {T A : Type 0} (types : Texts T) (owns : Texts A) where
     -- An operation's lead is parsed where the grammar parses it and its operation is registered, and nowhere else.
@@ -153,13 +153,13 @@ module _ (dialects : List (Text × Table)) where
         there : (text : Text) (x : List (Name ℕ) × Id) (taken rest : Text) (o : Outcome (List (Name ℕ))) → lead_at text ≡ o → led_by dialects o ≡ Read x taken rest
             → registered_lead (language types owns (format_of dialects)) x text rest × (taken ++ rest ≡ text)
         there text x taken rest (Read ns lead mid) f e =
-            let m = mapped_read (λ i. (ns, i)) (registered_behind dialects lead (behind lead (id_at mid))) x taken rest e in
-            let r = registered_read lead (behind lead (id_at mid)) m.0 taken rest m.1 in
-            let b = behind_read lead (id_at mid) m.0 taken rest r.0 in
+            let m = mapped_read (λ i. (ns, i)) (registered_after dialects lead (after_lead lead (id_at mid))) x taken rest e in
+            let r = registered_read lead (after_lead lead (id_at mid)) m.0 taken rest m.1 in
+            let b = after_read lead (id_at mid) m.0 taken rest r.0 in
             let k = (exact_lead types owns (format_of dialects)).read text ns lead mid f in
             let i = subst (λ t. reads.id m.0 t rest) k.0.2 (id_read mid m.0 b.0 rest b.1) in (
               subst (λ x. registered_lead (language types owns (format_of dialects)) x text rest) m.2 (formatted (table.registered dialects (op_id m.0)) r.1, (k.0.0, k.0.1, i)),
-              split_behind text lead mid b.0 rest taken k.1 (splits_id mid m.0 b.0 rest b.1) (sym b.2),
+              split_after_front text lead mid b.0 rest taken k.1 (splits_id mid m.0 b.0 rest b.1) (sym b.2),
             )
         there text x taken rest (Missing cause) f e = absurd (cc e)
         there text x taken rest (Bad cause upto) f e = absurd (cc e)
@@ -169,6 +169,6 @@ module _ (dialects : List (Text × Table)) where
             let k = (exact_lead types owns (format_of dialects)).found text x.0 (after_space m) (m, r, refl) in
             let a = id_found (after_space m) x.1 rest i in (
               k.0 ++ a.0,
-              ap (led_by dialects) k.1 ∙ ap (mapped (λ i. (x.0, i))) (registered_found k.0 (behind k.0 (id_at (after_space m))) x.1 (k.0 ++ a.0) rest
-                  (behind_found k.0 (id_at (after_space m)) x.1 a.0 rest a.1) (format_known dialects x.1 f known)),
+              ap (led_by dialects) k.1 ∙ ap (mapped (λ i. (x.0, i))) (registered_found k.0 (after_lead k.0 (id_at (after_space m))) x.1 (k.0 ++ a.0) rest
+                  (after_found k.0 (id_at (after_space m)) x.1 a.0 rest a.1) (format_known dialects x.1 f known)),
             )

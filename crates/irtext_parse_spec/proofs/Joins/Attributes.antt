@@ -12,7 +12,7 @@ use Rattle.irtext_base.specs.Faults.{Fault, AnIdentifier, EmptyItem, Unexpected}
 use Rattle.irtext_base.specs.Answers.{Outcome, Read, Missing, mapped, followed, prefixed}
 use Rattle.irtext_base.specs.Locations.{AttrView}
 use Rattle.irtext_base.specs.Locations as view
-use Rattle.irtext_base.specs.Own.{Language, standing}
+use Rattle.irtext_base.specs.Own.{Language, verdict}
 use Rattle.irtext_base.proofs.Characters.{front_all, is_false}
 use Rattle.irtext_tokens.specs.Tokens.{word_at, space_at, text_at, identifier_at}
 use Rattle.irtext_tokens.specs.AttrTexts.{leads, given_name_at, names_at, given_names_at, ident_at, attr_at}
@@ -133,7 +133,7 @@ in_front word text e rest k =
     let f : front in_dotted text ≡ word = ap (front in_dotted) k.0 ∙ front_all in_dotted word rest e k.1 in
     (bytes_decides (front in_dotted text) word).1 f
 
-module _ {P T A : Type 0} (reading : Text → Outcome A) (L : Language P T A) (same : (text : Text) → L.owns.outcome text ≡ standing (reading text)) where
+module _ {P T A : Type 0} (reading : Text → Outcome A) (L : Language P T A) (same : (text : Text) → L.owns.outcome text ≡ verdict (reading text)) where
   given_names_read : (text : Text) (all : List (Option Text)) (taken rest : Text) → leads (codes "builtin.given_names") text ≡ true → given_names_at text ≡ Read all taken rest → reads.attribute L (attr_tree {A = A} (view.given_names all)) text rest
   unfolding given_names_at
   given_names_read text all taken rest l e =
@@ -147,11 +147,11 @@ module _ {P T A : Type 0} (reading : Text → Outcome A) (L : Language P T A) (s
       let s2 : after is_whitespace f1.middle ≡ f2.middle = cc f2.first in
       let s4 : after is_whitespace f3.middle ≡ f4.middle = cc f4.first in
       let word : text ≡ codes "builtin.given_names" ++ f1.middle = text_read (codes "builtin.given_names") text f1.front f1.middle f1.first in
-      let behind : after in_dotted text ≡ f1.middle = cancel_front (codes "builtin.given_names") (after in_dotted text) f1.middle (sym k.0 ∙ word) in
+      let following : after in_dotted text ≡ f1.middle = cancel_front (codes "builtin.given_names") (after in_dotted text) f1.middle (sym k.0 ∙ word) in
       let names = names_read f4.middle f5.value f5.front f5.middle f5.first in
       let listed : separated 44 reads.no_given_name (map reads.given_name all) (after_space f3.middle) f5.middle = subst (λ z. separated 44 reads.no_given_name (map reads.given_name all) z f5.middle) (sym s4) (subst (λ z. separated 44 reads.no_given_name (map reads.given_name z) f4.middle f5.middle) m.2 names) in (
         f1.middle,
-        (word, subst (λ z. begins in_dotted z ≡ false) behind k.1),
+        (word, subst (λ z. begins in_dotted z ≡ false) following k.1),
         (f3.middle, s2 ∙ text_read (codes "[") f2.middle f3.front f3.middle f3.first, (f5.middle, listed, separated_tight all f3.middle f5.middle listed ∙ text_read (codes "]") f5.middle f5.more rest m.1)),
       )
 
@@ -163,13 +163,13 @@ module _ {P T A : Type 0} (reading : Text → Outcome A) (L : Language P T A) (s
       let f2 = followed_read (space_at f1.middle) (λ _ u. identifier_at u) name f1.more rest f1.second in
       let s2 : after is_whitespace f1.middle ≡ f2.middle = cc f2.first in
       let word : text ≡ codes "builtin.identifier" ++ f1.middle = text_read (codes "builtin.identifier") text f1.front f1.middle f1.first in
-      let behind : after in_dotted text ≡ f1.middle = cancel_front (codes "builtin.identifier") (after in_dotted text) f1.middle (sym k.0 ∙ word) in
-      (f1.middle, (word, subst (λ z. begins in_dotted z ≡ false) behind k.1), subst (λ z. identifier name z rest) (sym s2) (word_read AnIdentifier f2.middle name f2.more rest f2.second).0)
+      let following : after in_dotted text ≡ f1.middle = cancel_front (codes "builtin.identifier") (after in_dotted text) f1.middle (sym k.0 ∙ word) in
+      (f1.middle, (word, subst (λ z. begins in_dotted z ≡ false) following k.1), subst (λ z. identifier name z rest) (sym s2) (word_read AnIdentifier f2.middle name f2.more rest f2.second).0)
 
   own_read : (text : Text) (a : A) (taken rest : Text) → leads (codes "builtin.given_names") text ≡ false → leads (codes "builtin.identifier") text ≡ false → reading text ≡ Read a taken rest → reads.attribute L (attr_tree (view.own a)) text rest
   own_read text a taken rest d f e = (
     λ after k. true≢false (sym (in_front (codes "builtin.given_names") text refl after k) ∙ d),
-    (λ after k. true≢false (sym (in_front (codes "builtin.identifier") text refl after k) ∙ f), same text ∙ ap standing e),
+    (λ after k. true≢false (sym (in_front (codes "builtin.identifier") text refl after k) ∙ f), same text ∙ ap verdict e),
   )
 
   -- what was parsed is the grammar's

@@ -5,7 +5,7 @@ use Rattle.std.specs.Prelude.{nat_lt}
 use Rattle.std.specs.List.{list_all}
 use Rattle.irtext_base.specs.Text.{Text}
 use Rattle.irtext_base.specs.Format as format
-use Rattle.irtext_base.specs.Format.{Directive, Accepted, same_text, has, keys, given_names_key, is_any_region, is_regions, is_dictionary, is_header, sym_name_key, none_behind, count, distinct, ascend, region_places}
+use Rattle.irtext_base.specs.Format.{Directive, Accepted, same_text, has, keys, given_names_key, is_any_region, is_regions, is_dictionary, is_header, sym_name_key, none_follows, count, distinct, ascend, region_places}
 use Rattle.irtext_grammar.proofs.Graphs.FitsFormat.{meets, and_left, and_right}
 use Rattle.irtext_parse_spec.proofs.Joins.PartSteps.{Orderly}
 use Rattle.irtext_grammar.proofs.Lists.SameText.{same_text_refl, other_text}
@@ -38,14 +38,14 @@ none_counted (format.region i ∷ ds) c e = absurd (true≢false (sym e))
 none_counted (format.regions ∷ ds) c e = absurd (not_less (count is_regions ds) c)
 none_counted (_ ∷ ds) c e = none_counted ds c e
 
-orderly : (ds : List Directive) → not (has same_text given_names_key (keys ds)) ≡ true → nat_lt (count is_regions ds) 2 ≡ true → none_behind is_regions is_region ds ≡ true → Orderly ds
+orderly : (ds : List Directive) → not (has same_text given_names_key (keys ds)) ≡ true → nat_lt (count is_regions ds) 2 ≡ true → none_follows is_regions is_region ds ≡ true → Orderly ds
 orderly [] k c n = tt
 orderly (format.attribute key ∷ ds) k c n =
     let f = neither (same_text given_names_key key) (has same_text given_names_key (keys ds)) k in
     (same_back given_names_key key f.0, orderly ds f.1 c n)
 orderly (format.regions ∷ ds) k c n =
-    let all = and_left (list_all (λ e. not (is_region e)) ds) (none_behind is_regions is_region ds) n in
-    let others = and_right (list_all (λ e. not (is_region e)) ds) (none_behind is_regions is_region ds) n in
+    let all = and_left (list_all (λ e. not (is_region e)) ds) (none_follows is_regions is_region ds) n in
+    let others = and_right (list_all (λ e. not (is_region e)) ds) (none_follows is_regions is_region ds) n in
     (none_counted ds (less (count is_regions ds) c) all, orderly ds k (fewer (count is_regions ds) c) others)
 orderly (_ ∷ ds) k c n = (tt, orderly ds k c n)
 
@@ -63,5 +63,5 @@ accepted_orderly ds e =
     let r = and_left (a && unreserved) dictionaries q in
     let b = ascend 0 (region_places ds) in
     let once = nat_lt (count is_regions ds) 2 in
-    let t = and_left (b && once) (none_behind is_regions is_region ds) m.fifth in
-    orderly ds (and_right a unreserved r) (and_right b once t) (and_right (b && once) (none_behind is_regions is_region ds) m.fifth)
+    let t = and_left (b && once) (none_follows is_regions is_region ds) m.fifth in
+    orderly ds (and_right a unreserved r) (and_right b once t) (and_right (b && once) (none_follows is_regions is_region ds) m.fifth)

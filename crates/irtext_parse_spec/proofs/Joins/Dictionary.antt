@@ -7,7 +7,7 @@ use Rattle.irtext_base.specs.Faults as fault
 use Rattle.irtext_base.specs.Answers.{Outcome, Read, Missing, mapped}
 use Rattle.irtext_base.specs.Locations as view
 use Rattle.irtext_base.specs.Stream.{first_of}
-use Rattle.irtext_base.specs.Own.{Texts, Language, language, standing}
+use Rattle.irtext_base.specs.Own.{Texts, Language, language, verdict}
 use Rattle.irtext_base.proofs.Characters.{is_false}
 use Rattle.irtext_tokens.specs.AttrTexts.{attr_at}
 use Rattle.irtext_tokens.specs.Tokens.{identifier_at, word_at}
@@ -31,7 +31,7 @@ pub missing_word : (text : Text) → begins begins_word text ≡ false → (caus
 unfolding word_at
 missing_word text b = (fault.Unexpected (first_of text) AnIdentifier, rw b refl)
 
-module _ {T A : Type 0} (reading : Text → Outcome A) (types : Texts T) (owns : Texts A) (formats : Id → Option Format) (same : (text : Text) → owns.outcome text ≡ standing (reading text)) where
+module _ {T A : Type 0} (reading : Text → Outcome A) (types : Texts T) (owns : Texts A) (formats : Id → Option Format) (same : (text : Text) → owns.outcome text ≡ verdict (reading text)) where
   -- the language of the parsers
   abbrev pub l : Language ℕ T A
   l = language types owns formats

@@ -48,11 +48,11 @@ module _ {Y : Type 0} (sep : ℕ) (item : Text → Outcome Y) where
   abbrev items_next : ℕ → List Y → Text → Outcome (List Y)
   items_next n before text = items_after sep item n before text
 
-  abbrev behind_space : ℕ → List Y → Unit {0} → Text → Outcome (List Y)
-  behind_space n before u text = followed (item_after sep item before text) (items_next n)
+  abbrev after_spaces : ℕ → List Y → Unit {0} → Text → Outcome (List Y)
+  after_spaces n before u text = followed (item_after sep item before text) (items_next n)
 
-  abbrev behind_separator : ℕ → List Y → Unit {0} → Text → Outcome (List Y)
-  behind_separator n before u text = followed (space_at text) (behind_space n before)
+  abbrev after_separator : ℕ → List Y → Unit {0} → Text → Outcome (List Y)
+  after_separator n before u text = followed (space_at text) (after_spaces n before)
 
   abbrev first_next : List Y → Text → Outcome (List Y)
   first_next before text = items_after sep item (length text) before text
@@ -64,8 +64,8 @@ module _ {Y : Type 0} (sep : ℕ) (item : Text → Outcome Y) where
   splits_items h zero before text ys taken rest e = let f : [] ≡ taken = cc e in let g : text ≡ rest = cc e in ap₂ ◌++◌ (sym f) (sym g)
   splits_items h (suc n) before text ys taken rest e = go (begins (the sep) text) (splits_items h n) e
     where
-      go : (b : Bool) → ((before : List Y) → Splits (λ text. items_after sep item n before text)) → cond b (followed (text_at (sep ∷ []) text) (behind_separator n before)) (Read before [] text) ≡ Read ys taken rest → taken ++ rest ≡ text
-      go true k e = splits_followed (text_at (sep ∷ [])) (behind_separator n before) (splits_text (sep ∷ [])) (λ u. splits_followed space_at (behind_space n before) splits_space
+      go : (b : Bool) → ((before : List Y) → Splits (λ text. items_after sep item n before text)) → cond b (followed (text_at (sep ∷ []) text) (after_separator n before)) (Read before [] text) ≡ Read ys taken rest → taken ++ rest ≡ text
+      go true k e = splits_followed (text_at (sep ∷ [])) (after_separator n before) (splits_text (sep ∷ [])) (λ u. splits_followed space_at (after_spaces n before) splits_space
           (λ v. splits_followed (λ t. item_after sep item before t) (items_next n) (splits_item h before) k)) text ys taken rest e
       go false k e = let f : [] ≡ taken = cc e in let g : text ≡ rest = cc e in ap₂ ◌++◌ (sym f) (sym g)
 
@@ -137,11 +137,11 @@ module _ {X Y : Type 0} (sep : ℕ) (i : Items X Y) where
   more_read (suc n) before all text taken rest l e = go (begins (the sep) text) refl (more_read n) e
     where
       go : (b : Bool) → begins (the sep) text ≡ b → ((before all : List Y) (text taken rest : Text) → length text ≤ n → items_after sep i.item n before text ≡ Read all taken rest → More text before all rest)
-          → cond b (followed (text_at (sep ∷ []) text) (behind_separator sep i.item n before)) (Read before [] text) ≡ Read all taken rest → More text before all rest
+          → cond b (followed (text_at (sep ∷ []) text) (after_separator sep i.item n before)) (Read before [] text) ≡ Read all taken rest → More text before all rest
       go false b again e = stopped text before all taken rest b e
       go true b again e =
-          let f = followed_read (text_at (sep ∷ []) text) (behind_separator sep i.item n before) all taken rest e in
-          let g = followed_read (space_at f.middle) (behind_space sep i.item n before) all f.more rest f.second in
+          let f = followed_read (text_at (sep ∷ []) text) (after_separator sep i.item n before) all taken rest e in
+          let g = followed_read (space_at f.middle) (after_spaces sep i.item n before) all f.more rest f.second in
           let spaced : after_space f.middle ≡ g.middle = cc g.first in
           let h = followed_read (item_after sep i.item before g.middle) (items_next sep i.item n) all g.more rest g.second in
           let one = one_read g.middle before h.value h.front h.middle h.first in
@@ -197,8 +197,8 @@ module _ {X Y : Type 0} (sep : ℕ) (i : Items X Y) where
   pub record Stop (items : List X) (text : Text) (o : Outcome (List Y)) : Type 0 where
     pub before : List X
     pub first : X
-    pub behind : List X
-    pub whole : items ≡ before ++ (first ∷ behind)
+    pub following : List X
+    pub whole : items ≡ before ++ (first ∷ following)
     pub fine : list_all i.allowed before ≡ true
     pub refused : i.allowed first ≡ false
     pub upto : Text
@@ -214,12 +214,12 @@ module _ {X Y : Type 0} (sep : ℕ) (i : Items X Y) where
     one_stops : Stop items text o → ListFound found items text rest o
 
   -- a stop with other items before it, and more characters
-  stop_behind : {items : List X} (whole : List X) (before : List X) (front mid text : Text) (o p : Outcome (List Y)) (k : Stop items mid p) → whole ≡ before ++ (k.first ∷ k.behind) → list_all i.allowed before ≡ true → front ++ mid ≡ text
+  stop_after : {items : List X} (whole : List X) (before : List X) (front mid text : Text) (o p : Outcome (List Y)) (k : Stop items mid p) → whole ≡ before ++ (k.first ∷ k.following) → list_all i.allowed before ≡ true → front ++ mid ≡ text
       → ((cause : Fault) (upto : Text) → p ≡ Bad cause upto → o ≡ Bad cause (front ++ upto)) → Stop whole text o
-  stop_behind whole before front mid text o p k w a s f = record {
+  stop_after whole before front mid text o p k w a s f = record {
     before = before;
     first = k.first;
-    behind = k.behind;
+    following = k.following;
     whole = w;
     fine = a;
     refused = k.refused;
@@ -233,11 +233,11 @@ module _ {X Y : Type 0} (sep : ℕ) (i : Items X Y) where
 
   -- the same stop, where what stops so is bad in the same way
   pub stop_as : (items : List X) (text : Text) (o p : Outcome (List Y)) → ((cause : Fault) (upto : Text) → o ≡ Bad cause upto → p ≡ Bad cause upto) → Stop items text o → Stop items text p
-  stop_as items text o p f k = stop_behind items k.before [] text text p o k k.whole k.fine refl f
+  stop_as items text o p f k = stop_after items k.before [] text text p o k k.whole k.fine refl f
 
   -- the first item is not allowed
   stops_first : (x : X) (items : List X) (text left : Text) (o : Outcome (List Y)) → i.reading x text left → i.allowed x ≡ false → o ≡ Bad (i.wrong x) [] → Stop (x ∷ items) text o
-  stops_first x items text left o r f e = record { before = []; first = x; behind = items; whole = refl; fine = refl; refused = f; upto = []; stop = text; left = left; splits = refl; read = r; is = e }
+  stops_first x items text left o r f e = record { before = []; first = x; following = items; whole = refl; fine = refl; refused = f; upto = []; stop = text; left = left; splits = refl; read = r; is = e }
 
   -- one more item before
   later : (x : X) (found : List Y) (items : List X) (front mid text rest : Text) (o p : Outcome (List Y)) → i.allowed x ≡ true → front ++ mid ≡ text → o ≡ prefixed front p
@@ -245,12 +245,12 @@ module _ {X Y : Type 0} (sep : ℕ) (i : Items X Y) where
   later x found items front mid text rest o p f s e (all_fine g taken h) =
       all_fine (ap₂ ◌&&◌ f g) (front ++ taken) (e ∙ (ap (prefixed front) h ∙ ap (λ ys. Read ys (front ++ taken) rest) (append_assoc found (i.see x ∷ []) (map i.see items))))
   later x found items front mid text rest o p f s e (one_stops k) =
-      one_stops (stop_behind (x ∷ items) (x ∷ k.before) front mid text o p k (ap (λ items. x ∷ items) k.whole) (ap₂ ◌&&◌ f k.fine) s (λ cause upto b. e ∙ ap (prefixed front) b))
+      one_stops (stop_after (x ∷ items) (x ∷ k.before) front mid text o p k (ap (λ items. x ∷ items) k.whole) (ap₂ ◌&&◌ f k.fine) s (λ cause upto b. e ∙ ap (prefixed front) b))
 
   -- more characters before
   pub moved : (found : List Y) (items : List X) (front mid text rest : Text) (o p : Outcome (List Y)) → front ++ mid ≡ text → o ≡ prefixed front p → ListFound found items mid rest p → ListFound found items text rest o
   moved found items front mid text rest o p s e (all_fine g taken h) = all_fine g (front ++ taken) (e ∙ ap (prefixed front) h)
-  moved found items front mid text rest o p s e (one_stops k) = one_stops (stop_behind items k.before front mid text o p k k.whole k.fine s (λ cause upto b. e ∙ ap (prefixed front) b))
+  moved found items front mid text rest o p s e (one_stops k) = one_stops (stop_after items k.before front mid text o p k k.whole k.fine s (λ cause upto b. e ∙ ap (prefixed front) b))
 
   -- an item and what follows it, given the parser of the rest
   item_found : (x : X) (found : List Y) (items : List X) (text mid rest : Text) (next : List Y → Text → Outcome (List Y)) → i.reading x text mid
@@ -275,14 +275,14 @@ module _ {X Y : Type 0} (sep : ℕ) (i : Items X Y) where
   more_found [] zero found text rest l h = all_fine refl [] (ap (λ z. Read found [] z) (sym h.1) ∙ ap (λ z. Read z [] rest) (sym (append-nil found)))
   more_found [] (suc n) found text rest l h = all_fine refl [] (rw h.0 (ap (λ z. Read found [] z) (sym h.1) ∙ ap (λ z. Read z [] rest) (sym (append-nil found))))
   more_found (x ∷ items) zero found text rest l h = absurd (omega (arith, l, ap length h.1))
-  more_found (x ∷ items) (suc n) found text rest l (between, first, (mid, r, behind)) =
+  more_found (x ∷ items) (suc n) found text rest l (between, first, (mid, r, following)) =
       let some : begins (the sep) text ≡ true = ap (begins (the sep)) first ∙ same_itself sep in
       let lead : Text = (sep ∷ []) ++ front is_whitespace between in
       let opened : items_after sep i.item (suc n) found text ≡ prefixed (sep ∷ []) (prefixed (front is_whitespace between) (followed (item_after sep i.item found (after_space between)) (items_next sep i.item n))) =
-      rw some (ap (λ o. followed o (behind_separator sep i.item n found)) (text-literal (sep ∷ []) text between first)) in
+      rw some (ap (λ o. followed o (after_separator sep i.item n found)) (text-literal (sep ∷ []) text between first)) in
       moved found (x ∷ items) (sep ∷ []) between text rest _ (prefixed (front is_whitespace between) (followed (item_after sep i.item found (after_space between)) (items_next sep i.item n))) (sym first) opened
       (moved found (x ∷ items) (front is_whitespace between) (after_space between) between rest _ (followed (item_after sep i.item found (after_space between)) (items_next sep i.item n)) (front_after is_whitespace between) refl
-      (go (i.allowed x) refl (λ enough. more_found items n (found ++ (i.see x ∷ [])) (after_space mid) rest enough behind)))
+      (go (i.allowed x) refl (λ enough. more_found items n (found ++ (i.see x ∷ [])) (after_space mid) rest enough following)))
     where
       go : (b : Bool) → i.allowed x ≡ b → (length (after_space mid) ≤ n → ListFound (found ++ (i.see x ∷ [])) items (after_space mid) rest (items_after sep i.item n (found ++ (i.see x ∷ [])) (after_space mid)))
           → ListFound found (x ∷ items) (after_space between) rest (followed (item_after sep i.item found (after_space between)) (items_next sep i.item n))
@@ -296,8 +296,8 @@ module _ {X Y : Type 0} (sep : ℕ) (i : Items X Y) where
   list_found [] text rest h =
       let m = i.missed text h.0 in
       all_fine refl [] (ap (λ o. or_empty (followed (followed o (item_next sep i.item [])) (first_next sep i.item)) text) m.1 ∙ ap (λ z. Read [] [] z) (sym h.1))
-  list_found (x ∷ items) text rest (mid, r, behind) =
-      whole (item_found x [] items text mid rest (first_next sep i.item) r (more_found items (length (after_space mid)) (i.see x ∷ []) (after_space mid) rest (omega arith) behind))
+  list_found (x ∷ items) text rest (mid, r, following) =
+      whole (item_found x [] items text mid rest (first_next sep i.item) r (more_found items (length (after_space mid)) (i.see x ∷ []) (after_space mid) rest (omega arith) following))
     where
       whole : ListFound [] (x ∷ items) text rest (followed (item_after sep i.item [] text) (first_next sep i.item)) → ListFound [] (x ∷ items) text rest (separated_at sep i.item text)
       whole (all_fine f taken e) = all_fine f taken (ap (λ o. or_empty o text) e)

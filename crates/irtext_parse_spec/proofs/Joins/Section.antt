@@ -9,17 +9,17 @@ use Rattle.irtext_parse_spec.specs.Readers.Positions.{space_at, spaced_at}
 use Rattle.irtext_parse_spec.proofs.Joins.Answers.{followed_read, followed-read}
 use Rattle.irtext_parse_spec.proofs.Joins.Tokens.{text_read, text-literal}
 
-abbrev space_behind : Unit {0} → Text → Outcome (Unit {0})
-space_behind _ text = space_at text
+abbrev space_after : Unit {0} → Text → Outcome (Unit {0})
+space_after _ text = space_at text
 
-abbrev word_behind : Text → Unit {0} → Text → Outcome (Unit {0})
-word_behind word _ text = followed (text_at word text) space_behind
+abbrev word_at_end : Text → Unit {0} → Text → Outcome (Unit {0})
+word_at_end word _ text = followed (text_at word text) space_after
 
 -- a word that is parsed after white space is what follows the white space
 pub spaced_read : (word text taken rest : Text) → spaced_at word text ≡ Read tt taken rest → (m : Text) × literal word (after_space text) m × (after_space m ≡ rest)
 spaced_read word text taken rest e =
-    let a = followed_read (space_at text) (word_behind word) tt taken rest e in
-    let b = followed_read (text_at word a.middle) space_behind tt a.more rest a.second in
+    let a = followed_read (space_at text) (word_at_end word) tt taken rest e in
+    let b = followed_read (text_at word a.middle) space_after tt a.more rest a.second in
     let f : after_space text ≡ a.middle = cc a.first in
     let g : after_space b.middle ≡ rest = cc b.second in
     (b.middle, f ∙ text_read word a.middle b.front b.middle b.first, g)
@@ -28,6 +28,6 @@ spaced_read word text taken rest e =
 pub spaced_found : (word text m : Text) → literal word (after_space text) m → (taken : Text) × (spaced_at word text ≡ Read tt taken (after_space m))
 spaced_found word text m e = (
   front is_whitespace text ++ (word ++ front is_whitespace m),
-  followed-read (space_at text) (word_behind word) tt tt (front is_whitespace text) (after_space text) (word ++ front is_whitespace m) (after_space m) refl
-      (followed-read (text_at word (after_space text)) space_behind tt tt word m (front is_whitespace m) (after_space m) (text-literal word (after_space text) m e) refl),
+  followed-read (space_at text) (word_at_end word) tt tt (front is_whitespace text) (after_space text) (word ++ front is_whitespace m) (after_space m) refl
+      (followed-read (text_at word (after_space text)) space_after tt tt word m (front is_whitespace m) (after_space m) (text-literal word (after_space text) m e) refl),
 )

@@ -38,11 +38,11 @@ module _ {X S : Type 0} where
 
 module _ {X Y S : Type 0} where
   -- what follows two parses that are alike
-  pub alike_behind : (c b : ℕ) (o p : Reached X S) (next other : X → S → Text → Reached Y S) → Alike c o p
+  pub alike_after : (c b : ℕ) (o p : Reached X S) (next other : X → S → Text → Reached Y S) → Alike c o p
       → ((x : X) (s : S) (rest : Text) → length rest ≤ c → Alike b (next x s rest) (other x s rest)) → Alike b (came o next) (came p other)
-  alike_behind c b (Advanced x s rest) p next other h k =
+  alike_after c b (Advanced x s rest) p next other h k =
       subst (λ p. Alike b (next x s rest) (came p other)) h.same (k x s rest (h.leaves.by x s rest refl))
-  alike_behind c b (Stopped s cause place) p next other h k =
+  alike_after c b (Stopped s cause place) p next other h k =
       subst (λ p. Alike b (Stopped s cause place) (came p other)) h.same (alike_stuck b (Stopped s cause place) (λ x s rest e. cc e))
 
   -- what follows something that is required
@@ -79,7 +79,7 @@ module _ {S : Type 0} {test : Text → Bool} {f g : Reads S} {l m : ℕ → Read
   loops_agree b h zero = record { alike = λ text s k. rw (i.none text s, j.none text s) (alike_came b tt s text k) }
   loops_agree b h (suc n) = record {
     alike = λ text s k. let again = loops_agree b h n in rw (i.more n text s, j.more n text s) (alike_either b (test text) _ _ _ _
-        (alike_behind b b (f text s) (g text s) _ _ (h.alike text s k) (λ _ t rest e. again.alike (after_space rest) t (space_bound b rest e)))
+        (alike_after b b (f text s) (g text s) _ _ (h.alike text s k) (λ _ t rest e. again.alike (after_space rest) t (space_bound b rest e)))
         (alike_came b tt s text k));
   }
 

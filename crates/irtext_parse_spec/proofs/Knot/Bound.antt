@@ -18,7 +18,7 @@ use Rattle.irtext_parse_spec.proofs.Locations.RestLengths.{within_honest, ◌the
 use Rattle.irtext_parse_spec.specs.Heads.{Step, flat, types, one, all, front_steps, region_steps, piece_at}
 use Rattle.irtext_parse_spec.specs.Reached.{Reached, tells, Actions, Reads, begins_operation, begins_region, begins_block, steps_in, regions_by, more_by, operations_by, blocks_by, front_by, steps_by, end_by, body_by, operation_by, block_by, region_by, region_within, region_at, operation_at}
 use Rattle.irtext_parse_spec.proofs.Knot.Leaving.{brace_leaves, mark_within, piece_within, head_leaves, led_leaves}
-use Rattle.irtext_parse_spec.proofs.Knot.Alike.{Alike, alike_came, alike_stuck, alike_either, alike_behind, alike_tells, weaker, Agree, Shrink, IsLoop, loops_agree}
+use Rattle.irtext_parse_spec.proofs.Knot.Alike.{Alike, alike_came, alike_stuck, alike_either, alike_after, alike_tells, weaker, Agree, Shrink, IsLoop, loops_agree}
 
 -- ---- loops
 without_first_bound : (b : ℕ) (text : Text) → length text ≤ suc b → length (after_space (without_first text)) ≤ b
@@ -27,13 +27,13 @@ without_first_bound b (c ∷ text) h = space_bound b text (omega (arith, h))
 
 module _ {S : Type 0} where
   -- what follows a `;`
-  abbrev pub behind_semicolon : Reads S → Reads S
-  behind_semicolon item text s = item (after_space (without_first text)) s
+  abbrev pub after_semicolon : Reads S → Reads S
+  after_semicolon item text s = item (after_space (without_first text)) s
 
   pub regions_loop : (inner : Reads S) → IsLoop begins_region inner (regions_by inner)
   regions_loop inner = record { none = λ text s. refl; more = λ n text s. refl }
 
-  pub more_loop : (item : Reads S) → IsLoop (begins (the 59)) (behind_semicolon item) (more_by item)
+  pub more_loop : (item : Reads S) → IsLoop (begins (the 59)) (after_semicolon item) (more_by item)
   more_loop item = record { none = λ text s. refl; more = λ n text s. refl }
 
   pub blocks_loop : (block : Reads S) → IsLoop begins_block block (blocks_by block)
@@ -43,18 +43,18 @@ module _ {S : Type 0} where
   pub shrunk : {b : ℕ} {f g : Reads S} → Shrink b f g → Agree b f g
   shrunk h = record { alike = λ text s k. h.alike text s (omega (arith, k)) }
 
-  behind_semicolon_agree : (b : ℕ) (f g : Reads S) → Agree b f g → Shrink b (behind_semicolon f) (behind_semicolon g)
-  behind_semicolon_agree b f g h = record { alike = λ text s k. h.alike (after_space (without_first text)) s (without_first_bound b text k) }
+  after_semicolon_agree : (b : ℕ) (f g : Reads S) → Agree b f g → Shrink b (after_semicolon f) (after_semicolon g)
+  after_semicolon_agree b f g h = record { alike = λ text s k. h.alike (after_space (without_first text)) s (without_first_bound b text k) }
 
   -- less text is left after a `;`
-  pub semicolon_shrinks : (f : Reads S) → ((b : ℕ) → Shrink b f f) → (b : ℕ) → Shrink b (behind_semicolon f) (behind_semicolon f)
-  semicolon_shrinks f h b = behind_semicolon_agree b f f (shrunk (h b))
+  pub semicolon_shrinks : (f : Reads S) → ((b : ℕ) → Shrink b f f) → (b : ℕ) → Shrink b (after_semicolon f) (after_semicolon f)
+  semicolon_shrinks f h b = after_semicolon_agree b f f (shrunk (h b))
 
   pub operations_agree : (b : ℕ) (f g : Reads S) → Agree b f g → Agree b (operations_by f) (operations_by g)
   operations_agree b f g h = record {
     alike = λ text s k. alike_either b (begins_operation text) _ _ _ _
-        (alike_behind b b (f text s) (g text s) _ _ (h.alike text s k) (λ _ t rest e.
-        (loops_agree (more_loop f) (more_loop g) b (shrunk (behind_semicolon_agree b f g h)) (length rest)).alike (after_space rest) t (space_bound b rest e)))
+        (alike_after b b (f text s) (g text s) _ _ (h.alike text s k) (λ _ t rest e.
+        (loops_agree (more_loop f) (more_loop g) b (shrunk (after_semicolon_agree b f g h)) (length rest)).alike (after_space rest) t (space_bound b rest e)))
         (alike_came b tt s text k);
   }
 
@@ -80,10 +80,10 @@ module _ {T A S : Type 0} (dialects : List (Text × Table)) (types_at : Reader T
           → Alike b (steps_by dialects types_at attr does (f iso) inside place id ss found text s) (steps_by dialects types_at attr does (g iso) inside place id ss found text s)
       steps_agree iso inside place id [] found text s k = alike_came b found s text k
       steps_agree iso inside place id (one i ∷ ss) found text s k =
-          alike_behind b b _ _ _ _ ((agree iso).alike (after_space text) s (space_bound b text k))
+          alike_after b b _ _ _ _ ((agree iso).alike (after_space text) s (space_bound b text k))
           (λ _ t rest e. steps_agree iso inside place id ss (found ++ tree.region i ∷ []) rest t e)
       steps_agree iso inside place id (all ∷ ss) found text s k =
-          alike_behind b b _ _ _ _ ((loops_agree (regions_loop (f iso)) (regions_loop (g iso)) b (agree iso) (length text)).alike (after_space text) s (space_bound b text k))
+          alike_after b b _ _ _ _ ((loops_agree (regions_loop (f iso)) (regions_loop (g iso)) b (agree iso) (length text)).alike (after_space text) s (space_bound b text k))
           (λ _ t rest e. steps_agree iso inside place id ss (found ++ tree.regions ∷ []) rest t e)
       steps_agree iso inside place id (flat d ∷ ss) found text s k =
           late_agree iso inside place id (flat d) found text s _ _ k (λ p rest e. steps_agree iso inside place id ss (found ++ tree.piece p ∷ []) rest (does.late place id p s) e)
@@ -98,8 +98,8 @@ module _ {T A S : Type 0} (dialects : List (Text × Table)) (types_at : Reader T
       body_agree : (iso inside : Bool) (place : ℕ) (names : List (Name ℕ)) (id : Id) (text : Text) (s : S) → length text ≤ b
           → Alike b (body_by dialects types_at attr does (f iso) inside place names id text s) (body_by dialects types_at attr does (g iso) inside place names id text s)
       body_agree iso inside place names id text s k =
-          alike_behind b b _ _ _ _ (front_agree b inside (front_steps (steps_in dialects id)) [] text s k) (λ found t rest e.
-          alike_behind b b _ _ _ _ (steps_agree iso inside place id (region_steps (steps_in dialects id)) found rest (does.uses place id found t) e) (λ parts u left e.
+          alike_after b b _ _ _ _ (front_agree b inside (front_steps (steps_in dialects id)) [] text s k) (λ found t rest e.
+          alike_after b b _ _ _ _ (steps_agree iso inside place id (region_steps (steps_in dialects id)) found rest (does.uses place id found t) e) (λ parts u left e.
           end_agree place names id parts left u e))
 
       pub operation_agree : (inside : Bool) → Shrink b (operation_by dialects types_at attr does f inside) (operation_by dialects types_at attr does g inside)
@@ -117,7 +117,7 @@ module _ {T A S : Type 0} (dialects : List (Text × Table)) (types_at : Reader T
     region_agree : (b : ℕ) (f g : Reads S) → Agree b f g → (iso : Bool) → Shrink b (region_by dialects types_at attr does f iso) (region_by dialects types_at attr does g iso)
     region_agree b f g h iso = record {
       alike = λ text s k. alike_tells b b _ text _ _ _ (brace_leaves b text k)
-          (λ _ rest e. alike_behind b b _ _ _ _ (h.alike rest _ e)
+          (λ _ rest e. alike_after b b _ _ _ _ (h.alike rest _ e)
           (λ _ u left e. alike_tells b b _ left u _ _ ((within_honest (honest_word (codes "}"))).leaves left e)
           (λ _ end e. alike_came b tt _ end e)));
     }

@@ -27,7 +27,7 @@ use Rattle.irtext_parse_spec.proofs.Exact.Head.{block_in_parts}
 use Rattle.irtext_parse_spec.proofs.Knot.Alike.{Shrink}
 use Rattle.irtext_parse_spec.proofs.Knot.Bound.{inner_blocks, block_at, regions_loop, more_loop, blocks_loop, semicolon_shrinks, region_is, region_shrinks, operation_shrinks, block_shrinks}
 use Rattle.irtext_parse_spec.proofs.Knot.Heads.{MayUse, MayUseAll, inside_all, l, FoundHeads}
-use Rattle.irtext_parse_spec.proofs.Knot.Loops.{tells_found, came_found, Finds, AllFind, BeginsWith, loop_found, repeated_tight, separate, more_repeated, behind_found}
+use Rattle.irtext_parse_spec.proofs.Knot.Loops.{tells_found, came_found, Finds, AllFind, BeginsWith, loop_found, repeated_tight, separate, more_repeated, after_found}
 use Rattle.irtext_parse_spec.proofs.Knot.Steps.{ArePartsOf, body_steps, region_fit, region_uses, split_parts, steps_known}
 
 -- an operation begins with a word or with `=`
@@ -52,7 +52,7 @@ module _ {T A S : Type 0} (texts : Texts T) (owns : Texts A) (dialects : List (T
   record FrontFound (inside : Bool) (ss : List Step) (found : List (Part ℕ T A)) (ps : List (Part ℕ T A)) (rs : List Reading) (text rest : Text) (s : S) : Type 0 where
     pub mid : Text
     pub is : front_by dialects types_at attr does inside (front_steps ss) found text s ≡ Advanced (found ++ front_parts ps) s mid
-    pub behind : reads.parts (l texts owns dialects) (region_parts ps) rs mid rest
+    pub following : reads.parts (l texts owns dialects) (region_parts ps) rs mid rest
 
   front_none : (found : List (Part ℕ T A)) (s : S) (text : Text) → Advanced found s text ≡ Advanced (found ++ []) s text
   front_none found s text = ap (λ ps. Advanced ps s text) (sym (append-nil found))
@@ -67,20 +67,20 @@ module _ {T A S : Type 0} (texts : Texts T) (owns : Texts A) (dialects : List (T
         is = ap (λ ss. front_by dialects types_at attr does inside ss found text s) front
             ∙ (tells_found ((space_at ▷ piece_at types_at attr inside step) text) text s (λ p rest. front_by dialects types_at attr does inside (front_steps ss) (found ++ tree.piece p ∷ []) rest s) p first.0 m first.1
             ∙ (k.is ∙ ap (λ ps. Advanced ps s k.mid) (append_assoc found (tree.piece p ∷ []) (front_parts ps))));
-        behind = k.behind;
+        following = k.following;
       }
 
   front_found : (inside : Bool) (ss : List Step) (ps : List (Part ℕ T A)) (rs : List Reading) (found : List (Part ℕ T A)) (text rest : Text) (s : S) → ArePartsOf ps ss → MayUseAll inside ps
       → reads.parts (l texts owns dialects) ps rs text rest → FrontFound inside ss found ps rs text rest s
-  front_found inside [] [] rs found text rest s h may r = record { mid = text; is = front_none found s text; behind = r }
+  front_found inside [] [] rs found text rest s h may r = record { mid = text; is = front_none found s text; following = r }
   front_found inside [] (p ∷ ps) rs found text rest s h may r = absurd h
   front_found inside (step ∷ ss) [] rs found text rest s h may r = absurd h
   front_found inside (flat d ∷ ss) (tree.piece p ∷ ps) rs found text rest s h may (m, r, z) =
       front_more inside (flat d) ss found p ps rs text m rest s h.0 r may.0 refl (front_found inside ss ps rs (found ++ tree.piece p ∷ []) m rest s h.1 may.1 z)
   front_found inside (types ∷ ss) (tree.piece p ∷ ps) rs found text rest s h may (m, r, z) =
       front_more inside types ss found p ps rs text m rest s h.0 r may.0 refl (front_found inside ss ps rs (found ++ tree.piece p ∷ []) m rest s h.1 may.1 z)
-  front_found inside (one i ∷ ss) (tree.region j ∷ ps) rs found text rest s h may r = record { mid = text; is = front_none found s text; behind = r }
-  front_found inside (all ∷ ss) (tree.regions ∷ ps) rs found text rest s h may r = record { mid = text; is = front_none found s text; behind = r }
+  front_found inside (one i ∷ ss) (tree.region j ∷ ps) rs found text rest s h may r = record { mid = text; is = front_none found s text; following = r }
+  front_found inside (all ∷ ss) (tree.regions ∷ ps) rs found text rest s h may r = record { mid = text; is = front_none found s text; following = r }
   front_found inside (step ∷ ss) (p ∷ ps) rs found text rest s h may r = absurd h.0
 
   module _ (inner : Reads S) (shrink : (b : ℕ) → Shrink b inner inner) where
@@ -157,7 +157,7 @@ module _ {T A S : Type 0} (texts : Texts T) (owns : Texts A) (dialects : List (T
       let f = front_found inside ss ps rs [] text mid s h may r in
       let t = does.uses o.place o.id (front_parts ps) s in
       let u = do_parts (isolated dialects) does o.place o.id (region_parts ps) fs t in
-      let g = steps_found inner shrink inside o.place o.id (region_steps ss) (region_parts ps) rs fs (front_parts ps) f.mid mid t (region_fit ps ss h) (region_uses inside ps may) a f.behind in
+      let g = steps_found inner shrink inside o.place o.id (region_steps ss) (region_parts ps) rs fs (front_parts ps) f.mid mid t (region_fit ps ss h) (region_uses inside ps may) a f.following in
       came_found _ _ (front_parts ps) s f.mid f.is
       ∙ (came_found _ _ ps u mid (g ∙ ap (λ ps. Advanced ps u mid) (split_parts ps)) ∙ end_found o o.place mid rest u mark)
 
@@ -183,7 +183,7 @@ module _ {T A S : Type 0} (texts : Texts T) (owns : Texts A) (dialects : List (T
   operations_row item shrink (r ∷ rs) (a ∷ fs) text rest s h (m, q, z) =
       rw (subst (λ t. begins_operation t ≡ true) (after_twice is_whitespace text) (h.0.begins (after_space text) m q))
       (came_found (item (after_space text) s) _ tt (a s) m (h.0.found (after_space text) m s q)
-      ∙ loop_found (more_loop item) (semicolon_shrinks item shrink) (length m) (map (separate 59) rs) fs (after_space m) rest (a s) (space_bound (length m) m (omega arith)) (behind_found _ item rs fs h.1) (more_repeated 59 rs (after_space m) rest z))
+      ∙ loop_found (more_loop item) (semicolon_shrinks item shrink) (length m) (map (separate 59) rs) fs (after_space m) rest (a s) (space_bound (length m) m (omega arith)) (after_found _ item rs fs h.1) (more_repeated 59 rs (after_space m) rest z))
 
   -- ---- a block
   label_begins : (n : Name ℕ) (text rest : Text) → reads.label (l texts owns dialects) n text rest → begins_block text ≡ true

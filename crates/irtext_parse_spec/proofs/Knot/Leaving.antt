@@ -21,8 +21,8 @@ use Rattle.irtext_grammar.specs.Contexts.Formats.{op_id}
 use Rattle.irtext_grammar.specs.Grammar.Tree.{Name}
 use Rattle.irtext_parse_spec.specs.Readers.Directives.{attribute_at}
 use Rattle.irtext_parse_spec.specs.Readers.Marker.{marker, starts_with}
-use Rattle.irtext_parse_spec.specs.Readers.Operations.{registered_behind}
-use Rattle.irtext_parse_spec.specs.Readers.Parts.{behind}
+use Rattle.irtext_parse_spec.specs.Readers.Operations.{registered_after}
+use Rattle.irtext_parse_spec.specs.Readers.Parts.{after_lead}
 use Rattle.irtext_parse_spec.specs.Readers.RestLengths.{Leaves, LeavesNoMore}
 use Rattle.irtext_parse_spec.proofs.Locations.RestLengths.{Within, within_honest, within_no_more, within_either, ◌so◌, ◌then◌, seen, leaves_read, leaves_missing, leaves_bad, leaves_prefixed, leaves_word}
 use Rattle.irtext_parse_spec.specs.Heads.{name_at, label_at, symbol_at, mark_if_at, outside, used_at, target_at, pair_at, dictionary_at, outlined_or_at, Step, flat, types, one, all, directive_at, piece_at, argument_at, dictionary_if_at, head_at, results_at, named, lead_at, led_by, led_at}
@@ -200,11 +200,11 @@ module _ {b : ℕ} where
   lead_within = ◌then◌ (within_honest honest_space)
       (kept_within (record { leaves = λ text i. named_leaves (results_at text) text i (results_within.leaves text i) }) (within_honest honest_space))
 
-  behind_leaves : {X : Type 0} (lead : Text) (o : Outcome X) → Leaves b o → Leaves b (behind lead o)
-  behind_leaves [] o h = h
-  behind_leaves (c ∷ lead) o h = leaves_prefixed b (c ∷ lead) o h
+  after_leaves : {X : Type 0} (lead : Text) (o : Outcome X) → Leaves b o → Leaves b (after_lead lead o)
+  after_leaves [] o h = h
+  after_leaves (c ∷ lead) o h = leaves_prefixed b (c ∷ lead) o h
 
-  registered_leaves : (dialects : List (Text × Table)) (lead : Text) (o : Outcome Id) → Leaves b o → Leaves b (registered_behind dialects lead o)
+  registered_leaves : (dialects : List (Text × Table)) (lead : Text) (o : Outcome Id) → Leaves b o → Leaves b (registered_after dialects lead o)
   registered_leaves dialects lead (Read id taken rest) h = go (is_some (dialect_of dialects id.dialect)) (is_some (registered dialects (op_id id)))
     where
       go : (known there : Bool) → Leaves b (cond known (cond there (Read id taken rest) (Bad (UnregisteredOp id) [])) (Bad (UnregisteredDialect id.dialect) lead))
@@ -216,8 +216,8 @@ module _ {b : ℕ} where
 
   led_leaves_by : (dialects : List (Text × Table)) (o : Outcome (List (Name ℕ))) → Leaves (suc b) o → Leaves b (led_by dialects o)
   led_leaves_by dialects (Read ns lead rest) h =
-      (seen {f = λ _. registered_behind dialects lead (behind lead (id_at rest))} _
-      (same_within (registered_leaves dialects lead _ (behind_leaves lead (id_at rest) (shortens_id.leaves rest (h.by ns lead rest refl)))))).leaves [] (omega arith)
+      (seen {f = λ _. registered_after dialects lead (after_lead lead (id_at rest))} _
+      (same_within (registered_leaves dialects lead _ (after_leaves lead (id_at rest) (shortens_id.leaves rest (h.by ns lead rest refl)))))).leaves [] (omega arith)
   led_leaves_by dialects (Missing cause) h = leaves_missing b cause
   led_leaves_by dialects (Bad cause upto) h = leaves_bad b cause upto
 

@@ -10,7 +10,7 @@ use Rattle.irtext_parse_spec.specs.Readers.Parts.{without_first}
 use Rattle.irtext_parse_spec.proofs.Locations.RestLengths.{space_bound}
 use Rattle.irtext_parse_spec.specs.Reached.{Reached, Advanced, Stopped, came, tells, Reads, each_of}
 use Rattle.irtext_parse_spec.proofs.Knot.Alike.{Shrink, IsLoop}
-use Rattle.irtext_parse_spec.proofs.Knot.Bound.{behind_semicolon}
+use Rattle.irtext_parse_spec.proofs.Knot.Bound.{after_semicolon}
 
 -- ---- parses put together
 module _ {X Y S : Type 0} where
@@ -99,16 +99,16 @@ module _ {S : Type 0} (Begins : Text → Type 0) (item : Reads S) where
   semicolon_first text rest e = e
 
   -- items are found after a `;`
-  pub behind_found : (rs : List Reading) (fs : List (S → S)) → AllFind Begins item rs fs → AllFind (BeginsWith (the 59)) (behind_semicolon item) (map (separate 59) rs) fs
-  behind_found [] [] h = tt
-  behind_found [] (a ∷ fs) h = absurd h
-  behind_found (r ∷ rs) [] h = absurd h
-  behind_found (r ∷ rs) (a ∷ fs) h = (
+  pub after_found : (rs : List Reading) (fs : List (S → S)) → AllFind Begins item rs fs → AllFind (BeginsWith (the 59)) (after_semicolon item) (map (separate 59) rs) fs
+  after_found [] [] h = tt
+  after_found [] (a ∷ fs) h = absurd h
+  after_found (r ∷ rs) [] h = absurd h
+  after_found (r ∷ rs) (a ∷ fs) h = (
     record {
       begins = λ text rest (m, first, q). ap (begins (the 59)) (semicolon_first text m first);
       found = λ text rest s (m, first, q). ap (λ t. item (after_space (without_first t)) s) (semicolon_first text m first) ∙ h.0.found (after_space m) rest s q;
     },
-    behind_found rs fs h.1,
+    after_found rs fs h.1,
   )
 
 -- ---- what was parsed

@@ -27,7 +27,7 @@ use Rattle.irtext_parse_spec.specs.Heads.{Step, flat, types, one, all, steps_of,
 use Rattle.irtext_parse_spec.specs.Reached.{Reached, Advanced, came, tells, Actions, Reads, begins_operation, regions_by, more_by, operations_by, blocks_by, front_by, steps_by, end_by, body_by, operation_by, block_by, region_by, region_within, region_at, operation_at, front_parts, region_parts, each_of, do_parts, do_regions, do_blocks, do_operations, do_tree}
 use Rattle.irtext_parse_spec.proofs.Exact.Head.{block_in_parts}
 use Rattle.irtext_parse_spec.proofs.Knot.Alike.{Shrink}
-use Rattle.irtext_parse_spec.proofs.Knot.Bound.{regions_loop, more_loop, blocks_loop, behind_semicolon, semicolon_shrinks, shrunk, operations_agree, operation_agree, block_agree, within_shrinks, region_shrinks}
+use Rattle.irtext_parse_spec.proofs.Knot.Bound.{regions_loop, more_loop, blocks_loop, after_semicolon, semicolon_shrinks, shrunk, operations_agree, operation_agree, block_agree, within_shrinks, region_shrinks}
 use Rattle.irtext_parse_spec.proofs.Knot.Heads.{MayUse, MayUseAll, l, ReadHeads}
 use Rattle.irtext_parse_spec.proofs.Knot.Loops.{tells_read, came_read, Tells, RowRead, loop_read, repeated_tight, separate, repeated_more}
 use Rattle.irtext_parse_spec.proofs.Knot.Steps.{ArePartsOf, ArePieces, EndsRegions, body_of_steps, ends_regions, steps_known}
@@ -116,7 +116,7 @@ module _ {T A S : Type 0} (texts : Texts T) (owns : Texts A) (dialects : List (T
     pub may : MayUseAll inside (ps ++ qs)
     pub parts : reads.parts (l texts owns dialects) (ps ++ qs) rs text rest
     pub front : front_parts (ps ++ qs) ≡ ps
-    pub behind : region_parts (ps ++ qs) ≡ qs
+    pub following : region_parts (ps ++ qs) ≡ qs
 
   -- the parts that were parsed before the first region
   record FrontRead (inside : Bool) (ss : List Step) (found parts : List (Part ℕ T A)) (s t : S) (text mid : Text) : Type 1 where
@@ -138,7 +138,7 @@ module _ {T A S : Type 0} (texts : Texts T) (owns : Texts A) (dialects : List (T
         whole = sym f ∙ sym (append-nil found);
         same = sym g;
         joins = λ qs rs rest fit may r. let k = none qs fit in
-            record { fits = k.0; may = may; parts = subst (λ t. reads.parts (l texts owns dialects) qs rs t rest) (sym h) r; front = k.1; behind = k.2 };
+            record { fits = k.0; may = may; parts = subst (λ t. reads.parts (l texts owns dialects) qs rs t rest) (sym h) r; front = k.1; following = k.2 };
       }
 
   no_parts : (qs : List (Part ℕ T A)) → ArePartsOf qs [] → ArePartsOf qs [] × (front_parts qs ≡ []) × (region_parts qs ≡ qs)
@@ -174,7 +174,7 @@ module _ {T A S : Type 0} (texts : Texts T) (owns : Texts A) (dialects : List (T
               may = (p.2, j.may);
               parts = (a.2, p.1, j.parts);
               front = ap (λ ps. tree.piece a.0 ∷ ps) j.front;
-              behind = j.behind;
+              following = j.following;
             };
       }
 
@@ -294,10 +294,10 @@ module _ {T A S : Type 0} (texts : Texts T) (owns : Texts A) (dialects : List (T
         → t ≡ does.marks m (does.closes place names id parts v) → parts ≡ front ++ qs → front ≡ ps → u ≡ s
         → v ≡ do_parts (isolated dialects) does place id qs fs (does.uses place id front u) → region_parts (ps ++ qs) ≡ qs → front_parts (ps ++ qs) ≡ ps
         → t ≡ does.marks m (does.closes place names id (ps ++ qs) (do_parts (isolated dialects) does place id (region_parts (ps ++ qs)) fs (does.uses place id (front_parts (ps ++ qs)) s)))
-    joined_acts place names id front parts ps qs fs m s u v t e whole is same acts behind first =
+    joined_acts place names id front parts ps qs fs m s u v t e whole is same acts following first =
         e ∙ ap₂ (λ ps u. does.marks m (does.closes place names id ps u)) (whole ∙ ap (λ ps. ps ++ qs) is)
         (acts ∙ (ap₂ (λ ps s. do_parts (isolated dialects) does place id qs fs (does.uses place id ps s)) is same
-        ∙ ap₂ (λ qs ps. do_parts (isolated dialects) does place id qs fs (does.uses place id ps s)) (sym behind) (sym first)))
+        ∙ ap₂ (λ qs ps. do_parts (isolated dialects) does place id qs fs (does.uses place id ps s)) (sym following) (sym first)))
 
     body_read : (inside : Bool) (place : ℕ) (names : List (Name ℕ)) (id : Id) (ss : List Step) (s t : S) (text rest : Text) → EndsRegions (region_steps ss)
         → body_with inside place names id ss text s ≡ Advanced tt t rest → BodyRead inside place names id ss s t text rest
@@ -318,7 +318,7 @@ module _ {T A S : Type 0} (texts : Texts T) (owns : Texts A) (dialects : List (T
           may = j.may;
           parts = j.parts;
           marks = m.1;
-          acts = joined_acts place names id a.0 b.0 f.ps g.ps (map (region_act texts owns dialects does iso) g.regions) m.0 s a.1 b.1 t m.2 g.whole f.whole f.same g.acts j.behind j.front;
+          acts = joined_acts place names id a.0 b.0 f.ps g.ps (map (region_act texts owns dialects does iso) g.regions) m.0 s a.1 b.1 t m.2 g.whole f.whole f.same g.acts j.following j.front;
         }
 
 -- ---- operations, blocks and regions
@@ -386,10 +386,10 @@ module _ {T A S : Type 0} (texts : Texts T) (owns : Texts A) (dialects : List (T
     operation_shrinks inside b = operation_agree dialects types_at attr does no_more none_more b inner inner (λ iso. shrunk (shrink iso b)) inside
 
   module _ (item : Reads S) (shrink : (b : ℕ) → Shrink b item item) (tell : Tells item (reads.reads (l texts owns dialects)) (do_tree (isolated dialects) does)) where
-    behind_read : (text : Text) (s t : S) (rest : Text) → begins (the 59) text ≡ true → behind_semicolon item text s ≡ Advanced tt t rest
+    after_read : (text : Text) (s t : S) (rest : Text) → begins (the 59) text ≡ true → after_semicolon item text s ≡ Advanced tt t rest
         → (x : Tree ℕ T A) × separate 59 (reads.reads (l texts owns dialects) x) text rest × (t ≡ do_tree (isolated dialects) does x s)
-    behind_read [] s t rest b e = absurd (true≢false (sym b))
-    behind_read (c ∷ text) s t rest b e =
+    after_read [] s t rest b e = absurd (true≢false (sym b))
+    after_read (c ∷ text) s t rest b e =
         let x = tell.read (after_space text) s t rest e in
         (x.0, (text, ap (λ c. c ∷ text) (same_character c 59 b), x.1), x.2)
 
@@ -407,7 +407,7 @@ module _ {T A S : Type 0} (texts : Texts T) (owns : Texts A) (dialects : List (T
         go true b e =
             let a = came_read (item (after_space text) s) (λ _ t rest. more_by item (length rest) (after_space rest) t) tt t rest e in
             let x = tell.read (after_space text) s a.1 a.2 a.3 in
-            let k = loop_read (more_loop item) (semicolon_shrinks item shrink) behind_read (length a.2) (after_space a.2) a.1 t rest (space_bound (length a.2) a.2 (omega arith)) a.4 in
+            let k = loop_read (more_loop item) (semicolon_shrinks item shrink) after_read (length a.2) (after_space a.2) a.1 t rest (space_bound (length a.2) a.2 (omega arith)) a.4 in
             (x.0 ∷ k.items, (a.2, x.1, repeated_more 59 (reads.reads (l texts owns dialects)) k.items (after_space a.2) rest k.reads), k.does ∙ ap (each_of (map (do_tree (isolated dialects) does) k.items)) x.2)
 
     block_read : (text : Text) (s t : S) (rest : Text) → block_by dialects types_at attr does (operations_by item) text s ≡ Advanced tt t rest

@@ -17,7 +17,7 @@ use Rattle.irtext_parse_spec.specs.Readers.RestLengths.{Leaves, LeavesNoMore}
 use Rattle.irtext_parse_spec.specs.Readers.Positions.{space_at, spaced_at}
 use Rattle.irtext_grammar.specs.Contexts.Held.{location_over}
 use Rattle.irtext_parse_spec.specs.Readers.NewPaths.{MustReadOver, MustReadWithin, known_location}
-use Rattle.irtext_parse_spec.specs.Readers.Locations.{WrittenRow, begins_source, behind_location, row_of, row_at, more_at, fused_at, named_at, call_site_at, kind_at, location_within, more_within, location_at}
+use Rattle.irtext_parse_spec.specs.Readers.Locations.{WrittenRow, begins_source, after_location, row_of, row_at, more_at, fused_at, named_at, call_site_at, kind_at, location_within, more_within, location_at}
 use Rattle.irtext_parse_spec.proofs.Readers.Honest.{honest_title}
 use Rattle.irtext_parse_spec.proofs.Locations.RestLengths.{Within, leaves_honest, leaves_followed, followed_same, first_same, leaves_word, space_bound}
 use Rattle.irtext_parse_spec.proofs.Locations.LocationRests.{within_metadata, within_location}
@@ -26,11 +26,11 @@ use Rattle.irtext_parse_spec.proofs.Locations.LocationRests.{within_metadata, wi
 module _ {A : Type 0} (inner other : Text → Outcome (Written A)) (more others : Text → Outcome (WrittenRow A)) (b : ℕ)
     (inner_within : Within b inner)
     (same : (text : Text) → length text ≤ b → inner text ≡ other text) (same_more : (text : Text) → length text ≤ b → more text ≡ others text) where
-  behind_same : (l : Written A) (text : Text) → length text ≤ b → behind_location inner more l text ≡ behind_location other others l text
-  behind_same l text h = ap (λ o. prefixed (front is_whitespace text) (mapped (location l) o)) (same_more (after_space text) (space_bound b text h))
+  after_same : (l : Written A) (text : Text) → length text ≤ b → after_location inner more l text ≡ after_location other others l text
+  after_same l text h = ap (λ o. prefixed (front is_whitespace text) (mapped (location l) o)) (same_more (after_space text) (space_bound b text h))
 
   row_of_same : (o : Outcome (Written A)) (text : Text) → Leaves b o → row_of inner more o text ≡ row_of other others o text
-  row_of_same (Read l taken rest) text k = ap (prefixed taken) (behind_same l rest (k.by l taken rest refl))
+  row_of_same (Read l taken rest) text k = ap (prefixed taken) (after_same l rest (k.by l taken rest refl))
   row_of_same (Missing cause) text k = refl
   row_of_same (Bad cause upto) text k = refl
 
@@ -40,7 +40,7 @@ module _ {A : Type 0} (inner other : Text → Outcome (Written A)) (more others 
   -- further locations of a list are parsed the same under each bound that their text is within
   pub more_same : (text : Text) → length text ≤ suc b → more_at inner more text ≡ more_at other others text
   more_same text h = ap (λ o. cond (begins (the 44) text) o (Read no_location [] text)) (followed_same b _ _ _ (leaves_word b 44 [] text h)
-      (λ _ t i. let u = after_space t in let j = space_bound b t i in ap (prefixed (front is_whitespace t)) (followed_same b (inner u) _ _ (inner_within.leaves u j) behind_same ∙ first_same _ _ _ (same u j))))
+      (λ _ t i. let u = after_space t in let j = space_bound b t i in ap (prefixed (front is_whitespace t)) (followed_same b (inner u) _ _ (inner_within.leaves u j) after_same ∙ first_same _ _ _ (same u j))))
 
   module _ (attr : Text → Outcome (AttrView A)) (no_more : LeavesNoMore attr) where
     listed_same : (m : Option (AttrView A)) (v : Text) → length v ≤ b

@@ -58,9 +58,9 @@ tight [] e = refl
 tight (c ∷ text) e = after_stops is_whitespace c text e
 
 -- what follows a prefix is no longer than the bound of the whole
-pub fits_behind : (a b text : Text) (n : ℕ) → text ≡ a ++ b → length text ≤ n → length b ≤ n
-fits_behind a b text n e small = let k : length text ≡ length (a ++ b) = ap length e in let j = length-append a b in omega (arith, k, j, small)
+pub fits_after : (a b text : Text) (n : ℕ) → text ≡ a ++ b → length text ≤ n → length b ≤ n
+fits_after a b text n e small = let k : length text ≡ length (a ++ b) = ap length e in let j = length-append a b in omega (arith, k, j, small)
 
 -- after a prefix of at least one character the bound is one less
-pub shorter_behind : (c : ℕ) (a b text : Text) (n : ℕ) → text ≡ c ∷ (a ++ b) → length text ≤ suc n → length b ≤ n
-shorter_behind c a b text n e small = let k : length text ≡ suc (length (a ++ b)) = ap length e in let j = length-append a b in omega (arith, k, j, small)
+pub shorter_after : (c : ℕ) (a b text : Text) (n : ℕ) → text ≡ c ∷ (a ++ b) → length text ≤ suc n → length b ≤ n
+shorter_after c a b text n e small = let k : length text ≡ suc (length (a ++ b)) = ap length e in let j = length-append a b in omega (arith, k, j, small)

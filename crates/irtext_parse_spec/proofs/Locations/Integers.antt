@@ -50,7 +50,7 @@ integer-here (pos n) rest fits stop =
     let p = plain_decimal n rest small in
     let low : nat_lt 2147483647 n ≡ false = not_below 2147483647 n (omega arith) in
     let is : integer_of [] (Some n) ≡ Some (pos n) = ap (λ b. cond b None (Some (pos n))) low in
-    integer-from (decimal n ++ rest) ∙ (ap₂ integer_from p.sign p.behind ∙ digits-integer [] (decimal n) rest n (pos n) k.0.0 (digits_every (decimal n) k.0.1) k.1 small is stop)
+    integer-from (decimal n ++ rest) ∙ (ap₂ integer_from p.sign p.following ∙ digits-integer [] (decimal n) rest n (pos n) k.0.0 (digits_every (decimal n) k.0.1) k.1 small is stop)
 integer-here (negsuc n) rest fits stop =
     let small : suc n < 2 ^ 64 = omega arith in
     let k = decimal_is_IsNumeral (suc n) small in

@@ -12,7 +12,7 @@ use Rattle.irtext_stream.specs.declared.position.SourcePosition.{SourcePosition}
 use Rattle.irtext_base.proofs.Characters.{word_tight}
 use Rattle.irtext_tokens.specs.Tokens.{text_at}
 use Rattle.irtext_parse_spec.specs.Readers.Positions.{space_at, spaced_at, position_at}
-use Rattle.irtext_parse_spec.specs.Readers.Locations.{bytes_at, name_at, source_at, WrittenRow, place_at, metadata_at, behind_location, row_at, row_of, kind_at}
+use Rattle.irtext_parse_spec.specs.Readers.Locations.{bytes_at, name_at, source_at, WrittenRow, place_at, metadata_at, after_location, row_at, row_of, kind_at}
 use Rattle.irtext_grammar.specs.Spelling.AttrText.{attr_text}
 use Rattle.irtext_grammar.specs.Spelling.Locations.{source_text}
 use Rattle.irtext_parse_spec.specs.Promises.PrintedBack.{Fits32}
@@ -21,11 +21,11 @@ use Rattle.irtext_parse_spec.proofs.Locations.GivesBack.{gives_followed, gives_m
 use Rattle.irtext_parse_spec.proofs.Locations.Parts.{gives_position, gives_bytes, gives_source}
 
 -- what is between a name and the location that it names; the result is the name
-abbrev behind_name : List ℕ → Text → Outcome (List ℕ)
-behind_name name v = followed (spaced_at (codes ",") v) (λ _ w. followed (text_at (codes "loc") w) (λ _ x. followed (spaced_at (codes ":") x) (λ _ y. mapped (λ _. name) (text_at (codes "(") y))))
+abbrev after_name : List ℕ → Text → Outcome (List ℕ)
+after_name name v = followed (spaced_at (codes ",") v) (λ _ w. followed (text_at (codes "loc") w) (λ _ x. followed (spaced_at (codes ":") x) (λ _ y. mapped (λ _. name) (text_at (codes "(") y))))
 
-gives_behind_name : (name : List ℕ) (z : Text) → GivesBack (behind_name name (codes ", loc: (" ++ z)) name (codes ", loc: (" ++ z) z
-gives_behind_name name z =
+gives_after_name : (name : List ℕ) (z : Text) → GivesBack (after_name name (codes ", loc: (" ++ z)) name (codes ", loc: (" ++ z) z
+gives_after_name name z =
     let v = codes ", loc: (" ++ z in
     let w = codes "loc: (" ++ z in
     let x = codes ": (" ++ z in
@@ -42,10 +42,10 @@ gives_name name z fine =
     let v = codes ", loc: (" ++ z in
     let u = quoted (chars name) ++ v in
     let t = codes ": " ++ u in
-    let quote : Unit → Text → Outcome (List ℕ) = λ _ u. followed (bytes_at u) behind_name in
+    let quote : Unit → Text → Outcome (List ℕ) = λ _ u. followed (bytes_at u) after_name in
     gives_followed (text_at (codes "name") (codes "name" ++ t)) (λ _ t. followed (spaced_at (codes ":") t) quote) tt name (codes "name" ++ t) t z (gives_text (codes "name") t)
     (gives_followed (spaced_at (codes ":") t) quote tt name t u z (gives_spaced (codes ":") t (codes " " ++ u) u refl refl)
-    (gives_followed (bytes_at u) behind_name name name u v z (gives_bytes name v fine) (gives_behind_name name z)))
+    (gives_followed (bytes_at u) after_name name name u v z (gives_bytes name v fine) (gives_after_name name z)))
 
 module _ {A : Type 0} where
   -- a place of a source
@@ -77,15 +77,15 @@ module _ {A : Type 0} where
 
   module _ (inner : Text → Outcome (Written A)) (more : Text → Outcome (WrittenRow A)) where
     -- white space after a location, and the locations that follow it
-    pub gives_behind : (l : Written A) (ls : WrittenRow A) (text rest : Text) → after_space text ≡ text → GivesBack (more text) ls text rest → GivesBack (behind_location inner more l text) (location l ls) text rest
-    gives_behind l ls text rest tight h =
+    pub gives_after : (l : Written A) (ls : WrittenRow A) (text rest : Text) → after_space text ≡ text → GivesBack (more text) ls text rest → GivesBack (after_location inner more l text) (location l ls) text rest
+    gives_after l ls text rest tight h =
         gives_followed (space_at text) (λ _ t. mapped (location l) (more t)) tt (location l ls) text text rest (gives_space text text tight) (gives_mapped (location l) (more text) ls text rest h)
 
     -- a first location, and those that follow it
-    pub gives_row : (l : Written A) (ls : WrittenRow A) (text mid rest : Text) → GivesBack (inner text) l text mid → GivesBack (behind_location inner more l mid) ls mid rest → GivesBack (row_at inner more text) ls text rest
+    pub gives_row : (l : Written A) (ls : WrittenRow A) (text mid rest : Text) → GivesBack (inner text) l text mid → GivesBack (after_location inner more l mid) ls mid rest → GivesBack (row_at inner more text) ls text rest
     gives_row l ls text mid rest h k =
-        let read = gives_followed (inner text) (behind_location inner more) l ls text mid rest h k in
-        record { taken = read.taken; is = ap (λ o. row_of inner more o text) h.is ∙ (sym (ap (λ o. followed o (behind_location inner more)) h.is) ∙ read.is); whole = read.whole }
+        let read = gives_followed (inner text) (after_location inner more) l ls text mid rest h k in
+        record { taken = read.taken; is = ap (λ o. row_of inner more o text) h.is ∙ (sym (ap (λ o. followed o (after_location inner more)) h.is) ∙ read.is); whole = read.whole }
 
     module _ (attr : Text → Outcome (AttrView A)) where
       -- a place of a source, by its first character

@@ -6,13 +6,13 @@ use Rattle.irtext_base.specs.Locations.{AttrView, no_location}
 use Rattle.irtext_base.specs.Paths.{Written}
 use Rattle.irtext_tokens.specs.Infix.{Reader}
 use Rattle.irtext_parse_spec.specs.Readers.RestLengths.{Leaves, LeavesNoMore}
-use Rattle.irtext_parse_spec.specs.Readers.Locations.{WrittenRow, metadata_at, behind_location, row_of, location_within, more_within}
+use Rattle.irtext_parse_spec.specs.Readers.Locations.{WrittenRow, metadata_at, after_location, row_of, location_within, more_within}
 use Rattle.irtext_parse_spec.proofs.Readers.Honest.{Keeps, keeps_metadata, keeps_within, keeps_more_within}
 use Rattle.irtext_parse_spec.proofs.Locations.RestLengths.{Within, ◌so◌, seen, within_either, within_honest, within_no_more, leaves_read, leaves_bad, leaves_prefixed}
 
 module _ {b : ℕ} where
   module _ {A : Type 0} (inner : Reader (Written A)) (more : Reader (WrittenRow A)) where
-    leaves_row : ((l : Written A) → Within b (behind_location inner more l)) → (o : Outcome (Written A))
+    leaves_row : ((l : Written A) → Within b (after_location inner more l)) → (o : Outcome (Written A))
         → (text : Text) → length text ≤ b → Leaves b o → Leaves b (row_of inner more o text)
     leaves_row h (Read l taken rest) text i k =
         leaves_prefixed b taken _ ((h l).leaves rest (k.by l taken rest refl))

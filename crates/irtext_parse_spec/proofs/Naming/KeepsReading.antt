@@ -51,8 +51,8 @@ module _ {S : Type 0} (s : S) where
   pub quiet_more : (item : Reads S) → Quiet item → (n : ℕ) (text : Text) → done_in (more_by item n text s) ≡ s
   quiet_more item q zero text = refl
   quiet_more item q (suc n) text =
-      let behind = after_space (without_first text) in
-      quiet_if (begins (the 59) text) _ _ (quiet_came (item behind s) _ (q.at behind) (λ u rest. quiet_more item q n (after_space rest))) refl
+      let following = after_space (without_first text) in
+      quiet_if (begins (the 59) text) _ _ (quiet_came (item following s) _ (q.at following) (λ u rest. quiet_more item q n (after_space rest))) refl
 
   -- the operations of a block
   pub quiet_operations : (item : Reads S) → Quiet item → (text : Text) → done_in (operations_by item text s) ≡ s

@@ -6,7 +6,7 @@ use Rattle.irtext_base.specs.Text.{Text, after_space}
 use Rattle.irtext_base.specs.Reading.{the}
 use Rattle.irtext_base.specs.Format.{Format, Id}
 use Rattle.irtext_base.specs.Answers.{Outcome, Read, Missing, Bad}
-use Rattle.irtext_base.specs.Own.{Texts, Language, language, texts_of, standing, found}
+use Rattle.irtext_base.specs.Own.{Texts, Language, language, texts_of, verdict, found}
 use Rattle.irtext_grammar.specs.Grammar.Forest.{Regions, no_regions, region, Blocks, no_blocks, block, Operations, no_operations, operation, AllRegions, AllBlocks, AllOperations}
 use Rattle.irtext_grammar.specs.Grammar.Tree.{Op, Head, Brace, shown, elided, Tree, parts_of}
 use Rattle.irtext_grammar.specs.Grammar.Reads as reads
@@ -56,7 +56,7 @@ module _ {T A : Type 0} (types : Texts T) (owns : Texts A) (formats : Id → Opt
 
 -- ---- values whose parsers take a front of the text
 module _ {X : Type 0} (reading : Text → Outcome X) (written : X → Text) (leaves : (text : Text) (x : X) (taken rest : Text) → reading text ≡ Read x taken rest → length rest ≤ length text) where
-  found_shorter : (text rest : Text) (x : X) (o : Outcome X) → reading text ≡ o → standing o ≡ found x rest → length rest ≤ length text
+  found_shorter : (text rest : Text) (x : X) (o : Outcome X) → reading text ≡ o → verdict o ≡ found x rest → length rest ≤ length text
   found_shorter text rest x (Read y taken left) e f = let g : left ≡ rest = cc f in omega (arith, ap length g, leaves text y taken left e)
   found_shorter text rest x (Missing cause) e f = absurd (cc f)
   found_shorter text rest x (Bad cause upto) e f = absurd (cc f)

@@ -2,12 +2,12 @@
 use Rattle.std.proofs.Common.{◌≡◌, ◌≤◌, Bool, true, false, Ok, Err, [], ◌++◌, refl, sym, ◌∙◌, ap, subst, ◌⊎◌, inl, inr, append-nil, true≢false, length, length-append, arith}
 use Rattle.irtext_base.specs.Text.{Text}
 use Rattle.irtext_base.specs.Stream.{StreamView}
-use Rattle.irtext_base.specs.Answers.{Outcome, Read, Missing, Bad, Takes, Starves, Refuses, Gives, demanded, unless_failed}
+use Rattle.irtext_base.specs.Answers.{Outcome, Read, Missing, Bad, Takes, RunsOut, Refuses, Gives, demanded, unless_failed}
 use Rattle.irtext_base.specs.declared.parsable.fault.ParseFault.{ParseFault}
 use Rattle.irtext_base.proofs.Compose.{takes_more}
 use Rattle.irtext_tokens.specs.MustRead.{MustRead, MayRead}
 use Rattle.irtext_parse_spec.specs.Readers.Streams.{itself, replaced}
-use Rattle.irtext_parse_spec.specs.Promises.Section.{Moves, IsStarved, Faults}
+use Rattle.irtext_parse_spec.specs.Promises.Section.{Moves, IsOutOfMemory, Faults}
 use Rattle.irtext_parse_spec.specs.Promises.Supported.{RefusedAs}
 use Rattle.irtext_parse_spec.proofs.Readers.PlainStream.{alone}
 
@@ -50,11 +50,11 @@ may_answered {see = see} {f = f} {old = old} {new = new} {y = y} h = may_there o
 
 module _ {A : Type 0} where
   -- out of memory, as each parser reports it
-  pub starved_fault : {old new : StreamView} {fault : ParseFault A} → Starves itself replaced old fault new → IsStarved fault
-  starved_fault h = record { because = h.because; flag = h.committed }
+  pub ran_out_fault : {old new : StreamView} {fault : ParseFault A} → RunsOut itself replaced old fault new → IsOutOfMemory fault
+  ran_out_fault h = record { because = h.because; flag = h.committed }
 
-  demanded_not : {X : Type 0} (b : Bool) (o : Outcome X) (old new : StreamView) (fault : ParseFault A) → b ≡ false → Starves itself replaced old fault new ⊎ Refuses itself replaced (demanded (unless_failed b o)) old fault new → Faults true (RefusedAs o) old fault
-  demanded_not b o old new fault e (inl h) = inl (starved_fault h)
+  demanded_not : {X : Type 0} (b : Bool) (o : Outcome X) (old new : StreamView) (fault : ParseFault A) → b ≡ false → RunsOut itself replaced old fault new ⊎ Refuses itself replaced (demanded (unless_failed b o)) old fault new → Faults true (RefusedAs o) old fault
+  demanded_not b o old new fault e (inl h) = inl (ran_out_fault h)
   demanded_not true o old new fault e (inr h) = absurd (true≢false e)
   demanded_not false (Read x t r) old new fault e (inr h) = absurd h
   demanded_not false (Missing cause) old new fault e (inr h) = inr (cause, [], (refl, refl), record { because = h.because; flag = h.committed; place = h.place })

@@ -2,7 +2,7 @@
 use Rattle.std.proofs.Common.{◌≡◌, Bool, true, false, Err, refl, sym, ◌∙◌, ap, ◌⊎◌, inl, inr}
 use Rattle.irtext_base.specs.Text.{Text}
 use Rattle.irtext_base.specs.Stream.{StreamView}
-use Rattle.irtext_base.specs.Answers.{Outcome, Read, Missing, Bad, Starves, Refuses, demanded, unless_failed}
+use Rattle.irtext_base.specs.Answers.{Outcome, Read, Missing, Bad, RunsOut, Refuses, demanded, unless_failed}
 use Rattle.irtext_base.specs.declared.parsable.fault.ParseFault.{ParseFault}
 use Rattle.irtext_tokens.specs.MustRead.{MustRead, MayRead}
 use Rattle.irtext_base.specs.Own.{is_first_fault}
@@ -12,7 +12,7 @@ use Rattle.irtext_parse_spec.proofs.Readers.NeverFailed.{CauseIs, NotFailed}
 use Rattle.irtext_parse_spec.proofs.Readers.FirstMissing.{FirstMissing}
 
 module _ {A : Type 0} where
-  demands_of : {X : Type 0} (b : Bool) (o : Outcome X) (old new : StreamView) (fault : ParseFault A) → old.failed ≡ b → CauseIs NotFailed o → Starves itself replaced old fault new ⊎ Refuses itself replaced (demanded (unless_failed b o)) old fault new → CommittedRefusal old fault new
+  demands_of : {X : Type 0} (b : Bool) (o : Outcome X) (old new : StreamView) (fault : ParseFault A) → old.failed ≡ b → CauseIs NotFailed o → RunsOut itself replaced old fault new ⊎ Refuses itself replaced (demanded (unless_failed b o)) old fault new → CommittedRefusal old fault new
   demands_of b o old new fault e s (inl h) = record { committed = h.committed; fails = ap (λ v. v.failed) h.left.is ∙ h.left.fails; failed = λ f. absurd (cc (h.because)) }
   demands_of true o old new fault e s (inr h) = record { committed = h.committed; fails = ap (λ v. v.failed) h.left.is ∙ h.left.fails; failed = λ f. e }
   demands_of false (Read x t r) old new fault e s (inr h) = absurd h
@@ -23,7 +23,7 @@ module _ {A : Type 0} where
   pub demands : {X Y : Type 0} {see : Y → X} {f : Text → Outcome X} {old new : StreamView} {fault : ParseFault A} → ((text : Text) → CauseIs NotFailed (f text)) → MustRead {Y = Y} itself replaced see f old (Err fault) new → CommittedRefusal old fault new
   demands {f = f} {old = old} {new = new} {fault = fault} s h = demands_of old.failed (f old.rest) old new fault refl (s old.rest) h.answers
 
-  refusal_of : {X : Type 0} (b : Bool) (o : Outcome X) (old new : StreamView) (fault : ParseFault A) → old.failed ≡ b → CauseIs NotFailed o → FirstMissing o → Starves itself replaced old fault new ⊎ Refuses itself replaced (unless_failed b o) old fault new → Refusal old fault new
+  refusal_of : {X : Type 0} (b : Bool) (o : Outcome X) (old new : StreamView) (fault : ParseFault A) → old.failed ≡ b → CauseIs NotFailed o → FirstMissing o → RunsOut itself replaced old fault new ⊎ Refuses itself replaced (unless_failed b o) old fault new → Refusal old fault new
   refusal_of b o old new fault e s m (inl h) = record { committed = λ _. ap (λ v. v.failed) h.left.is ∙ h.left.fails; uncommitted = λ q. absurd (cc (h.committed)); first = λ q. absurd (cc (h.committed)); failed = λ f. absurd (cc (h.because)) }
   refusal_of true o old new fault e s m (inr h) = record { committed = λ _. ap (λ v. v.failed) h.left.is ∙ h.left.fails; uncommitted = λ q. absurd (cc (h.committed)); first = λ q. absurd (cc (h.committed)); failed = λ f. e }
   refusal_of false (Read x t r) old new fault e s m (inr h) = absurd h

@@ -11,7 +11,7 @@ use Rattle.irtext_tokens.specs.Infix.{Reader, nothing, either, ◌▷◌, ◌▶
 use Rattle.irtext_tokens.specs.Tokens.{word}
 use Rattle.irtext_tokens.proofs.Honest.{Honest, ◌then◌, ◌so◌, seen, honest_either, honest_word, honest_space, honest_spaced, honest_integer, honest_quoted}
 use Rattle.irtext_parse_spec.specs.Readers.Positions.{space_at, spaced_at, labelled_at, position_at}
-use Rattle.irtext_parse_spec.specs.Readers.Locations.{WrittenRow, bytes_at, source_at, name_at, place_at, metadata_at, behind_location, row_at, more_at, fused_at, named_at, call_site_at, kind_at, location_within, more_within}
+use Rattle.irtext_parse_spec.specs.Readers.Locations.{WrittenRow, bytes_at, source_at, name_at, place_at, metadata_at, after_location, row_at, more_at, fused_at, named_at, call_site_at, kind_at, location_within, more_within}
 
 -- nothing of the text
 pub honest_nothing : {X : Type 0} (x : X) → Honest (nothing x)
@@ -60,39 +60,39 @@ pub record Keeps (P : (X : Type 0) → Reader X → Type 0) : Type 1 where
   pub sees : {X Y : Type 0} {f : Reader X} (see : X → Y) → P X f → P Y (f ⇒ see)
   pub one_of : {X : Type 0} {f g : Reader X} (test : Text → Bool) → P X f → P X g → P X (either test f g)
   pub row : {A : Type 0} (inner : Reader (Written A)) (more : Reader (WrittenRow A)) → P (Written A) inner
-      → ((l : Written A) → P (WrittenRow A) (behind_location inner more l))
+      → ((l : Written A) → P (WrittenRow A) (after_location inner more l))
       → P (WrittenRow A) (row_at inner more)
 
 module _ {P : (X : Type 0) → Reader X → Type 0} (k : Keeps P) where
-  behind-word : {Y : Type 0} {g : Reader Y} (w : Text) → P _ g → P _ (word w ▷ g)
-  behind-word w h = k.follows (k.honest (honest_word w)) (λ _. h)
+  following-word : {Y : Type 0} {g : Reader Y} (w : Text) → P _ g → P _ (word w ▷ g)
+  following-word w h = k.follows (k.honest (honest_word w)) (λ _. h)
 
-  behind-spaced : {Y : Type 0} {g : Reader Y} (w : Text) → P _ g → P _ (spaced_at w ▷ g)
-  behind-spaced w h = k.follows (k.honest (honest_spaced w)) (λ _. h)
+  following-spaced : {Y : Type 0} {g : Reader Y} (w : Text) → P _ g → P _ (spaced_at w ▷ g)
+  following-spaced w h = k.follows (k.honest (honest_spaced w)) (λ _. h)
 
-  behind-space : {Y : Type 0} {g : Reader Y} → P _ g → P _ (space_at ▷ g)
-  behind-space h = k.follows (k.honest honest_space) (λ _. h)
+  following-space : {Y : Type 0} {g : Reader Y} → P _ g → P _ (space_at ▷ g)
+  following-space h = k.follows (k.honest honest_space) (λ _. h)
 
   at-word : {Y : Type 0} (w : Text) (y : Y) → P _ (word w ⇒ λ _. y)
   at-word w y = k.sees (λ _. y) (k.honest (honest_word w))
 
   module _ {A : Type 0} {attr : Reader (AttrView A)} (h : P _ attr) where
     pub keeps_metadata : P _ (metadata_at attr)
-    keeps_metadata = k.one_of _ (behind-word (codes "<") (behind-space (k.follows h (λ a.
-        behind-space (at-word (codes ">") (Some a)))))) (k.honest (honest_nothing None))
+    keeps_metadata = k.one_of _ (following-word (codes "<") (following-space (k.follows h (λ a.
+        following-space (at-word (codes ">") (Some a)))))) (k.honest (honest_nothing None))
 
     -- where the locations inside have it
     module _ {inner : Reader (Written A)} {more : Reader (WrittenRow A)} (i : P _ inner) (m : P _ more) where
-      keeps_behind : (l : Written A) → P _ (behind_location inner more l)
-      keeps_behind l = behind-space (k.sees (location l) m)
+      keeps_after : (l : Written A) → P _ (after_location inner more l)
+      keeps_after l = following-space (k.sees (location l) m)
 
       keeps_more : P _ (more_at inner more)
-      keeps_more = k.one_of _ (behind-word (codes ",") (behind-space (k.follows i keeps_behind)))
+      keeps_more = k.one_of _ (following-word (codes ",") (following-space (k.follows i keeps_after)))
           (k.honest (honest_nothing no_location))
 
       keeps_fused : P _ (fused_at inner more attr)
-      keeps_fused = behind-word (codes "fused") (behind-space (k.follows keeps_metadata (λ a.
-          behind-word (codes "[") (behind-space (k.follows (k.row inner more i keeps_behind) (λ ls.
+      keeps_fused = following-word (codes "fused") (following-space (k.follows keeps_metadata (λ a.
+          following-word (codes "[") (following-space (k.follows (k.row inner more i keeps_after) (λ ls.
           at-word (codes "]") (fused a ls)))))))
 
       keeps_named : P _ (named_at inner more)
@@ -100,8 +100,8 @@ module _ {P : (X : Type 0) → Reader X → Type 0} (k : Keeps P) where
           k.follows i (λ l. at-word (codes ")") (named name l)))
 
       keeps_call_site : P _ (call_site_at inner more)
-      keeps_call_site = behind-word (codes "callsite") (behind-spaced (codes "(") (k.follows i (λ callee.
-          behind-spaced (codes "at") (k.follows i (λ caller.
+      keeps_call_site = following-word (codes "callsite") (following-spaced (codes "(") (k.follows i (λ callee.
+          following-spaced (codes "at") (k.follows i (λ caller.
           k.sees (λ _. call_site callee caller) (k.honest (honest_spaced (codes ")"))))))))
 
       keeps_kind : P _ (kind_at inner more attr)

@@ -4,14 +4,14 @@ use Rattle.std.specs.Char.{is_whitespace}
 use Rattle.std.proofs.lemmas.Bool.Decides.{nat_tests}
 use Rattle.irtext_base.specs.Text.{Text, front, after_space}
 use Rattle.irtext_base.specs.Reading.{the}
-use Rattle.irtext_base.specs.Stream.{StreamView, behind}
+use Rattle.irtext_base.specs.Stream.{StreamView, after_taken}
 use Rattle.irtext_base.specs.Answers.{Takes}
 use Rattle.irtext_base.proofs.Along.{front_after}
 use Rattle.irtext_base.proofs.Compose.{seen_after}
 use Rattle.irtext_stream.specs.Text.{BeginsOtherwise}
-use Rattle.irtext_stream.specs.Classes.{behind_space}
+use Rattle.irtext_stream.specs.Classes.{after_spaces}
 use Rattle.irtext_stream.specs.Stream.{Comes}
-use Rattle.irtext_tokens.specs.Lists.{HandsOn, Skips}
+use Rattle.irtext_tokens.specs.Lists.{MovesOn, Skips}
 use Rattle.irtext_parse_spec.specs.Readers.Marker.{starts_with, TakesWord}
 
 same_the : (c d : ℕ) → the c d ≡ true → d ≡ c
@@ -42,12 +42,12 @@ starts_not word text h =
 module _ {S : Type 0} (view : S → StreamView) (at : S → StreamView → S) where
   module _ (view_at : (s : S) (v : StreamView) → view (at s v) ≡ v) (at_view : (s : S) → at s (view s) ≡ s) (at_at : (s : S) (v w : StreamView) → at (at s v) w ≡ at s w) where
     -- the word was accepted after white space, or the stream is unchanged
-    pub word_accepted : (word : Text) (old new : S) (b : Bool) → MatchBool b (Comes word (behind_space (view old)) (λ v. new ≡ at old v)) (BeginsOtherwise word (behind_space (view old)).rest × (new ≡ old)) → TakesWord view at word old b new
+    pub word_accepted : (word : Text) (old new : S) (b : Bool) → MatchBool b (Comes word (after_spaces (view old)) (λ v. new ≡ at old v)) (BeginsOtherwise word (after_spaces (view old)).rest × (new ≡ old)) → TakesWord view at word old b new
     word_accepted word old new true h =
-        let v = behind_space (view old) in
+        let v = after_spaces (view old) in
         let mid = at old v in
         let seen = view_at old v in
-        let there : new ≡ at mid (behind (view mid) word h.0) = h.2 ∙ (sym (at_at old v (behind v word h.0)) ∙ ap (λ w. at mid (behind w word h.0)) (sym seen)) in
+        let there : new ≡ at mid (after_taken (view mid) word h.0) = h.2 ∙ (sym (at_at old v (after_taken v word h.0)) ∙ ap (λ w. at mid (after_taken w word h.0)) (sym seen)) in
         let k : Takes view at word h.0 mid new = record { is = there; same = sym h.1 ∙ sym (ap (λ w. w.rest) seen) } in
         let r : (view new).rest ≡ h.0 = ap (λ v. v.rest) (seen_after view at view_at at_at mid new word h.0 k) in
         record { tells = sym (ap (starts_with word) h.1 ∙ starts_whole word h.0); left = (mid, refl, rw r k) }
@@ -63,15 +63,15 @@ module _ {S : Type 0} (view : S → StreamView) (at : S → StreamView → S) wh
         → (mid : S) × Skips view at old mid × (starts_with word (view mid).rest ≡ true) × Takes view at word (view new).rest mid new
     marker_whole word old new true w e =
         let k = w.left in
-        (k.0, k.1, ap (λ z. starts_with word (view z).rest) k.1 ∙ (ap (λ v. starts_with word v.rest) (view_at old (behind_space (view old))) ∙ sym w.tells), k.2)
+        (k.0, k.1, ap (λ z. starts_with word (view z).rest) k.1 ∙ (ap (λ v. starts_with word v.rest) (view_at old (after_spaces (view old))) ∙ sym w.tells), k.2)
     marker_whole word old new false w e = absurd (cc)
 
     -- white space and the word were taken, and nothing else changed
-    pub marker_hands : (word : Text) (old mid new : S) → Skips view at old mid → Takes view at word (view new).rest mid new → HandsOn view at old new
+    pub marker_hands : (word : Text) (old mid new : S) → Skips view at old mid → Takes view at word (view new).rest mid new → MovesOn view at old new
     marker_hands word old mid new k t =
         let space = front is_whitespace (view old).rest in
-        let seen : view mid ≡ behind_space (view old) = ap view k ∙ view_at old (behind_space (view old)) in
-        let then_seen : view new ≡ behind (view mid) word (view new).rest = seen_after view at view_at at_at mid new word (view new).rest t in
+        let seen : view mid ≡ after_spaces (view old) = ap view k ∙ view_at old (after_spaces (view old)) in
+        let then_seen : view new ≡ after_taken (view mid) word (view new).rest = seen_after view at view_at at_at mid new word (view new).rest t in
         record {
           taken = space ++ word;
           same = append_assoc space word (view new).rest ∙ (ap (λ z. space ++ z) (t.same ∙ ap (λ v. v.rest) seen) ∙ front_after is_whitespace (view old).rest);

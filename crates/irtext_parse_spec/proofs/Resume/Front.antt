@@ -28,16 +28,16 @@ in_front types ss e = (refl, refl)
 in_front (one i) ss e = absurd (cc)
 in_front all ss e = absurd (cc)
 
-pub behind_front : (step : Step) (ss : List Step) → is_flat step ≡ false → (front_steps (step ∷ ss) ≡ []) × (region_steps (step ∷ ss) ≡ step ∷ ss)
-behind_front (flat d) ss e = absurd (cc)
-behind_front types ss e = absurd (cc)
-behind_front (one i) ss e = (refl, refl)
-behind_front all ss e = (refl, refl)
+pub after_front : (step : Step) (ss : List Step) → is_flat step ≡ false → (front_steps (step ∷ ss) ≡ []) × (region_steps (step ∷ ss) ≡ step ∷ ss)
+after_front (flat d) ss e = absurd (cc)
+after_front types ss e = absurd (cc)
+after_front (one i) ss e = (refl, refl)
+after_front all ss e = (refl, refl)
 
 -- ---- the front as one parser
 -- white space and what follows it are the text
-splits_behind_space : {X : Type 0} {reader : Reader X} → Splits reader → Splits (space_at ▷ reader)
-splits_behind_space {reader = reader} h = splits_followed space_at (λ _. reader) splits_space (λ _. h)
+splits_after_space : {X : Type 0} {reader : Reader X} → Splits reader → Splits (space_at ▷ reader)
+splits_after_space {reader = reader} h = splits_followed space_at (λ _. reader) splits_space (λ _. h)
   where
     splits_space : Splits space_at
     splits_space text x taken rest e = let f : front is_whitespace text ≡ taken = cc in let g : after is_whitespace text ≡ rest = cc in ap (λ z. z ++ rest) (sym f) ∙ (ap (λ z. front is_whitespace text ++ z) (sym g) ∙ front_after is_whitespace text)
@@ -78,13 +78,13 @@ module _ {T A S : Type 0} (dialects : List (Text × Table)) (types_at : Text →
   front_is (step ∷ ss) found text s =
       let o : Outcome (Piece ℕ T A) = (space_at ▷ piece_at types_at attr inside step) text in
       tells_same o text s (λ p rest. front_by dialects types_at attr does inside ss (found ++ tree.piece p ∷ []) rest s) (λ p rest. tells (front_at types_at attr inside ss (found ++ tree.piece p ∷ []) rest) rest s (came_to s)) (λ p rest. front_is ss (found ++ tree.piece p ∷ []) rest s)
-      ∙ sym (tells_followed o (λ p. front_at types_at attr inside ss (found ++ tree.piece p ∷ [])) text s (came_to s) (splits_behind_space (splits step) text))
+      ∙ sym (tells_followed o (λ p. front_at types_at attr inside ss (found ++ tree.piece p ∷ [])) text s (came_to s) (splits_after_space (splits step) text))
 
   -- it was parsed
   pub front_reads : (ss : List Step) (found found' : List (Part ℕ T A)) (text taken rest : Text) (s : S) → front_at types_at attr inside ss found text ≡ Read found' taken rest → front_by dialects types_at attr does inside ss found text s ≡ Advanced found' s rest
   front_reads ss found found' text taken rest s e = front_is ss found text s ∙ tells_found (front_at types_at attr inside ss found text) text s (came_to s) found' taken rest e
 
   -- a piece is missing, or bad
-  pub front_lacks : (ss : List Step) (found : List (Part ℕ T A)) (text : Text) (s : S) (cause : Fault) (upto : Text) → demanded (front_at types_at attr inside ss found text) ≡ Bad cause upto
+  pub front_misses : (ss : List Step) (found : List (Part ℕ T A)) (text : Text) (s : S) (cause : Fault) (upto : Text) → demanded (front_at types_at attr inside ss found text) ≡ Bad cause upto
       → front_by dialects types_at attr does inside ss found text s ≡ Stopped s cause (length text - length upto)
-  front_lacks ss found text s cause upto e = front_is ss found text s ∙ tells_bad (front_at types_at attr inside ss found text) text s (came_to s) cause upto e
+  front_misses ss found text s cause upto e = front_is ss found text s ∙ tells_bad (front_at types_at attr inside ss found text) text s (came_to s) cause upto e

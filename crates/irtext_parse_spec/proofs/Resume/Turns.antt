@@ -78,28 +78,28 @@ module _ {T A S : Type 0} (dialects : List (Text × Table)) (types_at : Text →
 
   -- ---- an operation begins
   module _ (frames : List (Open T A)) (inside : Bool) (s : S) (t : Text) where
-    abbrev behind_lead : List (Name ℕ) × Id → Text → Reached Unit S
-    behind_lead lead rest = body_by dialects types_at attr does (inner (isolated dialects lead.1)) inside (length t) lead.0 lead.1 rest s
+    abbrev after_the_lead : List (Name ℕ) × Id → Text → Reached Unit S
+    after_the_lead lead rest = body_by dialects types_at attr does (inner (isolated dialects lead.1)) inside (length t) lead.0 lead.1 rest s
 
     pub no_lead : (cause : Fault) (upto : Text) → demanded (led_at dialects t) ≡ Bad cause upto → Stops (to_come inside) frames s t s cause (length t - length upto)
-    no_lead cause upto e = stuck_here (tells_bad (led_at dialects t) t s behind_lead cause upto e)
+    no_lead cause upto e = stuck_here (tells_bad (led_at dialects t) t s after_the_lead cause upto e)
 
     module _ (names : List (Name ℕ)) (id : Id) (taken r : Text) (e : led_at dialects t ≡ Read (names, id) taken r) where
       abbrev front : Reached (List (Part ℕ T A)) S
       front = front_by dialects types_at attr does inside (front_steps (steps_in dialects id)) [] r s
 
-      abbrev behind_front : List (Part ℕ T A) → S → Text → Reached Unit S
-      behind_front found u rest = left_of (an_operation (begun dialects inside (length t) names id found)) rest (does.uses (length t) id found u)
+      abbrev after_front : List (Part ℕ T A) → S → Text → Reached Unit S
+      after_front found u rest = left_of (an_operation (begun dialects inside (length t) names id found)) rest (does.uses (length t) id found u)
 
-      by_front : left_of (to_come inside) t s ≡ came front behind_front
-      by_front = tells_found (led_at dialects t) t s behind_lead (names, id) taken r e
+      by_front : left_of (to_come inside) t s ≡ came front after_front
+      by_front = tells_found (led_at dialects t) t s after_the_lead (names, id) taken r e
 
       pub operation_begins : (found : List (Part ℕ T A)) (r' : Text) → front ≡ Advanced found s r'
           → Turns (to_come inside) frames s t (Some (an_operation (begun dialects inside (length t) names id found))) frames (does.uses (length t) id found s) r'
-      operation_begins found r' f = goes_as (by_front ∙ ap (λ o. came o behind_front) f)
+      operation_begins found r' f = goes_as (by_front ∙ ap (λ o. came o after_front) f)
 
       pub no_front : (z : S) (cause : Fault) (place : ℕ) → front ≡ Stopped z cause place → Stops (to_come inside) frames s t z cause place
-      no_front z cause place f = stuck_here (by_front ∙ ap (λ o. came o behind_front) f)
+      no_front z cause place f = stuck_here (by_front ∙ ap (λ o. came o after_front) f)
 
   -- ---- an operation goes on
   module _ (o : OpenOperation T A) (frames : List (Open T A)) (s : S) (t : Text) where
@@ -112,13 +112,13 @@ module _ {T A S : Type 0} (dialects : List (Text × Table)) (types_at : Text →
       abbrev next_piece : Step → Outcome (Piece ℕ T A)
       next_piece step = (space_at ▷ piece_at types_at attr o.inside step) t
 
-      abbrev behind_piece : Piece ℕ T A → Text → Reached (List (Part ℕ T A)) S
-      behind_piece p rest = go_on o ss (o.parts ++ tree.piece p ∷ []) (does.late o.place o.id p s) rest
+      abbrev after_piece : Piece ℕ T A → Text → Reached (List (Part ℕ T A)) S
+      after_piece p rest = go_on o ss (o.parts ++ tree.piece p ∷ []) (does.late o.place o.id p s) rest
 
-      by_piece : left_of (an_operation o) t s ≡ came (tells (next_piece step) t s behind_piece) (and_end o)
+      by_piece : left_of (an_operation o) t s ≡ came (tells (next_piece step) t s after_piece) (and_end o)
       by_piece = by_steps (step ∷ ss) e ∙ of_step step f
         where
-          of_step : (step : Step) → is_flat step ≡ true → left_of (an_operation (with_steps o (step ∷ ss) o.parts)) t s ≡ came (tells (next_piece step) t s behind_piece) (and_end o)
+          of_step : (step : Step) → is_flat step ≡ true → left_of (an_operation (with_steps o (step ∷ ss) o.parts)) t s ≡ came (tells (next_piece step) t s after_piece) (and_end o)
           of_step (flat d) f = refl
           of_step types f = refl
           of_step (one i) f = absurd (cc)
@@ -126,10 +126,10 @@ module _ {T A S : Type 0} (dialects : List (Text × Table)) (types_at : Text →
 
       pub piece_reads : (p : Piece ℕ T A) (taken r : Text) → next_piece step ≡ Read p taken r
           → Turns (an_operation o) frames s t (Some (an_operation (with_steps o ss (o.parts ++ tree.piece p ∷ [])))) frames (does.late o.place o.id p s) r
-      piece_reads p taken r h = goes_as (by_piece ∙ ap (λ z. came z (and_end o)) (tells_found (next_piece step) t s behind_piece p taken r h))
+      piece_reads p taken r h = goes_as (by_piece ∙ ap (λ z. came z (and_end o)) (tells_found (next_piece step) t s after_piece p taken r h))
 
       pub no_piece : (cause : Fault) (upto : Text) → demanded (next_piece step) ≡ Bad cause upto → Stops (an_operation o) frames s t s cause (length t - length upto)
-      no_piece cause upto h = stuck_here (by_piece ∙ ap (λ z. came z (and_end o)) (tells_bad (next_piece step) t s behind_piece cause upto h))
+      no_piece cause upto h = stuck_here (by_piece ∙ ap (λ z. came z (and_end o)) (tells_bad (next_piece step) t s after_piece cause upto h))
 
     -- its end
     module _ (e : o.steps ≡ []) where
@@ -139,30 +139,30 @@ module _ {T A S : Type 0} (dialects : List (Text × Table)) (types_at : Text →
       abbrev closed : S → S
       closed z = does.closes o.place o.names o.id o.parts z
 
-      abbrev behind_mark : S → Option (Mark ℕ) → Text → Reached Unit S
-      behind_mark z m rest = Advanced tt (does.marks m z) rest
+      abbrev after_mark : S → Option (Mark ℕ) → Text → Reached Unit S
+      after_mark z m rest = Advanced tt (does.marks m z) rest
 
       pub operation_ends : (m : Option (Mark ℕ)) (taken r : Text) (next : Option (Open T A)) (others : List (Open T A)) → next_mark ≡ Read m taken r → Pops frames next others
           → Turns (an_operation o) frames s t next others (does.marks m (closed s)) r
-      operation_ends m taken r next others h p = goes_out next others p (by_steps [] e ∙ tells_found next_mark t (closed s) (behind_mark (closed s)) m taken r h)
+      operation_ends m taken r next others h p = goes_out next others p (by_steps [] e ∙ tells_found next_mark t (closed s) (after_mark (closed s)) m taken r h)
 
       pub no_end : (cause : Fault) (upto : Text) → demanded next_mark ≡ Bad cause upto → Stops (an_operation o) frames s t (closed s) cause (length t - length upto)
-      no_end cause upto h = stuck_here (by_steps [] e ∙ tells_bad next_mark t (closed s) (behind_mark (closed s)) cause upto h)
+      no_end cause upto h = stuck_here (by_steps [] e ∙ tells_bad next_mark t (closed s) (after_mark (closed s)) cause upto h)
 
       -- it is closed before its mark is parsed
       pub operation_closes : (z : S) → closed s ≡ z → closed z ≡ z → Turns (an_operation o) frames s t (Some (an_operation o)) frames z t
-      operation_closes z f g = goes_as (by_steps [] e ∙ (ap (λ u. tells next_mark t u (behind_mark u)) (f ∙ sym g) ∙ sym (ap (λ ss. left_of (an_operation (with_steps o ss o.parts)) t z) e)))
+      operation_closes z f g = goes_as (by_steps [] e ∙ (ap (λ u. tells next_mark t u (after_mark u)) (f ∙ sym g) ∙ sym (ap (λ ss. left_of (an_operation (with_steps o ss o.parts)) t z) e)))
 
   -- ---- a block's operations begin
   module _ (frames : List (Open T A)) (s : S) (t : Text) where
-    abbrev behind_first : Reached Unit S
-    behind_first = came (item (after_space t) s) (λ _ z rest. left_of (a_block false) rest z)
+    abbrev after_first : Reached Unit S
+    after_first = came (item (after_space t) s) (λ _ z rest. left_of (a_block false) rest z)
 
     pub first_operation : begins_operation (after_space t) ≡ true → Turns (a_block true) frames s t (Some (to_come true)) (frames ++ a_block false ∷ []) s (after_space t)
-    first_operation b = goes_in (a_block false) (ap (λ z. cond z behind_first (Advanced tt s (after_space t))) b)
+    first_operation b = goes_in (a_block false) (ap (λ z. cond z after_first (Advanced tt s (after_space t))) b)
 
     pub no_operation : (next : Option (Open T A)) (others : List (Open T A)) → begins_operation (after_space t) ≡ false → Pops frames next others → Turns (a_block true) frames s t next others s (after_space t)
-    no_operation next others b p = goes_out next others p (ap (λ z. cond z behind_first (Advanced tt s (after_space t))) b)
+    no_operation next others b p = goes_out next others p (ap (λ z. cond z after_first (Advanced tt s (after_space t))) b)
 
   module _ (k : Unbounded dialects types_at attr does) where
     -- after white space no more text is left than before
@@ -177,20 +177,20 @@ module _ {T A S : Type 0} (dialects : List (Text × Table)) (types_at : Text →
     abbrev and_brace : Bool → ℕ → Reached Unit S → Reached Unit S
     and_brace iso place o = came o (λ _ z left. tells (word (codes "}") left) left z (λ _ end. Advanced tt (does.leaves iso place z) end))
 
-    abbrev behind_brace : Bool → ℕ → S → ⊤ → Text → Reached Unit S
-    behind_brace iso place z x rest = and_brace iso place (blocks_by block (length rest) rest z)
+    abbrev after_brace : Bool → ℕ → S → ⊤ → Text → Reached Unit S
+    after_brace iso place z x rest = and_brace iso place (blocks_by block (length rest) rest z)
 
     region_opens : (iso : Bool) (s : S) (u : Text) (x : ⊤) (taken r : Text) → next_brace u ≡ Read x taken r → inner iso u s ≡ left_of (a_region iso (length u)) r (does.enters iso s)
     region_opens iso s u x taken r e = k.region_is iso u s
-        ∙ (tells_found (next_brace u) u (does.enters iso s) (behind_brace iso (length u) (does.enters iso s)) x taken r e
+        ∙ (tells_found (next_brace u) u (does.enters iso s) (after_brace iso (length u) (does.enters iso s)) x taken r e
         ∙ ap (λ v. and_brace iso (length u) (blocks_by block (length r) v (does.enters iso s))) (sym (tight (word (codes "{") u) x taken r e)))
 
-    region_lacks : (iso : Bool) (s : S) (u : Text) (cause : Fault) (upto : Text) → demanded (next_brace u) ≡ Bad cause upto → inner iso u s ≡ Stopped (does.enters iso s) cause (length u - length upto)
-    region_lacks iso s u cause upto e = k.region_is iso u s ∙ tells_bad (next_brace u) u (does.enters iso s) (behind_brace iso (length u) (does.enters iso s)) cause upto e
+    region_misses : (iso : Bool) (s : S) (u : Text) (cause : Fault) (upto : Text) → demanded (next_brace u) ≡ Bad cause upto → inner iso u s ≡ Stopped (does.enters iso s) cause (length u - length upto)
+    region_misses iso s u cause upto e = k.region_is iso u s ∙ tells_bad (next_brace u) u (does.enters iso s) (after_brace iso (length u) (does.enters iso s)) cause upto e
 
     -- it is entered before its brace is parsed
     entered_once : (iso : Bool) (s z : S) (u : Text) → does.enters iso s ≡ z → does.enters iso z ≡ z → inner iso u s ≡ inner iso u z
-    entered_once iso s z u f g = k.region_is iso u s ∙ (ap (λ y. tells (next_brace u) u y (behind_brace iso (length u) y)) (f ∙ sym g) ∙ sym (k.region_is iso u z))
+    entered_once iso s z u f g = k.region_is iso u s ∙ (ap (λ y. tells (next_brace u) u y (after_brace iso (length u) y)) (f ∙ sym g) ∙ sym (k.region_is iso u z))
 
     module _ (o : OpenOperation T A) (frames : List (Open T A)) (s : S) (t : Text) where
       abbrev iso : Bool
@@ -202,22 +202,22 @@ module _ {T A S : Type 0} (dialects : List (Text × Table)) (types_at : Text →
 
       -- one region
       module _ (i : ℕ) (ss : List Step) (e : o.steps ≡ one i ∷ ss) where
-        abbrev behind_one : Reached Unit S → Reached Unit S
-        behind_one = then_steps ss (o.parts ++ tree.region i ∷ [])
+        abbrev after_one : Reached Unit S → Reached Unit S
+        after_one = then_steps ss (o.parts ++ tree.region i ∷ [])
 
-        by_one : (s : S) → left_of (an_operation o) t s ≡ behind_one (inner iso (after_space t) s)
+        by_one : (s : S) → left_of (an_operation o) t s ≡ after_one (inner iso (after_space t) s)
         by_one s = by_steps o frames s t (one i ∷ ss) e ∙ came_came (inner iso (after_space t) s) (λ _. go_on o ss (o.parts ++ tree.region i ∷ [])) (and_end o)
 
         pub region_begins : (x : ⊤) (taken r : Text) → next_brace (after_space t) ≡ Read x taken r
             → Turns (an_operation o) frames s t (Some (a_region iso (length (after_space t)))) (frames ++ an_operation (with_steps o ss (o.parts ++ tree.region i ∷ [])) ∷ []) (does.enters iso s) r
-        region_begins x taken r h = goes_in (an_operation (with_steps o ss (o.parts ++ tree.region i ∷ []))) (by_one s ∙ ap behind_one (region_opens iso s (after_space t) x taken r h))
+        region_begins x taken r h = goes_in (an_operation (with_steps o ss (o.parts ++ tree.region i ∷ []))) (by_one s ∙ ap after_one (region_opens iso s (after_space t) x taken r h))
 
         pub no_region : (cause : Fault) (upto : Text) → demanded (next_brace (after_space t)) ≡ Bad cause upto
             → Stops (an_operation o) frames s t (does.enters iso s) cause (length (after_space t) - length upto)
-        no_region cause upto h = stuck_here (by_one s ∙ ap behind_one (region_lacks iso s (after_space t) cause upto h))
+        no_region cause upto h = stuck_here (by_one s ∙ ap after_one (region_misses iso s (after_space t) cause upto h))
 
         pub region_enters : (z : S) → does.enters iso s ≡ z → does.enters iso z ≡ z → Turns (an_operation o) frames s t (Some (an_operation o)) frames z t
-        region_enters z f g = goes_as (by_one s ∙ (ap behind_one (entered_once iso s z (after_space t) f g) ∙ sym (by_one z)))
+        region_enters z f g = goes_as (by_one s ∙ (ap after_one (entered_once iso s z (after_space t) f g) ∙ sym (by_one z)))
 
       -- all regions
       module _ (ss : List Step) (e : o.steps ≡ all ∷ ss) where
@@ -237,10 +237,10 @@ module _ {T A S : Type 0} (dialects : List (Text × Table)) (types_at : Text →
 
         -- one more
         module _ (b : begins_region (after_space t) ≡ true) where
-          abbrev behind_another : Reached Unit S → Reached Unit S
-          behind_another z = came z (λ _ u rest. left_of (an_operation o) rest u)
+          abbrev after_another : Reached Unit S → Reached Unit S
+          after_another z = came z (λ _ u rest. left_of (an_operation o) rest u)
 
-          by_another : (s : S) → left_of (an_operation o) t s ≡ behind_another (inner iso (after_space t) s)
+          by_another : (s : S) → left_of (an_operation o) t s ≡ after_another (inner iso (after_space t) s)
           by_another s = by_all s true b
               ∙ (ap (λ z. came z (and_end o)) (came_came (inner iso (after_space t) s) other_regions (λ _. go_on o ss (o.parts ++ tree.regions ∷ [])))
               ∙ (came_came (inner iso (after_space t) s) (λ x u rest. came (other_regions x u rest) (λ _. go_on o ss (o.parts ++ tree.regions ∷ []))) (and_end o)
@@ -248,10 +248,10 @@ module _ {T A S : Type 0} (dialects : List (Text × Table)) (types_at : Text →
 
           pub another_region : (x : ⊤) (taken r : Text) → next_brace (after_space t) ≡ Read x taken r
               → Turns (an_operation o) frames s t (Some (a_region iso (length (after_space t)))) (frames ++ an_operation o ∷ []) (does.enters iso s) r
-          another_region x taken r h = goes_in (an_operation o) (by_another s ∙ ap behind_another (region_opens iso s (after_space t) x taken r h))
+          another_region x taken r h = goes_in (an_operation o) (by_another s ∙ ap after_another (region_opens iso s (after_space t) x taken r h))
 
           pub another_enters : (z : S) → does.enters iso s ≡ z → does.enters iso z ≡ z → Turns (an_operation o) frames s t (Some (an_operation o)) frames z t
-          another_enters z f g = goes_as (by_another s ∙ (ap behind_another (entered_once iso s z (after_space t) f g) ∙ sym (by_another z)))
+          another_enters z f g = goes_as (by_another s ∙ (ap after_another (entered_once iso s z (after_space t) f g) ∙ sym (by_another z)))
 
     -- ---- a region goes on
     module _ (iso : Bool) (place : ℕ) (frames : List (Open T A)) (s : S) (t : Text) where
@@ -267,49 +267,49 @@ module _ {T A S : Type 0} (dialects : List (Text × Table)) (types_at : Text →
 
       -- a block, and the others
       module _ (b : begins_block (after_space t) ≡ true) where
-        abbrev behind_head : Head ℕ T A → Text → Reached Unit S
-        behind_head h rest = left_of (a_block true) rest (does.heads h s)
+        abbrev after_head : Head ℕ T A → Text → Reached Unit S
+        after_head h rest = left_of (a_block true) rest (does.heads h s)
 
         abbrev then_blocks : Reached Unit S → Reached Unit S
         then_blocks z = came z (λ _ u rest. left_of (a_region iso place) rest u)
 
-        by_head : left_of (a_region iso place) t s ≡ then_blocks (tells (head_at types_at attr (after_space t)) (after_space t) s behind_head)
+        by_head : left_of (a_region iso place) t s ≡ then_blocks (tells (head_at types_at attr (after_space t)) (after_space t) s after_head)
         by_head = by_blocks true b ∙ came_came (block (after_space t) s) other_blocks (λ _ z left. tells (word (codes "}") left) left z (λ _ end. Advanced tt (does.leaves iso place z) end))
 
         pub block_begins : (h : Head ℕ T A) (taken r : Text) → head_at types_at attr (after_space t) ≡ Read h taken r
             → Turns (a_region iso place) frames s t (Some (a_block true)) (frames ++ a_region iso place ∷ []) (does.heads h s) r
-        block_begins h taken r e = goes_in (a_region iso place) (by_head ∙ ap then_blocks (tells_found (head_at types_at attr (after_space t)) (after_space t) s behind_head h taken r e))
+        block_begins h taken r e = goes_in (a_region iso place) (by_head ∙ ap then_blocks (tells_found (head_at types_at attr (after_space t)) (after_space t) s after_head h taken r e))
 
         pub no_block : (cause : Fault) (upto : Text) → demanded (head_at types_at attr (after_space t)) ≡ Bad cause upto
             → Stops (a_region iso place) frames s t s cause (length (after_space t) - length upto)
-        no_block cause upto e = stuck_here (by_head ∙ ap then_blocks (tells_bad (head_at types_at attr (after_space t)) (after_space t) s behind_head cause upto e))
+        no_block cause upto e = stuck_here (by_head ∙ ap then_blocks (tells_bad (head_at types_at attr (after_space t)) (after_space t) s after_head cause upto e))
 
       -- no block is left
       module _ (b : begins_block (after_space t) ≡ false) where
-        abbrev behind_end : Unit {0} → Text → Reached Unit S
-        behind_end x end = Advanced tt (does.leaves iso place s) end
+        abbrev after_end : Unit {0} → Text → Reached Unit S
+        after_end x end = Advanced tt (does.leaves iso place s) end
 
         pub region_ends : (x : Unit {0}) (taken r : Text) (next : Option (Open T A)) (others : List (Open T A)) → word (codes "}") (after_space t) ≡ Read x taken r → Pops frames next others
             → Turns (a_region iso place) frames s t next others (does.leaves iso place s) r
-        region_ends x taken r next others h p = goes_out next others p (by_blocks false b ∙ tells_found (word (codes "}") (after_space t)) (after_space t) s behind_end x taken r h)
+        region_ends x taken r next others h p = goes_out next others p (by_blocks false b ∙ tells_found (word (codes "}") (after_space t)) (after_space t) s after_end x taken r h)
 
         pub no_brace : (cause : Fault) (upto : Text) → demanded (word (codes "}") (after_space t)) ≡ Bad cause upto
             → Stops (a_region iso place) frames s t s cause (length (after_space t) - length upto)
-        no_brace cause upto h = stuck_here (by_blocks false b ∙ tells_bad (word (codes "}") (after_space t)) (after_space t) s behind_end cause upto h)
+        no_brace cause upto h = stuck_here (by_blocks false b ∙ tells_bad (word (codes "}") (after_space t)) (after_space t) s after_end cause upto h)
 
     -- ---- a block goes on
     module _ (frames : List (Open T A)) (s : S) (t : Text) where
-      abbrev behind_semicolon : Text
-      behind_semicolon = after_space (without_first (after_space t))
+      abbrev after_semicolon : Text
+      after_semicolon = after_space (without_first (after_space t))
 
       -- the rest of a block, given whether another operation follows
       abbrev by_more : Bool → Reached Unit S
-      by_more b = cond b (came (item behind_semicolon s) (λ _ z rest. left_of (a_block false) rest z)) (Advanced tt s (after_space t))
+      by_more b = cond b (came (item after_semicolon s) (λ _ z rest. left_of (a_block false) rest z)) (Advanced tt s (after_space t))
 
       by_semicolon : (b : Bool) → begins (the 59) (after_space t) ≡ b → left_of (a_block false) t s ≡ by_more b
       by_semicolon b h = k.more_are (length t) (after_space t) s (shorter t) ∙ ap by_more h
 
-      pub another_operation : begins (the 59) (after_space t) ≡ true → Turns (a_block false) frames s t (Some (to_come true)) (frames ++ a_block false ∷ []) s behind_semicolon
+      pub another_operation : begins (the 59) (after_space t) ≡ true → Turns (a_block false) frames s t (Some (to_come true)) (frames ++ a_block false ∷ []) s after_semicolon
       another_operation b = goes_in (a_block false) (by_semicolon true b)
 
       pub no_more_operations : (next : Option (Open T A)) (others : List (Open T A)) → begins (the 59) (after_space t) ≡ false → Pops frames next others → Turns (a_block false) frames s t next others s (after_space t)

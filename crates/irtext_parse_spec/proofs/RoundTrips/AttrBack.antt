@@ -8,7 +8,7 @@ use Rattle.irtext_base.specs.Reading.{the, keyword}
 use Rattle.irtext_base.specs.Faults.{Fault}
 use Rattle.irtext_base.specs.Answers.{Outcome, Read, Missing, Bad, mapped, followed, prefixed}
 use Rattle.irtext_base.specs.Locations.{AttrView, given_names, ident, own}
-use Rattle.irtext_base.specs.Own.{texts_of, standing, found, missing, Ends, Lawful, Unreserved}
+use Rattle.irtext_base.specs.Own.{texts_of, verdict, found, missing, Ends, Lawful, Unreserved}
 use Rattle.irtext_base.proofs.Along.{front_after}
 use Rattle.irtext_base.proofs.Characters.{front_all, after_all, ends_word, identifier_every, identifier_begins, word_tight, is_false}
 use Rattle.irtext_tokens.specs.Tokens.{word_at, text_at, identifier_at}
@@ -73,11 +73,11 @@ module _ (rest : Text) where
   tail_back [] before (suc m) h l = ([], ap (λ z. Read z [] (93 ∷ rest)) (sym (append-nil before)))
   tail_back (x ∷ ns) before zero h l = absurd (omega (arith, l))
   tail_back (x ∷ ns) before (suc m) h l =
-      let behind = or_question x ++ left ns in
-      let flat : left (x ∷ ns) ≡ 44 ∷ 32 ∷ behind = ap (λ z. 44 ∷ 32 ∷ z) (append_assoc (or_question x) (joined_from comma (map or_question ns)) (93 ∷ rest)) in
+      let following = or_question x ++ left ns in
+      let flat : left (x ∷ ns) ≡ 44 ∷ 32 ∷ following = ap (λ z. 44 ∷ 32 ∷ z) (append_assoc (or_question x) (joined_from comma (map or_question ns)) (93 ∷ rest)) in
       let enough : length (left ns) ≤ m = omega (arith, l, ap length flat, length-append (or_question x) (left ns)) in
       let i = tail_back ns (before ++ (x ∷ [])) m h.1 enough in
-      let spaces = 32 ∷ front is_whitespace behind in (
+      let spaces = 32 ∷ front is_whitespace following in (
         (44 ∷ []) ++ (spaces ++ ((or_question x ++ []) ++ i.0)),
         ap (items_after 44 given_name_at (suc m) before) flat
             ∙ (ap (λ z. prefixed (44 ∷ []) (prefixed spaces (followed z (λ more v. items_after 44 given_name_at m more v)))) (ap (item_after 44 given_name_at before) (name_tight x (left ns) h.0) ∙ item_back before ns x h.0)
@@ -123,7 +123,7 @@ module _ (rest : Text) where
       )
 
 -- what the grammar finds in a text was parsed from it
-pub read_there : {X : Type 0} (o : Outcome X) (x : X) (left : Text) → standing o ≡ found x left → (taken : Text) × (o ≡ Read x taken left)
+pub read_there : {X : Type 0} (o : Outcome X) (x : X) (left : Text) → verdict o ≡ found x left → (taken : Text) × (o ≡ Read x taken left)
 read_there (Read y t r) x left e =
     let p : y ≡ x = cc in
     let q : r ≡ left = cc in
@@ -131,7 +131,7 @@ read_there (Read y t r) x left e =
 read_there (Missing cause) x left e = absurd (cc)
 read_there (Bad cause upto) x left e = absurd (cc)
 
-missing_there : {X : Type 0} (o : Outcome X) → standing o ≡ missing → (cause : Fault) × (o ≡ Missing cause)
+missing_there : {X : Type 0} (o : Outcome X) → verdict o ≡ missing → (cause : Fault) × (o ≡ Missing cause)
 missing_there (Read y t r) e = absurd (cc)
 missing_there (Missing cause) e = (cause, refl)
 missing_there (Bad cause upto) e = absurd (cc)

@@ -7,7 +7,7 @@ use Rattle.std.specs.Char.{is_ascii_digit, is_whitespace}
 use Rattle.irtext_base.specs.Text.{Text, begins, begins_word}
 use Rattle.irtext_base.specs.Reading.{the}
 use Rattle.irtext_base.specs.Answers.{Outcome}
-use Rattle.irtext_base.specs.Own.{Lawful, Sincere, Unreserved, standing, texts_of}
+use Rattle.irtext_base.specs.Own.{Lawful, Sincere, Unreserved, verdict, texts_of}
 use Rattle.irtext_base.specs.Locations.{AttrView, given_names, ident, own, src_pos, fused, named, call_site, unknown, no_location, location}
 use Rattle.irtext_base.specs.Paths.{Written}
 use Rattle.irtext_base.specs.declared.location.Location.{Location, Unknown}
@@ -19,8 +19,8 @@ use Rattle.irtext_grammar.specs.Spelling.Locations.{written_text, known_text}
 use Rattle.irtext_grammar.specs.Contexts.Held.{location_over}
 use Rattle.irtext_parse_spec.specs.Promises.PrintedBack.{locations}
 use Rattle.irtext_grammar.specs.Graphs.RoundTrip.{LocationReads}
-use Rattle.irtext_parse_spec.specs.Promises.Supported.{location_standing}
-use Rattle.irtext_parse_spec.specs.Promises.LocationsBack.{AttrReads, AllRead, RowRead, AllFit, left_behind}
+use Rattle.irtext_parse_spec.specs.Promises.Supported.{location_verdict}
+use Rattle.irtext_parse_spec.specs.Promises.LocationsBack.{AttrReads, AllRead, RowRead, AllFit, left_after}
 use Rattle.irtext_parse_spec.proofs.RoundTrips.AttrBack.{attr_back}
 use Rattle.irtext_parse_spec.proofs.Joins.Attributes.{splits_attr}
 use Rattle.irtext_parse_spec.proofs.Locations.ComesBack.{left_space, location_back}
@@ -67,13 +67,13 @@ module _ {A : Type 0} (reading : Text → Outcome A) (text_of : A → Text) (law
     row_read (location l ls) k = (all_read l k.0, row_read ls k.1)
 
   -- the text of a location that is kept is parsed back before `]`
-  written_reads : (l : Written A) → AllFit l → AllHold IsSpellableAttr l → LocationReads (location_standing (attr_at reading)) (locations text_of) (Some (written_text text_of l))
+  written_reads : (l : Written A) → AllFit l → AllHold IsSpellableAttr l → LocationReads (location_verdict (attr_at reading)) (locations text_of) (Some (written_text text_of l))
   written_reads l fits kept = (
     no_space text_of l,
-    λ rest h. (l, left_behind l rest, ap standing (location_back (attr_at reading) text_of l (all_read l kept) fits rest (stops rest h) (length (written_text text_of l ++ rest)) (le_refl _)).is, refl, left_space l rest),
+    λ rest h. (l, left_after l rest, ap verdict (location_back (attr_at reading) text_of l (all_read l kept) fits rest (stops rest h) (length (written_text text_of l ++ rest)) (le_refl _)).is, refl, left_space l rest),
   )
 
   -- and so is what is printed of a location
-  pub location_reads : (paths : List (List ℕ)) (l : Location A) → AllFit (location_over paths l) → AllHold IsSpellableAttr (location_over paths l) → LocationReads (location_standing (attr_at reading)) (locations text_of) (known_text text_of paths l)
+  pub location_reads : (paths : List (List ℕ)) (l : Location A) → AllFit (location_over paths l) → AllHold IsSpellableAttr (location_over paths l) → LocationReads (location_verdict (attr_at reading)) (locations text_of) (known_text text_of paths l)
   location_reads paths Unknown fits kept = tt
   location_reads paths l fits kept = written_reads (location_over paths l) fits kept

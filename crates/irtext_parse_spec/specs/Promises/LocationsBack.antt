@@ -52,9 +52,9 @@ module _ {A : Type 0} where
     RowFit (location l ls) = AllFit l × RowFit ls
 
   -- what is left of a text after a location: a call site also takes the white space after it
-  abbrev pub left_behind : Written A → Text → Text
-  left_behind (call_site callee caller) rest = after_space rest
-  left_behind _ rest = rest
+  abbrev pub left_after : Written A → Text → Text
+  left_after (call_site callee caller) rest = after_space rest
+  left_after _ rest = rest
 
 -- the text of a location ends here: no digit follows, which would continue its column
 abbrev pub EndsLocation : Text → Type 0

@@ -1,7 +1,7 @@
 -- For callers: the position and the location of a place of a text, the cause and the place of a failure, and a state before anything is
 -- parsed.
 use Rattle.std.specs.Prelude.{◌≡◌, ◌⊎◌, ℕ, ◌-◌, false, Option, Some, None, List, [], length, take}
-use Rattle.irtext_base.specs.Text.{Text, line_behind, column_behind}
+use Rattle.irtext_base.specs.Text.{Text, line_after, column_after}
 use Rattle.irtext_base.specs.Faults as fault
 use Rattle.irtext_base.specs.Faults.{Fault}
 use Rattle.irtext_base.specs.Stream.{cut, IsAt}
@@ -12,18 +12,18 @@ use Rattle.irtext_base.specs.declared.parsable.fault.ParseFault.{ParseFault}
 use Rattle.irtext_stream.specs.declared.position.SourcePosition.{SourcePosition}
 use Rattle.irtext_parse_state.specs.States.{marks_of}
 use Rattle.irtext_parse_state.specs.declared.parsable.state.StateStream.{StateStream}
-use Rattle.irtext_parse_spec.specs.Promises.Section.{IsStarved}
-use Rattle.irtext_grammar.specs.Contexts.Held.{StandsAt}
+use Rattle.irtext_parse_spec.specs.Promises.Section.{IsOutOfMemory}
+use Rattle.irtext_grammar.specs.Contexts.Held.{IsPosition}
 use Rattle.irtext_grammar.specs.Names.Script as script
 use Rattle.irtext_grammar.specs.Names.Script.{Cause}
 
 -- the position after a text
-abbrev pub position_behind : Text → SourcePosition
-position_behind text = record { line = cut (line_behind text); column = cut (column_behind text) }
+abbrev pub position_after : Text → SourcePosition
+position_after text = record { line = cut (line_after text); column = cut (column_after text) }
 
 -- the location of a place of a text, with these paths; a place is the number of characters from it to the end
 abbrev pub location_of : {A : Type 0} → List (List ℕ) → Source → Text → ℕ → Written A
-location_of paths source text place = src_pos (path_of paths source) (position_behind (take (length text - place) text))
+location_of paths source text place = src_pos (path_of paths source) (position_after (take (length text - place) text))
 
 module _ {T A U : Type 0} where
   -- no mark is recorded, and the stream has not failed
@@ -46,8 +46,8 @@ IsCause (script.ReservedKey key) cause = cause ≡ fault.ReservedKey key
 -- the position is that of the place of the failure, or the beginning of the text if the failure has no place
 abbrev pub IsPlace : Text → Option ℕ → SourcePosition → Type 0
 IsPlace text None at = IsAt at.line at.column []
-IsPlace text (Some place) at = StandsAt text place at
+IsPlace text (Some place) at = IsPosition text place at
 
 -- an allocation failed, which is a committed fault, or the fault is as stated
 abbrev pub UnlessMemory : {A : Type 0} → (ParseFault A → Type 0) → ParseFault A → Type 0
-UnlessMemory says f = IsStarved f ⊎ says f
+UnlessMemory says f = IsOutOfMemory f ⊎ says f

@@ -30,13 +30,13 @@ pub record FaultAt {A : Type 0} (committed : Bool) (cause : Fault) (upto : Text)
   pub place : IsAt fault.pos.line fault.pos.column (old.passed ++ upto)
 
 -- an allocation failed; this fault is always committed
-pub record IsStarved {A : Type 0} (fault : ParseFault A) : Type 0 where
+pub record IsOutOfMemory {A : Type 0} (fault : ParseFault A) : Type 0 where
   pub because : fault_of fault.cause ≡ Memory
   pub flag : fault.committed ≡ true
 
 -- an allocation failed, or the fault is one of those that are allowed, committed or not
 abbrev pub Faults : {A : Type 0} → Bool → (Fault → Text → Type 0) → StreamView → ParseFault A → Type 0
-Faults committed Allowed old fault = IsStarved fault ⊎ ((cause : Fault) × (upto : Text) × Allowed cause upto × FaultAt committed cause upto old fault)
+Faults committed Allowed old fault = IsOutOfMemory fault ⊎ ((cause : Fault) × (upto : Text) × Allowed cause upto × FaultAt committed cause upto old fault)
 
 module _ {A : Type 0} where
   -- whether the keys of the files in what an entry gives are below this count

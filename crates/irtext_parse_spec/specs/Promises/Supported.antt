@@ -1,7 +1,7 @@
 -- For callers: the language that the dialects of a context support, and which error an outcome of a parser allows.
 use Rattle.std.specs.Prelude.{◌≡◌, ℕ, Bool, true, false, List, []}
 use Rattle.irtext_base.specs.Text.{Text}
-use Rattle.irtext_base.specs.Own.{Standing, standing, Texts, Language, language}
+use Rattle.irtext_base.specs.Own.{Verdict, verdict, Texts, Language, language}
 use Rattle.irtext_context.specs.Dialects.{Table}
 use Rattle.irtext_base.specs.Faults.{Fault}
 use Rattle.irtext_base.specs.Answers.{Outcome, Read, Missing, Bad}
@@ -15,8 +15,8 @@ abbrev pub supported : {T A : Type 0} → List (Text × Table) → Texts T → T
 supported dialects types owns = language types owns (format_of dialects)
 
 -- the outcome of the parser of locations, in the form that the grammar uses
-abbrev pub location_standing : {A : Type 0} → (Text → Outcome (AttrView A)) → Text → Standing (Written A)
-location_standing attr text = standing (location_at attr text)
+abbrev pub location_verdict : {A : Type 0} → (Text → Outcome (AttrView A)) → Text → Verdict (Written A)
+location_verdict attr text = verdict (location_at attr text)
 
 -- the outcome is an error with this cause: nothing of the kind where the text begins, or something bad after these characters
 abbrev pub RefusedAs : {X : Type 0} → Outcome X → Fault → Text → Type 0

@@ -53,12 +53,12 @@ module _ {A : Type 0} where
 
   module _ (inner : Text → Outcome (Written A)) (more : Text → Outcome (WrittenRow A)) where
     -- white space after a location, and the locations that follow it
-    abbrev pub behind_location : Written A → Text → Outcome (WrittenRow A)
-    behind_location l = space_at ▷ more ⇒ location l
+    abbrev pub after_location : Written A → Text → Outcome (WrittenRow A)
+    after_location l = space_at ▷ more ⇒ location l
 
     -- given the outcome of the first location: no location if it is missing; otherwise that one and those that follow it
     abbrev pub row_of : Outcome (Written A) → Text → Outcome (WrittenRow A)
-    row_of (Read l taken rest) text = prefixed taken (behind_location l rest)
+    row_of (Read l taken rest) text = prefixed taken (after_location l rest)
     row_of (Missing cause) text = Read no_location [] text
     row_of (Bad cause upto) text = Bad cause upto
 
@@ -68,7 +68,7 @@ module _ {A : Type 0} where
 
     -- `,` and one more location, as long as `,` comes next
     abbrev pub more_at : Text → Outcome (WrittenRow A)
-    more_at = either (begins (the 44)) (word (codes ",") ▷ space_at ▷ inner ▶ behind_location) (nothing no_location)
+    more_at = either (begins (the 44)) (word (codes ",") ▷ space_at ▷ inner ▶ after_location) (nothing no_location)
 
     -- several locations as one
     abbrev pub fused_at : (Text → Outcome (AttrView A)) → Text → Outcome (Written A)

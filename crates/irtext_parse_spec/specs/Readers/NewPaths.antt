@@ -4,7 +4,7 @@ use Rattle.std.specs.Global.{Global}
 use Rattle.std.specs.Char.{is_whitespace}
 use Rattle.irtext_base.specs.Text.{Text, front, after}
 use Rattle.irtext_base.specs.Stream.{StreamView}
-use Rattle.irtext_base.specs.Answers.{Outcome, StarvesHere, Takes}
+use Rattle.irtext_base.specs.Answers.{Outcome, RunsOutHere, Takes}
 use Rattle.irtext_context.specs.Context.{ContextView, with_paths}
 use Rattle.irtext_base.specs.Paths.{KeepsPaths, are_known}
 use Rattle.irtext_base.specs.Locations.{LocationView, LocationsOf, no_location, location, location_view}
@@ -51,7 +51,7 @@ module _ {A : Type 0} where
   -- a location of this form was made, or an allocation failed
   abbrev pub Makes : LocationView A → StreamView → Result (Location A) (ParseFault A) → StreamView → Type 0
   Makes view old (Ok l) new = (location_view l ≡ view) × (new ≡ old)
-  Makes view old (Err fault) new = StarvesHere itself replaced old fault new
+  Makes view old (Err fault) new = RunsOutHere itself replaced old fault new
 
 -- the locations of one list, and then those of the other
 abbrev pub joined_rows : {S A : Type 0} → LocationsOf S A → LocationsOf S A → LocationsOf S A
@@ -62,4 +62,4 @@ module _ {A : Type 0} where
   -- a location was appended to a list, and the white space after it was consumed; or an allocation failed
   abbrev pub PushesRow : Vec (Location A) Global → Location A → StreamView → Vec (Location A) Global → Result Unit (ParseFault A) → StreamView → Type 0
   PushesRow found l old more (Ok done) new = (more.items ≡ found.items ++ (l ∷ [])) × Takes itself replaced (front is_whitespace old.rest) (after is_whitespace old.rest) old new
-  PushesRow found l old more (Err fault) new = StarvesHere itself replaced old fault new
+  PushesRow found l old more (Err fault) new = RunsOutHere itself replaced old fault new

@@ -11,9 +11,9 @@ without_first [] = []
 without_first (c ∷ text) = text
 
 -- the outcome of what follows a lead, seen from before it: a missing thing is bad if the lead is not empty
-abbrev pub behind : {X : Type 0} → Text → Outcome X → Outcome X
-behind [] o = o
-behind (c ∷ lead) o = prefixed (c ∷ lead) o
+abbrev pub after_lead : {X : Type 0} → Text → Outcome X → Outcome X
+after_lead [] o = o
+after_lead (c ∷ lead) o = prefixed (c ∷ lead) o
 
 -- whether the lead is not empty
 abbrev pub is_led : Text → Bool

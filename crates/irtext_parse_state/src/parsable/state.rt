@@ -4,7 +4,7 @@ ghost use Rattle.std.specs.Prelude.{◌≡◌, ℕ, List, [], ◌++◌, ◌∷�
 ghost use Rattle.std.specs.Str.{encode_utf8_all};
 ghost use Rattle.std.specs.Map.{lookup};
 ghost use Rattle.irtext_base.specs.Stream.{StreamView, IsAt, first_of, advanced, after_failure};
-ghost use Rattle.irtext_base.specs.Places.{StandsBehind, IsPlaceOf};
+ghost use Rattle.irtext_base.specs.Places.{IsPlaceAfter, IsPlaceOf};
 ghost use Rattle.irtext_parse_state.specs.States.{marks_of, same_index, LocatesAt, Notes};
 ghost use Rattle.irtext_base.specs.declared.location.Location.{Location};
 

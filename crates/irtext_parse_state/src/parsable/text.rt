@@ -2,7 +2,7 @@
 ghost use Rattle.std.specs.Prelude.{◌≡◌, ◌⊎◌, ℕ, List, IfOk};
 ghost use Rattle.std.specs.Iterator.{Drains, IsFinite};
 ghost use Rattle.std.specs.Str.{encode_utf8_all};
-ghost use Rattle.irtext_parse_state.specs.FromText.{at_beginning, IsErrorOf, IsStarved, Passes, Runs, Ran};
+ghost use Rattle.irtext_parse_state.specs.FromText.{at_beginning, IsErrorOf, IsOutOfMemory, Passes, Runs, Ran};
 
 use crate::parsable::{State, StateStream};
 use irtext_base::location::{Location, Source};
@@ -63,7 +63,7 @@ pub trait ParseAnswer: Sized {
     // the conversion of the parser's result
     ghost passes: { Self → Self.Answer → Type 0 };
     // the result if the text cannot be allocated
-    ghost starved: { Self.Answer → Type 0 };
+    ghost ran_out: { Self.Answer → Type 0 };
 
     /// Returns the value, or the `ParseFault` as an `Error`.
     fn into_answer(self, alloc: Global) -> Self::Answer
@@ -71,7 +71,7 @@ pub trait ParseAnswer: Sized {
 
     /// Returns the error for a text that cannot be allocated.
     fn no_memory() -> Self::Answer
-        ensures { starved result };
+        ensures { ran_out result };
 }
 
 impl<X, A: Drop> ParseAnswer for ParseResult<X, A> {
@@ -79,7 +79,7 @@ impl<X, A: Drop> ParseAnswer for ParseResult<X, A> {
 
     ghost passes = { Passes };
 
-    ghost starved = { IsStarved };
+    ghost ran_out = { IsOutOfMemory };
 
     fn into_answer(self, alloc: Global) -> Result<X, A> {
         match self {
@@ -114,7 +114,7 @@ where
     requires callable { (s : _) → F.pre parse s }
     requires lent { (s : _) (answer : R) (t : _) → F.post parse s answer t
         → t.now.state.ctx.ghost_name ≡ s.now.state.ctx.ghost_name }
-    ensures { Ran R.passes (F.post parse) text.now ctx.old result ctx.new ⊎ (R.starved result
+    ensures { Ran R.passes (F.post parse) text.now ctx.old result ctx.new ⊎ (R.ran_out result
         × (ctx.new ≡ ctx.old)) }
 {
     let alloc = ctx.allocator();

@@ -18,10 +18,10 @@ then (Ok x) f p = f p
 then (Err e) f p = tt
 
 -- what follows a call whose result was returned
-pub behind : {X Y E F P Q : Type 0} (r : Result X E) (answer : Result Y F) → OnOk r (IsOk answer) → OnOk answer P → (P → Q) → OnOk r Q
-behind (Ok x) (Ok y) h p f = f p
-behind (Ok x) (Err e) h p f = absurd (true≢false (sym h))
-behind (Err e) answer h p f = tt
+pub after_call : {X Y E F P Q : Type 0} (r : Result X E) (answer : Result Y F) → OnOk r (IsOk answer) → OnOk answer P → (P → Q) → OnOk r Q
+after_call (Ok x) (Ok y) h p f = f p
+after_call (Ok x) (Err e) h p f = absurd (true≢false (sym h))
+after_call (Err e) answer h p f = tt
 
 -- what holds if a call returned an error
 pub then-err : {X E : Type 0} {P Q : E → Type 0} (r : Result X E) → ((e : E) → P e → Q e) → IfErr r P → IfErr r Q
@@ -101,8 +101,8 @@ opening-whole n few =
     ap (λ k. take k (32 ∷ 10 ∷ 123 ∷ 10 ∷ replicate 64 32)) size ∙ ap (λ z. 32 ∷ 10 ∷ 123 ∷ 10 ∷ z) (take-replicate n 64 32 few)
 
 -- a slice of them after the space
-pub opening-behind : (n : ℕ) → n ≤ 64 → slice_range {X = ℕ} (32 ∷ 10 ∷ 123 ∷ 10 ∷ replicate 64 32) 1 (4 + n) ≡ 10 ∷ 123 ∷ 10 ∷ replicate n 32
-opening-behind n few =
+pub opening-following : (n : ℕ) → n ≤ 64 → slice_range {X = ℕ} (32 ∷ 10 ∷ 123 ∷ 10 ∷ replicate 64 32) 1 (4 + n) ≡ 10 ∷ 123 ∷ 10 ∷ replicate n 32
+opening-following n few =
     let size : 4 + n - 1 ≡ suc (suc (suc n)) = omega arith in
     ap (λ k. take k (10 ∷ 123 ∷ 10 ∷ replicate 64 32)) size ∙ ap (λ z. 10 ∷ 123 ∷ 10 ∷ z) (take-replicate n 64 32 few)
 

@@ -60,18 +60,18 @@ module _ {A : Type 0} (written : A → Text) (paths : List (List ℕ)) where
       further old new new w (part_text written paths next) whole (1 + part_weight next) size before before (Some next) p e (omega (arith, l)) (record { text_left = refl; less = omega arith })
 
   -- a word, and then a location after which a part waits
-  pub entered : {E : Type 0} (r : Result (Option (Part A)) E) (old new : String Global) (w whole : Text) (size : ℕ) (before after : List (Part A)) (next behind : Part A) → string_bytes new ≡ string_bytes old ++ encode_utf8_all w
-      → whole ≡ w ++ (part_text written paths next ++ part_text written paths behind) → part_weight next + part_weight behind < size
-      → IfOk r (λ n. n ≡ Some next) → OnOk r (after ≡ before ++ behind ∷ []) → IfOk r (Continues written paths whole size before old after new)
-  entered (Err e) old new w whole size before after next behind p q l n i = tt
-  entered (Ok found) old new w whole size before after next behind p q l n i =
+  pub entered : {E : Type 0} (r : Result (Option (Part A)) E) (old new : String Global) (w whole : Text) (size : ℕ) (before after : List (Part A)) (next following : Part A) → string_bytes new ≡ string_bytes old ++ encode_utf8_all w
+      → whole ≡ w ++ (part_text written paths next ++ part_text written paths following) → part_weight next + part_weight following < size
+      → IfOk r (λ n. n ≡ Some next) → OnOk r (after ≡ before ++ following ∷ []) → IfOk r (Continues written paths whole size before old after new)
+  entered (Err e) old new w whole size before after next following p q l n i = tt
+  entered (Ok found) old new w whole size before after next following p q l n i =
       let a = part_text written paths next in
-      let b = part_text written paths behind in
+      let b = part_text written paths following in
       subst (λ z. Continues written paths whole size before old after new z) (sym n)
       (subst (λ z. Continues written paths whole size before old z new (Some next)) (sym i)
-      (further old new new w (a ++ b) whole (1 + (part_weight next + part_weight behind)) size before (before ++ behind ∷ []) (Some next) p q (omega (arith, l)) (record {
-        text_left = ap (λ z. string_bytes new ++ encode_utf8_all z) (ap (λ z. a ++ z) (waiting_pushed before behind) ∙ sym (append_assoc a b (waiting_text written paths before)));
-        less = omega (arith, weight_pushed before behind);
+      (further old new new w (a ++ b) whole (1 + (part_weight next + part_weight following)) size before (before ++ following ∷ []) (Some next) p q (omega (arith, l)) (record {
+        text_left = ap (λ z. string_bytes new ++ encode_utf8_all z) (ap (λ z. a ++ z) (waiting_pushed before following) ∙ sym (append_assoc a b (waiting_text written paths before)));
+        less = omega (arith, weight_pushed before following);
       })))
 
   -- the end of a row, and one location more of it

@@ -19,11 +19,11 @@ use Rattle.irtext_print.proofs.Printers.FitsTests.{counted, written_key}
 -- the same text so many times, joined by nothing
 joined_repeated : (n : ℕ) (r : Text) → joined [] (replicate n r) ≡ repeated n r
 joined_repeated zero r = refl
-joined_repeated (suc n) r = ap (λ z. r ++ z) (behind n)
+joined_repeated (suc n) r = ap (λ z. r ++ z) (following n)
   where
-    behind : (n : ℕ) → joined_from [] (replicate n r) ≡ repeated n r
-    behind zero = refl
-    behind (suc n) = ap (λ z. r ++ z) (behind n)
+    following : (n : ℕ) → joined_from [] (replicate n r) ≡ repeated n r
+    following zero = refl
+    following (suc n) = ap (λ z. r ++ z) (following n)
 
 -- two tests that say the same keep the same
 filter_alike : {X : Type 0} (p q : X → Bool) → ((x : X) → p x ≡ q x) → (xs : List X) → filter p xs ≡ filter q xs

@@ -36,10 +36,10 @@ repeated zero text = []
 repeated (suc n) text = text ++ repeated n text
 
 -- how many regions are left after a directive
-abbrev pub left_behind : ℕ → Directive → ℕ
-left_behind n (format.region i) = n - 1
-left_behind n format.regions = 0
-left_behind n _ = n
+abbrev pub left_after : ℕ → Directive → ℕ
+left_after n (format.region i) = n - 1
+left_after n format.regions = 0
+left_after n _ = n
 
 -- the directive prints the attribute under a key
 abbrev pub names_key : Text → Directive → Bool
@@ -124,4 +124,4 @@ module _ {A : Type 0} where
       -- what directives print, each with the regions that are left
       abbrev pub directives_text : List Directive → List (Text × Attribute A) → Text → ℕ → List Directive → Text
       directives_text ds es r n [] = []
-      directives_text ds es r n (d ∷ rest) = directive_text ds es r n d ++ directives_text ds es r (left_behind n d) rest
+      directives_text ds es r n (d ∷ rest) = directive_text ds es r n d ++ directives_text ds es r (left_after n d) rest

@@ -42,13 +42,13 @@ fn fmt_comma(first: bool, f: &mut String) -> fmt::Result
 /// Puts a part on the stack until this location, which comes next, is printed.
 fn inside<'l, A>(
     location: &'l Location<A>,
-    behind: Part<'l, A>,
+    following: Part<'l, A>,
     waiting: &mut Vec<Part<'l, A>>,
 ) -> Result<Option<Part<'l, A>>, fmt::Error>
     ensures next { IfOk result (λ next. next ≡ Some (Whole location.entry)) }
-    ensures waiting { OnOk result (waiting.new.items ≡ waiting.old.items ++ behind.entry ∷ []) }
+    ensures waiting { OnOk result (waiting.new.items ≡ waiting.old.items ++ following.entry ∷ []) }
 {
-    match waiting.push(behind) {
+    match waiting.push(following) {
         Ok(()) => Ok(Some(Part::Whole(location))),
         Err(refused) => Err(AllocError::from(refused).into()),
     }
@@ -117,11 +117,11 @@ pub(super) fn fmt_part<'l, T: IrText<A>, A: AttrText<A>>(
                 return Ok(waiting.pop());
             };
             fmt_comma(first, f)?;
-            let behind = Part::Row {
+            let following = Part::Row {
                 left: others,
                 first: false,
             };
-            inside(location, behind, waiting)
+            inside(location, following, waiting)
         }
         Part::Caller(caller) => {
             f.push_str(" at ")?;

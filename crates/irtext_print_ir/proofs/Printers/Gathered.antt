@@ -73,8 +73,8 @@ module _ {T A U : Type 0} (types : ir_text.Ghosts T A) (owns : ir_text.Ghosts A 
   Misfits = heads.MisfitsUnder types owns attributes same ctx p s
 
   -- what follows the mark, after these items
-  abbrev behind_mark : List Item → Option (Ptr BasicBlock) → Text
-  behind_mark gs o = elim o [ Some b ↦ [] | None ↦ section_at types owns attributes same ctx (gs ++ items) ]
+  abbrev after_mark : List Item → Option (Ptr BasicBlock) → Text
+  after_mark gs o = elim o [ Some b ↦ [] | None ↦ section_at types owns attributes same ctx (gs ++ items) ]
 
   -- what is gathered then
   abbrev kept : Option (Ptr BasicBlock) → List Item
@@ -85,7 +85,7 @@ module _ {T A U : Type 0} (types : ir_text.Ghosts T A) (owns : ir_text.Ghosts A 
     pub in_block : (b : Ptr BasicBlock) → block_round ctx p ≡ Some b → new ≡ old ++ encode_utf8_all (marked_text (length s.gathered)) → t ≡ gathers s items → (Misfits → ⊥)
         → Printed (root_text types owns attributes same ctx p s) (root_left types owns attributes same ctx p s) Misfits old t new
     in_block b is w k f = record {
-      text = w ∙ ap (λ z. old ++ encode_utf8_all z) (sym (append-nil (marked_text (length s.gathered)))) ∙ ap (λ o. old ++ encode_utf8_all (marked_text (length s.gathered) ++ behind_mark s.gathered o)) (sym is);
+      text = w ∙ ap (λ z. old ++ encode_utf8_all z) (sym (append-nil (marked_text (length s.gathered)))) ∙ ap (λ o. old ++ encode_utf8_all (marked_text (length s.gathered) ++ after_mark s.gathered o)) (sym is);
       state = k ∙ ap (λ o. with_gathered s (kept o)) (sym is);
       fits = f;
     }
@@ -95,8 +95,8 @@ module _ {T A U : Type 0} (types : ir_text.Ghosts T A) (owns : ir_text.Ghosts A 
         → new ≡ mid ++ encode_utf8_all (section_at types owns attributes same ctx (gathered_of between)) → t ≡ with_gathered between []
         → Printed (root_text types owns attributes same ctx p s) (root_left types owns attributes same ctx p s) Misfits old t new
     outermost mid between is w k f v e = record {
-      text = more old mid new (marked_text (length s.gathered)) (behind_mark s.gathered None) w (v ∙ ap (λ z. mid ++ encode_utf8_all (section_at types owns attributes same ctx (gathered_of z))) k)
-          ∙ ap (λ o. old ++ encode_utf8_all (marked_text (length s.gathered) ++ behind_mark s.gathered o)) (sym is);
+      text = more old mid new (marked_text (length s.gathered)) (after_mark s.gathered None) w (v ∙ ap (λ z. mid ++ encode_utf8_all (section_at types owns attributes same ctx (gathered_of z))) k)
+          ∙ ap (λ o. old ++ encode_utf8_all (marked_text (length s.gathered) ++ after_mark s.gathered o)) (sym is);
       state = e ∙ ap (λ z. with_gathered z []) k ∙ ap (λ o. with_gathered s (kept o)) (sym is);
       fits = f;
     }
@@ -110,8 +110,8 @@ module _ {T A U : Type 0} (types : ir_text.Ghosts T A) (owns : ir_text.Ghosts A 
       let L = heads.language_of types owns attributes same ctx in
       let root : OperationView T A → Graph T A = λ op. record { own = seen_operation owns.written ctx p op; regions = seen_regions owns.written ctx (pointers ctx.graph p).regions } in
       let g_is : root v.0 ≡ g = some_eq (sym (ap (option_map root) v.1) ∙ sees) in
-      ap (λ o. marked_text (length s.gathered) ++ behind_mark s.gathered o) alone
-      ∙ ap (λ gs. marked_text (length gs) ++ behind_mark gs None) none
+      ap (λ o. marked_text (length s.gathered) ++ after_mark s.gathered o) alone
+      ∙ ap (λ gs. marked_text (length gs) ++ after_mark gs None) none
       ∙ text_is C L ctx p v.0 v.1 (sym (inside_is ctx.graph nested p)) (levels s.limit) s.width s.indent
       ∙ ap (λ g. text L C g s.indent s.width (levels s.limit)) g_is
 

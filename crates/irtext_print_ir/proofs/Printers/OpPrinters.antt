@@ -41,7 +41,7 @@ module _ {T A : Type 0} where
   module _ {U : Type 0} (s after : Shown U) (old new : List ℕ) (ctx : ContextView T A) (p : Ptr Operation) where
     -- a part that was printed is the text that is claimed
     pub part_writes : (part : OperationView T A → Option Text) → PartPrinted part ctx p s old after new → Writes (printed_part part ctx p s) after old new
-    part_writes part r = subst (λ o. Writes (option_map (λ t. (encode_utf8_all t, s)) (option_and_then part o)) after old new) (sym r.written.stands) (go (part r.written.view) r.written.text)
+    part_writes part r = subst (λ o. Writes (option_map (λ t. (encode_utf8_all t, s)) (option_and_then part o)) after old new) (sym r.written.alive) (go (part r.written.view) r.written.text)
       where
         go : (o : Option Text) → IsSomeAnd o (λ t. new ≡ old ++ encode_utf8_all t) → Writes (option_map (λ t. (encode_utf8_all t, s)) o) after old new
         go None h = tt

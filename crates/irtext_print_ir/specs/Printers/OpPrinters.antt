@@ -46,7 +46,7 @@ module _ {T A : Type 0} where
 -- a part of a live operation was appended, and so the operation has it
 pub record PartWritten {T A : Type 0} (part : OperationView T A → Option Text) (ctx : ContextView T A) (p : Ptr Operation) (old new : List ℕ) : Type 0 where
   pub view : OperationView T A
-  pub stands : operation ctx p ≡ Some view
+  pub alive : operation ctx p ≡ Some view
   pub text : IsSomeAnd (part view) (λ text. new ≡ old ++ encode_utf8_all text)
 
 -- the same, and the state is unchanged

@@ -4,7 +4,7 @@ ghost use Rattle.std.specs.Str.{chars};
 ghost use Rattle.irtext_stream.specs.Places.{AtPlace};
 ghost use Rattle.irtext_stream.specs.Text.{begins, begins_word};
 ghost use Rattle.irtext_stream.specs.NotationPieces.{characters, is_end, past, index_at, closed_at, letters_after};
-ghost use Rattle.irtext_stream.specs.NotationFaults.{IsNoLetter, Lacks, Reads, TakesLetter, whole};
+ghost use Rattle.irtext_stream.specs.NotationFaults.{IsNoLetter, IsUnmet, Reads, TakesLetter, whole};
 
 use crate::class::Class;
 use crate::notation::fault::{NotationFault, NotationPart};
@@ -13,7 +13,7 @@ use crate::stream::TextStream;
 
 /// Returns the error that this part is expected at a position that `position` returned on this stream.
 pub fn lack_at(stream: &TextStream, place: Place, expected: NotationPart) -> NotationFault
-    ensures { AtPlace place stream.now (λ passed rest. Lacks (whole stream.now) expected rest result) }
+    ensures { AtPlace place stream.now (λ passed rest. IsUnmet (whole stream.now) expected rest result) }
 {
     NotationFault::Unexpected {
         at: stream.locate(place),
@@ -23,7 +23,7 @@ pub fn lack_at(stream: &TextStream, place: Place, expected: NotationPart) -> Not
 
 /// Returns the error that this part is expected at the stream's position.
 pub fn lack(stream: &TextStream, expected: NotationPart) -> NotationFault
-    ensures { Lacks (whole stream.now) expected stream.now.rest result }
+    ensures { IsUnmet (whole stream.now) expected stream.now.rest result }
 {
     lack_at(stream, stream.position(), expected)
 }

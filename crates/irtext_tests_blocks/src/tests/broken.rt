@@ -1,6 +1,6 @@
 //! Texts that end early, or in which a character is replaced: the expected result of each, by the piece in which the text is broken.
 use crate::tests::broken::Piece::{Before, Here, Read};
-use crate::tests::standing::said;
+use crate::tests::live_objects::said;
 use irtext_tests_common::contexts::with_demo;
 use irtext_tests_print::reading::printed;
 use std::alloc::Global;

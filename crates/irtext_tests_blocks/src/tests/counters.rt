@@ -58,7 +58,7 @@ const ROWS: &[Row] = &[
 ];
 
 /// The text of an error: its cause, or that of the fault that it holds.
-fn told(alloc: Global, error: &Error<DemoAttr>) -> Result<String, Fail> {
+fn result_text(alloc: Global, error: &Error<DemoAttr>) -> Result<String, Fail> {
     match &error.err {
         Cause::Parse { at: _, cause } => Ok(format!(in alloc; "{cause}")?),
         cause => Ok(format!(in alloc; "{cause}")?),
@@ -69,20 +69,25 @@ fn told(alloc: Global, error: &Error<DemoAttr>) -> Result<String, Fail> {
 type Root = (Ptr<Operation>, String);
 
 /// The result for a text, and then the number of live objects. A root that is parsed is added to the live ones.
-fn said(alloc: Global, ctx: &mut Ctx, stand: &mut Vec<Root>, text: &str) -> Result<String, Fail> {
+fn said(
+    alloc: Global,
+    ctx: &mut Ctx,
+    parsed_roots: &mut Vec<Root>,
+    text: &str,
+) -> Result<String, Fail> {
     let said = match read_root(ctx, text) {
         Ok(op) => {
-            stand.push((op, whole(alloc, ctx, op)?))?;
+            parsed_roots.push((op, whole(alloc, ctx, op)?))?;
             concrete(alloc, ctx, op)?
         }
-        Err(error) => told(alloc, &error)?,
+        Err(error) => result_text(alloc, &error)?,
     };
     Ok(format!(in alloc; "{said}, {}", ctx.num_live())?)
 }
 
 /// Whether each live root still has its text.
-fn are_as_they_were(alloc: Global, ctx: &Ctx, stand: &[Root]) -> Result<bool, Fail> {
-    for root in stand {
+fn are_as_they_were(alloc: Global, ctx: &Ctx, parsed_roots: &[Root]) -> Result<bool, Fail> {
+    for root in parsed_roots {
         if whole(alloc, ctx, root.0)?.as_str() != root.1.as_str() {
             return Ok(false);
         }
@@ -95,10 +100,10 @@ fn differing(alloc: Global, ctx: &mut Ctx, texts: &[(&str, &str)]) -> Result<Opt
     if register_demo(ctx).is_err() {
         return Err(Fail::from("not registered"));
     }
-    let mut stand = Vec::new(alloc);
+    let mut parsed_roots = Vec::new(alloc);
     for (index, text) in texts.iter().enumerate() {
-        let said = said(alloc, ctx, &mut stand, text.0)?;
-        if said.as_str() != text.1 || !are_as_they_were(alloc, ctx, stand.as_slice())? {
+        let said = said(alloc, ctx, &mut parsed_roots, text.0)?;
+        if said.as_str() != text.1 || !are_as_they_were(alloc, ctx, parsed_roots.as_slice())? {
             return Ok(Some(index));
         }
     }

@@ -1,5 +1,5 @@
 //! Texts that are rejected beside a live root: the error of each; everything live is unchanged.
-use crate::tests::standing::said;
+use crate::tests::live_objects::said;
 use irtext_tests_common::contexts::with_demo;
 use std::alloc::Global;
 use std::test::Fail;
@@ -273,7 +273,7 @@ fn answered(alloc: Global, text: &str) -> Result<String, Fail> {
 }
 
 #[test]
-fn a_refused_text_leaves_what_stood(rt: HostRuntime) -> Result<(), Fail> {
+fn a_refused_text_leaves_the_context(rt: HostRuntime) -> Result<(), Fail> {
     for row in ROWS {
         assert_eq!(rt; answered(rt.alloc(), row.0)?.as_str(), row.1);
     }

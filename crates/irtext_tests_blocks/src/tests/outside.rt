@@ -1,7 +1,7 @@
 //! Names that are used, and results that are named, outside of every region: no scope is open there, so each is an error.
 use crate::tests::parts::{Path, at};
 use irtext_demo::DemoAttr;
-use irtext_tests_common::answers::told;
+use irtext_tests_common::answers::result_text;
 use irtext_tests_common::contexts::{Ctx, named, with_demo};
 use irtext_tests_print::reading::root;
 use pliron_text::base::{BasicBlock, Identifier, Operation, Ptr, Value};
@@ -38,7 +38,7 @@ fn value(alloc: Global, text: &str) -> Result<String, Fail> {
     let answer: ParseResult<Value, DemoAttr> = ssa_opd_parse(&mut stream);
     match answer {
         Ok(_) => Err(Fail::from("read")),
-        Err(fault) => told(alloc, &fault),
+        Err(fault) => result_text(alloc, &fault),
     }
 }
 
@@ -48,7 +48,7 @@ fn label(alloc: Global, text: &str) -> Result<String, Fail> {
     let answer: ParseResult<Ptr<BasicBlock>, DemoAttr> = block_opd_parse(&mut stream);
     match answer {
         Ok(_) => Err(Fail::from("read")),
-        Err(fault) => told(alloc, &fault),
+        Err(fault) => result_text(alloc, &fault),
     }
 }
 
@@ -137,7 +137,7 @@ fn results(
     let mut s = StateStream { stream, state };
     match process_parsed_ssa_defs(&mut s, names.as_slice(), op) {
         Ok(()) => Ok(String::from_str(alloc, "named")?),
-        Err(fault) => told(alloc, &fault),
+        Err(fault) => result_text(alloc, &fault),
     }
 }
 

@@ -2,7 +2,7 @@
 //! otherwise.
 use crate::tests::broken::Piece::{Before, Here, Read};
 use crate::tests::broken::{Broken, LABEL, MODULE, Piece, differing, joined};
-use crate::tests::standing::STANDS;
+use crate::tests::live_objects::LIVE_ROOT;
 use std::test::Fail;
 
 /// The printed text of a module with a function that returns a constant, by the number of entries of its section that are parsed.
@@ -117,7 +117,7 @@ const PIECES: &[&[Piece]] = &[
 
 #[test]
 fn a_text_that_breaks_off_is_refused_where_it_does(rt: HostRuntime) -> Result<(), Fail> {
-    let test = Broken::ended(STANDS, PRINTED);
+    let test = Broken::ended(LIVE_ROOT, PRINTED);
     assert_eq!(rt;
         differing(rt.alloc(), &test, &joined(rt.alloc(), PIECES)?)?,
         None

@@ -23,7 +23,7 @@ enum Way {
     Wide,
     /// Its first branch and then, after that is erased, the module with the same state. An item (an operation or a block with a mark) that
     /// was printed and then erased keeps its index and has no entry.
-    Behind,
+    Afterwards,
     /// Without locations: its labels are marked.
     Unlocated,
     /// The concrete text without locations.
@@ -41,7 +41,7 @@ const ROWS: &[(Way, &str)] = &[
         "builtin.module @m \n {\n     ^a_block1v1() !0:\n         test.br ^b_block3v1 !1\n\n     ^b_block3v1() !2:\n         test.br ^a_block1v1 !3\n } !4\n\noutlined_attributes:\n!0 = @[<in-memory>: line: 1, column: 21], [builtin_block_label = builtin.identifier a]\n!1 = @[<in-memory>: line: 1, column: 27], []\n!2 = @[<in-memory>: line: 1, column: 38], [builtin_block_label = builtin.identifier b]\n!3 = @[<in-memory>: line: 1, column: 44], []\n!4 = @[<in-memory>: line: 1, column: 1], []\n",
     ),
     (
-        Way::Behind,
+        Way::Afterwards,
         "test.br ^b_block3v1 !0\nbuiltin.module @m \n{\n  ^a_block1v1() !1:\n    \n\n  ^b_block3v1() !2:\n    test.br ^a_block1v1 !3\n} !4\n\noutlined_attributes:\n!1 = @[<in-memory>: line: 1, column: 21], [builtin_block_label = builtin.identifier a]\n!2 = @[<in-memory>: line: 1, column: 38], [builtin_block_label = builtin.identifier b]\n!3 = @[<in-memory>: line: 1, column: 44], []\n!4 = @[<in-memory>: line: 1, column: 1], []\n",
     ),
     (
@@ -66,13 +66,13 @@ fn layout(alloc: Global, spaces: u16, before: u16, levels: u32) -> State<()> {
 }
 
 /// The text of the first branch, and that of the module behind it once the branch is erased.
-fn behind(alloc: Global, ctx: &mut Ctx, op: Ptr<Operation>) -> Result<String, Fail> {
+fn following(alloc: Global, ctx: &mut Ctx, op: Ptr<Operation>) -> Result<String, Fail> {
     let first = at(ctx, op, &[(0, 0, 0)])?;
     let mut state: State<()> = State::new(alloc, ());
     let branch = appended(alloc, ctx, first, &mut state)?;
     erase(ctx, Item::Operation(first))?;
-    let behind = appended(alloc, ctx, op, &mut state)?;
-    Ok(format!(in alloc; "{branch}\n{behind}")?)
+    let following = appended(alloc, ctx, op, &mut state)?;
+    Ok(format!(in alloc; "{branch}\n{following}")?)
 }
 
 /// Removes the locations of an operation and of everything nested in it.
@@ -87,7 +87,7 @@ fn printed(alloc: Global, ctx: &mut Ctx, op: Ptr<Operation>, way: Way) -> Result
     match way {
         Way::Elided => laid_out(alloc, ctx, op, &layout(alloc, 2, 0, 0)),
         Way::Wide => laid_out(alloc, ctx, op, &layout(alloc, 4, 1, 1)),
-        Way::Behind => behind(alloc, ctx, op),
+        Way::Afterwards => following(alloc, ctx, op),
         Way::Unlocated => {
             unlocated(ctx, op)?;
             whole(alloc, ctx, op)

@@ -1,7 +1,7 @@
 //! Regions that are parsed alone, into a live operation; and blocks that are parsed outside of every region, which is an error.
-use crate::tests::standing::{STANDS, faulted};
+use crate::tests::live_objects::{LIVE_ROOT, faulted};
 use irtext_demo::{DemoAttr, DemoType};
-use irtext_tests_common::answers::told;
+use irtext_tests_common::answers::result_text;
 use irtext_tests_common::contexts::{Ctx, with_demo};
 use irtext_tests_print::reading::{root, whole};
 use pliron_text::base::{BasicBlock, Operation, Ptr, Region};
@@ -77,7 +77,7 @@ fn answered(
             let is_last = count > 0 && op.get_region(ctx, count - 1) == *region;
             Ok(String::from_str(alloc, if is_last { "last" } else { "elsewhere" })?)
         }
-        Err(fault) => told(alloc, fault),
+        Err(fault) => result_text(alloc, fault),
     }
 }
 
@@ -179,11 +179,14 @@ fn block_read(alloc: Global, ctx: &mut Ctx, text: &str) -> Result<(String, bool)
 
 /// The result for a block beside a live root, which has to be unchanged; no object and no mark may be added.
 fn block(alloc: Global, ctx: &mut Ctx, text: &str) -> Result<String, Fail> {
-    let stands = root(ctx, STANDS).ok_or("refused")?;
-    let before = whole(alloc, ctx, stands)?;
+    let live_root = root(ctx, LIVE_ROOT).ok_or("refused")?;
+    let before = whole(alloc, ctx, live_root)?;
     let live = ctx.num_live();
     let (said, marks) = block_read(alloc, ctx, text)?;
-    if marks || ctx.num_live() != live || whole(alloc, ctx, stands)?.as_str() != before.as_str() {
+    if marks
+        || ctx.num_live() != live
+        || whole(alloc, ctx, live_root)?.as_str() != before.as_str()
+    {
         return Err(Fail::from("something was left"));
     }
     Ok(said)

@@ -90,21 +90,30 @@ const REFUSED: &[&str] = &[
 ];
 
 /// Whether a text is rejected, the root that was parsed before is unchanged, and there is no other object.
-fn leaves(alloc: Global, ctx: &mut Ctx, stands: Ptr<Operation>, text: &str) -> Result<bool, Fail> {
-    let before = whole(alloc, ctx, stands)?;
+fn leaves(
+    alloc: Global,
+    ctx: &mut Ctx,
+    live_root: Ptr<Operation>,
+    text: &str,
+) -> Result<bool, Fail> {
+    let before = whole(alloc, ctx, live_root)?;
     let read = root(ctx, text).is_some();
-    let behind = whole(alloc, ctx, stands)?;
-    Ok(!read && ctx.num_live() == 2 && before == behind)
+    let following = whole(alloc, ctx, live_root)?;
+    Ok(!read && ctx.num_live() == 2 && before == following)
 }
 
 /// The number of the first text that is not rejected, or leaves something else.
 fn differing(alloc: Global, ctx: &mut Ctx) -> Result<Option<usize>, Fail> {
-    let stands = root(ctx, "builtin.module @m {}").ok_or("refused")?;
-    failing(REFUSED, ctx, |ctx, text| leaves(alloc, ctx, stands, text))
+    let live_root = root(ctx, "builtin.module @m {}").ok_or("refused")?;
+    failing(
+        REFUSED,
+        ctx,
+        |ctx, text| leaves(alloc, ctx, live_root, text),
+    )
 }
 
 #[test]
-fn a_refusal_leaves_what_stood(rt: HostRuntime) -> Result<(), Fail> {
+fn a_refusal_leaves_the_context(rt: HostRuntime) -> Result<(), Fail> {
     assert_eq!(rt; with_demo(rt.alloc(), differing)?, None);
     Ok(())
 }

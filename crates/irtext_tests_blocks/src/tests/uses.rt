@@ -222,7 +222,7 @@ fn live(_: Global, ctx: &mut Ctx, text: &str) -> Result<u64, Fail> {
 }
 
 #[test]
-fn nothing_is_left_that_stood_for_a_name(rt: HostRuntime) -> Result<(), Fail> {
+fn no_placeholder_is_left(rt: HostRuntime) -> Result<(), Fail> {
     for row in LIVE {
         assert_eq!(rt;
             with_demo(rt.alloc(), |alloc, ctx| live(alloc, ctx, row.0))?,

@@ -1,7 +1,7 @@
 //! Texts that are parsed completely: a root, and nothing but white space after it; and the same while the mark of an earlier operation is
 //! recorded.
 use irtext_demo::DemoAttr;
-use irtext_tests_common::answers::told;
+use irtext_tests_common::answers::result_text;
 use irtext_tests_common::contexts::{Ctx, Stream, with_demo};
 use irtext_tests_common::tables::failing_demo;
 use irtext_tests_print::reading::{alone, location};
@@ -78,7 +78,7 @@ fn read(s: &mut Stream<'_>) -> ParseResult<Ptr<Operation>, DemoAttr> {
 fn answered(alloc: Global, answer: &ParseResult<Ptr<Operation>, DemoAttr>) -> Result<String, Fail> {
     match answer {
         Ok(_) => Ok(String::from_str(alloc, "root")?),
-        Err(fault) => told(alloc, fault),
+        Err(fault) => result_text(alloc, fault),
     }
 }
 
@@ -108,7 +108,7 @@ fn row(alloc: Global, text: &str, times: usize) -> Result<String, Fail> {
 }
 
 #[test]
-fn nothing_is_left_behind_a_whole_text(rt: HostRuntime) -> Result<(), Fail> {
+fn nothing_is_left_after_a_whole_text(rt: HostRuntime) -> Result<(), Fail> {
     for line in TEXTS {
         assert_eq!(rt; row(rt.alloc(), line.0, line.1)?.as_str(), line.2);
     }

@@ -38,12 +38,12 @@ fn makes_three(graph: &mut Numbers, data: u32) -> Result<Three, AllocError>
 }
 
 /// Whether three objects are live.
-fn all_stand(graph: &Numbers, three: &Three) -> bool {
+fn all_are_live(graph: &Numbers, three: &Three) -> bool {
     graph.contains(three.operation) && graph.contains(three.block) && graph.contains(three.region)
 }
 
 /// Whether one of three objects is live.
-fn one_stands(graph: &Numbers, three: &Three) -> bool {
+fn one_is_live(graph: &Numbers, three: &Three) -> bool {
     graph.contains(three.operation) || graph.contains(three.block) || graph.contains(three.region)
 }
 
@@ -52,9 +52,9 @@ fn gives_back(graph: &mut Numbers) -> Result<bool, AllocError> {
     let older = makes_three(graph, 1)?;
     let mark = graph.made();
     let newer = makes_three(graph, 2)?;
-    let before = graph.num_live() == 6 && all_stand(graph, &newer);
+    let before = graph.num_live() == 6 && all_are_live(graph, &newer);
     graph.roll_back(mark);
-    let gone = graph.num_live() == 3 && all_stand(graph, &older) && !one_stands(graph, &newer);
+    let gone = graph.num_live() == 3 && all_are_live(graph, &older) && !one_is_live(graph, &newer);
     let again = graph.make_operation(3, Few::none(), &[], &[])?;
     let places = again.place() == 2 && again.generation() == 2;
     Ok(before && gone && places && graph.made() == 7)

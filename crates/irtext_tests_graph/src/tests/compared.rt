@@ -4,7 +4,7 @@ ghost use Rattle.irtext_graph.specs.Used.{IsDefined};
 
 use crate::tests::checks::Numbers;
 use crate::tests::model::{Item, Model};
-use crate::tests::nesting::stands_at;
+use crate::tests::nesting::is_child_at;
 use crate::tests::parts::{has_own, is_value, uses};
 use irtext_graph::object::{Defined, Object, Value};
 use irtext_tests_common::random::Random;
@@ -35,7 +35,7 @@ fn is_placed(graph: &Numbers, item: &Item) -> bool {
         return false;
     }
     for (i, c) in item.children.iter().enumerate() {
-        if !stands_at(graph, o, *c, i) {
+        if !is_child_at(graph, o, *c, i) {
             return false;
         }
     }
@@ -56,7 +56,7 @@ fn has_parts(graph: &Numbers, item: &Item) -> bool {
 fn has_values(graph: &Numbers, item: &Item) -> bool {
     for i in 0..item.parts.count {
         let number = item.first.wrapping_add(i as u64);
-        let stands = match item.object {
+        let alive = match item.object {
             Object::TheOperation(p) => is_value(
                 graph,
                 Value::Result(p, i),
@@ -66,7 +66,7 @@ fn has_values(graph: &Numbers, item: &Item) -> bool {
             Object::TheBlock(b) => is_value(graph, Value::Argument(b, i), type_of(number), number),
             Object::TheRegion(_) => false,
         };
-        if !stands {
+        if !alive {
             return false;
         }
     }

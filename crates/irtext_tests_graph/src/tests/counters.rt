@@ -1,5 +1,5 @@
 //! Counters that are nearly full, the places and generations of objects, and the numbers of values.
-ghost use Rattle.irtext_graph.specs.Parts.{ValueStands};
+ghost use Rattle.irtext_graph.specs.Parts.{IsDefinedValue};
 
 use crate::tests::checks::{Numbers, holds};
 use crate::tests::nesting::erased;
@@ -58,15 +58,15 @@ fn numbers_end(graph: &mut Numbers) -> Result<bool, AllocError> {
 
 /// Whether two values have different numbers, as they do unless they are the same value.
 fn numbers_differ(graph: &Numbers, v: Value, w: Value) -> bool
-    requires first { ValueStands graph.now v }
-    requires second { ValueStands graph.now w }
+    requires first { IsDefinedValue graph.now v }
+    requires second { IsDefinedValue graph.now w }
 {
     graph.keeps_numbers();
     graph.number_of(v) != graph.number_of(w)
 }
 
 /// The same for values that may not be live: then they have none.
-fn stand_apart(graph: &Numbers, v: Value, w: Value) -> bool {
+fn live_apart(graph: &Numbers, v: Value, w: Value) -> bool {
     graph.contains_value(v) && graph.contains_value(w) && numbers_differ(graph, v, w)
 }
 
@@ -78,10 +78,10 @@ fn numbers_are_apart(graph: &mut Numbers) -> Result<bool, AllocError> {
     let second = Value::Result(op, 1);
     let argument = Value::Argument(block, 0);
     Ok(
-        stand_apart(graph, first, second)
-            && stand_apart(graph, second, argument)
-            && stand_apart(graph, argument, first)
-            && !stand_apart(graph, first, first),
+        live_apart(graph, first, second)
+            && live_apart(graph, second, argument)
+            && live_apart(graph, argument, first)
+            && !live_apart(graph, first, first),
     )
 }
 

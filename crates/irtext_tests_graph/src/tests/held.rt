@@ -67,7 +67,7 @@ struct Chain {
 }
 
 /// Whether all objects of the chain are live.
-fn stand(holder: &Holder, chain: Chain) -> bool
+fn all_live_in(holder: &Holder, chain: Chain) -> bool
     ensures op { IsTrue result → IsLive holder.now.graph (TheOperation chain.op) }
     ensures region { IsTrue result → IsLive holder.now.graph (TheRegion chain.region) }
     ensures block { IsTrue result → IsLive holder.now.graph (TheBlock chain.block) }
@@ -81,15 +81,15 @@ fn stand(holder: &Holder, chain: Chain) -> bool
 
 /// Puts each object of the chain last into the one before it if that is allowed, and returns whether it was.
 fn put_together(holder: &mut Holder, c: Chain) -> Result<bool, AllocError> {
-    if !stand(holder, c) || !c.region.can_insert_at_back(c.op, holder) {
+    if !all_live_in(holder, c) || !c.region.can_insert_at_back(c.op, holder) {
         return Ok(false);
     }
     c.region.insert_at_back(c.op, holder)?;
-    if !stand(holder, c) || !c.block.can_insert_at_back(c.region, holder) {
+    if !all_live_in(holder, c) || !c.block.can_insert_at_back(c.region, holder) {
         return Ok(false);
     }
     c.block.insert_at_back(c.region, holder)?;
-    if !stand(holder, c) || !c.inner.can_insert_at_back(c.block, holder) {
+    if !all_live_in(holder, c) || !c.inner.can_insert_at_back(c.block, holder) {
         return Ok(false);
     }
     c.inner.insert_at_back(c.block, holder)?;
@@ -98,7 +98,7 @@ fn put_together(holder: &mut Holder, c: Chain) -> Result<bool, AllocError> {
 
 /// Whether each object of the chain names those around it.
 fn looks_up(holder: &Holder, c: Chain) -> bool {
-    if !stand(holder, c) {
+    if !all_live_in(holder, c) {
         return false;
     }
     let of_inner = c.inner.get_parent_block(holder) == Some(c.block)
@@ -115,7 +115,7 @@ fn looks_up(holder: &Holder, c: Chain) -> bool {
 
 /// Whether each object of the chain has the next as its only child.
 fn looks_down(holder: &Holder, c: Chain) -> bool {
-    stand(holder, c)
+    all_live_in(holder, c)
         && c.op.num_regions(holder) == 1
         && c.op.get_region(holder, 0) == c.region
         && c.region.num_blocks(holder) == 1
@@ -135,7 +135,7 @@ fn comes_apart(holder: &mut Holder, c: Chain) -> bool {
     if holder.graph.contains(Object::TheRegion(c.region)) {
         c.region.unlink(holder);
     }
-    stand(holder, c)
+    all_live_in(holder, c)
         && c.op.num_regions(holder) == 0
         && c.region.num_blocks(holder) == 0
         && c.block.num_operations(holder) == 0

@@ -23,7 +23,7 @@ pub(crate) fn put(graph: &mut Numbers, k: Object, c: Object) -> Result<bool, All
 }
 
 /// Whether c is a child of k, at an index.
-pub(crate) fn stands_at(graph: &Numbers, k: Object, c: Object, index: usize) -> bool {
+pub(crate) fn is_child_at(graph: &Numbers, k: Object, c: Object, index: usize) -> bool {
     if !graph.contains(k) || !graph.contains(c) {
         return false;
     }
@@ -64,14 +64,14 @@ fn nests(graph: &mut Numbers) -> Result<bool, AllocError> {
     let into_itself = put(graph, body, module)?;
     let twice = put(graph, body, inner)?;
     let all = one && two && three && four && !into_itself && !twice;
-    let listed = stands_at(graph, body, inner, 0) && stands_at(graph, body, last, 1);
+    let listed = is_child_at(graph, body, inner, 0) && is_child_at(graph, body, last, 1);
     let deep = graph.contains(last)
         && graph.is_inside(module, last)
         && !graph.is_inside(inner, last);
     if graph.contains(inner) {
         graph.unlink(inner);
     }
-    let closed = stands_at(graph, body, last, 0) && !stands_at(graph, body, inner, 0);
+    let closed = is_child_at(graph, body, last, 0) && !is_child_at(graph, body, inner, 0);
     let counted = graph.num_live() == 5 && graph.made() == 5;
     let places = second.place() == 3 && second.generation() == 1 && block.place() == 1;
     let gone = erased(graph, body) && !graph.contains(last) && graph.contains(inner);

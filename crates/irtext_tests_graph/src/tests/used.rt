@@ -93,7 +93,7 @@ fn make_scene(graph: &mut Numbers) -> Result<Scene, AllocError> {
 }
 
 /// Whether all of a scene is live.
-fn stands(holder: &Holder, s: Scene) -> bool
+fn alive(holder: &Holder, s: Scene) -> bool
     ensures root { IsTrue result → IsLive holder.now.graph (TheOperation s.root) }
     ensures region { IsTrue result → IsLive holder.now.graph (TheRegion s.region) }
     ensures first { IsTrue result → IsLive holder.now.graph (TheBlock s.first) }
@@ -112,7 +112,7 @@ fn stands(holder: &Holder, s: Scene) -> bool
 
 /// The children of each object, as lists.
 fn lists_children(holder: &Holder, s: Scene) -> Result<bool, AllocError> {
-    if !stands(holder, s) {
+    if !alive(holder, s) {
         return Ok(false);
     }
     let regions = s.root.regions(holder)?;
@@ -155,7 +155,7 @@ fn index_of_operation(holder: &Holder, op: Ptr<Operation>) -> Option<usize> {
 }
 
 /// The object so many levels around another, if that one is live.
-fn stands_round(holder: &Holder, o: Object, levels: usize) -> Option<Object> {
+fn live_ancestor(holder: &Holder, o: Object, levels: usize) -> Option<Object> {
     if !holder.graph.contains(o) {
         return None;
     }
@@ -170,13 +170,13 @@ fn finds(holder: &Holder, s: Scene) -> bool {
         && index_of_operation(holder, s.user) == Some(1)
         && index_of_operation(holder, s.root) == None;
     indices
-        && stands_round(holder, user, 3) == Some(Object::TheOperation(s.root))
-        && stands_round(holder, user, 4) == None
+        && live_ancestor(holder, user, 3) == Some(Object::TheOperation(s.root))
+        && live_ancestor(holder, user, 4) == None
 }
 
 /// The operands and the successors, one by one and as lists.
 fn lists_uses(holder: &Holder, s: Scene) -> Result<bool, AllocError> {
-    if !stands(holder, s) {
+    if !alive(holder, s) {
         return Ok(false);
     }
     let result = Value::Result(s.maker, 0);
@@ -195,7 +195,7 @@ fn lists_uses(holder: &Holder, s: Scene) -> Result<bool, AllocError> {
 
 /// The results with their types, one by one and as lists.
 fn lists_results(holder: &Holder, s: Scene) -> Result<bool, AllocError> {
-    if !stands(holder, s) || s.maker.get_num_results(holder) != 2 {
+    if !alive(holder, s) || s.maker.get_num_results(holder) != 2 {
         return Ok(false);
     }
     let results = s.maker.results(holder)?;
@@ -211,7 +211,7 @@ fn lists_results(holder: &Holder, s: Scene) -> Result<bool, AllocError> {
 
 /// The arguments, one by one and as a list, and the predecessors of a block.
 fn lists_arguments(holder: &Holder, s: Scene) -> Result<bool, AllocError> {
-    if !stands(holder, s) || s.first.get_num_arguments(holder) != 2 {
+    if !alive(holder, s) || s.first.get_num_arguments(holder) != 2 {
         return Ok(false);
     }
     let arguments = s.first.arguments(holder)?;

@@ -120,8 +120,8 @@ fn two(alloc: Global, first: Reader, second: Reader, text: &str) -> Result<Strin
     let mut stream = TextStream::new(alloc, text)?;
     let mut said = read(alloc, &mut stream, first)?;
     said.push('\n')?;
-    let behind = read(alloc, &mut stream, second)?;
-    said.push_str(behind.as_str())?;
+    let following = read(alloc, &mut stream, second)?;
+    said.push_str(following.as_str())?;
     Ok(said)
 }
 

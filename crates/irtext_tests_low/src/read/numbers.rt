@@ -103,7 +103,7 @@ const UNEXPECTED: &[(Kind, &str, u8, &str)] = &[
 ];
 
 /// The results after so many characters were skipped: an integer of eight bits, and then a boolean.
-const BEHIND: &[(u8, &str, &str)] = &[
+const AFTER_SKIPPED: &[(u8, &str, &str)] = &[
     (
         0,
         "- 1",
@@ -174,7 +174,7 @@ fn two(alloc: Global, stream: &mut TextStream) -> Result<String, Fail> {
 }
 
 /// The same after so many characters.
-fn behind(alloc: Global, skipped: u8, text: &str) -> Result<String, Fail> {
+fn following(alloc: Global, skipped: u8, text: &str) -> Result<String, Fail> {
     let mut stream = TextStream::new(alloc, text)?;
     for _ in 0..skipped {
         let _ = stream.take();
@@ -214,8 +214,8 @@ fn numbers_and_truth_values_of_a_text(rt: HostRuntime) -> Result<(), Fail> {
 
 #[test]
 fn a_refused_number_leaves_the_stream_failed(rt: HostRuntime) -> Result<(), Fail> {
-    for row in BEHIND {
-        assert_eq!(rt; behind(rt.alloc(), row.0, row.1)?.as_str(), row.2);
+    for row in AFTER_SKIPPED {
+        assert_eq!(rt; following(rt.alloc(), row.0, row.1)?.as_str(), row.2);
     }
     Ok(())
 }

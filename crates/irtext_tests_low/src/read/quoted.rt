@@ -1,6 +1,6 @@
 //! Quoted texts and their parser.
 use irtext_base::parsable::TextStream;
-use irtext_tests_common::answers::behind;
+use irtext_tests_common::answers::with_next;
 use irtext_tokens::irfmt::parsers::quoted_string_parse;
 use std::alloc::Global;
 use std::test::Fail;
@@ -48,7 +48,7 @@ const QUOTED: &[(&str, &str)] = &[
 fn read(alloc: Global, text: &str) -> Result<String, Fail> {
     let mut stream = TextStream::new(alloc, text)?;
     let answer = quoted_string_parse::<TextStream, ()>(&mut stream);
-    behind(alloc, &answer, stream.peek())
+    with_next(alloc, &answer, stream.peek())
 }
 
 #[test]

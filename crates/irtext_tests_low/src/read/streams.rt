@@ -3,7 +3,7 @@ use irtext_base::parsable::{
     CharStream, ParseFault, ParseResult, Place, SourcePosition, TextStream,
 };
 use irtext_base::result::{Cause, Expected};
-use irtext_tests_common::answers::{said, said_next, told};
+use irtext_tests_common::answers::{result_text, said, said_next};
 use irtext_tests_common::tables::differing;
 use irtext_tokens::irfmt::demanded::spaced_text_demanded;
 use irtext_tokens::irfmt::faults::{
@@ -74,7 +74,7 @@ const ARROWS: &[(&str, bool, &str)] = &[
 ];
 
 /// The position of a stream, the next character, and whether it has failed.
-fn stands(alloc: Global, stream: &TextStream) -> Result<String, Fail> {
+fn state_text(alloc: Global, stream: &TextStream) -> Result<String, Fail> {
     let at = stream.locate(stream.position());
     Ok(format!(in alloc; "{at} {:?} {}", stream.peek(), stream.has_failed())?)
 }
@@ -95,8 +95,8 @@ fn taken(alloc: Global, text: &str, number: usize) -> Result<String, Fail> {
     for _ in 0..number {
         last = stream.take();
     }
-    let stands = stands(alloc, &stream)?;
-    Ok(format!(in alloc; "{last:?} {stands}")?)
+    let state_text = state_text(alloc, &stream)?;
+    Ok(format!(in alloc; "{last:?} {state_text}")?)
 }
 
 /// The text from the beginning of `é\nb` to the place after two characters, and the next character once the stream is reset to the start.
@@ -134,7 +134,7 @@ fn a_stream_counts_lines_and_characters(rt: HostRuntime) -> Result<(), Fail> {
 fn fixed(alloc: Global, stream: &mut TextStream, text: &str) -> Result<String, Fail> {
     match text_parse::<TextStream, ()>(stream, text) {
         Ok(()) => Ok(String::from_str(alloc, "read")?),
-        Err(fault) => told(alloc, &fault),
+        Err(fault) => result_text(alloc, &fault),
     }
 }
 
@@ -198,7 +198,7 @@ fn refused(alloc: Global, text: &str, number: usize) -> Result<String, Fail> {
     let start = stream.position();
     let _ = stream.take();
     let fault = fault(number, &mut stream, start);
-    told(alloc, &fault)
+    result_text(alloc, &fault)
 }
 
 /// What begins at the start of a text, and after its first character.
@@ -206,8 +206,8 @@ fn classes(alloc: Global, text: &str) -> Result<String, Fail> {
     let mut stream = TextStream::new(alloc, text)?;
     let (next, class) = (next_is(&stream, 'a'), begins(&stream, Class::Beginning));
     let _ = stream.take();
-    let (behind, space) = (next_is(&stream, 'a'), begins(&stream, Class::WhiteSpace));
-    Ok(format!(in alloc; "{next} {class} {behind} {space}")?)
+    let (following, space) = (next_is(&stream, 'a'), begins(&stream, Class::WhiteSpace));
+    Ok(format!(in alloc; "{next} {class} {following} {space}")?)
 }
 
 /// A value as the result of a parser.
@@ -234,8 +234,8 @@ fn slices(alloc: Global, text: &str) -> Result<String, Fail> {
     stream.skip(Class::WhiteSpace);
     let first = stream.accept("é!=");
     let second = stream.accept("ab");
-    let stands = stands(alloc, &stream)?;
-    Ok(format!(in alloc; "{first} {second} {stands}")?)
+    let state_text = state_text(alloc, &stream)?;
+    Ok(format!(in alloc; "{first} {second} {state_text}")?)
 }
 
 /// A text, and the result for it.
@@ -272,12 +272,12 @@ fn arrow(alloc: Global, text: &str, failed: bool) -> Result<String, Fail> {
     fail_if(&mut stream, failed);
     match spaced_text_demanded::<TextStream, ()>(&mut stream, "->") {
         Ok(()) => Ok(format!(in alloc; "{}", stream.locate(stream.position()))?),
-        Err(fault) => told(alloc, &fault),
+        Err(fault) => result_text(alloc, &fault),
     }
 }
 
 #[test]
-fn a_fixed_text_behind_white_space(rt: HostRuntime) -> Result<(), Fail> {
+fn a_fixed_text_after_white_space(rt: HostRuntime) -> Result<(), Fail> {
     for row in ACCEPTED {
         assert_eq!(rt; accepted(rt.alloc(), row.0, row.1)?.as_str(), row.2);
     }

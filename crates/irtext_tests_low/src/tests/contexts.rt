@@ -49,14 +49,14 @@ fn rolled_back(alloc: Global, ctx: &mut Ctx) -> Result<String, Fail> {
     let region = ctx.add_region(first)?;
     let inside = ctx.contains_region(region) && region.get_parent_op(ctx) == Some(first);
     let (second, before) = passes(alloc, ctx, module_id(alloc)?)?;
-    let stands = ctx.contains_region(region) && !ctx.contains_operation(second);
-    let behind = ctx.num_live();
+    let alive = ctx.contains_region(region) && !ctx.contains_operation(second);
+    let following = ctx.num_live();
     let third = make(alloc, ctx, module_id(alloc)?)?;
     let shown = shown(alloc, ctx, first)?;
     let (place, again) = (second.place(), third.place());
     let generation = third.generation();
     Ok(format!(in alloc;
-        "{inside} {before} {stands} {behind} {place} {again} {generation} {shown}"
+        "{inside} {before} {alive} {following} {place} {again} {generation} {shown}"
     )?)
 }
 

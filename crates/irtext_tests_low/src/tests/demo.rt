@@ -2,7 +2,7 @@
 use irtext_base::parsable::{ParseResult, TextStream};
 use irtext_base::text::IrText;
 use irtext_demo::{DemoAttr, DemoType};
-use irtext_tests_common::answers::told;
+use irtext_tests_common::answers::result_text;
 use std::alloc::Global;
 use std::test::Fail;
 
@@ -97,7 +97,7 @@ fn written<X: IrText<DemoAttr>>(
             value.write_text(&mut printed)?;
             Ok(printed)
         }
-        Err(fault) => told(alloc, fault),
+        Err(fault) => result_text(alloc, fault),
     }
 }
 

@@ -87,7 +87,7 @@ fn comes_back(alloc: Global) -> Result<bool, Fail> {
 }
 
 /// The name of a dialect as a text, or the error.
-fn told(alloc: Global, text: &str) -> Result<String, Fail> {
+fn result_text(alloc: Global, text: &str) -> Result<String, Fail> {
     let answer: Answer<DialectName, DemoAttr> = DialectName::try_new(alloc, text);
     value_or_cause(alloc, &answer)
 }
@@ -159,7 +159,7 @@ fn is_as_it_was(alloc: Global, dialect: &Dialect) -> Result<bool, Fail> {
 }
 
 /// The result of registering `test.z` again, with a format that is rejected: the first registration has to stay.
-fn refused_behind(alloc: Global, dialect: &mut Dialect, letters: &str) -> Result<String, Fail> {
+fn refused_after(alloc: Global, dialect: &mut Dialect, letters: &str) -> Result<String, Fail> {
     if !registered(alloc, dialect, "0", true)?.as_str().is_empty() {
         return Err(Fail::from("not registered"));
     }
@@ -173,7 +173,7 @@ fn refused_behind(alloc: Global, dialect: &mut Dialect, letters: &str) -> Result
 /// The same with a dialect of its own.
 fn refused_by_add_op(alloc: Global, letters: &str) -> Result<String, Fail> {
     let mut dialect = Dialect::new(alloc, dialect_name(alloc, "test")?);
-    refused_behind(alloc, &mut dialect, letters)
+    refused_after(alloc, &mut dialect, letters)
 }
 
 /// The expected text for a format that fails this condition first.
@@ -201,9 +201,9 @@ fn of_another(alloc: Global) -> Result<String, Fail> {
 #[test]
 fn dialects_and_their_names(rt: HostRuntime) -> Result<(), Fail> {
     assert!(rt; comes_back(rt.alloc())?);
-    assert_eq!(rt; told(rt.alloc(), "test")?.as_str(), "test");
+    assert_eq!(rt; result_text(rt.alloc(), "test")?.as_str(), "test");
     assert_eq!(rt;
-        told(rt.alloc(), "1a")?.as_str(),
+        result_text(rt.alloc(), "1a")?.as_str(),
         "Unexpected `1`, expected identifier"
     );
     assert!(rt; last_is_kept(rt.alloc())?);

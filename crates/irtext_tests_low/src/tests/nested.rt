@@ -11,7 +11,7 @@ use std::test::Fail;
 const DEPTH: usize = 100_000;
 
 /// Whether the nested location is the last, so that calls without allocation follow it by a loop.
-fn stands_last(nesting: Nesting) -> bool {
+fn is_last_nested(nesting: Nesting) -> bool {
     matches!(nesting, Nesting::Child | Nesting::Caller | Nesting::Last)
 }
 
@@ -35,14 +35,14 @@ fn has_one_source(
 ) -> Result<bool, Fail> {
     let sources = location.sources(alloc).ok().ok_or("refused")?;
     let found = sources.len() == 1 && sources[0] == Source::InMemory;
-    let alone = !stands_last(nesting) || location.source() == Some(Source::InMemory);
+    let alone = !is_last_nested(nesting) || location.source() == Some(Source::InMemory);
     Ok(found && alone)
 }
 
 fn is_copied(alloc: Global, nesting: Nesting) -> Result<bool, Fail> {
     let location = nested(alloc, nesting, DEPTH, at(Source::InMemory))?;
     let copy = location.try_clone(alloc).ok().ok_or("refused")?;
-    let same = !stands_last(nesting) || copy == location;
+    let same = !is_last_nested(nesting) || copy == location;
     Ok(
         same && is_nested(nesting, &copy, Source::InMemory)
             && has_one_source(alloc, nesting, &copy)?,
@@ -72,7 +72,7 @@ pub fn copied(alloc: Global) -> Result<bool, Fail> {
 /// Whether locations move to another context, at any depth if each is the last in the one around it.
 pub fn carried(alloc: Global, from: &mut Ctx, to: &mut Ctx) -> Result<bool, Fail> {
     for nesting in NESTINGS {
-        if stands_last(*nesting) && !is_carried(alloc, *nesting, from, to)? {
+        if is_last_nested(*nesting) && !is_carried(alloc, *nesting, from, to)? {
             return Ok(false);
         }
     }

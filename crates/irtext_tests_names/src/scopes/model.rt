@@ -154,7 +154,7 @@ impl Model {
             Call::Enter | Call::EnterIsolated => self.enter(isolated)?,
             Call::Exit | Call::ExitIsolated => {
                 return Ok(match self.leave(isolated) {
-                    Some(lacking) => (lacking, Answer::Lacks),
+                    Some(lacking) => (lacking, Answer::Undefined),
                     None => (name, Answer::Done),
                 });
             }

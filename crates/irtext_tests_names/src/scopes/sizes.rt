@@ -73,8 +73,8 @@ fn nests(tracker: &mut Tracker, depth: u32) -> Result<bool, AllocError> {
         all = answers(tracker, EnterIsolated, "x", 0, Done)? && all;
         all = answers(tracker, Define, "x", level, Done)? && all;
     }
-    for behind in 0..depth {
-        let level = depth - 1 - behind;
+    for following in 0..depth {
+        let level = depth - 1 - following;
         all = answers(tracker, Use, "x", depth, Holds(level))? && all;
         all = answers(tracker, ExitIsolated, "x", 0, Done)? && all;
     }

@@ -25,9 +25,9 @@ fn left(tracker: &mut Tracker, isolated: bool, name: usize) -> Answer
         None => Answer::Done,
         Some(lacking) => {
             if tracker.name(lacking) == tracker.name(name) {
-                Answer::Lacks
+                Answer::Undefined
             } else {
-                Answer::LacksAnother
+                Answer::UndefinedOther
             }
         }
     }
@@ -118,7 +118,7 @@ fn row_of(word: &str) -> Option<(Call, &str, u32, Answer)> {
         let (call, name, value) = called_with(called)?;
         return Some(match refusal(answer) {
             Some(refusal) => (call, name, value, refusal),
-            None => (call, answer, value, Answer::Lacks),
+            None => (call, answer, value, Answer::Undefined),
         });
     }
     let Some((called, held)) = word.split_once('>') else {

@@ -51,7 +51,7 @@ const ROWS: &[Row] = &[
 ];
 
 /// The text of a result.
-fn told(alloc: Global, answer: Result<(), FitFault<'_>>) -> Result<String, Fail> {
+fn result_text(alloc: Global, answer: Result<(), FitFault<'_>>) -> Result<String, Fail> {
     match answer {
         Ok(()) => Ok(String::from_str(alloc, "fits")?),
         Err(FitFault::NotRegistered) => Ok(String::from_str(alloc, "not registered")?),
@@ -110,7 +110,7 @@ fn registered(alloc: Global, ctx: &mut Ctx, row: &Row) -> Result<Ptr<Operation>,
 /// The text of the result for an operation.
 fn checked(alloc: Global, ctx: &Ctx, op: Ptr<Operation>) -> Result<String, Fail> {
     live(ctx, op)?;
-    told(alloc, check_fits(ctx, op))
+    result_text(alloc, check_fits(ctx, op))
 }
 
 /// Whether the operation of a row has this result.

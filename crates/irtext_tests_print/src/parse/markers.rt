@@ -2,7 +2,7 @@
 use irtext_base::parsable::{ParseResult, TextStream};
 use irtext_demo::DemoAttr;
 use irtext_parse_root::irfmt::outlined::outlined_marker_or;
-use irtext_tests_common::answers::{behind, left};
+use irtext_tests_common::answers::{left, with_next};
 use irtext_tokens::irfmt::parsers::{bool_parse, int_parse, spaced};
 use std::alloc::Global;
 use std::test::Fail;
@@ -32,14 +32,14 @@ const MARKED: &[(&str, &str)] = &[
 /// The result for an item with white space around it.
 fn read_spaced(alloc: Global, stream: &mut TextStream) -> Result<String, Fail> {
     let answer: ParseResult<i32, DemoAttr> = spaced(stream, int_parse);
-    behind(alloc, &answer, stream.peek())
+    with_next(alloc, &answer, stream.peek())
 }
 
 /// The result for a boolean with white space around it.
 fn read_truth(alloc: Global, text: &str) -> Result<String, Fail> {
     let mut stream = TextStream::new(alloc, text)?;
     let answer: ParseResult<bool, DemoAttr> = spaced(&mut stream, bool_parse);
-    behind(alloc, &answer, stream.peek())
+    with_next(alloc, &answer, stream.peek())
 }
 
 /// The result for an item or the marker in its place.

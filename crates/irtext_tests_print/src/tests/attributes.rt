@@ -5,7 +5,7 @@ use irtext_context::base::Context;
 use irtext_demo::DemoAttr;
 use irtext_parse_state::irfmt::parsers::type_parse;
 use irtext_print_ir::printable::Disp;
-use irtext_tests_common::answers::{behind, left};
+use irtext_tests_common::answers::{left, with_next};
 use irtext_tests_common::contexts::{Ctx, Stream, in_context};
 use irtext_tokens::irfmt::parsers::attr_parse;
 use std::alloc::Global;
@@ -90,7 +90,7 @@ fn attribute(alloc: Global, s: &mut Stream<'_>) -> Result<String, Fail> {
 fn type_of(alloc: Global, s: &mut Stream<'_>) -> Result<String, Fail> {
     let answer = type_parse(s);
     let next = s.peek();
-    behind(alloc, &answer, next)
+    with_next(alloc, &answer, next)
 }
 
 #[test]

@@ -226,8 +226,8 @@ fn of_error(alloc: Global) -> Result<String, Fail> {
     let mut error = error(ErrorKind::InvalidInput, Location::Unknown, Cause::EmptyItem);
     let before = error.loc().is_unknown();
     error.set_loc(at(4, 2));
-    let behind = error.loc().is_unknown();
-    Ok(format!(in alloc; "{before} {behind} {error}\n{error:?}")?)
+    let following = error.loc().is_unknown();
+    Ok(format!(in alloc; "{before} {following} {error}\n{error:?}")?)
 }
 
 /// The text of the small error of a line.

@@ -119,7 +119,7 @@ fn newline(alloc: Global, ctx: &Ctx) -> Result<String, Fail> {
 }
 
 /// A newline after a guard.
-fn behind_guard(alloc: Global) -> Result<String, Fail> {
+fn after_guard(alloc: Global) -> Result<String, Fail> {
     let mut state = State::new(alloc, ());
     let inside = state.indent().is_ok();
     let newline = indented_nl(&state);
@@ -144,7 +144,7 @@ fn line(alloc: Global, ctx: &mut Ctx, number: usize) -> Result<String, Fail> {
         9 => listed(alloc, ctx, &[], ListSeparator::CharSpace(',')),
         10 => stored(alloc, ctx),
         11 => newline(alloc, ctx),
-        12 => behind_guard(alloc),
+        12 => after_guard(alloc),
         _ => appended(alloc, ctx),
     }
 }

@@ -7,7 +7,7 @@ ghost use Rattle.irtext_tests_roots.specs.Apart.{lab_dialects, lab_format, lab_i
 
 use irtext_context::base::context::making::Making;
 use irtext_demo::DemoAttr;
-use irtext_tests_common::answers::told;
+use irtext_tests_common::answers::result_text;
 use irtext_tests_common::building::live;
 use irtext_tests_common::contexts::{Ctx, named};
 use irtext_tests_print::reading::concrete;
@@ -85,7 +85,7 @@ fn answered(
     match answer {
         Ok(root) => concrete(alloc, other, *root),
         Err(NotBack::Unprinted(refusal)) => Ok(format!(in alloc; "{refusal:?}")?),
-        Err(NotBack::Unread(fault)) => told(alloc, fault),
+        Err(NotBack::Unread(fault)) => result_text(alloc, fault),
     }
 }
 

@@ -6,7 +6,7 @@ ghost use Rattle.irtext_base.specs.Text.{begins};
 ghost use Rattle.irtext_base.specs.Reading.{the};
 ghost use Rattle.irtext_base.specs.Stream.{IsAt, first_of, after_failure};
 ghost use Rattle.irtext_base.specs.Faults.{fault_of, demand_of, Unexpected};
-ghost use Rattle.irtext_base.specs.Answers.{StarvesHere, Commits, Passes, Demands, DemandsOf};
+ghost use Rattle.irtext_base.specs.Answers.{RunsOutHere, Commits, Passes, Demands, DemandsOf};
 ghost use Rattle.irtext_tokens.specs.Tokens.{has};
 ghost use Rattle.irtext_stream.specs.Places.{AtPlace};
 
@@ -33,7 +33,7 @@ pub fn begins<S: CharStream>(stream: &S, class: Class) -> bool
 }
 
 /// Returns the line and the column of the stream's current position.
-pub fn stands_at<S: CharStream>(stream: &S) -> SourcePosition
+pub fn current_position<S: CharStream>(stream: &S) -> SourcePosition
     ensures { IsAt result.line result.column (S.view stream.now).passed }
 {
     stream.locate(stream.position())
@@ -62,7 +62,7 @@ pub fn fail_at<S: CharStream, A>(
 pub fn refuse<S: CharStream, A>(stream: &mut S, cause: Cause<A>) -> ParseFault<A>
     ensures { Commits S.view S.at (fault_of cause) [] stream.old result stream.new }
 {
-    let pos = stands_at(stream);
+    let pos = current_position(stream);
     fail_at(stream, pos, cause)
 }
 
@@ -84,9 +84,9 @@ pub fn refuse_at<S: CharStream, A>(stream: &mut S, place: Place, cause: Cause<A>
 #[cold]
 #[inline(never)]
 pub fn out_of_memory<S: CharStream, A>(stream: &mut S) -> ParseFault<A>
-    ensures { StarvesHere S.view S.at stream.old result stream.new }
+    ensures { RunsOutHere S.view S.at stream.old result stream.new }
 {
-    let pos = stands_at(stream);
+    let pos = current_position(stream);
     fail_at(stream, pos, Cause::Memory)
 }
 
@@ -97,7 +97,7 @@ pub fn pass<S: CharStream, A>(stream: &S, cause: Cause<A>) -> ParseFault<A>
     ensures { Passes S.view S.at (fault_of cause) stream.now result stream.now }
 {
     ParseFault {
-        pos: stands_at(stream),
+        pos: current_position(stream),
         cause,
         committed: false,
     }

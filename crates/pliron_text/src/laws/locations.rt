@@ -9,7 +9,7 @@ ghost use Rattle.irtext_base.specs.Text.{after_space, begins};
 ghost use Rattle.irtext_parse_spec.specs.Readers.RestLengths.{LeavesNoMore};
 ghost use Rattle.irtext_parse_spec.specs.Readers.Locations.{location_at, location_within, more_within};
 ghost use Rattle.irtext_grammar.specs.Spelling.Locations.{written_text};
-ghost use Rattle.irtext_parse_spec.specs.Promises.LocationsBack.{AllFit, AllRead, EndsLocation, GivesBack, left_behind};
+ghost use Rattle.irtext_parse_spec.specs.Promises.LocationsBack.{AllFit, AllRead, EndsLocation, GivesBack, left_after};
 
 /// The printed text of a location of any kind parses back to that location, if no digit follows it, its metadata parses back, and its
 /// paths, names, lines and columns fit: paths and names are UTF-8, lines and columns fit their type. `within` says the same under each
@@ -19,14 +19,14 @@ pub fn location_comes_back<A>()
     ensures reads { (attr : List ℕ → Outcome (AttrView A)) (text_of : A → List ℕ) (l : Written A)
         (rest : List ℕ) → AllRead attr text_of l → AllFit l → EndsLocation rest →
         let text = written_text text_of l ++ rest in GivesBack (location_at attr text) l text
-        (left_behind l rest) }
+        (left_after l rest) }
     ensures within { (attr : List ℕ → Outcome (AttrView A)) (text_of : A → List ℕ) (l : Written A)
         (rest : List ℕ) (n : ℕ) → AllRead attr text_of l → AllFit l → EndsLocation rest →
         let text = written_text text_of l ++ rest in length text ≤ n
-        → GivesBack (location_within attr n text) l text (left_behind l rest) }
-    ensures leaves { (l : Written A) (rest : List ℕ) → after_space (left_behind l rest) ≡ after_space rest }
+        → GivesBack (location_within attr n text) l text (left_after l rest) }
+    ensures leaves { (l : Written A) (rest : List ℕ) → after_space (left_after l rest) ≡ after_space rest }
     ensures leaves_all { (l : Written A) (rest : List ℕ) → begins is_whitespace rest ≡ false
-        → left_behind l rest ≡ rest }
+        → left_after l rest ≡ rest }
 {}
 
 /// Two locations with the same text are the same location, if the text of each parses back.

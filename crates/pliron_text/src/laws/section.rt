@@ -2,7 +2,7 @@
 //! block that carries a mark.
 ghost use Rattle.std.specs.Prelude.{◌≡◌, ℕ, ◌+◌, Bool, true, List, [], length, map, None, Option, Some};
 ghost use Rattle.irtext_base.specs.Format.{distinct, same_text, Id};
-ghost use Rattle.irtext_base.specs.Own.{language, texts_of, unplaced, Standing};
+ghost use Rattle.irtext_base.specs.Own.{language, texts_of, unplaced, Verdict};
 ghost use Rattle.irtext_grammar.specs.Names.Acts.{failures_of, tree_script};
 ghost use Rattle.irtext_grammar.specs.Grammar.Bare.{bare};
 ghost use Rattle.irtext_grammar.specs.Graphs.Build.{build};
@@ -13,7 +13,7 @@ ghost use Rattle.irtext_grammar.specs.Graphs.Graph.{entries_of, shared, written,
 ghost use Rattle.irtext_grammar.specs.Grammar.Marked.{reads_root};
 ghost use Rattle.irtext_grammar.specs.Grammar.Section.{Entry};
 ghost use Rattle.irtext_grammar.specs.Graphs.RoundTrip.{GraphHeld};
-ghost use Rattle.irtext_grammar.specs.Graphs.Same.{stood, Locations, SameShapes, SmallGraph};
+ghost use Rattle.irtext_grammar.specs.Graphs.Same.{resolved_root, Locations, SameShapes, SmallGraph};
 ghost use Rattle.irtext_grammar.specs.Names.Scopes.{facts};
 ghost use Rattle.irtext_grammar.specs.Names.Script.{done};
 ghost use Rattle.irtext_grammar.specs.Spelling.Section.{text};
@@ -27,7 +27,7 @@ use irtext_base::text::{AttrText, IrText};
 /// equal to the printed ones apart from places. They resolve. Each item's mark leads to the item's own location and outlined
 /// attributes. What they build has the root's ids, types, operands, successors and printed labels at each place.
 pub fn section_comes_back<T: IrText<A>, A: AttrText<A>, X>()
-    ensures { (location_at : List ℕ → Standing X) (K : Locations X) (first : ℕ → X) (C : Printing T A)
+    ensures { (location_at : List ℕ → Verdict X) (K : Locations X) (first : ℕ → X) (C : Printing T A)
         (isolated : Id → Bool) (g : Graph T A) (width n : ℕ) →
         let types = texts_of T.reading T.written in
         let owns = texts_of A.reading A.written in
@@ -38,7 +38,7 @@ pub fn section_comes_back<T: IrText<A>, A: AttrText<A>, X>()
         reads_root (language types owns C.format_of) location_at t es (text printing C g n width None) u
         × (bare t ≡ written C None g) × (bare_section K.text es ≡ written_section C (entries_of C None g))
         × (failures_of isolated t es ≡ []) × Contents C K.text es g t
-        × SameShapes (stood C isolated g) (build isolated first es t) }
+        × SameShapes (resolved_root C isolated g) (build isolated first es t) }
 {}
 
 /// The marks in the printed tree of a graph are 0, 1 and so on in the order of the text, however deep its regions are nested; there are

@@ -398,10 +398,17 @@ fn positions_are_filled_in(rt: HostRuntime) {
 fn texts_that_do_not_resolve_are_refused(rt: HostRuntime) -> Result<(), Fail> {
     for row in REFUSED {
         let (column, words) = (row.1, row.2);
-        let told = format!(in rt.alloc();
+        let written_errors = format!(in rt.alloc();
             "[<in-memory>: line: 1, column: {column}] Compilation error: invalid input program.\nParse error at line: 1, column: {column}\n{words}\n"
         )?;
-        check(&rt, &["fmt"], row.0.as_bytes(), 1, b"", told.as_bytes());
+        check(
+            &rt,
+            &["fmt"],
+            row.0.as_bytes(),
+            1,
+            b"",
+            written_errors.as_bytes(),
+        );
     }
     Ok(())
 }

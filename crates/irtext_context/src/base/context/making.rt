@@ -6,7 +6,7 @@ ghost use Rattle.irtext_graph.specs.Back.{AllOlder, IsClosedBelow};
 ghost use Rattle.irtext_graph.specs.Graph.{IsLive};
 ghost use Rattle.irtext_graph.specs.Store.{before};
 ghost use Rattle.irtext_graph.specs.declared.object.Object.TheVariants.{TheOperation};
-ghost use Rattle.irtext_context.specs.Made.{BlocksStand, ValuesStand};
+ghost use Rattle.irtext_context.specs.Made.{AreLiveBlocks, AreDefinedValues};
 ghost use Rattle.irtext_context.specs.Context.{KeepsOlder, RollsBack, MakesOperation, MakesBlock, AddsRegion};
 
 use crate::base::block::BlockData;
@@ -59,8 +59,8 @@ pub trait Making<T: IrText<A>, A: AttrText<A>> {
         operands: &[Value],
         successors: &[Ptr<BasicBlock>],
     ) -> Result<Ptr<Operation>, AllocError>
-        requires operands { ValuesStand (seen self.old) operands.now }
-        requires successors { BlocksStand (seen self.old) successors.now }
+        requires operands { AreDefinedValues (seen self.old) operands.now }
+        requires successors { AreLiveBlocks (seen self.old) successors.now }
         ensures made { IfOk result (λ p. MakesOperation (seen self.old) (seen self.new) p
             (record { id = id; attributes = attributes; loc = loc }) result_types operands.now successors.now) }
         ensures err { OnErr result (seen self.new ≡ seen self.old) }
@@ -142,8 +142,8 @@ impl<T: IrText<A>, A: AttrText<A>> Making<T, A> for Context<T, A> {
         operands: &[Value],
         successors: &[Ptr<BasicBlock>],
     ) -> Result<Ptr<Operation>, AllocError>
-        requires operands { ValuesStand self.old operands.now }
-        requires successors { BlocksStand self.old successors.now }
+        requires operands { AreDefinedValues self.old operands.now }
+        requires successors { AreLiveBlocks self.old successors.now }
         ensures made { IfOk result (λ p. MakesOperation self.old self.new p
             (record { id = id; attributes = attributes; loc = loc }) result_types operands.now successors.now) }
         ensures err { OnErr result (self.new ≡ self.old) }

@@ -5,7 +5,7 @@ ghost use Rattle.irtext_graph.specs.Store.{before};
 ghost use Rattle.irtext_graph.specs.declared.object.Object.TheVariants.{TheOperation};
 ghost use Rattle.irtext_context.specs.Context.{KeepsOlder, MakesOperation};
 ghost use Rattle.irtext_context.specs.DialectTable.{registered};
-ghost use Rattle.irtext_context.specs.Made.{bare, AddsRegions, BlocksStand, IsUnregistered, MakesWithRegions, SameObjects, ValuesStand};
+ghost use Rattle.irtext_context.specs.Made.{bare, AddsRegions, AreLiveBlocks, IsUnregistered, MakesWithRegions, SameObjects, AreDefinedValues};
 ghost use Rattle.irtext_base.specs.declared.location.Location.{Unknown};
 
 use crate::base::context::making::Making;
@@ -50,8 +50,8 @@ fn make<T: IrText<A>, A: AttrText<A>>(
     successors: &[Ptr<BasicBlock>],
     num_regions: usize,
 ) -> Result<Ptr<Operation>, AllocError>
-    requires operands { ValuesStand ctx.old operands.now }
-    requires successors { BlocksStand ctx.old successors.now }
+    requires operands { AreDefinedValues ctx.old operands.now }
+    requires successors { AreLiveBlocks ctx.old successors.now }
     ensures made { IfOk result (λ op. MakesWithRegions num_regions ctx.old ctx.new op id result_types
         operands.now successors.now) }
     ensures kept { (mark : ℕ) → mark ≤ ctx.old.graph.made → KeepsOlder mark ctx.old ctx.new }
@@ -83,8 +83,8 @@ pub trait NewOperation {
         successors: &[Ptr<BasicBlock>],
         num_regions: usize,
     ) -> result::Result<Ptr<Operation>, A>
-        requires operands { ValuesStand ctx.old operands.now }
-        requires successors { BlocksStand ctx.old successors.now }
+        requires operands { AreDefinedValues ctx.old operands.now }
+        requires successors { AreLiveBlocks ctx.old successors.now }
         ensures made { IfOk result (λ op. MakesWithRegions num_regions ctx.old ctx.new op id result_types
             operands.now successors.now) }
         ensures registered { OnOk result (IsSome (registered ctx.old.dialects id)) }

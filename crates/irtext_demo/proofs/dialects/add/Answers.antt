@@ -6,4 +6,4 @@ pub returns-clause-refused : goal.returns-clause-refused
 returns-clause-refused g c =
     let a = c.args in
     let row = c.row-isolated.ensures in
-    IfErr-weaker c.register_op.result _ _ (λ e told. refused a.ctx.now.dialects a.demo _ _ c.in_ok-format.format e.err row.dialect row.name c.in_ok-format.ensures told) c.register_op.ensures.refused
+    IfErr-weaker c.register_op.result _ _ (λ e said_in_error. refused a.ctx.now.dialects a.demo _ _ c.in_ok-format.format e.err row.dialect row.name c.in_ok-format.ensures said_in_error) c.register_op.ensures.refused

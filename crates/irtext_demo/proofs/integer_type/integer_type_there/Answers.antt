@@ -11,12 +11,12 @@ use Rattle.irtext_demo.specs.declared.width.Width.{Width}
 use Rattle.irtext_demo.proofs.integer_type.integer_type_there.Goals as goal
 
 -- what is parsed after a sign
-abbrev behind : Signedness → List ℕ → Outcome IntegerType
-behind kind = width_at ⇒ integer_type_with kind
+abbrev following : Signedness → List ℕ → Outcome IntegerType
+following kind = width_at ⇒ integer_type_with kind
 
 -- a sign was parsed
-signed : (kind : Signedness) (old mid : StreamView) → Gives (λ s. s) (λ s v. v) (unless_failed old.failed (signedness_at old.rest)) old kind mid → Passed alone integer_type_at (behind kind) old mid
-signed kind old mid h = begins_with alone {A = Unit {0}} behind (may_read alone (λ k. k) signedness_at old mid (Ok kind) h)
+signed : (kind : Signedness) (old mid : StreamView) → Gives (λ s. s) (λ s v. v) (unless_failed old.failed (signedness_at old.rest)) old kind mid → Passed alone integer_type_at (following kind) old mid
+signed kind old mid h = begins_with alone {A = Unit {0}} following (may_read alone (λ k. k) signedness_at old mid (Ok kind) h)
 
 -- and then a width
 both : (kind : Signedness) (width : Width) (old mid new : StreamView) → Gives (λ s. s) (λ s v. v) (unless_failed old.failed (signedness_at old.rest)) old kind mid
@@ -25,7 +25,7 @@ both : (kind : Signedness) (width : Width) (old mid new : StreamView) → Gives 
 both kind width old mid new h k =
     let m = insisted alone {A = Unit {0}} (may_read alone (λ w. w) width_at mid new (Ok width) k) (refl, refl) in
     let p = last_seen alone (λ t. t) (integer_type_with kind) (integer_type_with kind width) refl (signed kind old mid h) m in
-    let r = begun_by alone behind (may_read alone {A = Unit {0}} (λ k. k) signedness_at old mid (Ok kind) h) p in r.answers
+    let r = begun_by alone following (may_read alone {A = Unit {0}} (λ k. k) signedness_at old mid (Ok kind) h) p in r.answers
 
 pub returns-in-Some-width_there : goal.returns-in-Some-width_there
 returns-in-Some-width_there c = both c.in-Some.kind c.in-Some-width_there.width c.args.stream.now c.sign_there.new.stream c.width_there.new.stream c.in-Some.ensures c.in-Some-width_there.ensures

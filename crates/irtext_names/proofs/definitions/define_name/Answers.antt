@@ -7,7 +7,7 @@ use Rattle.irtext_names.specs.Kinds.{scopes_of, defined_as}
 use Rattle.irtext_names.proofs.ByKind.{one_of, alike_of, same_scopes, ties, waits, definition_ties}
 use Rattle.irtext_names.proofs.Lists.{older_itself}
 use Rattle.irtext_names.proofs.Linked.Definitions.{takes_definition, fails_twice}
-use Rattle.irtext_names.proofs.Pairs.{held_here, waits_here, not_itself, settles_some, settles_none, waits_free, accepted_free, handed_on, same_refusal}
+use Rattle.irtext_names.proofs.Pairs.{held_here, waits_here, not_itself, settles_some, settles_none, waits_free, accepted_free, propagated, same_refusal}
 use Rattle.irtext_names.proofs.definitions.define_name.Goals as goal
 
 pub settle-requires-clause-placeholder : goal.settle-requires-clause-placeholder
@@ -15,8 +15,8 @@ settle-requires-clause-placeholder g c =
     let kind = g.K.Referent.kind in
     rw c.as_defined.ensures (held_here (defined_as kind) c.args.name (scopes_of kind c.args.names.now) (ties kind c.args.names.now c.args.graph.now c.requires.tied) c.in-Some.placeholder (sym c.in_ok-placeholder.ensures.placeholder ∙ c.in-Some.is))
 
-pub settle-requires-clause-stands : goal.settle-requires-clause-stands
-settle-requires-clause-stands g c = rw c.as_defined-in-Some.ensures c.requires.there
+pub settle-requires-clause-alive : goal.settle-requires-clause-alive
+settle-requires-clause-alive g c = rw c.as_defined-in-Some.ensures c.requires.there
 
 pub settle-requires-clause-alike : goal.settle-requires-clause-alike
 settle-requires-clause-alike g c = rw (c.as_defined.ensures, c.as_defined-in-Some.ensures) (alike_of g.K.Referent.kind c.in-Some.placeholder c.args.def)
@@ -66,7 +66,7 @@ returns-in_default-clause-follows g c = λ w p is.
 
 pub returns-in_err-placeholder-clause-fails : goal.returns-in_err-placeholder-clause-fails
 returns-in_err-placeholder-clause-fails g c = λ e w p is. fails_twice g.K.Referent.kind c.args.names.now c.args.graph.now c.args.name w p is c.requires.open
-    (c.define.ensures.twice.0 (same_refusal c.define.result c.from_residual.result c.in_err-placeholder.field-0.0 MultipleDefinitions c.in_err-placeholder.was (handed_on c.from_residual.result c.from_residual.ensures.1) e))
+    (c.define.ensures.twice.0 (same_refusal c.define.result c.from_residual.result c.in_err-placeholder.field-0.0 MultipleDefinitions c.in_err-placeholder.was (propagated c.from_residual.result c.from_residual.ensures.1) e))
 
 pub returns-in_err-placeholder-clause-ties : goal.returns-in_err-placeholder-clause-ties
 returns-in_err-placeholder-clause-ties g c =

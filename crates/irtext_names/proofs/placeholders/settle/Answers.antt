@@ -2,14 +2,14 @@ use Rattle.std.proofs.Common.{◌∙◌, sym, subst}
 use Rattle.irtext_graph.specs.Erasing.{owner, CanErase}
 use Rattle.irtext_graph.specs.Graph.{IsNew}
 use Rattle.irtext_graph.proofs.Closed.{older_on}
-use Rattle.irtext_names.proofs.SameBut.{defined_stands, same_age, still_placeholder}
+use Rattle.irtext_names.proofs.SameBut.{defined_is_live, same_age, still_placeholder}
 use Rattle.irtext_names.proofs.Settled.{replaced_same, unused, placeholder_goes, inside_itself, goes_alone, unused_below}
 use Rattle.irtext_names.proofs.placeholders.settle.Goals as goal
 
-pub erase-requires-clause-stands : goal.erase-requires-clause-stands
-erase-requires-clause-stands g c =
+pub erase-requires-clause-alive : goal.erase-requires-clause-alive
+erase-requires-clause-alive g c =
     let p = still_placeholder (replaced_same c.replace_all_uses.ensures.replaces) c.args.d (λ f. cc) c.requires.placeholder in
-    rw c.owner_of.ensures (defined_stands c.replace_all_uses.new.self c.args.d p.stands)
+    rw c.owner_of.ensures (defined_is_live c.replace_all_uses.new.self c.args.d p.alive)
 
 pub erase-requires-clause-can : goal.erase-requires-clause-can
 erase-requires-clause-can g c =

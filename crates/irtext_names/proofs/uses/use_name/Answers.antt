@@ -38,7 +38,7 @@ returns-then-is_err-clause-ties g c =
     }
 
 pub returns-clause-there : goal.returns-clause-there
-returns-clause-there g c = (made_placeholder c.args.graph.now c.make.new.graph g.K.Referent.kind (g.K.Referent.blank c.args.with) c.in_ok-placeholder.placeholder c.in_ok-placeholder.ensures.made).stands
+returns-clause-there g c = (made_placeholder c.args.graph.now c.make.new.graph g.K.Referent.kind (g.K.Referent.blank c.args.with) c.in_ok-placeholder.placeholder c.in_ok-placeholder.ensures.made).alive
 
 pub returns-clause-ties : goal.returns-clause-ties
 returns-clause-ties g c =

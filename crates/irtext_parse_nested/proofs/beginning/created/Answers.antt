@@ -1,5 +1,5 @@
 use Rattle.std.proofs.Common.{◌∙◌, sym}
-use Rattle.irtext_parse_nested.specs.Beginning.{starved}
+use Rattle.irtext_parse_nested.specs.Beginning.{ran_out}
 use Rattle.irtext_parse_nested.proofs.BeginRead.{bare_creates}
 use Rattle.irtext_parse_nested.proofs.Gathers.{none_left}
 use Rattle.irtext_parse_nested.proofs.Marking.{if_err, if_ok_two, if_ok_handed}
@@ -15,4 +15,4 @@ returns-clause-creates g c =
     c.make_bare-made.ensures.makes c.make_bare-made.ensures.counts)
 
 pub returns-clause-refused : goal.returns-clause-refused
-returns-clause-refused g c = if_err c.or_memory.result (λ f s. starved s) c.or_memory.ensures.starved
+returns-clause-refused g c = if_err c.or_memory.result (λ f s. ran_out s) c.or_memory.ensures.ran_out

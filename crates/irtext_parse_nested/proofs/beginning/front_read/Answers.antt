@@ -1,37 +1,37 @@
 use Rattle.std.proofs.Common.{sym, ap, ◌∙◌, subst, length, slice_get, true≢false}
-use Rattle.irtext_tokens.proofs.Exits.{handed_on}
+use Rattle.irtext_tokens.proofs.Exits.{propagated}
 use Rattle.irtext_base.specs.FormatViews.{format_of}
 use Rattle.irtext_parse_spec.specs.Heads.{steps_of}
 use Rattle.irtext_parse_pieces.proofs.Meanings.{names_more}
 use Rattle.irtext_parse_pieces.specs.Coming.{IsStep}
-use Rattle.irtext_parse_nested.proofs.FrontRead.{lead_lacks, lead_unread, piece_lacks, piece_commits, front_stands, steps_are, isolated_is}
+use Rattle.irtext_parse_nested.proofs.FrontRead.{lead_misses, lead_unread, piece_misses, piece_commits, front_comes, steps_are, isolated_is}
 use Rattle.irtext_parse_nested.proofs.beginning.front_read.Goals as goal
 
-pub returns-in-Err-clause-lacks : goal.returns-in-Err-clause-lacks
-returns-in-Err-clause-lacks g c =
-    lead_lacks g.T.IrText.reading g.A.IrText.reading c.args.ctx.now.dialects c.args.stream.now c.requires.fine c.args.wanted c.in-Err.ensures.read c.commit_if.result c.commit_if.new.stream c.commit_if.ensures
+pub returns-in-Err-clause-unmet : goal.returns-in-Err-clause-unmet
+returns-in-Err-clause-unmet g c =
+    lead_misses g.T.IrText.reading g.A.IrText.reading c.args.ctx.now.dialects c.args.stream.now c.requires.fine c.args.is_required c.in-Err.ensures.read c.commit_if.result c.commit_if.new.stream c.commit_if.ensures
 
 pub returns-in-Err-clause-unread : goal.returns-in-Err-clause-unread
 returns-in-Err-clause-unread g c =
-    lead_unread g.T.IrText.reading g.A.IrText.reading c.args.ctx.now.dialects c.args.stream.now c.requires.fine c.args.wanted c.in-Err.ensures.read c.commit_if.result c.commit_if.new.stream c.commit_if.ensures
+    lead_unread g.T.IrText.reading g.A.IrText.reading c.args.ctx.now.dialects c.args.stream.now c.requires.fine c.args.is_required c.in-Err.ensures.read c.commit_if.result c.commit_if.new.stream c.commit_if.ensures
 
 pub returns-in_err-pieces-clause-unread : goal.returns-in_err-pieces-clause-unread
 returns-in_err-pieces-clause-unread g c =
     let commits = piece_commits g.T.IrText.reading g.A.IrText.reading c.args.ctx.now.dialects c.args.stream.now c.requires.fine c.in-Ok.led c.in-Ok.led.2.now c.in-Ok.ensures.read c.in-Ok.ensures.known c.front_parse.new.names.names c.in_err-pieces.ensures.read in
-    rw (handed_on c.from_residual.result c.from_residual.ensures.1) (λ e. absurd (true≢false (sym commits ∙ e)))
+    rw (propagated c.from_residual.result c.from_residual.ensures.1) (λ e. absurd (true≢false (sym commits ∙ e)))
 
-pub returns-in_err-pieces-clause-lacks : goal.returns-in_err-pieces-clause-lacks
-returns-in_err-pieces-clause-lacks g c =
-    rw (handed_on c.from_residual.result c.from_residual.ensures.1)
-    (piece_lacks g.T.IrText.reading g.A.IrText.reading c.args.ctx.now.dialects c.args.stream.now c.requires.fine c.in-Ok.led c.in-Ok.led.2.now c.in-Ok.ensures.read c.in-Ok.ensures.known c.args.wanted c.front_parse.new.names.names
+pub returns-in_err-pieces-clause-unmet : goal.returns-in_err-pieces-clause-unmet
+returns-in_err-pieces-clause-unmet g c =
+    rw (propagated c.from_residual.result c.from_residual.ensures.1)
+    (piece_misses g.T.IrText.reading g.A.IrText.reading c.args.ctx.now.dialects c.args.stream.now c.requires.fine c.in-Ok.led c.in-Ok.led.2.now c.in-Ok.ensures.read c.in-Ok.ensures.known c.args.is_required c.front_parse.new.names.names
     g.met.T.IrText.sincere g.met.A.IrText.sincere c.in_err-pieces.ensures.read)
 
 pub returns-in_err-pieces-clause-names : goal.returns-in_err-pieces-clause-names
 returns-in_err-pieces-clause-names g c = names_more c.args.names.now c.results_and_id_parse.new.names c.front_parse.new.names c.results_and_id_parse.ensures.names c.front_parse.ensures.names
 
-pub returns-clause-stands : goal.returns-clause-stands
-returns-clause-stands g c =
-    front_stands g.T.IrText.reading g.A.IrText.reading c.args.ctx.now.dialects c.args.stream.now c.requires.fine c.in-Ok.led c.in-Ok.led.2.now c.in-Ok.ensures.read c.in-Ok.ensures.known c.front_parse.new.names.names
+pub returns-clause-alive : goal.returns-clause-alive
+returns-clause-alive g c =
+    front_comes g.T.IrText.reading g.A.IrText.reading c.args.ctx.now.dialects c.args.stream.now c.requires.fine c.in-Ok.led c.in-Ok.led.2.now c.in-Ok.ensures.read c.in-Ok.ensures.known c.front_parse.new.names.names
     c.front_parse.ensures.names.kept c.in_ok-pieces.pieces c.front_parse.new.stream c.in_ok-pieces.ensures.read c.in_ok-pieces.ensures.count
 
 pub returns-clause-counted : goal.returns-clause-counted

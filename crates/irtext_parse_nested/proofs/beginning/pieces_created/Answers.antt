@@ -2,9 +2,9 @@ use Rattle.std.proofs.Common.{refl, subst}
 use Rattle.irtext_context.specs.Context.{with_graph}
 use Rattle.irtext_graph.specs.Back.{AllOlder}
 use Rattle.irtext_grammar.specs.Contexts.Held.{whole}
-use Rattle.irtext_parse_nested.specs.Beginning.{starved, refused, SaysGather}
+use Rattle.irtext_parse_nested.specs.Beginning.{ran_out, refused, SaysGather}
 use Rattle.irtext_parse_nested.specs.Gathered.{Gathers, RefusesGathering, KeepsScopes}
-use Rattle.irtext_parse_nested.proofs.BeginRead.{keeps_used, keeps_created, nothing_stands}
+use Rattle.irtext_parse_nested.proofs.BeginRead.{keeps_used, keeps_created, nothing_used_is_live}
 use Rattle.irtext_parse_nested.proofs.Marking.{if_err, if_ok_two, if_ok_handed}
 use Rattle.irtext_parse_nested.proofs.beginning.pieces_created.Goals as goal
 
@@ -13,7 +13,7 @@ pub make_gathered-made-requires : goal.make_gathered-made-requires
 make_gathered-made-requires g c =
     let n = c.gather.new in
     let e = c.nothing-gathered.ensures in
-    c.in-Ok.ensures.gathers.there (nothing_stands _ _ (record { operands = e.operands; successors = e.successors; types = e.types; attributes = e.attributes }))
+    c.in-Ok.ensures.gathers.there (nothing_used_is_live _ _ (record { operands = e.operands; successors = e.successors; types = e.types; attributes = e.attributes }))
 
 pub returns-in-Ok-clause-creates : goal.returns-in-Ok-clause-creates
 returns-in-Ok-clause-creates g c =
@@ -35,7 +35,7 @@ returns-in-Ok-clause-creates g c =
     }) c.make_gathered-made.ensures.makes c.make_gathered-made.ensures.counts)
 
 pub returns-in-Ok-clause-refused : goal.returns-in-Ok-clause-refused
-returns-in-Ok-clause-refused g c = if_err c.or_memory.result (λ f s. starved s) c.or_memory.ensures.starved
+returns-in-Ok-clause-refused g c = if_err c.or_memory.result (λ f s. ran_out s) c.or_memory.ensures.ran_out
 
 pub returns-in-Ok-clause-kept : goal.returns-in-Ok-clause-kept
 returns-in-Ok-clause-kept g c = λ m le.

@@ -31,7 +31,7 @@ returns-in-Ok-clause-defines g c = record {
 
 pub returns-in-Err-clause-refused : goal.returns-in-Err-clause-refused
 returns-in-Err-clause-refused g c = elim c.undefined_error.ensures [
-  | inl starved ↦ inl starved
+  | inl ran_out ↦ inl ran_out
   | inr r ↦ inr (record {
     index = c.in-Err.undefined.index;
     read = r.read;

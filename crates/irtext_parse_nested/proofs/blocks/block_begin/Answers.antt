@@ -1,6 +1,6 @@
 use Rattle.std.proofs.Common.{◌≡◌, ◌∙◌, Some, true, length, refl, sym, ap, subst, slice_get}
 use Rattle.irtext_tokens.specs.AttrTexts.{attr_at}
-use Rattle.irtext_tokens.proofs.Exits.{handed_on}
+use Rattle.irtext_tokens.proofs.Exits.{propagated}
 use Rattle.irtext_grammar.specs.Contexts.Held.{whole}
 use Rattle.irtext_scopes.specs.Scopes.{is_open}
 use Rattle.irtext_names.specs.Rows.{AreKnown}
@@ -18,11 +18,11 @@ use Rattle.irtext_parse_nested.proofs.blocks.block_begin.Goals as goal
 -- ---- the text has no header there
 pub returns-in_err-label-clause-refused : goal.returns-in_err-label-clause-refused
 returns-in_err-label-clause-refused g c =
-    rw (handed_on c.from_residual.result c.from_residual.ensures.1)
+    rw (propagated c.from_residual.result c.from_residual.ensures.1)
     (head_unread g.T.IrText.reading g.A.IrText.reading g.met.T.IrText.sincere g.met.A.IrText.sincere c.args.names.now c.head_parse.new.names.names c.args.s.now c.head_parse.new.stream _ c.requires.fine c.in_err-label.ensures.read)
 
 pub returns-in_err-label-clause-committed : goal.returns-in_err-label-clause-committed
-returns-in_err-label-clause-committed g c = rw (handed_on c.from_residual.result c.from_residual.ensures.1) (must_commit c.requires.fine c.in_err-label.ensures.read.read)
+returns-in_err-label-clause-committed g c = rw (propagated c.from_residual.result c.from_residual.ensures.1) (must_commit c.requires.fine c.in_err-label.ensures.read.read)
 
 pub returns-in_err-label-clause-names : goal.returns-in_err-label-clause-names
 returns-in_err-label-clause-names g c = c.in_err-label.ensures.names.kept
@@ -37,7 +37,7 @@ pub returns-in_err-label-clause-labels : goal.returns-in_err-label-clause-labels
 returns-in_err-label-clause-labels g c = ap length c.in_err-label.ensures.names.labels
 
 pub returns-in_err-label-clause-unnoted : goal.returns-in_err-label-clause-unnoted
-returns-in_err-label-clause-unnoted g c = rw (handed_on c.from_residual.result c.from_residual.ensures.1) (gains_nothing refl)
+returns-in_err-label-clause-unnoted g c = rw (propagated c.from_residual.result c.from_residual.ensures.1) (gains_nothing refl)
 
 -- ---- a key is an error
 pub head_made-requires-clause-label : goal.head_made-requires-clause-label
@@ -99,7 +99,7 @@ head_named-requires-clause-there g c = opened_there g.T.IrText.reading (attr_at 
 
 pub returns-in_err-head_named-clause-refused : goal.returns-in_err-head_named-clause-refused
 returns-in_err-head_named-clause-refused g c =
-    rw (handed_on c.from_residual-in_err-head_named.result c.from_residual-in_err-head_named.ensures.1)
+    rw (propagated c.from_residual-in_err-head_named.result c.from_residual-in_err-head_named.ensures.1)
     (opened_refused g.T.IrText.reading (attr_at g.A.IrText.reading) c.args.names.now c.head_parse.new.names c.args.s.now c.head_parse.new.stream c.in_ok-label.field-0 c.in_ok-label.ensures.read c.in_ok-label.ensures.names c.in_ok-label.ensures.distinct c.head_made.new.s.state c.args.region c.in-Ok.made.0 c.in-Ok.ensures.makes c.in-Ok.ensures.marks c.in-Ok.made.1 c.in-Ok.ensures.names (whole c.head_made.new.s.stream) (ap whole c.in-Ok.ensures.stream) _ c.in_err-head_named.ensures.refused)
 
 pub returns-in_err-head_named-clause-names : goal.returns-in_err-head_named-clause-names
@@ -119,7 +119,7 @@ returns-in_err-head_named-clause-kept g c = λ m le closed sound new.
     opened_kept g.T.IrText.reading (attr_at g.A.IrText.reading) c.args.names.now c.head_parse.new.names c.args.s.now c.head_parse.new.stream c.in_ok-label.field-0 c.in_ok-label.ensures.read c.in_ok-label.ensures.names c.in_ok-label.ensures.distinct c.head_made.new.s.state c.args.region c.in-Ok.made.0 c.in-Ok.ensures.makes c.head_named.new.s.state.ctx.now m closed sound (c.in-Ok.ensures.kept m le new) (λ there waits. c.in_err-head_named.ensures.kept m there waits)
 
 pub returns-in_err-head_named-clause-unnoted : goal.returns-in_err-head_named-clause-unnoted
-returns-in_err-head_named-clause-unnoted g c = rw (handed_on c.from_residual-in_err-head_named.result c.from_residual-in_err-head_named.ensures.1) (subst (λ ms. GainsMarks ms (marks_of c.head_named.new.s.state)) c.in-Ok.ensures.marks c.in_err-head_named.ensures.unnoted)
+returns-in_err-head_named-clause-unnoted g c = rw (propagated c.from_residual-in_err-head_named.result c.from_residual-in_err-head_named.ensures.1) (subst (λ ms. GainsMarks ms (marks_of c.head_named.new.s.state)) c.in-Ok.ensures.marks c.in_err-head_named.ensures.unnoted)
 
 -- ---- after an error, its mark may be recorded
 pub returns-in-Err-clause-unnoted : goal.returns-in-Err-clause-unnoted

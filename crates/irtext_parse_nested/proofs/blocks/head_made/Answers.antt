@@ -1,11 +1,11 @@
-use Rattle.irtext_tokens.proofs.Exits.{handed_on}
+use Rattle.irtext_tokens.proofs.Exits.{propagated}
 use Rattle.irtext_grammar.specs.Contexts.Held.{whole}
 use Rattle.irtext_parse_nested.specs.Blocks.{entries_in}
 use Rattle.irtext_parse_nested.proofs.BlockReady.{makes_head}
 use Rattle.irtext_parse_nested.proofs.blocks.head_made.Goals as goal
 
 pub returns-in_err-attributes-clause-refused : goal.returns-in_err-attributes-clause-refused
-returns-in_err-attributes-clause-refused g c = rw (handed_on c.from_residual.result c.from_residual.ensures.1) c.in_err-attributes.ensures.refused
+returns-in_err-attributes-clause-refused g c = rw (propagated c.from_residual.result c.from_residual.ensures.1) c.in_err-attributes.ensures.refused
 
 pub returns-in-Ok-block_made-clause-makes : goal.returns-in-Ok-block_made-clause-makes
 returns-in-Ok-block_made-clause-makes g c = makes_head c.args.names.now.names c.args.s.now.state.src (whole c.args.s.now.stream) c.args.label c.args.arguments (entries_in c.args.entries) c.args.s.now.state.ctx.now c.block_made.new.ctx c.args.region

@@ -1,5 +1,5 @@
 use Rattle.std.proofs.Common.{◌≡◌, ◌<◌, ◌∙◌, inl, inr, true, length, sym, ap, subst}
-use Rattle.irtext_tokens.proofs.Exits.{handed_on}
+use Rattle.irtext_tokens.proofs.Exits.{propagated}
 use Rattle.irtext_grammar.specs.Contexts.Held.{whole}
 use Rattle.irtext_scopes.specs.Scopes.{is_open}
 use Rattle.irtext_names.specs.Tied.{MatchesGraph}
@@ -16,7 +16,7 @@ use Rattle.irtext_parse_nested.proofs.blocks.head_named.Goals as goal
 
 -- ---- an argument is an error
 pub returns-in_err-arguments_defined-clause-refused : goal.returns-in_err-arguments_defined-clause-refused
-returns-in_err-arguments_defined-clause-refused g c = rw (handed_on c.from_residual.result c.from_residual.ensures.1) (elim c.in_err-arguments_defined.ensures.refused [ inl starved ↦ inl starved | inr r ↦ inr (same_argument r) ])
+returns-in_err-arguments_defined-clause-refused g c = rw (propagated c.from_residual.result c.from_residual.ensures.1) (elim c.in_err-arguments_defined.ensures.refused [ inl ran_out ↦ inl ran_out | inr r ↦ inr (same_argument r) ])
 
 pub returns-in_err-arguments_defined-clause-labels : goal.returns-in_err-arguments_defined-clause-labels
 returns-in_err-arguments_defined-clause-labels g c = ap length c.in_err-arguments_defined.ensures.names.1
@@ -28,7 +28,7 @@ returns-in_err-arguments_defined-clause-dialects g c = ap (λ x. x.dialects) c.i
 pub returns-in_err-note_mark-clause-refused : goal.returns-in_err-note_mark-clause-refused
 returns-in_err-note_mark-clause-refused g c =
     let a = c.in_ok-arguments_defined.ensures in
-    rw (handed_on c.from_residual-in_err-note_mark.result c.from_residual-in_err-note_mark.ensures.1)
+    rw (propagated c.from_residual-in_err-note_mark.result c.from_residual-in_err-note_mark.ensures.1)
     (mark_stops c.args.block c.args.label c.args.arguments.now c.args.mark c.args.names.now c.arguments_defined.new.names c.args.s.now.state c.arguments_defined.new.s.state c.note_mark.new.s.state (whole c.args.s.now.stream)
     a.defines a.marks c.in_err-note_mark.ensures.ctx (whole c.arguments_defined.new.s.stream) _ (ap whole a.stream) c.in_err-note_mark.ensures.refused)
 
@@ -111,11 +111,11 @@ returns-clause-kept g c = λ m closed h.
 
 -- ---- after an error, its mark may be recorded
 pub returns-in_err-arguments_defined-clause-unnoted : goal.returns-in_err-arguments_defined-clause-unnoted
-returns-in_err-arguments_defined-clause-unnoted g c = rw (handed_on c.from_residual.result c.from_residual.ensures.1) (gains_nothing c.in_err-arguments_defined.ensures.marks)
+returns-in_err-arguments_defined-clause-unnoted g c = rw (propagated c.from_residual.result c.from_residual.ensures.1) (gains_nothing c.in_err-arguments_defined.ensures.marks)
 
 pub returns-in_err-note_mark-clause-unnoted : goal.returns-in_err-note_mark-clause-unnoted
 returns-in_err-note_mark-clause-unnoted g c =
-    rw (handed_on c.from_residual-in_err-note_mark.result c.from_residual-in_err-note_mark.ensures.1) (gains_nothing (c.in_err-note_mark.ensures.unnoted ∙ c.in_ok-arguments_defined.ensures.marks))
+    rw (propagated c.from_residual-in_err-note_mark.result c.from_residual-in_err-note_mark.ensures.1) (gains_nothing (c.in_err-note_mark.ensures.unnoted ∙ c.in_ok-arguments_defined.ensures.marks))
 
 pub returns-clause-unnoted : goal.returns-clause-unnoted
 returns-clause-unnoted g c = always_err c.label_defined.result (gains_mark c.args.mark (item.Block c.args.block) c.in_ok-arguments_defined.ensures.marks c.in_ok-note_mark.ensures.notes c.label_defined.ensures.marks)

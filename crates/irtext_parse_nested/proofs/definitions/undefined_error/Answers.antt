@@ -12,7 +12,7 @@ name_error-requires g c =
 
 pub returns-in-MultipleDefinitions : goal.returns-in-MultipleDefinitions
 returns-in-MultipleDefinitions g c = elim c.name_error.ensures [
-  | inl starved ↦ inl starved
+  | inl ran_out ↦ inl ran_out
   | inr says ↦ inr (record {
     twice = c.in-MultipleDefinitions.is;
     read = c.index.result.now;

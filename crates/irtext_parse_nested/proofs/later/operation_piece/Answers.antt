@@ -1,7 +1,7 @@
 use Rattle.std.proofs.Common.{refl, ap, subst, length}
 use Rattle.irtext_grammar.specs.Contexts.Held.{whole}
 use Rattle.irtext_tokens.specs.AttrTexts.{attr_at}
-use Rattle.irtext_tokens.proofs.Exits.{handed_on}
+use Rattle.irtext_tokens.proofs.Exits.{propagated}
 use Rattle.irtext_parse_nested.specs.Later.{NotStored, StoresPiece}
 use Rattle.irtext_parse_nested.specs.Ends.{WritesAttributes}
 use Rattle.irtext_parse_nested.proofs.LaterRead.{next_missing, next_commits, next_moves, next_whole, next_goes_on, next_unstored, unstored_commits, piece_lasts, piece_spares, piece_keeps, piece_sound}
@@ -10,27 +10,27 @@ use Rattle.irtext_parse_nested.proofs.later.operation_piece.Goals as goal
 
 -- ---- no piece could be parsed
 pub returns-in_err-piece-clause-refused : goal.returns-in_err-piece-clause-refused
-returns-in_err-piece-clause-refused g c = rw (handed_on c.from_residual.result c.from_residual.ensures.1)
+returns-in_err-piece-clause-refused g c = rw (propagated c.from_residual.result c.from_residual.ensures.1)
     (next_missing g.T.IrText.reading (attr_at g.A.IrText.reading) c.args.s.now c.args.names.now c.args.names.now c.args.begun.now c.requires.fine g.met.T.IrText.sincere g.A.IrText.reading refl g.met.A.IrText.sincere c.in_err-piece.ensures.read)
 
 pub returns-in_err-piece-clause-committed : goal.returns-in_err-piece-clause-committed
-returns-in_err-piece-clause-committed g c = rw (handed_on c.from_residual.result c.from_residual.ensures.1)
+returns-in_err-piece-clause-committed g c = rw (propagated c.from_residual.result c.from_residual.ensures.1)
     (next_commits g.T.IrText.reading (attr_at g.A.IrText.reading) c.args.s.now c.args.names.now c.args.names.now c.args.begun.now c.requires.fine c.requires.step c.in_err-piece.ensures.read)
 
 pub returns-in_err-piece-clause-moves : goal.returns-in_err-piece-clause-moves
-returns-in_err-piece-clause-moves g c = rw (handed_on c.from_residual.result c.from_residual.ensures.1) tt
+returns-in_err-piece-clause-moves g c = rw (propagated c.from_residual.result c.from_residual.ensures.1) tt
 
 pub returns-in_err-piece-clause-goes_on : goal.returns-in_err-piece-clause-goes_on
-returns-in_err-piece-clause-goes_on g c = rw (handed_on c.from_residual.result c.from_residual.ensures.1) tt
+returns-in_err-piece-clause-goes_on g c = rw (propagated c.from_residual.result c.from_residual.ensures.1) tt
 
 pub returns-in_err-piece-clause-spares : goal.returns-in_err-piece-clause-spares
-returns-in_err-piece-clause-spares g c = rw (handed_on c.from_residual.result c.from_residual.ensures.1) tt
+returns-in_err-piece-clause-spares g c = rw (propagated c.from_residual.result c.from_residual.ensures.1) tt
 
 pub returns-in_err-piece-clause-lasts : goal.returns-in_err-piece-clause-lasts
-returns-in_err-piece-clause-lasts g c = rw (handed_on c.from_residual.result c.from_residual.ensures.1) tt
+returns-in_err-piece-clause-lasts g c = rw (propagated c.from_residual.result c.from_residual.ensures.1) tt
 
 pub returns-in_err-piece-clause-sound : goal.returns-in_err-piece-clause-sound
-returns-in_err-piece-clause-sound g c = rw (handed_on c.from_residual.result c.from_residual.ensures.1) tt
+returns-in_err-piece-clause-sound g c = rw (propagated c.from_residual.result c.from_residual.ensures.1) tt
 
 pub returns-in_err-piece-clause-values : goal.returns-in_err-piece-clause-values
 returns-in_err-piece-clause-values g c = ap length c.in_err-piece.ensures.names.values
@@ -45,7 +45,7 @@ returns-clause-moves g c = on_ok c.piece_done.result (λ same. next_moves g.T.Ir
 
 pub returns-clause-goes_on : goal.returns-clause-goes_on
 returns-clause-goes_on g c = on_both c.piece_done.result (λ stores same. next_goes_on g.T.IrText.reading (attr_at g.A.IrText.reading) c.args.s.now c.args.names.now c.piece_read.new.names c.args.begun.now c.in_ok-piece.ensures.names c.keeps_names.ensures
-    c.in_ok-piece.piece c.piece_read.new.stream c.in_ok-piece.ensures.read c.piece_done.new.s c.piece_read.new.begun c.in_ok-piece.ensures.behind same c.piece_done.ensures.marks c.requires.tied (subst (λ b. StoresPiece c.in_ok-piece.piece c.args.s.now.state.ctx.now c.piece_done.new.s.state.ctx.now b.op) c.in_ok-piece.ensures.behind stores)) c.piece_done.ensures.stores c.piece_done.ensures.stream
+    c.in_ok-piece.piece c.piece_read.new.stream c.in_ok-piece.ensures.read c.piece_done.new.s c.piece_read.new.begun c.in_ok-piece.ensures.following same c.piece_done.ensures.marks c.requires.tied (subst (λ b. StoresPiece c.in_ok-piece.piece c.args.s.now.state.ctx.now c.piece_done.new.s.state.ctx.now b.op) c.in_ok-piece.ensures.following stores)) c.piece_done.ensures.stores c.piece_done.ensures.stream
 
 pub returns-clause-refused : goal.returns-clause-refused
 returns-clause-refused g c = if_err c.piece_done.result (λ fault n. next_unstored g.T.IrText.reading (attr_at g.A.IrText.reading) c.args.s.now c.args.names.now c.piece_read.new.names c.args.begun.now c.in_ok-piece.ensures.names c.keeps_names.ensures
@@ -56,13 +56,13 @@ pub returns-clause-committed : goal.returns-clause-committed
 returns-clause-committed g c = if_err c.piece_done.result (λ fault n. unstored_commits c.in_ok-piece.piece c.piece_read.new.names.names (whole c.piece_read.new.stream) fault n) c.piece_done.ensures.refused
 
 pub returns-clause-spares : goal.returns-clause-spares
-returns-clause-spares g c = always_ok c.piece_done.result (piece_spares _ _ c.args.begun.now.op (subst (λ b. WritesAttributes c.args.s.now.state.ctx.now c.piece_done.new.s.state.ctx.now b.op) c.in_ok-piece.ensures.behind c.piece_done.ensures.writes))
+returns-clause-spares g c = always_ok c.piece_done.result (piece_spares _ _ c.args.begun.now.op (subst (λ b. WritesAttributes c.args.s.now.state.ctx.now c.piece_done.new.s.state.ctx.now b.op) c.in_ok-piece.ensures.following c.piece_done.ensures.writes))
 
 pub returns-clause-lasts : goal.returns-clause-lasts
-returns-clause-lasts g c = always_ok c.piece_done.result (piece_lasts _ _ c.args.begun.now.op (subst (λ b. WritesAttributes c.args.s.now.state.ctx.now c.piece_done.new.s.state.ctx.now b.op) c.in_ok-piece.ensures.behind c.piece_done.ensures.writes))
+returns-clause-lasts g c = always_ok c.piece_done.result (piece_lasts _ _ c.args.begun.now.op (subst (λ b. WritesAttributes c.args.s.now.state.ctx.now c.piece_done.new.s.state.ctx.now b.op) c.in_ok-piece.ensures.following c.piece_done.ensures.writes))
 
 pub returns-clause-sound : goal.returns-clause-sound
-returns-clause-sound g c = always_ok c.piece_done.result (λ m le h. piece_sound c.args.names.now c.piece_read.new.names c.args.s.now c.piece_done.new.s c.args.begun.now.op c.in_ok-piece.ensures.names (subst (λ b. WritesAttributes c.args.s.now.state.ctx.now c.piece_done.new.s.state.ctx.now b.op) c.in_ok-piece.ensures.behind c.piece_done.ensures.writes) m h)
+returns-clause-sound g c = always_ok c.piece_done.result (λ m le h. piece_sound c.args.names.now c.piece_read.new.names c.args.s.now c.piece_done.new.s c.args.begun.now.op c.in_ok-piece.ensures.names (subst (λ b. WritesAttributes c.args.s.now.state.ctx.now c.piece_done.new.s.state.ctx.now b.op) c.in_ok-piece.ensures.following c.piece_done.ensures.writes) m h)
 
 pub returns-clause-values : goal.returns-clause-values
 returns-clause-values g c = ap length c.in_ok-piece.ensures.names.values
@@ -71,4 +71,4 @@ pub returns-clause-labels : goal.returns-clause-labels
 returns-clause-labels g c = ap length c.in_ok-piece.ensures.names.labels
 
 pub returns-clause-kept : goal.returns-clause-kept
-returns-clause-kept g c = λ m le new. piece_keeps _ _ c.args.begun.now.op (subst (λ b. WritesAttributes c.args.s.now.state.ctx.now c.piece_done.new.s.state.ctx.now b.op) c.in_ok-piece.ensures.behind c.piece_done.ensures.writes) m new
+returns-clause-kept g c = λ m le new. piece_keeps _ _ c.args.begun.now.op (subst (λ b. WritesAttributes c.args.s.now.state.ctx.now c.piece_done.new.s.state.ctx.now b.op) c.in_ok-piece.ensures.following c.piece_done.ensures.writes) m new

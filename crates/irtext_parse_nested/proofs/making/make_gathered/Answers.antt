@@ -1,6 +1,6 @@
 use Rattle.std.proofs.Common.{◌≡◌, ◌∙◌, Some, subst, slice_get}
 use Rattle.irtext_graph.specs.Graph.{IsLive}
-use Rattle.irtext_graph.specs.Parts.{ValueStands}
+use Rattle.irtext_graph.specs.Parts.{IsDefinedValue}
 use Rattle.irtext_graph.specs.declared.object.Object.TheVariants.{TheBlock}
 use Rattle.irtext_parse_nested.proofs.Ordering.{all_in_order}
 use Rattle.irtext_parse_nested.proofs.making.make_gathered.Goals as goal
@@ -8,7 +8,7 @@ use Rattle.irtext_parse_nested.proofs.making.make_gathered.Goals as goal
 pub make_operation_with-requires-clause-operands : goal.make_operation_with-requires-clause-operands
 make_operation_with-requires-clause-operands g c = λ i v e.
     let x = c.args.gathered.operands in
-    all_in_order (λ v. ValueStands c.args.ctx.now.graph v) x.single.items x.list.items c.requires.operands c.requires.listed_operands i v (subst (λ xs. slice_get xs i ≡ Some v) (c.deref.ensures.value ∙ c.in_ok-operands.ensures) e)
+    all_in_order (λ v. IsDefinedValue c.args.ctx.now.graph v) x.single.items x.list.items c.requires.operands c.requires.listed_operands i v (subst (λ xs. slice_get xs i ≡ Some v) (c.deref.ensures.value ∙ c.in_ok-operands.ensures) e)
 
 pub make_operation_with-requires-clause-successors : goal.make_operation_with-requires-clause-successors
 make_operation_with-requires-clause-successors g c = λ i b e.

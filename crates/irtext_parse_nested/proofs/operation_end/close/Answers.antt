@@ -11,7 +11,7 @@ returns-clause-closes g c = always_ok c.or_memory.result
     (λ o is. close_acts c.args.names.now c.results_defined.new.names c.args.s.now.state c.results_defined.new.s.state _ c.args.begun.now o (c.in_ok-results_defined.ensures.closes o is) c.given_kept-stored.ensures.writes refl c.in_ok-results_defined.ensures.tied)
 
 pub returns-clause-refused : goal.returns-clause-refused
-returns-clause-refused g c = if_err c.or_memory.result (λ f starved. inl starved) c.or_memory.ensures.starved
+returns-clause-refused g c = if_err c.or_memory.result (λ f ran_out. inl ran_out) c.or_memory.ensures.ran_out
 
 pub returns-clause-lasts : goal.returns-clause-lasts
 returns-clause-lasts g c = close_lasts c.args.s.now.state.ctx.now c.results_defined.new.s.state.ctx.now c.given_kept-stored.new.ctx c.args.begun.now.op c.in_ok-results_defined.ensures.lasts c.given_kept-stored.ensures.writes

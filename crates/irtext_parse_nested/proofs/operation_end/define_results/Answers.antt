@@ -12,7 +12,7 @@ returns-then-not-has_value_scope-clause-refused g c =
     let counts : length c.args.begun.now.names ≡ c.args.begun.now.results = sym c.len.ensures ∙ c.if-len-begun.false in
     let there : 0 < length c.args.begun.now.names = omega (arith, counts, c.if-begun-eq0.false) in
     elim c.name_error.ensures [
-      | inl starved ↦ inl starved
+      | inl ran_out ↦ inl ran_out
       | inr says ↦ inr (no_scope c.index.result.now (item_there c.args.begun.now.names 0 c.index.result.now there c.index.ensures) counts (sym c.has_value_scope.ensures ∙ c.if-not-has_value_scope.true) says)
     ]
 
@@ -24,7 +24,7 @@ pub returns-in-Err-clause-refused : goal.returns-in-Err-clause-refused
 returns-in-Err-clause-refused g c =
     let counts : length c.args.begun.now.names ≡ c.args.begun.now.results = sym c.len.ensures ∙ c.if-len-begun.false in
     elim c.undefined_error.ensures [
-      | inl starved ↦ inl starved
+      | inl ran_out ↦ inl ran_out
       | inr r ↦ inr (defined_twice c.in-Err.undefined.index r.read r.is counts (c.in-Err.ensures.fails r.twice)
           (subst (λ ns. IsFaultOf ns (whole c.args.stream.now) causes.MultipleDefinitions r.read c.undefined_error.result) c.in-Err.ensures.rest.0 r.says))
     ]

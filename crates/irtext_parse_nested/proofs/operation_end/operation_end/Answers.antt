@@ -1,6 +1,6 @@
 use Rattle.std.proofs.Common.{◌∙◌, ◌∷◌, [], inl, inr, refl, sym, ap, subst, length}
 use Rattle.irtext_tokens.specs.AttrTexts.{attr_at}
-use Rattle.irtext_tokens.proofs.Exits.{handed_on}
+use Rattle.irtext_tokens.proofs.Exits.{propagated}
 use Rattle.irtext_context.specs.declared.base.item.Item.TheVariants as item
 use Rattle.irtext_parse_state.specs.States.{marks_of}
 use Rattle.irtext_grammar.specs.Contexts.Held.{whole}
@@ -16,7 +16,7 @@ use Rattle.irtext_parse_nested.proofs.operation_end.operation_end.Goals as goal
 
 -- ---- the results are an error
 pub returns-in_err-close-clause-refused : goal.returns-in_err-close-clause-refused
-returns-in_err-close-clause-refused g c = rw (handed_on c.from_residual.result c.from_residual.ensures.1) (λ o is. elim c.in_err-close.ensures.refused [ inl starved ↦ inl starved | inr f ↦ inr (no_results (f o is)) ])
+returns-in_err-close-clause-refused g c = rw (propagated c.from_residual.result c.from_residual.ensures.1) (λ o is. elim c.in_err-close.ensures.refused [ inl ran_out ↦ inl ran_out | inr f ↦ inr (no_results (f o is)) ])
 
 pub returns-in_err-close-clause-names : goal.returns-in_err-close-clause-names
 returns-in_err-close-clause-names g c = rw c.in_err-close.ensures.names (λ i t e. e)
@@ -31,13 +31,13 @@ returns-in_err-close-clause-kept g c = λ m le closed sound new. c.in_err-close.
 pub returns-in_err-mark-clause-refused : goal.returns-in_err-mark-clause-refused
 returns-in_err-mark-clause-refused g c =
     let same = c.in_ok-close.ensures.stream in
-    rw (handed_on c.from_residual-in_err-mark.result c.from_residual-in_err-mark.ensures.1)
+    rw (propagated c.from_residual-in_err-mark.result c.from_residual-in_err-mark.ensures.1)
     (λ o is. end_unread g.T.IrText.reading (attr_at g.A.IrText.reading) o c.args.begun.now c.args.names.now c.close.new.names c.args.s.now c.close.new.s.state (item.Operation c.args.begun.now.op) (marks_of c.close.new.s.state) (c.in_ok-close.ensures.closes o is) refl
     c.close.new.s.stream _ same _ c.close.new.s refl (ap (λ v. v.failed) same ∙ c.requires.fine) c.in_err-mark.ensures)
 
 pub returns-in_err-mark-clause-committed : goal.returns-in_err-mark-clause-committed
 returns-in_err-mark-clause-committed g c =
-    rw (handed_on c.from_residual-in_err-mark.result c.from_residual-in_err-mark.ensures.1) (must_commit (ap (λ v. v.failed) c.in_ok-close.ensures.stream ∙ c.requires.fine) c.in_err-mark.ensures.read)
+    rw (propagated c.from_residual-in_err-mark.result c.from_residual-in_err-mark.ensures.1) (must_commit (ap (λ v. v.failed) c.in_ok-close.ensures.stream ∙ c.requires.fine) c.in_err-mark.ensures.read)
 
 pub returns-in_err-mark-clause-names : goal.returns-in_err-mark-clause-names
 returns-in_err-mark-clause-names g c = rw c.in_ok-close.ensures.names (λ i t e. e)
@@ -89,10 +89,10 @@ returns-clause-noted g c =
 
 -- ---- after an error, no mark is recorded
 pub returns-in_err-close-clause-unnoted : goal.returns-in_err-close-clause-unnoted
-returns-in_err-close-clause-unnoted g c = rw (handed_on c.from_residual.result c.from_residual.ensures.1) (gains_nothing c.in_err-close.ensures.marks)
+returns-in_err-close-clause-unnoted g c = rw (propagated c.from_residual.result c.from_residual.ensures.1) (gains_nothing c.in_err-close.ensures.marks)
 
 pub returns-in_err-mark-clause-unnoted : goal.returns-in_err-mark-clause-unnoted
-returns-in_err-mark-clause-unnoted g c = rw (handed_on c.from_residual-in_err-mark.result c.from_residual-in_err-mark.ensures.1) (gains_nothing c.in_ok-close.ensures.marks)
+returns-in_err-mark-clause-unnoted g c = rw (propagated c.from_residual-in_err-mark.result c.from_residual-in_err-mark.ensures.1) (gains_nothing c.in_ok-close.ensures.marks)
 
 pub returns-clause-unnoted : goal.returns-clause-unnoted
 returns-clause-unnoted g c = on_err c.note_mark.result (λ e. gains_nothing (e ∙ c.in_ok-close.ensures.marks)) c.note_mark.ensures.unnoted

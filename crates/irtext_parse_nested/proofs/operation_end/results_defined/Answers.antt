@@ -17,7 +17,7 @@ define_results-requires-clause-ready g c =
     let ctx = c.args.s.now.state.ctx.now in
     let names = c.args.names.now in
     let b = c.args.begun.now in
-    subst (λ g. ValuesReady (λ i. Result b.op i) b.results names.values g) (sym c.graph_mut.ensures.value) (results_ready ctx b.op b.results names.values names.labels c.requires.stands c.requires.counts c.requires.tied)
+    subst (λ g. ValuesReady (λ i. Result b.op i) b.results names.values g) (sym c.graph_mut.ensures.value) (results_ready ctx b.op b.results names.values names.labels c.requires.alive c.requires.counts c.requires.tied)
 
 pub returns-clause-closes : goal.returns-clause-closes
 returns-clause-closes g c =
@@ -30,7 +30,7 @@ returns-clause-refused g c =
     let b = c.args.begun.now in
     let r = c.define_results in
     if_err r.result (λ f u. elim u [
-      | inl starved ↦ inl starved
+      | inl ran_out ↦ inl ran_out
       | inr q ↦ inr (λ o is. results_fail _ _ _ b o is f (subst (λ g. RefusesResults b c.args.names.now g (whole c.args.s.now.stream) f) c.graph_mut.ensures.value q))
     ]) r.ensures.refused
 

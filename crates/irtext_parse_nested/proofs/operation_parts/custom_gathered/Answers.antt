@@ -3,9 +3,9 @@ use Rattle.irtext_parse_pieces.specs.Found.{with_words}
 use Rattle.irtext_parse_nested.specs.Gathered.{CanGather, Gathers, RefusesGathering}
 use Rattle.irtext_parse_nested.proofs.Steady.{steady_itself, steady_both}
 use Rattle.irtext_parse_nested.proofs.Stores.{exit_from}
-use Rattle.irtext_parse_nested.proofs.Gathers.{can_first, can_behind, none_left, gathers_then, fails_at_then}
+use Rattle.irtext_parse_nested.proofs.Gathers.{can_first, can_after, none_left, gathers_then, fails_at_then}
 use Rattle.irtext_parse_nested.proofs.Pieces.{gather_refused_first, gather_refused_from}
-use Rattle.irtext_parse_nested.proofs.Words.{can_behind_words, gathers_words, words_refused, gathers_last}
+use Rattle.irtext_parse_nested.proofs.Words.{can_after_words, gathers_words, words_refused, gathers_last}
 use Rattle.irtext_parse_nested.proofs.operation_parts.custom_gathered.Goals as goal
 
 pub loop-found-init : goal.loop-found-init
@@ -27,7 +27,7 @@ piece_gathered-requires-clause-can g c =
     let f = c.in-Some.found in
     let ps = with_words c.next.new.self.rest.items l.invariant.words in
     can_first l.names l.gathered.operands.list.items l.gathered.successors.list.items f.1 ps
-    (can_behind_words l.names l.gathered.operands.list.items l.gathered.successors.list.items (f.1 ∷ ps) f.0
+    (can_after_words l.names l.gathered.operands.list.items l.gathered.successors.list.items (f.1 ∷ ps) f.0
     (subst (λ fs. CanGather l.names l.gathered.operands.list.items l.gathered.successors.list.items (with_words fs l.invariant.words)) c.in-Some.ensures.steps.0 l.invariant.can))
 
 pub piece_gathered-requires-clause-tied : goal.piece_gathered-requires-clause-tied
@@ -46,9 +46,9 @@ loop-found-preserved g c =
     record {
       words = i.words;
       steady = steady_both i.steady s;
-      can = can_behind l.names new.names l.gathered.operands.list.items new.gathered.operands.list.items l.gathered.successors.list.items new.gathered.successors.list.items f.1 ps s.names
+      can = can_after l.names new.names l.gathered.operands.list.items new.gathered.operands.list.items l.gathered.successors.list.items new.gathered.successors.list.items f.1 ps s.names
           t.operands_unlisted t.successors_unlisted
-          (can_behind_words l.names l.gathered.operands.list.items l.gathered.successors.list.items (f.1 ∷ ps) f.0
+          (can_after_words l.names l.gathered.operands.list.items l.gathered.successors.list.items (f.1 ∷ ps) f.0
           (subst (λ fs. CanGather l.names l.gathered.operands.list.items l.gathered.successors.list.items (with_words fs i.words)) steps i.can));
       gathers = λ names h z r. i.gathers names h z (subst (λ fs. Gathers (with_words fs i.words) l.names l.graph l.gathered names h z) (sym steps)
           (gathers_words l.names l.graph l.gathered f.0 (f.1 ∷ ps) (gathers_then f.1 ps s.names t r)));

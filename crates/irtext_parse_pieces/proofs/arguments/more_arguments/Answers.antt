@@ -1,11 +1,11 @@
 use Rattle.std.proofs.Common.{Ok, Err}
-use Rattle.irtext_tokens.proofs.Exits.{handed_on}
+use Rattle.irtext_tokens.proofs.Exits.{propagated}
 use Rattle.irtext_tokens.specs.AttrTexts.{attr_at}
 use Rattle.irtext_parse_spec.specs.Heads.{argument_at}
 use Rattle.irtext_parse_pieces.specs.Arguments.{IsArgument}
 use Rattle.irtext_parse_pieces.specs.Named.{whole, Each}
-use Rattle.irtext_parse_pieces.proofs.Meanings.{names_none, names_more, insisted_mean, stand_on}
-use Rattle.irtext_parse_pieces.proofs.Listings.{listing_starts, turn_refused, turn_falls, turn_keeps, turn_starved, turn_ends}
+use Rattle.irtext_parse_pieces.proofs.Meanings.{names_none, names_more, insisted_mean, names_still_represent}
+use Rattle.irtext_parse_pieces.proofs.Listings.{listing_starts, turn_refused, turn_falls, turn_keeps, turn_ran_out, turn_ends}
 use Rattle.irtext_parse_pieces.proofs.Lenses.{lens_of}
 use Rattle.irtext_parse_pieces.proofs.arguments.more_arguments.Goals as goal
 
@@ -17,15 +17,15 @@ pub returns-in_err-next-clause-read : goal.returns-in_err-next-clause-read
 returns-in_err-next-clause-read g c = λ name means fine.
     let l = lens_of g.world g.met.S.CharStream in
     let m = insisted_mean l c.argument_parse-answer.result (Err _) c.argument_parse-answer.ensures.read c.in_err-next.ensures in
-    rw (handed_on c.from_residual.result c.from_residual.ensures.1) (turn_refused l (argument_at g.T.IrText.reading (attr_at g.A.IrText.reading)) c.loop-stream-test.ensures (c.loop-stream.invariant.1 name means fine) m)
+    rw (propagated c.from_residual.result c.from_residual.ensures.1) (turn_refused l (argument_at g.T.IrText.reading (attr_at g.A.IrText.reading)) c.loop-stream-test.ensures (c.loop-stream.invariant.1 name means fine) m)
 
 pub returns-in_err-found : goal.returns-in_err-found
 returns-in_err-found g c = record {
   read = λ name means fine.
       let m = insisted_mean (lens_of g.world g.met.S.CharStream) c.argument_parse-answer.result (Ok c.in_ok-next.next) c.argument_parse-answer.ensures.read c.in_ok-next.ensures in
-      rw (handed_on c.from_residual-in_err-found.result c.from_residual-in_err-found.ensures.1)
-      (turn_starved (lens_of g.world g.met.S.CharStream) (argument_at g.T.IrText.reading (attr_at g.A.IrText.reading)) c.loop-stream-test.ensures (IsArgument c.loop-stream.names.names) (IsArgument c.argument_parse-answer.new.names.names)
-      (λ y x k. (stand_on c.argument_parse-answer.ensures.names y.0 x.0 k.0, k.1)) m (c.loop-stream.invariant.1 name means fine) c.in_err-found.ensures);
+      rw (propagated c.from_residual-in_err-found.result c.from_residual-in_err-found.ensures.1)
+      (turn_ran_out (lens_of g.world g.met.S.CharStream) (argument_at g.T.IrText.reading (attr_at g.A.IrText.reading)) c.loop-stream-test.ensures (IsArgument c.loop-stream.names.names) (IsArgument c.argument_parse-answer.new.names.names)
+      (λ y x k. (names_still_represent c.argument_parse-answer.ensures.names y.0 x.0 k.0, k.1)) m (c.loop-stream.invariant.1 name means fine) c.in_err-found.ensures);
   names = names_more _ _ _ c.loop-stream.invariant.0 c.argument_parse-answer.ensures.names;
 }
 
@@ -34,7 +34,7 @@ loop-stream-preserved g c = (
   names_more _ _ _ c.loop-stream.invariant.0 c.argument_parse-answer.ensures.names,
   λ name means fine.
       turn_keeps (lens_of g.world g.met.S.CharStream) (argument_at g.T.IrText.reading (attr_at g.A.IrText.reading)) c.loop-stream-test.ensures (IsArgument c.loop-stream.names.names) (IsArgument c.argument_parse-answer.new.names.names)
-      (λ y x k. (stand_on c.argument_parse-answer.ensures.names y.0 x.0 k.0, k.1)) (insisted_mean (lens_of g.world g.met.S.CharStream) c.argument_parse-answer.result (Ok c.in_ok-next.next) c.argument_parse-answer.ensures.read c.in_ok-next.ensures) (c.loop-stream.invariant.1 name means fine) c.in_ok-found.ensures,
+      (λ y x k. (names_still_represent c.argument_parse-answer.ensures.names y.0 x.0 k.0, k.1)) (insisted_mean (lens_of g.world g.met.S.CharStream) c.argument_parse-answer.result (Ok c.in_ok-next.next) c.argument_parse-answer.ensures.read c.in_ok-next.ensures) (c.loop-stream.invariant.1 name means fine) c.in_ok-found.ensures,
 )
 
 pub loop-stream-smaller : goal.loop-stream-smaller

@@ -1,4 +1,4 @@
-use Rattle.irtext_tokens.proofs.Exits.{handed_on}
+use Rattle.irtext_tokens.proofs.Exits.{propagated}
 use Rattle.irtext_tokens.specs.AttrTexts.{attr_at}
 use Rattle.irtext_parse_pieces.proofs.CanonicalParts.{no_operands, no_successors, no_entries, no_types, form_read}
 use Rattle.irtext_parse_pieces.proofs.Lenses.{lens_of}
@@ -7,22 +7,22 @@ use Rattle.irtext_parse_pieces.proofs.canonical.canonical_parse.Goals as goal
 
 pub returns-in_err-operands-clause-read : goal.returns-in_err-operands-clause-read
 returns-in_err-operands-clause-read g c = λ fine.
-    rw (handed_on c.from_residual.result c.from_residual.ensures.1)
+    rw (propagated c.from_residual.result c.from_residual.ensures.1)
     (no_operands (lens_of g.world g.met.S.CharStream) g.T.IrText.reading (attr_at g.A.IrText.reading) c.args.inside fine c.args.names.now.names c.names_between.new.names.names c.in_err-operands.ensures.read)
 
 pub returns-in_err-successors-clause-read : goal.returns-in_err-successors-clause-read
 returns-in_err-successors-clause-read g c = λ fine.
-    rw (handed_on c.from_residual-in_err-successors.result c.from_residual-in_err-successors.ensures.1)
+    rw (propagated c.from_residual-in_err-successors.result c.from_residual-in_err-successors.ensures.1)
     (no_successors (lens_of g.world g.met.S.CharStream) g.T.IrText.reading (attr_at g.A.IrText.reading) c.args.inside fine c.args.names.now.names c.names_between.new.names.names c.in_ok-operands.ensures.names.kept c.in_ok-operands.ensures.read c.names_between-2.new.names.names c.in_err-successors.ensures.read)
 
 pub returns-in_err-entries-clause-read : goal.returns-in_err-entries-clause-read
 returns-in_err-entries-clause-read g c = λ fine.
-    rw (handed_on c.from_residual-in_err-entries.result c.from_residual-in_err-entries.ensures.1)
+    rw (propagated c.from_residual-in_err-entries.result c.from_residual-in_err-entries.ensures.1)
     (no_entries (lens_of g.world g.met.S.CharStream) g.T.IrText.reading (attr_at g.A.IrText.reading) c.args.inside fine c.args.names.now.names c.names_between.new.names.names c.in_ok-operands.ensures.names.kept c.in_ok-operands.ensures.read c.names_between-2.new.names.names c.in_ok-successors.ensures.names.kept c.in_ok-successors.ensures.read (c.in_err-entries.ensures c.names_between-2.new.names.names))
 
 pub returns-in_err-inputs-clause-read : goal.returns-in_err-inputs-clause-read
 returns-in_err-inputs-clause-read g c = λ fine.
-    rw (handed_on c.from_residual-in_err-inputs.result c.from_residual-in_err-inputs.ensures.1)
+    rw (propagated c.from_residual-in_err-inputs.result c.from_residual-in_err-inputs.ensures.1)
     (no_types (lens_of g.world g.met.S.CharStream) g.T.IrText.reading (attr_at g.A.IrText.reading) c.args.inside fine c.args.names.now.names c.names_between.new.names.names c.in_ok-operands.ensures.names.kept c.in_ok-operands.ensures.read c.names_between-2.new.names.names c.in_ok-successors.ensures.names.kept c.in_ok-successors.ensures.read (c.in_ok-entries.ensures c.names_between-2.new.names.names) (c.in_err-inputs.ensures c.names_between-2.new.names.names))
 
 pub returns-clause-read : goal.returns-clause-read

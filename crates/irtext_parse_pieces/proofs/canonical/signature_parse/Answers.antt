@@ -1,4 +1,4 @@
-use Rattle.irtext_tokens.proofs.Exits.{handed_on}
+use Rattle.irtext_tokens.proofs.Exits.{propagated}
 use Rattle.irtext_tokens.specs.AttrTexts.{attr_at}
 use Rattle.irtext_parse_pieces.proofs.Lenses.{lens_of}
 use Rattle.irtext_parse_pieces.proofs.SignatureParts.{no_colon, no_angle, no_inputs, no_arrow, no_results, no_end, types_read}
@@ -6,32 +6,32 @@ use Rattle.irtext_parse_pieces.proofs.canonical.signature_parse.Goals as goal
 
 pub returns-in_err-word_parse : goal.returns-in_err-word_parse
 returns-in_err-word_parse g c = λ names fine.
-    rw (handed_on c.from_residual.result c.from_residual.ensures.1)
+    rw (propagated c.from_residual.result c.from_residual.ensures.1)
     (no_colon (lens_of g.world g.met.S.CharStream) g.T.IrText.reading (attr_at g.A.IrText.reading) c.args.inside names fine c.in_err-word_parse.ensures)
 
 pub returns-in_err-word_parse-2 : goal.returns-in_err-word_parse-2
 returns-in_err-word_parse-2 g c = λ names fine.
-    rw (handed_on c.from_residual-in_err-word_parse-2.result c.from_residual-in_err-word_parse-2.ensures.1)
+    rw (propagated c.from_residual-in_err-word_parse-2.result c.from_residual-in_err-word_parse-2.ensures.1)
     (no_angle (lens_of g.world g.met.S.CharStream) g.T.IrText.reading (attr_at g.A.IrText.reading) c.args.inside names fine c.in_ok-word_parse.ensures c.in_err-word_parse-2.ensures)
 
 pub returns-in_err-inputs : goal.returns-in_err-inputs
 returns-in_err-inputs g c = λ names fine.
-    rw (handed_on c.from_residual-in_err-inputs.result c.from_residual-in_err-inputs.ensures.1)
+    rw (propagated c.from_residual-in_err-inputs.result c.from_residual-in_err-inputs.ensures.1)
     (no_inputs (lens_of g.world g.met.S.CharStream) g.T.IrText.reading (attr_at g.A.IrText.reading) c.args.inside names fine c.in_ok-word_parse.ensures c.in_ok-word_parse-2.ensures c.in_err-inputs.ensures)
 
 pub returns-in_err-word_parse-3 : goal.returns-in_err-word_parse-3
 returns-in_err-word_parse-3 g c = λ names fine.
-    rw (handed_on c.from_residual-in_err-word_parse-3.result c.from_residual-in_err-word_parse-3.ensures.1)
+    rw (propagated c.from_residual-in_err-word_parse-3.result c.from_residual-in_err-word_parse-3.ensures.1)
     (no_arrow (lens_of g.world g.met.S.CharStream) g.T.IrText.reading (attr_at g.A.IrText.reading) c.args.inside names fine c.in_ok-word_parse.ensures c.in_ok-word_parse-2.ensures c.in_ok-inputs.ensures c.in_err-word_parse-3.ensures)
 
 pub returns-in_err-results : goal.returns-in_err-results
 returns-in_err-results g c = λ names fine.
-    rw (handed_on c.from_residual-in_err-results.result c.from_residual-in_err-results.ensures.1)
+    rw (propagated c.from_residual-in_err-results.result c.from_residual-in_err-results.ensures.1)
     (no_results (lens_of g.world g.met.S.CharStream) g.T.IrText.reading (attr_at g.A.IrText.reading) c.args.inside names fine c.in_ok-word_parse.ensures c.in_ok-word_parse-2.ensures c.in_ok-inputs.ensures c.in_ok-word_parse-3.ensures c.in_err-results.ensures)
 
 pub returns-in_err-word_parse-4 : goal.returns-in_err-word_parse-4
 returns-in_err-word_parse-4 g c = λ names fine.
-    rw (handed_on c.from_residual-in_err-word_parse-4.result c.from_residual-in_err-word_parse-4.ensures.1)
+    rw (propagated c.from_residual-in_err-word_parse-4.result c.from_residual-in_err-word_parse-4.ensures.1)
     (no_end (lens_of g.world g.met.S.CharStream) g.T.IrText.reading (attr_at g.A.IrText.reading) c.args.inside names fine c.in_ok-word_parse.ensures c.in_ok-word_parse-2.ensures c.in_ok-inputs.ensures c.in_ok-word_parse-3.ensures c.in_ok-results.ensures c.in_err-word_parse-4.ensures)
 
 pub returns : goal.returns

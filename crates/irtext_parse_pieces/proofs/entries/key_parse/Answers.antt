@@ -3,7 +3,7 @@ use Rattle.irtext_base.specs.Text.{front, after, in_word}
 use Rattle.irtext_tokens.proofs.Words.{encodes-front_word, is_identifier-front, taken_since}
 use Rattle.irtext_parse_pieces.proofs.EntrySteps.{key_there}
 use Rattle.irtext_parse_pieces.proofs.Meanings.{may_fail}
-use Rattle.irtext_parse_pieces.proofs.NameSteps.{nobody, no_name, name_starved}
+use Rattle.irtext_parse_pieces.proofs.NameSteps.{nobody, no_name, name_ran_out}
 use Rattle.irtext_parse_pieces.proofs.WordSteps.{word_after, whole_taken, whole_key}
 use Rattle.irtext_parse_pieces.proofs.Lenses.{lens_of}
 use Rattle.irtext_parse_pieces.proofs.entries.key_parse.Goals as goal
@@ -41,4 +41,4 @@ returns-in-Ok g c =
 pub returns-in-Err : goal.returns-in-Err
 returns-in-Err g c =
     let l = lens_of g.world g.met.S.CharStream in
-    name_starved l (sym c.has_failed.ensures ∙ c.if-has_failed.false) (word_after l c.key_again.ensures c.skip_class.ensures) c.out_of_memory.ensures
+    name_ran_out l (sym c.has_failed.ensures ∙ c.if-has_failed.false) (word_after l c.key_again.ensures c.skip_class.ensures) c.out_of_memory.ensures

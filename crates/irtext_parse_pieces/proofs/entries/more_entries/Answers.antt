@@ -1,11 +1,11 @@
 use Rattle.std.proofs.Common.{[], ◌∷◌, ◌++◌, ap, refl, ◌∙◌, Ok, Err}
-use Rattle.irtext_tokens.proofs.Exits.{handed_on}
+use Rattle.irtext_tokens.proofs.Exits.{propagated}
 use Rattle.irtext_tokens.specs.AttrTexts.{attr_at}
 use Rattle.irtext_parse_spec.specs.Heads.{pair_at}
 use Rattle.irtext_parse_pieces.specs.Entries.{IsEntry, AreEntries}
 use Rattle.irtext_parse_pieces.specs.Named.{whole}
 use Rattle.irtext_parse_pieces.proofs.Meanings.{insisted_mean, must_refuse}
-use Rattle.irtext_parse_pieces.proofs.Listings.{Listing, listing_first, listing_starts, item_falls, listing_starved, turn_refused, turn_keeps, turn_starved, turn_ends}
+use Rattle.irtext_parse_pieces.proofs.Listings.{Listing, listing_first, listing_starts, item_falls, listing_ran_out, turn_refused, turn_keeps, turn_ran_out, turn_ends}
 use Rattle.irtext_parse_pieces.proofs.Lenses.{lens_of}
 use Rattle.irtext_parse_pieces.proofs.entries.more_entries.Goals as goal
 
@@ -16,7 +16,7 @@ loop-stream-init g c = λ entry means fine.
 pub returns-in_err-next : goal.returns-in_err-next
 returns-in_err-next g c = λ entry means fine.
     let l = lens_of g.world g.met.S.CharStream in
-    rw (handed_on c.from_residual.result c.from_residual.ensures.1)
+    rw (propagated c.from_residual.result c.from_residual.ensures.1)
     (turn_refused l (pair_at (attr_at g.A.IrText.reading)) c.loop-stream-test.ensures (c.loop-stream.invariant entry means fine)
     (insisted_mean l c.entry_parse-answer.result (Err _) c.entry_parse-answer.ensures c.in_err-next.ensures))
 
@@ -40,13 +40,13 @@ returns-in_default g c = λ entry means fine.
     let old = c.args.stream.now in
     let item = pair_at (attr_at g.A.IrText.reading) in
     let p : Listing l item (IsEntry (whole (l.view old))) (entry ∷ []) old old (c.args.first ∷ []) = listing_first l item entry c.args.first old fine means in
-    must_refuse l (listing_starved l item (λ _. []) p c.out_of_memory.ensures)
+    must_refuse l (listing_ran_out l item (λ _. []) p c.out_of_memory.ensures)
 
 pub returns-in_default-push : goal.returns-in_default-push
 returns-in_default-push g c = λ entry means fine.
     let l = lens_of g.world g.met.S.CharStream in
     let m = insisted_mean l c.entry_parse-answer.result (Ok c.in_ok-next.next) c.entry_parse-answer.ensures c.in_ok-next.ensures in
-    turn_starved l (pair_at (attr_at g.A.IrText.reading)) c.loop-stream-test.ensures IsEntry IsEntry (λ y x k. k) m (c.loop-stream.invariant entry means fine)
+    turn_ran_out l (pair_at (attr_at g.A.IrText.reading)) c.loop-stream-test.ensures IsEntry IsEntry (λ y x k. k) m (c.loop-stream.invariant entry means fine)
     (record { mid = _; spaced = c.skip_white_space.ensures; appended = c.out_of_memory-in_default-push.ensures })
 
 pub returns : goal.returns

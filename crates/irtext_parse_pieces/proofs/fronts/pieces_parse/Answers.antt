@@ -1,6 +1,6 @@
 use Rattle.std.proofs.Common.{◌≡◌, ◌∙◌, ◌+◌, ◌<◌, ◌^◌, Some, None, slice_get, drop, length, suc, ap, sym, subst, arith}
 use Rattle.irtext_tokens.specs.AttrTexts.{attr_at}
-use Rattle.irtext_tokens.proofs.Exits.{handed_on}
+use Rattle.irtext_tokens.proofs.Exits.{propagated}
 use Rattle.irtext_parse_pieces.proofs.Meanings.{names_none, names_more}
 use Rattle.irtext_parse_pieces.proofs.FormatSteps.{Counts, next_left, none_left, count_none, count_all, count_more, fewer_left, left_more, front_over, front_ended}
 use Rattle.irtext_parse_pieces.proofs.FrontSteps.{Fronting, front_begins, front_more, front_refused, front_ends}
@@ -80,7 +80,7 @@ returns-in_err-step_found-clause-read g c = λ fine.
     let there : slice_get steps n ≡ Some step = rw c.len.ensures at (sym c.in-Some.ensures.step) in
     let read0 = rw c.if-word_found.ensures.0 at c.in_err-step_found.ensures.read in
     let read = rw c.if-word_found.ensures.1 at read0 in
-    rw (handed_on c.from_residual.result c.from_residual.ensures.1)
+    rw (propagated c.from_residual.result c.from_residual.ensures.1)
     (front_refused (lens_of g.world g.met.S.CharStream) g.T.IrText.reading (attr_at g.A.IrText.reading) c.args.inside (drop (suc n) steps) step (next_left steps n step there) (sym c.reads_piece.ensures ∙ c.if-not-reads_piece.false) (c.loop-step.invariant.2 fine) c.skip_white_space.ensures read)
 
 pub returns-in_err-step_found-clause-names : goal.returns-in_err-step_found-clause-names

@@ -6,15 +6,15 @@ use Rattle.irtext_base.proofs.Compose.{seen_after}
 use Rattle.irtext_context.specs.Named.{id_of_texts}
 use Rattle.irtext_tokens.proofs.Words.{encodes-front_word, taken_since}
 use Rattle.irtext_parse_spec.proofs.Readers.Steps.{Lens, lens}
-use Rattle.irtext_parse_pieces.proofs.Leads.{dotted, dotted_stands, word_stands, found_there}
+use Rattle.irtext_parse_pieces.proofs.Leads.{dotted, dotted_same_stream, word_same_stream, found_there}
 use Rattle.irtext_parse_pieces.proofs.Lenses.{lens_of}
 use Rattle.irtext_parse_pieces.proofs.ids.look_up.Goals as goal
 
-pub returns-then-not-skip_identifier-2-clause-stands : goal.returns-then-not-skip_identifier-2-clause-stands
-returns-then-not-skip_identifier-2-clause-stands g c =
+pub returns-then-not-skip_identifier-2-clause-same_stream : goal.returns-then-not-skip_identifier-2-clause-same_stream
+returns-then-not-skip_identifier-2-clause-same_stream g c =
     let word = c.if-not-skip_identifier.ensures in
     let d = dotted (lens_of g.world g.met.S.CharStream) c.args.stream.now c.skip_identifier.new.stream c.take.new.self word.0 word.1 (sym c.next_is.ensures ∙ c.if-not-next_is.false) c.take.ensures.after in
-    dotted_stands (lens_of g.world g.met.S.CharStream) d c.if-not-skip_identifier-2.ensures
+    dotted_same_stream (lens_of g.world g.met.S.CharStream) d c.if-not-skip_identifier-2.ensures
 
 pub text_since-requires-2 : goal.text_since-requires-2
 text_since-requires-2 g c =
@@ -39,8 +39,8 @@ returns-clause-read g c =
     let e : id_of_texts c.as_str.result.now c.text_since-2.result.now ≡ id_of_texts (front in_word text) (front in_word name) = λ i. id_of_texts (p i) (v i) in
     found_there l old mid c.skip_identifier-2.new.stream c.op_named.result d more.0 more.1 (subst (λ (i : OpId). IfSome c.op_named.result (λ op. op.0.now ≡ i)) e c.op_named.ensures.id)
 
-pub returns-clause-stands : goal.returns-clause-stands
-returns-clause-stands g c =
+pub returns-clause-same_stream : goal.returns-clause-same_stream
+returns-clause-same_stream g c =
     let word = c.if-not-skip_identifier.ensures in
     let d = dotted (lens_of g.world g.met.S.CharStream) c.args.stream.now c.skip_identifier.new.stream c.take.new.self word.0 word.1 (sym c.next_is.ensures ∙ c.if-not-next_is.false) c.take.ensures.after in
-    word_stands (lens_of g.world g.met.S.CharStream) d c.if-not-skip_identifier-2.ensures.1
+    word_same_stream (lens_of g.world g.met.S.CharStream) d c.if-not-skip_identifier-2.ensures.1

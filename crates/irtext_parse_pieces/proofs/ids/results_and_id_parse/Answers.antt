@@ -1,6 +1,6 @@
 use Rattle.std.proofs.Common.{[], sym, ◌∙◌, ap}
 use Rattle.irtext_base.proofs.Compose.{seen_after}
-use Rattle.irtext_tokens.proofs.Exits.{handed_on}
+use Rattle.irtext_tokens.proofs.Exits.{propagated}
 use Rattle.irtext_parse_pieces.proofs.Leads.{lead_taken, lead_since, lead_refused, led_read, led_missed}
 use Rattle.irtext_parse_pieces.proofs.Lenses.{lens_of}
 use Rattle.irtext_parse_pieces.proofs.Meanings.{may_fail}
@@ -11,7 +11,7 @@ returns-then-has_failed-clause-read g c = may_fail (lens_of g.world g.met.S.Char
 
 pub returns-in_err-results-clause-read : goal.returns-in_err-results-clause-read
 returns-in_err-results-clause-read g c =
-    rw (handed_on c.from_residual.result c.from_residual.ensures.1)
+    rw (propagated c.from_residual.result c.from_residual.ensures.1)
     (lead_refused (lens_of g.world g.met.S.CharStream) c.args.ctx.now.dialects (c.in_err-results.ensures.read (sym c.has_failed.ensures ∙ c.if-has_failed.false)))
 
 pub text_since-requires : goal.text_since-requires
@@ -26,7 +26,7 @@ returns-in_err-id-clause-read g c =
     let l = lens_of g.world g.met.S.CharStream in
     let h = c.in_ok-results.ensures.read (sym c.has_failed.ensures ∙ c.if-has_failed.false) in
     let e = lead_since l h c.position-start.result c.text_since.result.now c.is_empty-led.result c.position-start.ensures c.text_since.ensures c.is_empty-led.ensures in
-    rw (handed_on c.from_residual-in_err-id.result c.from_residual-in_err-id.ensures.1) (led_missed l c.args.ctx.now.dialects c.position-start.result _ h e c.position-start.ensures c.in_err-id.ensures.read)
+    rw (propagated c.from_residual-in_err-id.result c.from_residual-in_err-id.ensures.1) (led_missed l c.args.ctx.now.dialects c.position-start.result _ h e c.position-start.ensures c.in_err-id.ensures.read)
 
 pub returns-clause-read : goal.returns-clause-read
 returns-clause-read g c =

@@ -1,9 +1,9 @@
 use Rattle.std.proofs.Common.{Ok, Err}
-use Rattle.irtext_tokens.proofs.Exits.{handed_on}
+use Rattle.irtext_tokens.proofs.Exits.{propagated}
 use Rattle.irtext_parse_pieces.specs.Kinds.{named_at}
-use Rattle.irtext_parse_pieces.specs.Named.{whole, StandsFor, Each}
-use Rattle.irtext_parse_pieces.proofs.Meanings.{names_none, names_more, insisted_mean, stand_on}
-use Rattle.irtext_parse_pieces.proofs.Listings.{listing_starts, turn_refused, turn_falls, turn_keeps, turn_starved, turn_ends}
+use Rattle.irtext_parse_pieces.specs.Named.{whole, Represents, Each}
+use Rattle.irtext_parse_pieces.proofs.Meanings.{names_none, names_more, insisted_mean, names_still_represent}
+use Rattle.irtext_parse_pieces.proofs.Listings.{listing_starts, turn_refused, turn_falls, turn_keeps, turn_ran_out, turn_ends}
 use Rattle.irtext_parse_pieces.proofs.Lenses.{lens_of}
 use Rattle.irtext_parse_pieces.proofs.lists.more_names.Goals as goal
 
@@ -14,14 +14,14 @@ pub returns-in_err-next-clause-read : goal.returns-in_err-next-clause-read
 returns-in_err-next-clause-read g c = λ name means fine.
     let l = lens_of g.world g.met.S.CharStream in
     let m = insisted_mean l c.named_parse-answer.result (Err _) c.named_parse-answer.ensures.read c.in_err-next.ensures in
-    rw (handed_on c.from_residual.result c.from_residual.ensures.1) (turn_refused l (named_at c.args.kind c.args.inside) c.loop-kind-test.ensures (c.loop-kind.invariant.1 name means fine) m)
+    rw (propagated c.from_residual.result c.from_residual.ensures.1) (turn_refused l (named_at c.args.kind c.args.inside) c.loop-kind-test.ensures (c.loop-kind.invariant.1 name means fine) m)
 
 pub returns-in_err-found : goal.returns-in_err-found
 returns-in_err-found g c = record {
   read = λ name means fine.
       let m = insisted_mean (lens_of g.world g.met.S.CharStream) c.named_parse-answer.result (Ok c.in_ok-next.next) c.named_parse-answer.ensures.read c.in_ok-next.ensures in
-      rw (handed_on c.from_residual-in_err-found.result c.from_residual-in_err-found.ensures.1)
-      (turn_starved (lens_of g.world g.met.S.CharStream) (named_at c.args.kind c.args.inside) c.loop-kind-test.ensures (StandsFor c.loop-kind.names.names) (StandsFor c.named_parse-answer.new.names.names) (stand_on c.named_parse-answer.ensures.names) m (c.loop-kind.invariant.1 name means fine) c.in_err-found.ensures);
+      rw (propagated c.from_residual-in_err-found.result c.from_residual-in_err-found.ensures.1)
+      (turn_ran_out (lens_of g.world g.met.S.CharStream) (named_at c.args.kind c.args.inside) c.loop-kind-test.ensures (Represents c.loop-kind.names.names) (Represents c.named_parse-answer.new.names.names) (names_still_represent c.named_parse-answer.ensures.names) m (c.loop-kind.invariant.1 name means fine) c.in_err-found.ensures);
   names = names_more _ _ _ c.loop-kind.invariant.0 c.named_parse-answer.ensures.names;
 }
 
@@ -29,7 +29,7 @@ pub loop-kind-preserved : goal.loop-kind-preserved
 loop-kind-preserved g c = (
   names_more _ _ _ c.loop-kind.invariant.0 c.named_parse-answer.ensures.names,
   λ name means fine.
-      turn_keeps (lens_of g.world g.met.S.CharStream) (named_at c.args.kind c.args.inside) c.loop-kind-test.ensures (StandsFor c.loop-kind.names.names) (StandsFor c.named_parse-answer.new.names.names) (stand_on c.named_parse-answer.ensures.names) (insisted_mean (lens_of g.world g.met.S.CharStream) c.named_parse-answer.result (Ok c.in_ok-next.next) c.named_parse-answer.ensures.read c.in_ok-next.ensures) (c.loop-kind.invariant.1 name means fine) c.in_ok-found.ensures,
+      turn_keeps (lens_of g.world g.met.S.CharStream) (named_at c.args.kind c.args.inside) c.loop-kind-test.ensures (Represents c.loop-kind.names.names) (Represents c.named_parse-answer.new.names.names) (names_still_represent c.named_parse-answer.ensures.names) (insisted_mean (lens_of g.world g.met.S.CharStream) c.named_parse-answer.result (Ok c.in_ok-next.next) c.named_parse-answer.ensures.read c.in_ok-next.ensures) (c.loop-kind.invariant.1 name means fine) c.in_ok-found.ensures,
 )
 
 pub loop-kind-smaller : goal.loop-kind-smaller
@@ -41,4 +41,4 @@ pub returns-clause-read : goal.returns-clause-read
 returns-clause-read g c = λ name means fine.
     let l = lens_of g.world g.met.S.CharStream in
     let p = c.loop-kind.invariant.1 name means fine in
-    turn_ends l (named_at c.args.kind c.args.inside) (Each (StandsFor c.loop-kind.names.names (whole (l.view c.args.stream.now)))) c.loop-kind.found c.loop-kind-test.ensures p p.each
+    turn_ends l (named_at c.args.kind c.args.inside) (Each (Represents c.loop-kind.names.names (whole (l.view c.args.stream.now)))) c.loop-kind.found c.loop-kind-test.ensures p p.each

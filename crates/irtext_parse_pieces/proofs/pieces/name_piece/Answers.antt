@@ -1,5 +1,5 @@
 use Rattle.std.proofs.Common.{Ok, Err, refl}
-use Rattle.irtext_tokens.proofs.Exits.{handed_on}
+use Rattle.irtext_tokens.proofs.Exits.{propagated}
 use Rattle.irtext_grammar.specs.Grammar.Tree as tree
 use Rattle.irtext_parse_pieces.specs.declared.pieces.ReadPiece.TheVariants as read
 use Rattle.irtext_parse_pieces.specs.Kinds.{name_tree}
@@ -12,7 +12,7 @@ pub returns-in_err-name-clause-read : goal.returns-in_err-name-clause-read
 returns-in_err-name-clause-read g c =
     let l = lens_of g.world g.met.S.CharStream in
     let m = insisted_mean l c.named_parse-answer.result (Err _) c.named_parse-answer.ensures.read c.in_err-name.ensures in
-    rw (handed_on c.from_residual.result c.from_residual.ensures.1) (piece_refused l (name_tree c.args.kind c.args.index) no_tree m.read)
+    rw (propagated c.from_residual.result c.from_residual.ensures.1) (piece_refused l (name_tree c.args.kind c.args.index) no_tree m.read)
 
 pub returns-in-Value-clause-read : goal.returns-in-Value-clause-read
 returns-in-Value-clause-read g c =

@@ -1,5 +1,5 @@
 use Rattle.std.proofs.Common.{refl}
-use Rattle.irtext_tokens.proofs.Exits.{handed_on}
+use Rattle.irtext_tokens.proofs.Exits.{propagated}
 use Rattle.irtext_grammar.specs.Grammar.Tree as tree
 use Rattle.irtext_parse_pieces.specs.declared.pieces.ReadPiece.TheVariants as read
 use Rattle.irtext_parse_pieces.specs.Kinds.{names_tree}
@@ -8,7 +8,7 @@ use Rattle.irtext_parse_pieces.proofs.Lenses.{lens_of}
 use Rattle.irtext_parse_pieces.proofs.pieces.names_piece.Goals as goal
 
 pub returns-in_err-found-clause-read : goal.returns-in_err-found-clause-read
-returns-in_err-found-clause-read g c = rw (handed_on c.from_residual.result c.from_residual.ensures.1) (piece_refused (lens_of g.world g.met.S.CharStream) (names_tree c.args.kind) no_tree c.in_err-found.ensures.read.read)
+returns-in_err-found-clause-read g c = rw (propagated c.from_residual.result c.from_residual.ensures.1) (piece_refused (lens_of g.world g.met.S.CharStream) (names_tree c.args.kind) no_tree c.in_err-found.ensures.read.read)
 
 pub returns-in-Value-clause-read : goal.returns-in-Value-clause-read
 returns-in-Value-clause-read g c =

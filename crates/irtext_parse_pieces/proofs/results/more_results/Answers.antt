@@ -1,7 +1,7 @@
-use Rattle.irtext_tokens.proofs.Exits.{handed_on}
+use Rattle.irtext_tokens.proofs.Exits.{propagated}
 use Rattle.irtext_parse_spec.specs.Heads.{name_at}
-use Rattle.irtext_parse_pieces.specs.Named.{whole, StandsFor, Each}
-use Rattle.irtext_parse_pieces.proofs.Meanings.{names_none, names_more, read_mean, stand_on}
+use Rattle.irtext_parse_pieces.specs.Named.{whole, Represents, Each}
+use Rattle.irtext_parse_pieces.proofs.Meanings.{names_none, names_more, read_mean, names_still_represent}
 use Rattle.irtext_parse_pieces.proofs.Listings.{listing_starts, turn_falls, turn_more, turn_keeps, turn_ends}
 use Rattle.irtext_parse_pieces.proofs.Looks.{passed_here, next_unlooked}
 use Rattle.irtext_parse_pieces.proofs.Lenses.{lens_of}
@@ -22,8 +22,8 @@ pub returns-in_err-found-clause-looks : goal.returns-in_err-found-clause-looks
 returns-in_err-found-clause-looks g c = λ name means fine.
     let l = lens_of g.world g.met.S.CharStream in
     let a = c.in_err-found.ensures in
-    let q = turn_more {A = g.row.A.Denot} l name_at c.loop-stream-test.ensures (StandsFor c.loop-stream.names.names) (StandsFor c.name_parse.new.names.names) (stand_on c.name_parse.ensures.names) (read_mean l c.in-Ok.ensures.read) (c.loop-stream.invariant.1 name means fine) a.spaced in
-    rw (handed_on c.from_residual.result c.from_residual.ensures.1) (passed_here l q.so_far.passed a.appended)
+    let q = turn_more {A = g.row.A.Denot} l name_at c.loop-stream-test.ensures (Represents c.loop-stream.names.names) (Represents c.name_parse.new.names.names) (names_still_represent c.name_parse.ensures.names) (read_mean l c.in-Ok.ensures.read) (c.loop-stream.invariant.1 name means fine) a.spaced in
+    rw (propagated c.from_residual.result c.from_residual.ensures.1) (passed_here l q.so_far.passed a.appended)
 
 pub returns-in_err-found-clause-names : goal.returns-in_err-found-clause-names
 returns-in_err-found-clause-names g c = names_more _ _ _ c.loop-stream.invariant.0 c.name_parse.ensures.names
@@ -33,7 +33,7 @@ loop-stream-preserved g c = (
   names_more _ _ _ c.loop-stream.invariant.0 c.name_parse.ensures.names,
   λ name means fine.
       let l = lens_of g.world g.met.S.CharStream in
-      turn_keeps {A = g.row.A.Denot} l name_at c.loop-stream-test.ensures (StandsFor c.loop-stream.names.names) (StandsFor c.name_parse.new.names.names) (stand_on c.name_parse.ensures.names) (read_mean l c.in-Ok.ensures.read) (c.loop-stream.invariant.1 name means fine) c.in_ok-found.ensures,
+      turn_keeps {A = g.row.A.Denot} l name_at c.loop-stream-test.ensures (Represents c.loop-stream.names.names) (Represents c.name_parse.new.names.names) (names_still_represent c.name_parse.ensures.names) (read_mean l c.in-Ok.ensures.read) (c.loop-stream.invariant.1 name means fine) c.in_ok-found.ensures,
 )
 
 pub loop-stream-smaller : goal.loop-stream-smaller
@@ -45,4 +45,4 @@ pub returns-clause-looks : goal.returns-clause-looks
 returns-clause-looks g c = λ name means fine.
     let l = lens_of g.world g.met.S.CharStream in
     let p = c.loop-stream.invariant.1 name means fine in
-    turn_ends {A = g.row.A.Denot} l name_at (Each (StandsFor c.loop-stream.names.names (whole (l.view c.args.stream.now)))) c.loop-stream.found c.loop-stream-test.ensures p p.each
+    turn_ends {A = g.row.A.Denot} l name_at (Each (Represents c.loop-stream.names.names (whole (l.view c.args.stream.now)))) c.loop-stream.found c.loop-stream-test.ensures p p.each

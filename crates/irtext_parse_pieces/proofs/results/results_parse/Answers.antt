@@ -2,9 +2,9 @@ use Rattle.std.proofs.Common.{◌≡◌, false, sym, ◌∙◌, ap, subst}
 use Rattle.irtext_base.specs.Answers.{SameStream}
 use Rattle.irtext_parse_spec.specs.Heads.{results_at}
 use Rattle.irtext_parse_pieces.specs.Results.{is_read}
-use Rattle.irtext_tokens.proofs.Exits.{handed_on}
+use Rattle.irtext_tokens.proofs.Exits.{propagated}
 use Rattle.irtext_tokens.proofs.SetBack.{set_back, set_within}
-use Rattle.irtext_parse_pieces.proofs.Looks.{results_none, results_starve, results_fail}
+use Rattle.irtext_parse_pieces.proofs.Looks.{results_none, results_run_out, results_fail}
 use Rattle.irtext_parse_pieces.proofs.Lenses.{lens_of}
 use Rattle.irtext_parse_pieces.proofs.results.results_parse.Goals as goal
 
@@ -19,7 +19,7 @@ returns-in_err-results-clause-read g c =
     let l = lens_of g.world g.met.S.CharStream in
     let still = c.begins_id.ensures.still in
     let fine = ap (λ s. (l.view s).failed) still ∙ (sym c.has_failed.ensures ∙ c.if-has_failed.false) in
-    rw (handed_on c.from_residual.result c.from_residual.ensures.1) (results_starve l still (c.in_err-results.ensures.looks fine))
+    rw (propagated c.from_residual.result c.from_residual.ensures.1) (results_run_out l still (c.in_err-results.ensures.looks fine))
 
 pub returns-in-None-clause-read : goal.returns-in-None-clause-read
 returns-in-None-clause-read g c =

@@ -1,8 +1,8 @@
 use Rattle.std.proofs.Common.{◌≡◌, Ok, Err, refl}
-use Rattle.irtext_tokens.proofs.Exits.{handed_on}
+use Rattle.irtext_tokens.proofs.Exits.{propagated}
 use Rattle.irtext_parse_pieces.specs.Named.{Each}
 use Rattle.irtext_parse_pieces.proofs.Meanings.{insisted_mean}
-use Rattle.irtext_parse_pieces.proofs.Listings.{listing_starts, turn_refused, turn_falls, turn_keeps, turn_starved, turn_ends}
+use Rattle.irtext_parse_pieces.proofs.Listings.{listing_starts, turn_refused, turn_falls, turn_keeps, turn_ran_out, turn_ends}
 use Rattle.irtext_parse_pieces.proofs.Lenses.{lens_of}
 use Rattle.irtext_parse_pieces.proofs.types.more_types.Goals as goal
 
@@ -12,15 +12,15 @@ loop-stream-init g c = λ fine. listing_starts (lens_of g.world g.met.S.CharStre
 pub returns-in_err-next : goal.returns-in_err-next
 returns-in_err-next g c = λ fine.
     let l = lens_of g.world g.met.S.CharStream in
-    rw (handed_on c.from_residual.result c.from_residual.ensures.1)
+    rw (propagated c.from_residual.result c.from_residual.ensures.1)
     (turn_refused l g.T.IrText.reading c.loop-stream-test.ensures (c.loop-stream.invariant fine) (insisted_mean l c.type_parse-answer.result (Err _) c.type_parse-answer.ensures c.in_err-next.ensures))
 
 pub returns-in_err-found : goal.returns-in_err-found
 returns-in_err-found g c = λ fine.
     let l = lens_of g.world g.met.S.CharStream in
     let m = insisted_mean l c.type_parse-answer.result (Ok c.in_ok-next.next) c.type_parse-answer.ensures c.in_ok-next.ensures in
-    rw (handed_on c.from_residual-in_err-found.result c.from_residual-in_err-found.ensures.1)
-    (turn_starved l g.T.IrText.reading c.loop-stream-test.ensures (λ text. ◌≡◌) (λ text. ◌≡◌) (λ y x k. k) m (c.loop-stream.invariant fine) c.in_err-found.ensures)
+    rw (propagated c.from_residual-in_err-found.result c.from_residual-in_err-found.ensures.1)
+    (turn_ran_out l g.T.IrText.reading c.loop-stream-test.ensures (λ text. ◌≡◌) (λ text. ◌≡◌) (λ y x k. k) m (c.loop-stream.invariant fine) c.in_err-found.ensures)
 
 pub loop-stream-preserved : goal.loop-stream-preserved
 loop-stream-preserved g c = λ fine.

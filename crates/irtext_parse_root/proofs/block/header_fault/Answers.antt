@@ -9,7 +9,7 @@ use Rattle.irtext_parse_root.proofs.block.header_fault.Goals as goal
 -- ---- a key
 pub returns-in-Some-clause-first : goal.returns-in-Some-clause-first
 returns-in-Some-clause-first g c = λ h is. elim c.key_fault.ensures.says [
-  | inl starved ↦ inl starved
+  | inl ran_out ↦ inl ran_out
   | inr k ↦ inr (record { first = key_outside (whole c.args.stream.now) c.key_fault.result c.args.names.now.names c.args.head.now h is (indices_of (marks_of c.args.state.now)) c.in-Some.key.now c.in-Some.ensures k; flag = k.flag })
 ]
 
@@ -26,7 +26,7 @@ returns-then-len-ne0-clause-first g c = λ h is.
     let read = c.args.head.now in
     let there = item_there read.arguments 0 c.index.result.now (omega (arith, c.len.ensures, c.if-len-ne0.true)) c.index.ensures in
     elim c.no_scope_error.ensures.says [
-      | inl starved ↦ inl starved
+      | inl ran_out ↦ inl ran_out
       | inr k ↦ inr (record {
         first = argument_outside (whole c.args.stream.now) c.no_scope_error.result c.args.names.now.names read h is (indices_of (marks_of c.args.state.now)) c.index.result.now c.in_default.ensures there k;
         flag = k.flag;
@@ -51,7 +51,7 @@ no_scope_error-requires-in-None-clause-known g c =
 
 pub returns-in-None-clause-first : goal.returns-in-None-clause-first
 returns-in-None-clause-first g c = λ h is. elim c.no_scope_error-in-None.ensures.says [
-  | inl starved ↦ inl starved
+  | inl ran_out ↦ inl ran_out
   | inr k ↦ inr (record {
     first = label_outside (whole c.args.stream.now) c.no_scope_error-in-None.result c.args.names.now.names c.args.head.now h is (marks_of c.args.state.now) c.in_default.ensures (omega (arith, c.len.ensures, c.if-len-ne0.false)) c.in-None.ensures k;
     flag = k.flag;

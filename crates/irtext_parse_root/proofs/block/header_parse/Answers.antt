@@ -5,7 +5,7 @@ use Rattle.irtext_base.specs.Stream.{first_of}
 use Rattle.irtext_tokens.specs.AttrTexts.{attr_at}
 use Rattle.irtext_parse_spec.specs.Readers.Streams.{itself, replaced}
 use Rattle.irtext_parse_pieces.proofs.Meanings.{names_none}
-use Rattle.irtext_parse_root.proofs.BlockHeads.{begun_mean, none_begins, none_starves}
+use Rattle.irtext_parse_root.proofs.BlockHeads.{begun_mean, none_begins, none_runs_out}
 use Rattle.irtext_parse_root.proofs.block.header_parse.Goals as goal
 
 pub returns-then-next_is-clause-read : goal.returns-then-next_is-clause-read
@@ -21,7 +21,7 @@ pub returns-in-Ok-clause-names : goal.returns-in-Ok-clause-names
 returns-in-Ok-clause-names g c = names_none c.args.names.now
 
 pub returns-in-Err-clause-read : goal.returns-in-Err-clause-read
-returns-in-Err-clause-read g c = none_starves g.T.IrText.reading (attr_at g.A.IrText.reading) c.args.stream.now c.out_of_memory.new.stream c.requires.fine c.out_of_memory.result c.out_of_memory.ensures
+returns-in-Err-clause-read g c = none_runs_out g.T.IrText.reading (attr_at g.A.IrText.reading) c.args.stream.now c.out_of_memory.new.stream c.requires.fine c.out_of_memory.result c.out_of_memory.ensures
 
 pub returns-in-Err-clause-names : goal.returns-in-Err-clause-names
 returns-in-Err-clause-names g c = names_none c.args.names.now

@@ -1,6 +1,6 @@
 use Rattle.std.proofs.Common.{◌∙◌, ◌<◌, sym, subst, refl, arith, Some, None}
 use Rattle.irtext_tokens.specs.AttrTexts.{attr_at}
-use Rattle.irtext_tokens.proofs.Exits.{handed_on}
+use Rattle.irtext_tokens.proofs.Exits.{propagated}
 use Rattle.irtext_parse_root.specs.Levels.{AreAllNew, left_to_do}
 use Rattle.irtext_parse_root.proofs.Chains.{carries_still, carries_both}
 use Rattle.irtext_parse_root.proofs.Looping.{arrives_first, are_here, arrives_on, stops_on, less_on, finishes_on, none_wait, come_to}
@@ -33,7 +33,7 @@ pub returns-in_err-next-clause-stops : goal.returns-in_err-next-clause-stops
 returns-in_err-next-clause-stops g c =
     let inv = c.loop-next.invariant in
     let stops = c.in_err-next.ensures.steps.stops in
-    rw (handed_on c.from_residual.result c.from_residual.ensures.1)
+    rw (propagated c.from_residual.result c.from_residual.ensures.1)
     (record {
       committed = stops.committed;
       stops = λ base v k ls here. stops_on g.T.IrText.reading (attr_at g.A.IrText.reading) c.args.names.now c.args.s.now c.loop-next.names c.loop-next.s inv.carries c.in-Some.frame c.loop-next.frames _ base v k ls stops
@@ -44,7 +44,7 @@ pub returns-in_err-next-clause-spares : goal.returns-in_err-next-clause-spares
 returns-in_err-next-clause-spares g c =
     let inv = c.loop-next.invariant in
     let e = c.in_err-next.ensures.steps.spares in
-    rw (handed_on c.from_residual.result c.from_residual.ensures.1)
+    rw (propagated c.from_residual.result c.from_residual.ensures.1)
     (spares_then c.args.s.now c.loop-next.s _ inv.carries (λ m all. all)
     (λ m le all. subst (λ n. AreAllNew m c.loop-next.s.state.ctx.now.graph n c.loop-next.frames) c.in-Some.is (inv.fresh m le all)) e.remains inv.spares e)
 

@@ -1,5 +1,5 @@
 use Rattle.std.proofs.Common.{arith}
-use Rattle.irtext_tokens.proofs.Exits.{handed_on}
+use Rattle.irtext_tokens.proofs.Exits.{propagated}
 use Rattle.irtext_graph.specs.declared.object.Object.TheVariants.{TheOperation}
 use Rattle.irtext_parse_root.proofs.Chains.{never_open, carries_both, remains_on}
 use Rattle.irtext_parse_root.proofs.Nesting.{root_is_here, nested_reads, nested_stops, none_begins}
@@ -8,10 +8,10 @@ use Rattle.irtext_parse_root.proofs.nested.nested_parse.Goals as goal
 
 -- ---- the operation was not begun
 pub returns-in_err-begun-clause-refused : goal.returns-in_err-begun-clause-refused
-returns-in_err-begun-clause-refused g c = rw (handed_on c.from_residual.result c.from_residual.ensures.1) (none_begins g.T.IrText.reading g.A.IrText.reading g.met.T.IrText.sincere.reads g.met.A.IrText.sincere.reads c.args.names.now c.args.s.now _ c.in_err-begun.ensures.refused)
+returns-in_err-begun-clause-refused g c = rw (propagated c.from_residual.result c.from_residual.ensures.1) (none_begins g.T.IrText.reading g.A.IrText.reading g.met.T.IrText.sincere.reads g.met.A.IrText.sincere.reads c.args.names.now c.args.s.now _ c.in_err-begun.ensures.refused)
 
 pub returns-in_err-begun-clause-unread : goal.returns-in_err-begun-clause-unread
-returns-in_err-begun-clause-unread g c = rw (handed_on c.from_residual.result c.from_residual.ensures.1) c.in_err-begun.ensures.unread
+returns-in_err-begun-clause-unread g c = rw (propagated c.from_residual.result c.from_residual.ensures.1) c.in_err-begun.ensures.unread
 
 pub returns-in_err-begun-clause-rest : goal.returns-in_err-begun-clause-rest
 returns-in_err-begun-clause-rest g c = c.in_err-begun.ensures.spares.remains.rest
@@ -19,7 +19,7 @@ returns-in_err-begun-clause-rest g c = c.in_err-begun.ensures.spares.remains.res
 pub returns-in_err-begun-clause-spares : goal.returns-in_err-begun-clause-spares
 returns-in_err-begun-clause-spares g c =
     let e = c.in_err-begun.ensures.spares in
-    rw (handed_on c.from_residual.result c.from_residual.ensures.1) (spares_as _ (λ m all. tt) e.remains e)
+    rw (propagated c.from_residual.result c.from_residual.ensures.1) (spares_as _ (λ m all. tt) e.remains e)
 
 -- ---- the rest of its text was not parsed
 pub items_parse-requires : goal.items_parse-requires
@@ -29,12 +29,12 @@ items_parse-requires g c =
 
 pub returns-in_err-items_parse-clause-refused : goal.returns-in_err-items_parse-clause-refused
 returns-in_err-items_parse-clause-refused g c =
-    rw (handed_on c.from_residual-in_err-items_parse.result c.from_residual-in_err-items_parse.ensures.1)
+    rw (propagated c.from_residual-in_err-items_parse.result c.from_residual-in_err-items_parse.ensures.1)
     (nested_stops g.T.IrText.reading g.A.IrText.reading g.met.T.IrText.sincere.reads g.met.A.IrText.sincere.reads c.args.names.now c.args.s.now c.in_ok-begun.begun c.begin.new.names c.begin.new.s c.in_ok-begun.ensures.begins _ c.in_err-items_parse.ensures.stops)
 
 pub returns-in_err-items_parse-clause-unread : goal.returns-in_err-items_parse-clause-unread
 returns-in_err-items_parse-clause-unread g c =
-    rw (handed_on c.from_residual-in_err-items_parse.result c.from_residual-in_err-items_parse.ensures.1) (never_open _ c.in_err-items_parse.ensures.stops.committed)
+    rw (propagated c.from_residual-in_err-items_parse.result c.from_residual-in_err-items_parse.ensures.1) (never_open _ c.in_err-items_parse.ensures.stops.committed)
 
 pub returns-in_err-items_parse-clause-rest : goal.returns-in_err-items_parse-clause-rest
 returns-in_err-items_parse-clause-rest g c = (remains_on c.in_ok-begun.ensures.begins.carries c.in_err-items_parse.ensures.spares.remains).rest
@@ -42,7 +42,7 @@ returns-in_err-items_parse-clause-rest g c = (remains_on c.in_ok-begun.ensures.b
 pub returns-in_err-items_parse-clause-spares : goal.returns-in_err-items_parse-clause-spares
 returns-in_err-items_parse-clause-spares g c =
     let b = c.in_ok-begun.ensures in
-    rw (handed_on c.from_residual-in_err-items_parse.result c.from_residual-in_err-items_parse.ensures.1)
+    rw (propagated c.from_residual-in_err-items_parse.result c.from_residual-in_err-items_parse.ensures.1)
     (spares_then c.args.s.now c.begin.new.s _ b.begins.carries (λ m all. tt) (λ m le all. (b.begins.fresh m le, tt)) c.in_err-items_parse.ensures.spares.remains b.spares c.in_err-items_parse.ensures.spares)
 
 -- ---- it was parsed

@@ -32,7 +32,7 @@ returns-clause-begins g c =
     (alone_leaves _ _ c.in_ok-region.region makes) e.tied (a.marks ∙ e.marks) (a.stream ∙ e.stream)
     c.in_ok-region.region (alone_there _ _ c.in_ok-region.region makes with_it)
     (record { region = c.in_ok-region.region; isolated = c.args.isolated; at = c.position-at.result }) _ refl c.in_ok-brace_demanded.ensures refl refl
-    (record { passed = c.args.s.now.stream.passed; rest = c.args.s.now.stream.rest; same = refl; stands = c.position-at.ensures; counts = refl })
+    (record { passed = c.args.s.now.stream.passed; rest = c.args.s.now.stream.rest; same = refl; positioned = c.position-at.ensures; counts = refl })
 
 pub returns-clause-makes : goal.returns-clause-makes
 returns-clause-makes g c = subst (λ x. MakesRegion x.graph c.region_made.new.s.state.ctx.now.graph c.in_ok-region.region) c.in_ok-enter_here.ensures.ctx c.in_ok-region.ensures.makes

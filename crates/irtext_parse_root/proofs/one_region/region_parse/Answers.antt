@@ -1,11 +1,11 @@
 use Rattle.std.proofs.Common.{◌∙◌, arith, le_refl, sym, subst, inl}
 use Rattle.irtext_context.specs.Context.{KeepsOlder}
 use Rattle.irtext_context.proofs.Kept.{kept_closed}
-use Rattle.irtext_context.proofs.Parts.{stands_seen}
+use Rattle.irtext_context.proofs.Parts.{seen_is_live}
 use Rattle.irtext_graph.specs.Back.{AllOlder, IsClosedBelow}
 use Rattle.irtext_graph.specs.declared.object.Object.TheVariants.{TheRegion}
 use Rattle.irtext_tokens.specs.AttrTexts.{attr_at}
-use Rattle.irtext_tokens.proofs.Exits.{handed_on}
+use Rattle.irtext_tokens.proofs.Exits.{propagated}
 use Rattle.irtext_parse_state.specs.States.{marks_of}
 use Rattle.irtext_parse_nested.proofs.Marking.{gains_nothing}
 use Rattle.irtext_promises.specs.Alone.{IsOutermost}
@@ -30,21 +30,21 @@ region_alone-requires-clause-tied g c = c.requires.sound.tied
 
 pub returns-in_err-begun-clause-refused : goal.returns-in_err-begun-clause-refused
 returns-in_err-begun-clause-refused g c =
-    rw (handed_on c.from_residual.result c.from_residual.ensures.1)
+    rw (propagated c.from_residual.result c.from_residual.ensures.1)
     (entry_refused g.T.IrText.reading g.A.IrText.reading g.met.T.IrText.sincere.reads g.met.A.IrText.sincere.reads c.args.names.now c.args.s.now c.isolated_here-closed.result c.args.op c.isolated_here-closed.ensures
     (sym c.can_enter.ensures ∙ c.if-not-can_enter.false) (sym c.next_is.ensures ∙ c.if-not-next_is.false) _ c.in_err-begun.ensures.committed c.in_err-begun.ensures.refused)
 
 pub returns-in_err-begun-clause-unread : goal.returns-in_err-begun-clause-unread
-returns-in_err-begun-clause-unread g c = rw (handed_on c.from_residual.result c.from_residual.ensures.1) (never_open _ c.in_err-begun.ensures.committed)
+returns-in_err-begun-clause-unread g c = rw (propagated c.from_residual.result c.from_residual.ensures.1) (never_open _ c.in_err-begun.ensures.committed)
 
 pub returns-in_err-begun-clause-unnoted : goal.returns-in_err-begun-clause-unnoted
-returns-in_err-begun-clause-unnoted g c = rw (handed_on c.from_residual.result c.from_residual.ensures.1) (gains_nothing c.region_alone.ensures.marks)
+returns-in_err-begun-clause-unnoted g c = rw (propagated c.from_residual.result c.from_residual.ensures.1) (gains_nothing c.region_alone.ensures.marks)
 
 pub returns-in_err-begun-clause-names : goal.returns-in_err-begun-clause-names
 returns-in_err-begun-clause-names g c i text e = rw c.region_alone.ensures.names e
 
 pub returns-in_err-begun-clause-kept : goal.returns-in_err-begun-clause-kept
-returns-in_err-begun-clause-kept g c = rw (handed_on c.from_residual.result c.from_residual.ensures.1) (λ m le closed sound. c.region_alone.ensures.kept m le)
+returns-in_err-begun-clause-kept g c = rw (propagated c.from_residual.result c.from_residual.ensures.1) (λ m le closed sound. c.region_alone.ensures.kept m le)
 
 pub items_parse-requires : goal.items_parse-requires
 items_parse-requires g c =
@@ -65,19 +65,19 @@ pub returns-in_err-items_parse-clause-refused : goal.returns-in_err-items_parse-
 returns-in_err-items_parse-clause-refused g c =
     let e = c.in_ok-begun.ensures in
     let w = c.region_alone.ensures in
-    rw (handed_on c.from_residual-in_err-items_parse.result c.from_residual-in_err-items_parse.ensures.1)
+    rw (propagated c.from_residual-in_err-items_parse.result c.from_residual-in_err-items_parse.ensures.1)
     (under_stops g.T.IrText.reading g.A.IrText.reading g.met.T.IrText.sincere.reads g.met.A.IrText.sincere.reads c.args.names.now c.args.s.now c.in_ok-begun.begun c.isolated_here-closed.result c.region_alone.new.names c.region_alone.new.s
     e.begins e.makes w.with_it e.values e.labels e.open w.marks w.rest _ c.in_err-items_parse.ensures.stops c.args.op c.isolated_here-closed.ensures (sym c.can_enter.ensures ∙ c.if-not-can_enter.false) (sym c.next_is.ensures ∙ c.if-not-next_is.false))
 
 pub returns-in_err-items_parse-clause-unread : goal.returns-in_err-items_parse-clause-unread
-returns-in_err-items_parse-clause-unread g c = rw (handed_on c.from_residual-in_err-items_parse.result c.from_residual-in_err-items_parse.ensures.1) (never_open _ c.in_err-items_parse.ensures.stops.committed)
+returns-in_err-items_parse-clause-unread g c = rw (propagated c.from_residual-in_err-items_parse.result c.from_residual-in_err-items_parse.ensures.1) (never_open _ c.in_err-items_parse.ensures.stops.committed)
 
 pub returns-in_err-items_parse-clause-rest : goal.returns-in_err-items_parse-clause-rest
 returns-in_err-items_parse-clause-rest g c = rest_both c.region_alone.ensures.rest c.in_err-items_parse.ensures.spares.remains.rest
 
 pub returns-in_err-items_parse-clause-unnoted : goal.returns-in_err-items_parse-clause-unnoted
 returns-in_err-items_parse-clause-unnoted g c =
-    rw (handed_on c.from_residual-in_err-items_parse.result c.from_residual-in_err-items_parse.ensures.1)
+    rw (propagated c.from_residual-in_err-items_parse.result c.from_residual-in_err-items_parse.ensures.1)
     (gains_both (marks_of c.args.s.now.state) (marks_of c.region_alone.new.s.state) (marks_of c.items_parse.new.s.state) (gains_nothing c.region_alone.ensures.marks) c.in_err-items_parse.ensures.spares.remains.gains)
 
 pub returns-in_err-items_parse-clause-names : goal.returns-in_err-items_parse-clause-names
@@ -85,12 +85,12 @@ returns-in_err-items_parse-clause-names g c i text e = c.in_err-items_parse.ensu
 
 pub returns-in_err-items_parse-clause-kept : goal.returns-in_err-items_parse-clause-kept
 returns-in_err-items_parse-clause-kept g c =
-    rw (handed_on c.from_residual-in_err-items_parse.result c.from_residual-in_err-items_parse.ensures.1) (alone_kept c.args.s.now c.region_alone.new.s c.in_ok-begun.begun c.in_ok-begun.ensures.makes c.region_alone.ensures.with_it c.region_alone.ensures.kept c.in_ok-begun.ensures.sound c.in_err-items_parse.ensures.spares)
+    rw (propagated c.from_residual-in_err-items_parse.result c.from_residual-in_err-items_parse.ensures.1) (alone_kept c.args.s.now c.region_alone.new.s c.in_ok-begun.begun c.in_ok-begun.ensures.makes c.region_alone.ensures.with_it c.region_alone.ensures.kept c.in_ok-begun.ensures.sound c.in_err-items_parse.ensures.spares)
 
 pub region_placed-requires-clause-op : goal.region_placed-requires-clause-op
 region_placed-requires-clause-op g c =
     let alone = alone_lasts c.args.s.now.state.ctx.now c.region_alone.new.s.state.ctx.now c.in_ok-begun.begun.region c.in_ok-begun.ensures.makes c.region_alone.ensures.with_it in
-    stands_seen c.items_parse.new.s.state.ctx.now c.args.op (c.in_ok-items_parse.ensures.finishes.carries.lasts.operations c.args.op (alone.operations c.args.op c.requires.stands))
+    seen_is_live c.items_parse.new.s.state.ctx.now c.args.op (c.in_ok-items_parse.ensures.finishes.carries.lasts.operations c.args.op (alone.operations c.args.op c.requires.alive))
 
 pub region_placed-requires-clause-region : goal.region_placed-requires-clause-region
 region_placed-requires-clause-region g c =
@@ -111,20 +111,20 @@ region_placed-requires-clause-can g c =
     let v = still_alone g.T.IrText.reading g.A.IrText.reading g.met.T.IrText.sincere.reads g.met.A.IrText.sincere.reads c.args.names.now c.args.s.now c.in_ok-begun.begun c.isolated_here-closed.result c.region_alone.new.names c.region_alone.new.s
     e.begins e.makes w.with_it e.values e.labels e.open w.marks w.rest c.items_parse.new.names c.items_parse.new.s c.in_ok-items_parse.ensures.finishes in
     can_place made old c.items_parse.new.s.state.ctx.now older both (kept_closed closed both) c.in_ok-begun.begun.region
-    (c.in_ok-items_parse.ensures.finishes.carries.lasts.newer made (TheRegion c.in_ok-begun.begun.region) (omega (arith, more)) is_new) v.0 v.1 v.2 c.args.op c.requires.stands
+    (c.in_ok-items_parse.ensures.finishes.carries.lasts.newer made (TheRegion c.in_ok-begun.begun.region) (omega (arith, more)) is_new) v.0 v.1 v.2 c.args.op c.requires.alive
 
 pub returns-in_err-region_placed-clause-refused : goal.returns-in_err-region_placed-clause-refused
-returns-in_err-region_placed-clause-refused g c = rw (handed_on c.from_residual-in_err-region_placed.result c.from_residual-in_err-region_placed.ensures.1) (inl c.in_err-region_placed.ensures.starved)
+returns-in_err-region_placed-clause-refused g c = rw (propagated c.from_residual-in_err-region_placed.result c.from_residual-in_err-region_placed.ensures.1) (inl c.in_err-region_placed.ensures.ran_out)
 
 pub returns-in_err-region_placed-clause-unread : goal.returns-in_err-region_placed-clause-unread
-returns-in_err-region_placed-clause-unread g c = rw (handed_on c.from_residual-in_err-region_placed.result c.from_residual-in_err-region_placed.ensures.1) (never_open _ c.in_err-region_placed.ensures.starved.flag)
+returns-in_err-region_placed-clause-unread g c = rw (propagated c.from_residual-in_err-region_placed.result c.from_residual-in_err-region_placed.ensures.1) (never_open _ c.in_err-region_placed.ensures.ran_out.flag)
 
 pub returns-in_err-region_placed-clause-rest : goal.returns-in_err-region_placed-clause-rest
 returns-in_err-region_placed-clause-rest g c = rest_both (rest_both c.region_alone.ensures.rest c.in_ok-items_parse.ensures.finishes.carries.rest) c.region_placed.ensures.rest
 
 pub returns-in_err-region_placed-clause-unnoted : goal.returns-in_err-region_placed-clause-unnoted
 returns-in_err-region_placed-clause-unnoted g c =
-    rw (handed_on c.from_residual-in_err-region_placed.result c.from_residual-in_err-region_placed.ensures.1)
+    rw (propagated c.from_residual-in_err-region_placed.result c.from_residual-in_err-region_placed.ensures.1)
     (gains_both (marks_of c.args.s.now.state) (marks_of c.items_parse.new.s.state) (marks_of c.region_placed.new.s.state)
     (gains_both (marks_of c.args.s.now.state) (marks_of c.region_alone.new.s.state) (marks_of c.items_parse.new.s.state) (gains_nothing c.region_alone.ensures.marks) c.in_ok-items_parse.ensures.finishes.carries.gains) (gains_nothing c.region_placed.ensures.marks))
 
@@ -133,7 +133,7 @@ returns-in_err-region_placed-clause-names g c i text e = c.in_ok-items_parse.ens
 
 pub returns-in_err-region_placed-clause-kept : goal.returns-in_err-region_placed-clause-kept
 returns-in_err-region_placed-clause-kept g c =
-    rw (handed_on c.from_residual-in_err-region_placed.result c.from_residual-in_err-region_placed.ensures.1)
+    rw (propagated c.from_residual-in_err-region_placed.result c.from_residual-in_err-region_placed.ensures.1)
     (λ m le closed sound. subst (KeepsOlder m c.args.s.now.state.ctx.now) (sym c.in_err-region_placed.ensures.unchanged) (alone_kept c.args.s.now c.region_alone.new.s c.in_ok-begun.begun c.in_ok-begun.ensures.makes c.region_alone.ensures.with_it c.region_alone.ensures.kept c.in_ok-begun.ensures.sound c.in_ok-items_parse.ensures.spares m le closed sound))
 
 pub returns-clause-read : goal.returns-clause-read

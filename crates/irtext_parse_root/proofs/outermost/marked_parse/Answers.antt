@@ -1,7 +1,7 @@
 use Rattle.std.proofs.Common.{◌≡◌, ◌∙◌, ◌⊎◌, ◌&&◌, false, [], sym, ap, inl, inr, true≢false}
 use Rattle.irtext_context.proofs.Kept.{kept_closed, kept_trans}
 use Rattle.irtext_parse_spec.specs.Promises.Section.{is_noted}
-use Rattle.irtext_tokens.proofs.Exits.{handed_on}
+use Rattle.irtext_tokens.proofs.Exits.{propagated}
 use Rattle.irtext_parse_state.specs.States.{marks_of}
 use Rattle.irtext_parse_root.proofs.Laws.{Laws, laws_of}
 use Rattle.irtext_parse_root.proofs.Outer.{first_is_not, marks_there, marks_none, noted_there, none_noted}
@@ -17,10 +17,10 @@ laws g = laws_of g.T.IrText g.A.IrText g.met.T.IrText.sincere g.met.A.IrText.sin
 
 -- ---- the operation was not parsed
 pub returns-in_err-op-clause-undone : goal.returns-in_err-op-clause-undone
-returns-in_err-op-clause-undone g c = rw (handed_on c.from_residual.result c.from_residual.ensures.1) c.in_err-op.ensures.undone
+returns-in_err-op-clause-undone g c = rw (propagated c.from_residual.result c.from_residual.ensures.1) c.in_err-op.ensures.undone
 
 pub returns-in_err-op-clause-answers : goal.returns-in_err-op-clause-answers
-returns-in_err-op-clause-answers g c = rw (handed_on c.from_residual.result c.from_residual.ensures.1) (operation_missed (laws g) c.args.s.now c.tree_parse.new.s _ c.in_err-op.ensures.accepted c.in_err-op.ensures.missed c.args.look)
+returns-in_err-op-clause-answers g c = rw (propagated c.from_residual.result c.from_residual.ensures.1) (operation_missed (laws g) c.args.s.now c.tree_parse.new.s _ c.in_err-op.ensures.accepted c.in_err-op.ensures.missed c.args.look)
 
 pub returns-in_err-op-clause-closed : goal.returns-in_err-op-clause-closed
 returns-in_err-op-clause-closed g c = λ h. kept_closed h c.in_err-op.ensures.kept
@@ -48,7 +48,7 @@ returns-then-not-look-clause-closed g c = λ h. kept_closed h c.in_ok-op.ensures
 
 -- ---- the section was not parsed
 pub returns-in_err-section_parse-clause-undone : goal.returns-in_err-section_parse-clause-undone
-returns-in_err-section_parse-clause-undone g c = rw (handed_on c.from_residual-in_err-section_parse.result c.from_residual-in_err-section_parse.ensures.1)
+returns-in_err-section_parse-clause-undone g c = rw (propagated c.from_residual-in_err-section_parse.result c.from_residual-in_err-section_parse.ensures.1)
     (rest_undoable (laws g) c.in_ok-op.op c.args.s.now c.tree_parse.new.s c.in_ok-op.ensures.read c.requires.fine c.has_marks-earlier.result c.has_marks-earlier.ensures c.section_parse.new.s _ c.in_ok-op.ensures.undone.rest c.in_err-section_parse.ensures.rest c.in_err-section_parse.ensures.refused c.in_err-section_parse.ensures.marks c.in_ok-op.ensures.kept c.in_err-section_parse.ensures.unchanged)
 
 pub returns-in_err-section_parse-clause-answers : goal.returns-in_err-section_parse-clause-answers
@@ -56,7 +56,7 @@ returns-in_err-section_parse-clause-answers g c =
     let marks = marks_of c.tree_parse.new.s.state in
     let e = c.in_ok-op.ensures in
     let there = c.if-not-has_marks.false in
-    rw (handed_on c.from_residual-in_err-section_parse.result c.from_residual-in_err-section_parse.ensures.1)
+    rw (propagated c.from_residual-in_err-section_parse.result c.from_residual-in_err-section_parse.ensures.1)
     (section_missed (laws g) c.in_ok-op.op c.args.s.now c.tree_parse.new.s e.read c.args.look c.if-not-look.false (noted_there marks c.has_marks.result c.has_marks.ensures there) (marks_there marks c.has_marks.result c.has_marks.ensures there)
     c.section_parse.new.s _ (c.in_err-section_parse.ensures.missed (ap (λ v. v.failed) e.moves.takes.is ∙ c.requires.fine)))
 

@@ -55,7 +55,7 @@ pub returns-clause-answers : goal.returns-clause-answers
 returns-clause-answers g c =
     let e = c.new-names.ensures in
     let l = laws g in
-    let missed = misses_region g.T.IrText.reading (attr_at g.A.IrText.reading) c.new-names.result c.args.s.now e.names e.values e.labels c.args.parent c.requires.stands (unreported _ c.in_default.ensures) c.in-Err.fault c.in-Err.ensures.refused in
+    let missed = misses_region g.T.IrText.reading (attr_at g.A.IrText.reading) c.new-names.result c.args.s.now e.names e.values e.labels c.args.parent c.requires.alive (unreported _ c.in_default.ensures) c.in-Err.fault c.in-Err.ensures.refused in
     record {
       read = tt;
       missed = λ fine. missed;
@@ -77,12 +77,12 @@ returns-in-Ok-clause-answers g c =
     let u = c.in-Ok.ensures.read in
     let begun = fresh_sound c.new-names.result old.state e.names e.values e.labels before.older in
     let kept = u.older m (le_refl m) before.closed begun in
-    let id = closed_id old.state.ctx.now c.args.parent c.requires.stands (unreported _ c.in_default.ensures) in
+    let id = closed_id old.state.ctx.now c.args.parent c.requires.alive (unreported _ c.in_default.ensures) in
     record {
-      read = region_read g.T.IrText.reading (attr_at g.A.IrText.reading) c.new-names.result old e.names e.values e.labels c.args.parent c.requires.stands (unreported _ c.in_default.ensures) c.in-Ok.region c.region_parse.new.names new u;
+      read = region_read g.T.IrText.reading (attr_at g.A.IrText.reading) c.new-names.result old e.names e.values e.labels c.args.parent c.requires.alive (unreported _ c.in_default.ensures) c.in-Ok.region c.region_parse.new.names new u;
       missed = λ fine. tt;
       builds = λ fresh. builds_region g.T.IrText.reading g.T.IrText.written g.A.IrText.reading g.A.IrText.written l.types_split l.splits l.words l.short_types l.short_owns
-          c.new-names.result c.region_parse.new.names old new e.names e.values e.labels fresh c.args.parent c.in-Ok.region u before.accepted (closed_as old.state.ctx.now c.args.parent c.requires.stands (unreported _ c.in_default.ensures) u.iso u.isolation)
-          id.0 id.1 c.requires.stands before.older kept (u.sound m (le_refl m) begun) c.context_keeps-in-Ok.ensures.nest before.holders;
+          c.new-names.result c.region_parse.new.names old new e.names e.values e.labels fresh c.args.parent c.in-Ok.region u before.accepted (closed_as old.state.ctx.now c.args.parent c.requires.alive (unreported _ c.in_default.ensures) u.iso u.isolation)
+          id.0 id.1 c.requires.alive before.older kept (u.sound m (le_refl m) begun) c.context_keeps-in-Ok.ensures.nest before.holders;
       unresolved = λ fresh. tt;
     }

@@ -1,16 +1,16 @@
 use Rattle.std.proofs.Common.{◌≡◌, ◌∙◌, None, sym, ap, subst, true, false}
-use Rattle.irtext_tokens.proofs.Exits.{handed_on}
+use Rattle.irtext_tokens.proofs.Exits.{propagated}
 use Rattle.irtext_parse_spec.specs.Reached.{begins_region}
 use Rattle.irtext_parse_root.proofs.Chains.{carries_passed}
 use Rattle.irtext_parse_root.proofs.Proceeding.{another_proceeds, over_proceeds}
-use Rattle.irtext_parse_root.proofs.Sparing.{fine_after, step_made, step_failed, step_starved, step_passed}
+use Rattle.irtext_parse_root.proofs.Sparing.{fine_after, step_made, step_failed, step_ran_out, step_passed}
 use Rattle.irtext_parse_root.proofs.Stopping.{another_stops}
 use Rattle.irtext_parse_root.proofs.steps.regions_step.Goals as goal
 
 pub returns-then-not-next_is-clause-steps : goal.returns-then-not-next_is-clause-steps
 returns-then-not-next_is-clause-steps g c =
     let none = subst (λ t. begins_region t ≡ false) c.space_parse.ensures.rest (sym c.next_is.ensures ∙ c.if-not-next_is.true) in
-    let next = c.at_step.ensures ∙ ap (λ z. record c.args.begun { coming = None; step = z }) c.requires.behind in
+    let next = c.at_step.ensures ∙ ap (λ z. record c.args.begun { coming = None; step = z }) c.requires.following in
     step_passed (over_proceeds g.T.IrText.reading g.A.IrText.reading g.met.T.IrText.sincere.reads g.met.A.IrText.sincere.reads c.args.names.now c.args.s.now c.space_parse.new.stream c.space_parse.ensures c.args.begun c.at_step.result c.args.frames.now c.requires.next none next c.requires.ready.here)
 
 pub enter-requires-clause-fine : goal.enter-requires-clause-fine
@@ -18,15 +18,15 @@ enter-requires-clause-fine g c = fine_after c.requires.ready.fine c.space_parse.
 
 pub returns-in_err-region-clause-steps : goal.returns-in_err-region-clause-steps
 returns-in_err-region-clause-steps g c =
-    let stands = subst (λ t. begins_region t ≡ true) c.space_parse.ensures.rest (sym c.next_is.ensures ∙ c.if-not-next_is.false) in
-    rw (handed_on c.from_residual.result c.from_residual.ensures.1)
-    (step_failed (another_stops g.T.IrText.reading g.A.IrText.reading g.met.T.IrText.sincere.reads g.met.A.IrText.sincere.reads c.args.names.now c.args.s.now c.args.frames.now _ c.args.begun c.in_err-region.ensures.committed c.space_parse.new.stream c.space_parse.ensures c.args.isolated c.requires.isolated c.in_err-region.ensures.refused c.requires.next stands) c.in_err-region.ensures.spares)
+    let follows_on = subst (λ t. begins_region t ≡ true) c.space_parse.ensures.rest (sym c.next_is.ensures ∙ c.if-not-next_is.false) in
+    rw (propagated c.from_residual.result c.from_residual.ensures.1)
+    (step_failed (another_stops g.T.IrText.reading g.A.IrText.reading g.met.T.IrText.sincere.reads g.met.A.IrText.sincere.reads c.args.names.now c.args.s.now c.args.frames.now _ c.args.begun c.in_err-region.ensures.committed c.space_parse.new.stream c.space_parse.ensures c.args.isolated c.requires.isolated c.in_err-region.ensures.refused c.requires.next follows_on) c.in_err-region.ensures.spares)
 
 pub returns-in_default-clause-steps : goal.returns-in_default-clause-steps
-returns-in_default-clause-steps g c = step_starved c.out_of_memory.ensures (carries_passed c.space_parse.new.stream c.space_parse.ensures.moves c.in_ok-region.ensures.enters.carries) c.in_ok-region.ensures.spares
+returns-in_default-clause-steps g c = step_ran_out c.out_of_memory.ensures (carries_passed c.space_parse.new.stream c.space_parse.ensures.moves c.in_ok-region.ensures.enters.carries) c.in_ok-region.ensures.spares
 
 pub returns-clause-steps : goal.returns-clause-steps
 returns-clause-steps g c =
-    let stands = subst (λ t. begins_region t ≡ true) c.space_parse.ensures.rest (sym c.next_is.ensures ∙ c.if-not-next_is.false) in
+    let follows_on = subst (λ t. begins_region t ≡ true) c.space_parse.ensures.rest (sym c.next_is.ensures ∙ c.if-not-next_is.false) in
     step_made (another_proceeds g.T.IrText.reading g.A.IrText.reading g.met.T.IrText.sincere.reads g.met.A.IrText.sincere.reads c.args.names.now c.args.s.now c.space_parse.new.stream c.space_parse.ensures c.args.begun c.args.frames.now c.push.new.self c.in_ok-region.region c.enter.new.names c.enter.new.s c.args.isolated
-    c.in_ok-region.ensures.enters c.requires.isolated c.requires.next stands c.in-Ok.ensures c.requires.ready.here) c.in_ok-region.ensures.spares
+    c.in_ok-region.ensures.enters c.requires.isolated c.requires.next follows_on c.in-Ok.ensures c.requires.ready.here) c.in_ok-region.ensures.spares

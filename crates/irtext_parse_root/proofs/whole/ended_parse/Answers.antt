@@ -1,5 +1,5 @@
 use Rattle.std.proofs.Common.{◌∙◌, ap}
-use Rattle.irtext_tokens.proofs.Exits.{handed_on}
+use Rattle.irtext_tokens.proofs.Exits.{propagated}
 use Rattle.irtext_parse_root.proofs.Laws.{Laws, laws_of}
 use Rattle.irtext_parse_root.proofs.Says.{root_missed, rest_undoable, rest_missed, rest_read}
 use Rattle.irtext_parse_root.proofs.Sectioned.{marks_newer}
@@ -12,20 +12,20 @@ laws g = laws_of g.T.IrText g.A.IrText g.met.T.IrText.sincere g.met.A.IrText.sin
 
 -- ---- the operation was not parsed
 pub returns-in_err-op-clause-undone : goal.returns-in_err-op-clause-undone
-returns-in_err-op-clause-undone g c = rw (handed_on c.from_residual.result c.from_residual.ensures.1) c.in_err-op.ensures.undone
+returns-in_err-op-clause-undone g c = rw (propagated c.from_residual.result c.from_residual.ensures.1) c.in_err-op.ensures.undone
 
 pub returns-in_err-op-clause-answers : goal.returns-in_err-op-clause-answers
-returns-in_err-op-clause-answers g c = rw (handed_on c.from_residual.result c.from_residual.ensures.1) (root_missed (laws g) c.args.s.now c.tree_parse.new.s _ c.in_err-op.ensures.accepted c.in_err-op.ensures.missed)
+returns-in_err-op-clause-answers g c = rw (propagated c.from_residual.result c.from_residual.ensures.1) (root_missed (laws g) c.args.s.now c.tree_parse.new.s _ c.in_err-op.ensures.accepted c.in_err-op.ensures.missed)
 
 -- ---- what has to follow it was not parsed
 pub returns-in_err-rest_parse-clause-undone : goal.returns-in_err-rest_parse-clause-undone
-returns-in_err-rest_parse-clause-undone g c = rw (handed_on c.from_residual-in_err-rest_parse.result c.from_residual-in_err-rest_parse.ensures.1)
+returns-in_err-rest_parse-clause-undone g c = rw (propagated c.from_residual-in_err-rest_parse.result c.from_residual-in_err-rest_parse.ensures.1)
     (rest_undoable (laws g) c.in_ok-op.op c.args.s.now c.tree_parse.new.s c.in_ok-op.ensures.read c.requires.fine c.has_marks-earlier.result c.has_marks-earlier.ensures c.rest_parse.new.s _ c.in_ok-op.ensures.undone.rest c.in_err-rest_parse.ensures.rest c.in_err-rest_parse.ensures.refused c.in_err-rest_parse.ensures.marks c.in_ok-op.ensures.kept c.in_err-rest_parse.ensures.unchanged)
 
 pub returns-in_err-rest_parse-clause-answers : goal.returns-in_err-rest_parse-clause-answers
 returns-in_err-rest_parse-clause-answers g c =
     let e = c.in_ok-op.ensures in
-    rw (handed_on c.from_residual-in_err-rest_parse.result c.from_residual-in_err-rest_parse.ensures.1)
+    rw (propagated c.from_residual-in_err-rest_parse.result c.from_residual-in_err-rest_parse.ensures.1)
     (rest_missed (laws g) c.in_ok-op.op c.args.s.now c.tree_parse.new.s e.read c.rest_parse.new.s _ (c.in_err-rest_parse.ensures.missed (ap (λ v. v.failed) e.moves.takes.is ∙ c.requires.fine)))
 
 -- ---- both were parsed

@@ -3,7 +3,7 @@ use Rattle.irtext_base.proofs.Results.{where_ok}
 use Rattle.irtext_context.proofs.Kept.{kept_trans}
 use Rattle.irtext_context.proofs.Contexts.{same-keeps}
 use Rattle.irtext_tokens.specs.AttrTexts.{attr_at}
-use Rattle.irtext_tokens.proofs.Exits.{handed_on}
+use Rattle.irtext_tokens.proofs.Exits.{propagated}
 use Rattle.irtext_tokens.proofs.Steps.{alone}
 use Rattle.irtext_parse_state.specs.States.{marks_of}
 use Rattle.irtext_parse_spec.specs.Promises.Section.{indices_of}
@@ -14,7 +14,7 @@ use Rattle.irtext_parse_spec.proofs.Fine.{fine_section}
 use Rattle.irtext_parse_nested.proofs.Marking.{if_err, on_err, always_err}
 use Rattle.irtext_parse_pieces.proofs.Meanings.{takes_whole}
 use Rattle.irtext_parse_section.specs.Said.{rules_of}
-use Rattle.irtext_parse_section.proofs.SectionSteps.{either_way, starved_refusal, starved_there, given_kept}
+use Rattle.irtext_parse_section.proofs.SectionSteps.{either_way, ran_out_refusal, ran_out_there, given_kept}
 use Rattle.irtext_parse_root.specs.Ended.{wrong_section, not_ended}
 use Rattle.irtext_parse_root.specs.Whole.{ExpectsEnd}
 use Rattle.irtext_parse_root.proofs.Outer.{none_noted, noted_there, held_under, held_beside}
@@ -47,18 +47,18 @@ returns-then-not-has_marks-clause-unchanged g c = λ mark n. always_err c.end_de
 pub returns-in_err-entries-clause-missed : goal.returns-in_err-entries-clause-missed
 returns-in_err-entries-clause-missed g c = λ fine.
     let noted = noted_there (marks_of c.args.s.now.state) c.has_marks.result c.has_marks.ensures c.if-not-has_marks.false in
-    rw (handed_on c.from_residual.result c.from_residual.ensures.1) (inr (wrong_section noted (not_answered fine c.in_err-entries.ensures.read.read)))
+    rw (propagated c.from_residual.result c.from_residual.ensures.1) (inr (wrong_section noted (not_answered fine c.in_err-entries.ensures.read.read)))
 
 pub returns-in_err-entries-clause-refused : goal.returns-in_err-entries-clause-refused
 returns-in_err-entries-clause-refused g c =
     let marks = marks_of c.args.s.now.state in
-    rw (handed_on c.from_residual.result c.from_residual.ensures.1) (demands (λ text. (fine_section g.A.IrText.reading g.met.A.IrText.sincere (indices_of marks) (rules_of marks) text).spares) c.in_err-entries.ensures.read.read)
+    rw (propagated c.from_residual.result c.from_residual.ensures.1) (demands (λ text. (fine_section g.A.IrText.reading g.met.A.IrText.sincere (indices_of marks) (rules_of marks) text).spares) c.in_err-entries.ensures.read.read)
 
 pub returns-in_err-entries-clause-kept : goal.returns-in_err-entries-clause-kept
 returns-in_err-entries-clause-kept g c = λ mark n. adds_kept mark c.in_err-entries.ensures.only.adds
 
 pub returns-in_err-entries-clause-unchanged : goal.returns-in_err-entries-clause-unchanged
-returns-in_err-entries-clause-unchanged g c = λ mark n. rw (handed_on c.from_residual.result c.from_residual.ensures.1) (adds_kept mark c.in_err-entries.ensures.only.adds)
+returns-in_err-entries-clause-unchanged g c = λ mark n. rw (propagated c.from_residual.result c.from_residual.ensures.1) (adds_kept mark c.in_err-entries.ensures.only.adds)
 
 -- ---- the text goes on after it
 pub returns-in_err-end_demanded-clause-missed : goal.returns-in_err-end_demanded-clause-missed
@@ -69,14 +69,14 @@ returns-in_err-end_demanded-clause-missed g c = λ fine.
     let k = c.in_ok-entries.ensures.read in
     let a = answered k.read in
     let same = takes_whole alone old.stream mid.stream a.taken mid.stream.rest a.takes in
-    rw (handed_on c.from_residual-in_err-end_demanded.result c.from_residual-in_err-end_demanded.ensures.1)
+    rw (propagated c.from_residual-in_err-end_demanded.result c.from_residual-in_err-end_demanded.ensures.1)
     (inr (not_ended mid.stream.rest (held_under _ _ noted (k.meant c.in_ok-entries.entries, a.taken, a.is)) (subst (λ text. ExpectsEnd text mid.stream.rest c.in_err-end_demanded.field-0.0) same c.in_err-end_demanded.ensures.more)))
 
 pub returns-in_err-end_demanded-clause-refused : goal.returns-in_err-end_demanded-clause-refused
 returns-in_err-end_demanded-clause-refused g c =
     let a = answered c.in_ok-entries.ensures.read.read in
     let e = c.in_err-end_demanded.ensures.refused in
-    rw (handed_on c.from_residual-in_err-end_demanded.result c.from_residual-in_err-end_demanded.ensures.1)
+    rw (propagated c.from_residual-in_err-end_demanded.result c.from_residual-in_err-end_demanded.ensures.1)
     (record { committed = e.committed; fails = e.fails; failed = λ f. sym (ap (λ v. v.failed) a.takes.is) ∙ e.failed f })
 
 pub returns-in_err-end_demanded-clause-kept : goal.returns-in_err-end_demanded-clause-kept
@@ -84,7 +84,7 @@ returns-in_err-end_demanded-clause-kept g c = λ mark n. adds_kept mark c.in_ok-
 
 pub returns-in_err-end_demanded-clause-unchanged : goal.returns-in_err-end_demanded-clause-unchanged
 returns-in_err-end_demanded-clause-unchanged g c = λ mark n.
-    rw (handed_on c.from_residual-in_err-end_demanded.result c.from_residual-in_err-end_demanded.ensures.1) (adds_kept mark c.in_ok-entries.ensures.only.adds)
+    rw (propagated c.from_residual-in_err-end_demanded.result c.from_residual-in_err-end_demanded.ensures.1) (adds_kept mark c.in_ok-entries.ensures.only.adds)
 
 -- ---- the items get what their entries give
 pub returns-clause-read : goal.returns-clause-read
@@ -96,10 +96,10 @@ returns-clause-read g c =
     c.section_given.new.s c.section_given.result e.gives e.stream e.fresh
 
 pub returns-clause-missed : goal.returns-clause-missed
-returns-clause-missed g c = λ fine. if_err c.section_given.result (λ fault e. inl (starved_there e)) c.section_given.ensures.starved
+returns-clause-missed g c = λ fine. if_err c.section_given.result (λ fault e. inl (ran_out_there e)) c.section_given.ensures.ran_out
 
 pub returns-clause-refused : goal.returns-clause-refused
-returns-clause-refused g c = if_err c.section_given.result (λ fault e. starved_refusal e) c.section_given.ensures.starved
+returns-clause-refused g c = if_err c.section_given.result (λ fault e. ran_out_refusal e) c.section_given.ensures.ran_out
 
 pub returns-clause-marks : goal.returns-clause-marks
 returns-clause-marks g c = on_err c.section_given.result (λ e. e ∙ c.in_ok-entries.ensures.only.marks) c.section_given.ensures.marks

@@ -1,6 +1,6 @@
 use Rattle.std.proofs.Common.{true, sym, subst, ◌∙◌, refl}
 use Rattle.irtext_tokens.specs.AttrTexts.{attr_at}
-use Rattle.irtext_tokens.proofs.Exits.{handed_on}
+use Rattle.irtext_tokens.proofs.Exits.{propagated}
 use Rattle.irtext_parse_spec.proofs.Readers.NewPaths.{only_none, only_more}
 use Rattle.irtext_parse_section.specs.Entries.{nothing, one_noted, EntriesSoFar}
 use Rattle.irtext_parse_section.proofs.LoopSteps.{so_far_none, all_entries, entries_refused, first_so_far, only_entry}
@@ -17,7 +17,7 @@ returns-then-not-next_is-clause-read g c =
 pub returns-in_err-first-clause-read : goal.returns-in_err-first-clause-read
 returns-in_err-first-clause-read g c =
     let s = c.args.s.now in
-    rw (handed_on c.from_residual.result c.from_residual.ensures.1) (entries_refused (attr_at g.A.IrText.reading) s s nothing (so_far_none (attr_at g.A.IrText.reading) s c.requires.fine) (sym c.next_is.ensures ∙ c.if-not-next_is.false) c.entry_parse.new.s.state.ctx.now.paths c.in_err-first.ensures.read)
+    rw (propagated c.from_residual.result c.from_residual.ensures.1) (entries_refused (attr_at g.A.IrText.reading) s s nothing (so_far_none (attr_at g.A.IrText.reading) s c.requires.fine) (sym c.next_is.ensures ∙ c.if-not-next_is.false) c.entry_parse.new.s.state.ctx.now.paths c.in_err-first.ensures.read)
 
 pub returns-then-next_is-clause-only : goal.returns-then-next_is-clause-only
 returns-then-next_is-clause-only g c = only_more c.in_ok-first.ensures.only c.first_and_more.ensures.only

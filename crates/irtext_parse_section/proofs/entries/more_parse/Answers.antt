@@ -1,12 +1,12 @@
 use Rattle.std.proofs.Common.{true, sym, ap, ◌∙◌}
 use Rattle.irtext_parse_state.specs.States.{marks_of}
 use Rattle.irtext_tokens.specs.AttrTexts.{attr_at}
-use Rattle.irtext_tokens.proofs.Exits.{handed_on}
+use Rattle.irtext_tokens.proofs.Exits.{propagated}
 use Rattle.irtext_parse_spec.specs.Readers.Marks.{may_follow}
 use Rattle.irtext_parse_spec.proofs.Readers.NewPaths.{only_none, only_more}
 use Rattle.irtext_parse_section.specs.Entries.{noted}
 use Rattle.irtext_parse_section.specs.Said.{rules_of}
-use Rattle.irtext_parse_section.proofs.LoopSteps.{unless_err, all_entries, entries_refused, entries_starved, entries_shorter, entries_more, starved_so_far}
+use Rattle.irtext_parse_section.proofs.LoopSteps.{unless_err, all_entries, entries_refused, entries_ran_out, entries_shorter, entries_more, ran_out_so_far}
 use Rattle.irtext_parse_section.proofs.entries.more_parse.Goals as goal
 
 pub loop-s-init : goal.loop-s-init
@@ -31,14 +31,14 @@ returns-in_err-entry-clause-only g c = only_more c.loop-s.invariant.0 c.in_err-e
 
 pub returns-in_err-entry-clause-read : goal.returns-in_err-entry-clause-read
 returns-in_err-entry-clause-read g c = λ old h.
-    rw (handed_on c.from_residual.result c.from_residual.ensures.1) (entries_refused (attr_at g.A.IrText.reading) old c.loop-s.s (noted c.loop-s.entries) (c.loop-s.invariant.1 old h) (sym c.next_is.ensures ∙ c.loop-s-test.true) c.entry_parse.new.s.state.ctx.now.paths c.in_err-entry.ensures.read)
+    rw (propagated c.from_residual.result c.from_residual.ensures.1) (entries_refused (attr_at g.A.IrText.reading) old c.loop-s.s (noted c.loop-s.entries) (c.loop-s.invariant.1 old h) (sym c.next_is.ensures ∙ c.loop-s-test.true) c.entry_parse.new.s.state.ctx.now.paths c.in_err-entry.ensures.read)
 
 pub returns-then-is_err-clause-only : goal.returns-then-is_err-clause-only
 returns-then-is_err-clause-only g c = only_more c.loop-s.invariant.0 c.in_ok-entry.ensures.only
 
 pub returns-then-is_err-clause-read : goal.returns-then-is_err-clause-read
 returns-then-is_err-clause-read g c = λ old h.
-    entries_starved (attr_at g.A.IrText.reading) old c.loop-s.s (noted c.loop-s.entries) (c.loop-s.invariant.1 old h) (sym c.next_is.ensures ∙ c.loop-s-test.true) c.entry_parse.new.s c.in_ok-entry.entry c.in_ok-entry.ensures.read c.out_of_memory.ensures
+    entries_ran_out (attr_at g.A.IrText.reading) old c.loop-s.s (noted c.loop-s.entries) (c.loop-s.invariant.1 old h) (sym c.next_is.ensures ∙ c.loop-s-test.true) c.entry_parse.new.s c.in_ok-entry.entry c.in_ok-entry.ensures.read c.out_of_memory.ensures
 
 pub returns-in-Ok-clause-only : goal.returns-in-Ok-clause-only
 returns-in-Ok-clause-only g c = c.loop-s.invariant.0
@@ -52,4 +52,4 @@ returns-clause-only g c = c.loop-s.invariant.0
 
 pub returns-clause-read : goal.returns-clause-read
 returns-clause-read g c = λ old h.
-    starved_so_far (attr_at g.A.IrText.reading) old c.loop-s.s (noted c.loop-s.entries) (c.loop-s.invariant.1 old h) c.out_of_memory-in-Err.ensures
+    ran_out_so_far (attr_at g.A.IrText.reading) old c.loop-s.s (noted c.loop-s.entries) (c.loop-s.invariant.1 old h) c.out_of_memory-in-Err.ensures

@@ -3,7 +3,7 @@ use Rattle.std.specs.Prelude.{is_some, option_copied}
 use Rattle.irtext_tokens.specs.AttrTexts.{attr_at}
 use Rattle.irtext_parse_state.specs.States.{marks_of}
 use Rattle.irtext_parse_state.specs.declared.parsable.state.State.{State}
-use Rattle.irtext_tokens.proofs.Exits.{handed_on}
+use Rattle.irtext_tokens.proofs.Exits.{propagated}
 use Rattle.irtext_parse_spec.specs.Readers.Marks.{may_follow}
 use Rattle.irtext_parse_spec.specs.Readers.NewPaths.{AddsOnlyPaths}
 use Rattle.irtext_parse_spec.proofs.Readers.NewPaths.{only_none}
@@ -21,7 +21,7 @@ returns-in_err-head-clause-only g c = unchanged c.in_err-head.ensures.state
 pub returns-in_err-head-clause-read : goal.returns-in_err-head-clause-read
 returns-in_err-head-clause-read g c =
     let marks = marks_of c.args.s.now.state in
-    rw (handed_on c.from_residual.result c.from_residual.ensures.1) (entry_unread (attr_at g.A.IrText.reading) (may_follow marks (earlier_indices (option_copied c.args.seen))) marks c.in_err-head.ensures.read)
+    rw (propagated c.from_residual.result c.from_residual.ensures.1) (entry_unread (attr_at g.A.IrText.reading) (may_follow marks (earlier_indices (option_copied c.args.seen))) marks c.in_err-head.ensures.read)
 
 pub returns-in_err-attr-clause-only : goal.returns-in_err-attr-clause-only
 returns-in_err-attr-clause-only g c = unchanged c.in_ok-head.ensures.state
@@ -30,7 +30,7 @@ pub returns-in_err-attr-clause-read : goal.returns-in_err-attr-clause-read
 returns-in_err-attr-clause-read g c =
     let marks = marks_of c.args.s.now.state in
     let h = c.in_ok-head.ensures in
-    rw (handed_on c.from_residual-in_err-attr.result c.from_residual-in_err-attr.ensures.1) (once_refused (attr_at g.A.IrText.reading) (may_follow marks (earlier_indices (option_copied c.args.seen))) marks h.read (sym h.on.known ∙ ap is_some c.in_default.is) c.in_err-attr.ensures)
+    rw (propagated c.from_residual-in_err-attr.result c.from_residual-in_err-attr.ensures.1) (once_refused (attr_at g.A.IrText.reading) (may_follow marks (earlier_indices (option_copied c.args.seen))) marks h.read (sym h.on.known ∙ ap is_some c.in_default.is) c.in_err-attr.ensures)
 
 pub returns-in_default-clause-only : goal.returns-in_default-clause-only
 returns-in_default-clause-only g c = unchanged c.in_ok-head.ensures.state
@@ -46,7 +46,7 @@ returns-in_err-given-clause-read g c =
     let marks = marks_of c.args.s.now.state in
     let h = c.in_ok-head.ensures in
     let e = ap is_some c.in-Some.is in
-    rw (handed_on c.from_residual-in_err-given.result c.from_residual-in_err-given.ensures.1) (item_refused (attr_at g.A.IrText.reading) (may_follow marks (earlier_indices (option_copied c.args.seen))) marks h.read c.in-Some.item (h.on.carries e ∙ c.in-Some.is) c.given_parse.new.ctx.paths (sym h.on.known ∙ e) (rw c.is_block.ensures at c.in_err-given.ensures.read))
+    rw (propagated c.from_residual-in_err-given.result c.from_residual-in_err-given.ensures.1) (item_refused (attr_at g.A.IrText.reading) (may_follow marks (earlier_indices (option_copied c.args.seen))) marks h.read c.in-Some.item (h.on.carries e ∙ c.in-Some.is) c.given_parse.new.ctx.paths (sym h.on.known ∙ e) (rw c.is_block.ensures at c.in_err-given.ensures.read))
 
 pub returns-clause-read : goal.returns-clause-read
 returns-clause-read g c =

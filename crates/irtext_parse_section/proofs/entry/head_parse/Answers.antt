@@ -2,7 +2,7 @@ use Rattle.std.proofs.Common.{None, Some, sym, ◌∙◌, ap}
 use Rattle.std.specs.Prelude.{option_copied}
 use Rattle.irtext_base.specs.Faults.{fault_of}
 use Rattle.irtext_parse_state.specs.States.{marks_of}
-use Rattle.irtext_tokens.proofs.Exits.{handed_on}
+use Rattle.irtext_tokens.proofs.Exits.{propagated}
 use Rattle.irtext_parse_spec.specs.Readers.Marks.{may_follow}
 use Rattle.irtext_parse_section.specs.Entries.{earlier_indices}
 use Rattle.irtext_parse_section.proofs.HeadSteps.{next_found, none_found, head_short, head_passes, head_fails, head_unread}
@@ -10,7 +10,7 @@ use Rattle.irtext_parse_section.proofs.entry.head_parse.Goals as goal
 
 pub returns-in_err-mark-clause-read : goal.returns-in_err-mark-clause-read
 returns-in_err-mark-clause-read g c =
-    rw (handed_on c.from_residual.result c.from_residual.ensures.1) (head_unread (may_follow (marks_of c.args.s.now.state) (earlier_indices (option_copied c.args.seen))) c.in_err-mark.ensures.read)
+    rw (propagated c.from_residual.result c.from_residual.ensures.1) (head_unread (may_follow (marks_of c.args.s.now.state) (earlier_indices (option_copied c.args.seen))) c.in_err-mark.ensures.read)
 
 pub returns-then-not-begins_given-clause-read : goal.returns-then-not-begins_given-clause-read
 returns-then-not-begins_given-clause-read g c =

@@ -11,7 +11,7 @@ use Rattle.irtext_parse_spec.specs.Readers.Positions.{spaced_at}
 use Rattle.irtext_grammar.specs.Contexts.Held.{location_over}
 use Rattle.irtext_parse_spec.specs.Promises.Section.{given_over}
 use Rattle.irtext_parse_spec.specs.Readers.Section.{entry_location_at}
-use Rattle.irtext_tokens.proofs.Exits.{handed_on}
+use Rattle.irtext_tokens.proofs.Exits.{propagated}
 use Rattle.irtext_tokens.proofs.Steps.{Passed}
 use Rattle.irtext_parse_spec.proofs.Locations.Bounds.{at_length}
 use Rattle.irtext_parse_spec.proofs.Readers.PlainStream.{alone}
@@ -21,32 +21,32 @@ use Rattle.irtext_parse_section.proofs.PlainEntries.{end_mapped}
 use Rattle.irtext_parse_section.proofs.given.entry_location.Goals as goal
 
 -- what follows an entry's location
-abbrev behind_location : {A : Type 0} → Written A → Text → Outcome (Option (Written A))
-behind_location l text = followed (spaced_at (codes "]") text) (λ _ t. followed (text_at (codes ",") t) (λ _ u. mapped (λ _. Some l) (space_at u)))
+abbrev after_location : {A : Type 0} → Written A → Text → Outcome (Option (Written A))
+after_location l text = followed (spaced_at (codes "]") text) (λ _ t. followed (text_at (codes ",") t) (λ _ u. mapped (λ _. Some l) (space_at u)))
 
 -- an entry's location, after `@`
 abbrev located : {A : Type 0} → (Text → Outcome (AttrView A)) → Text → Outcome (Option (Written A))
-located attr text = followed (text_at (codes "@[") text) (λ _ t. followed (space_at t) (λ _ u. followed (location_at attr u) behind_location))
+located attr text = followed (text_at (codes "@[") text) (λ _ t. followed (space_at t) (λ _ u. followed (location_at attr u) after_location))
 
 -- it follows `@[` and white space
 abbrev placed : {A : Type 0} → (Text → Outcome (AttrView A)) → Text → Outcome (Option (Written A))
-placed attr text = followed (location_at attr text) behind_location
+placed attr text = followed (location_at attr text) after_location
 
 -- what ends it comes next
-ending : {A : Type 0} (attr : Text → Outcome (AttrView A)) {old mid : StreamView} (l : Written A) → Passed alone (entry_location_at attr) (behind_location l) old mid → Passed alone (entry_location_at attr) (λ t. mapped (λ _. Some l) (location_end_at t)) old mid
+ending : {A : Type 0} (attr : Text → Outcome (AttrView A)) {old mid : StreamView} (l : Written A) → Passed alone (entry_location_at attr) (after_location l) old mid → Passed alone (entry_location_at attr) (λ t. mapped (λ _. Some l) (location_end_at t)) old mid
 ending attr {mid = mid} l p = turned alone (λ t. mapped (λ _. Some l) (location_end_at t)) (sym (end_mapped (Some l) mid.rest)) p
 
 pub returns-in_err-text_demanded-clause-read : goal.returns-in_err-text_demanded-clause-read
 returns-in_err-text_demanded-clause-read g c =
     let attr = attr_at g.A.IrText.reading in
     let q = starts alone (entry_location_at attr) (located attr) c.args.stream.now (sym c.has_failed.ensures ∙ c.if-has_failed.false) (rw (sym c.next_is.ensures ∙ c.if-not-next_is.false) refl) in
-    rw (handed_on c.from_residual.result c.from_residual.ensures.1) (record { known = tt; read = refuses alone _ q c.in_err-text_demanded.ensures })
+    rw (propagated c.from_residual.result c.from_residual.ensures.1) (record { known = tt; read = refuses alone _ q c.in_err-text_demanded.ensures })
 
 pub returns-in_err-location-clause-read : goal.returns-in_err-location-clause-read
 returns-in_err-location-clause-read g c =
     let attr = attr_at g.A.IrText.reading in
     let q = starts alone (entry_location_at attr) (located attr) c.args.stream.now (sym c.has_failed.ensures ∙ c.if-has_failed.false) (rw (sym c.next_is.ensures ∙ c.if-not-next_is.false) refl) in
-    rw (handed_on c.from_residual-in_err-location.result c.from_residual-in_err-location.ensures.1) (record { known = tt; read = refuses alone _ (spaced alone (λ _ t. placed attr t) (more alone _ q c.in_ok-text_demanded.ensures) c.skip_white_space.ensures) (at_length attr c.in_err-location.ensures.read).read })
+    rw (propagated c.from_residual-in_err-location.result c.from_residual-in_err-location.ensures.1) (record { known = tt; read = refuses alone _ (spaced alone (λ _ t. placed attr t) (more alone _ q c.in_ok-text_demanded.ensures) c.skip_white_space.ensures) (at_length attr c.in_err-location.ensures.read).read })
 
 pub returns-in_err-location_ended-clause-read : goal.returns-in_err-location_ended-clause-read
 returns-in_err-location_ended-clause-read g c =
@@ -54,8 +54,8 @@ returns-in_err-location_ended-clause-read g c =
     let paths = c.location_demanded.new.ctx.paths in
     let q = starts alone (entry_location_at attr) (located attr) c.args.stream.now (sym c.has_failed.ensures ∙ c.if-has_failed.false) (rw (sym c.next_is.ensures ∙ c.if-not-next_is.false) refl) in
     let l = (at_length attr c.in_ok-location.ensures.read).read in
-    let p = more alone behind_location (spaced alone (λ _ t. placed attr t) (more alone _ q c.in_ok-text_demanded.ensures) c.skip_white_space.ensures) l in
-    rw (handed_on c.from_residual-in_err-location_ended.result c.from_residual-in_err-location_ended.ensures.1) (record { known = tt; read = refuses_seen alone _ (ending attr (location_over paths c.in_ok-location.location) p) c.in_err-location_ended.ensures })
+    let p = more alone after_location (spaced alone (λ _ t. placed attr t) (more alone _ q c.in_ok-text_demanded.ensures) c.skip_white_space.ensures) l in
+    rw (propagated c.from_residual-in_err-location_ended.result c.from_residual-in_err-location_ended.ensures.1) (record { known = tt; read = refuses_seen alone _ (ending attr (location_over paths c.in_ok-location.location) p) c.in_err-location_ended.ensures })
 
 pub returns-clause-read : goal.returns-clause-read
 returns-clause-read g c =
@@ -63,7 +63,7 @@ returns-clause-read g c =
     let paths = c.location_demanded.new.ctx.paths in
     let q = starts alone (entry_location_at attr) (located attr) c.args.stream.now (sym c.has_failed.ensures ∙ c.if-has_failed.false) (rw (sym c.next_is.ensures ∙ c.if-not-next_is.false) refl) in
     let l = at_length attr c.in_ok-location.ensures.read in
-    let p = more alone behind_location (spaced alone (λ _ t. placed attr t) (more alone _ q c.in_ok-text_demanded.ensures) c.skip_white_space.ensures) l.read in
+    let p = more alone after_location (spaced alone (λ _ t. placed attr t) (more alone _ q c.in_ok-text_demanded.ensures) c.skip_white_space.ensures) l.read in
     record {
       known = l.known;
       read = last_seen alone (given_over paths) (λ _. Some (location_over paths c.in_ok-location.location)) (Some c.in_ok-location.location) refl

@@ -4,7 +4,7 @@ use Rattle.irtext_base.specs.Locations.{AttrView}
 use Rattle.irtext_base.specs.Paths.{Written}
 use Rattle.irtext_base.specs.Text.{Text}
 use Rattle.irtext_tokens.specs.AttrTexts.{attr_at}
-use Rattle.irtext_tokens.proofs.Exits.{handed_on}
+use Rattle.irtext_tokens.proofs.Exits.{propagated}
 use Rattle.irtext_tokens.proofs.Steps.{alone, first, refuses_seen, last_seen}
 use Rattle.irtext_grammar.specs.Grammar.Section.{Item}
 use Rattle.irtext_grammar.specs.Grammar.Tree.{Name}
@@ -17,17 +17,17 @@ use Rattle.irtext_parse_section.specs.Said.{rule_for, ArePairs}
 use Rattle.irtext_parse_section.proofs.given.given_parse.Goals as goal
 
 -- what follows the location
-abbrev behind_location : {A : Type 0} → (Text → Outcome (AttrView A)) → Rule A → Option (Written A) → Text → Outcome (Option (Written A) × List (Name ℕ × Item ℕ A))
-behind_location attr rule l t = mapped (λ ps. (l, ps)) (pairs_at attr rule t)
+abbrev after_location : {A : Type 0} → (Text → Outcome (AttrView A)) → Rule A → Option (Written A) → Text → Outcome (Option (Written A) × List (Name ℕ × Item ℕ A))
+after_location attr rule l t = mapped (λ ps. (l, ps)) (pairs_at attr rule t)
 
 pub returns-in_err-location-clause-read : goal.returns-in_err-location-clause-read
 returns-in_err-location-clause-read g c =
-    rw (handed_on c.from_residual.result c.from_residual.ensures.1) (must_refuse alone (first_refused alone {sees = λ _. (None, [])} (behind_location (attr_at g.A.IrText.reading) (rule_for c.args.of_block)) c.in_err-location.ensures.read.read))
+    rw (propagated c.from_residual.result c.from_residual.ensures.1) (must_refuse alone (first_refused alone {sees = λ _. (None, [])} (after_location (attr_at g.A.IrText.reading) (rule_for c.args.of_block)) c.in_err-location.ensures.read.read))
 
 pub returns-in_err-pairs-clause-read : goal.returns-in_err-pairs-clause-read
 returns-in_err-pairs-clause-read g c =
     let l = given_over c.entry_location.new.ctx.paths c.in_ok-location.location in
-    rw (handed_on c.from_residual-in_err-pairs.result c.from_residual-in_err-pairs.ensures.1) (must_refuse alone (refuses_seen alone {sees = λ _. (None, [])} (λ ps. (l, ps)) (first alone (behind_location (attr_at g.A.IrText.reading) (rule_for c.args.of_block)) c.in_ok-location.ensures.read.read) c.in_err-pairs.ensures.read))
+    rw (propagated c.from_residual-in_err-pairs.result c.from_residual-in_err-pairs.ensures.1) (must_refuse alone (refuses_seen alone {sees = λ _. (None, [])} (λ ps. (l, ps)) (first alone (after_location (attr_at g.A.IrText.reading) (rule_for c.args.of_block)) c.in_ok-location.ensures.read.read) c.in_err-pairs.ensures.read))
 
 pub returns-clause-read : goal.returns-clause-read
 returns-clause-read g c =
@@ -38,5 +38,5 @@ returns-clause-read g c =
     record {
       meant = λ _. (l, i.meant pairs);
       means = record { known = h.known; location = refl; pairs = subst (λ t. ArePairs t pairs (i.meant pairs)) (must_whole alone h.read) i.means };
-      read = last_seen alone (λ _. (l, i.meant pairs)) (λ ps. (l, ps)) (c.in_ok-location.location, pairs) refl (first alone (behind_location (attr_at g.A.IrText.reading) (rule_for c.args.of_block)) h.read) i.read;
+      read = last_seen alone (λ _. (l, i.meant pairs)) (λ ps. (l, ps)) (c.in_ok-location.location, pairs) refl (first alone (after_location (attr_at g.A.IrText.reading) (rule_for c.args.of_block)) h.read) i.read;
     }

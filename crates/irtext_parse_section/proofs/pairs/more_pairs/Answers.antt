@@ -1,10 +1,10 @@
 use Rattle.std.proofs.Common.{[], ◌∷◌, ◌++◌, ap, sym, ◌∙◌, subst, Ok, Err}
-use Rattle.irtext_tokens.proofs.Exits.{handed_on}
+use Rattle.irtext_tokens.proofs.Exits.{propagated}
 use Rattle.irtext_tokens.proofs.Steps.{alone}
 use Rattle.irtext_tokens.specs.AttrTexts.{attr_at}
 use Rattle.irtext_parse_pieces.specs.Named.{whole, Each, MustMean}
 use Rattle.irtext_parse_pieces.proofs.Meanings.{insisted_mean, must_refuse}
-use Rattle.irtext_parse_pieces.proofs.Listings.{Listing, listing_first, listing_all, listing_refused, listing_more, listing_whole, item_falls, listing_starved}
+use Rattle.irtext_parse_pieces.proofs.Listings.{Listing, listing_first, listing_all, listing_refused, listing_more, listing_whole, item_falls, listing_ran_out}
 use Rattle.irtext_parse_spec.specs.Readers.Streams.{itself, replaced}
 use Rattle.irtext_parse_section.specs.Said.{rule_for, IsPair}
 use Rattle.irtext_parse_section.proofs.PairSteps.{kept_at}
@@ -21,7 +21,7 @@ returns-in_err-next g c = λ pair means fine.
     let m = insisted_mean alone c.kept_parse-answer.result (Err _) c.kept_parse-answer.ensures c.in_err-next.ensures in
     let p = c.loop-stream.invariant pair means fine in
     let q = listing_refused alone (kept_at (attr_at g.A.IrText.reading) (rule_for c.args.of_block)) (sym c.next_is.ensures ∙ c.loop-stream-test.true) c.take.ensures.after c.skip_white_space.ensures p (λ _. []) m.read in
-    rw (handed_on c.from_residual.result c.from_residual.ensures.1) (must_refuse alone q)
+    rw (propagated c.from_residual.result c.from_residual.ensures.1) (must_refuse alone q)
 
 pub loop-stream-preserved : goal.loop-stream-preserved
 loop-stream-preserved g c = λ pair means fine.
@@ -50,7 +50,7 @@ returns-in-Err g c = λ pair means fine.
     let old = c.args.stream.now in
     let item = kept_at (attr_at g.A.IrText.reading) (rule_for c.args.of_block) in
     let p : Listing alone item (IsPair (whole old)) (pair ∷ []) old old (c.args.first ∷ []) = listing_first alone item pair c.args.first old fine means in
-    must_refuse alone (listing_starved alone item (λ _. []) p c.out_of_memory.ensures)
+    must_refuse alone (listing_ran_out alone item (λ _. []) p c.out_of_memory.ensures)
 
 pub returns-in-Err-pushed : goal.returns-in-Err-pushed
 returns-in-Err-pushed g c = λ pair means fine.
@@ -61,4 +61,4 @@ returns-in-Err-pushed g c = λ pair means fine.
     let w = listing_whole alone item b c.take.ensures.after c.skip_white_space.ensures p in
     let h = subst (λ t. MustMean {A = g.row.A.Denot} itself replaced (IsPair t) item c.skip_white_space.new.stream (Ok c.in_ok-next.next) c.committed.new.stream) w m in
     let q = listing_more alone item b c.take.ensures.after c.skip_white_space.ensures p (λ y x k. k) h c.skip_white_space-in-loop-stream.ensures in
-    must_refuse alone (listing_starved alone item (λ _. []) q c.out_of_memory-in-Err-pushed.ensures)
+    must_refuse alone (listing_ran_out alone item (λ _. []) q c.out_of_memory-in-Err-pushed.ensures)

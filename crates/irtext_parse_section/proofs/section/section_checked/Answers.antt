@@ -5,7 +5,7 @@ use Rattle.irtext_base.specs.Text.{Text}
 use Rattle.irtext_context.specs.declared.base.item.Item.{Item}
 use Rattle.irtext_grammar.specs.Grammar.Section.{Entry}
 use Rattle.irtext_tokens.specs.AttrTexts.{attr_at}
-use Rattle.irtext_tokens.proofs.Exits.{handed_on}
+use Rattle.irtext_tokens.proofs.Exits.{propagated}
 use Rattle.irtext_parse_state.specs.States.{marks_of}
 use Rattle.irtext_parse_spec.specs.Promises.Section.{indices_of}
 use Rattle.irtext_parse_spec.specs.Readers.Streams.{itself, replaced}
@@ -27,7 +27,7 @@ wrong_there marks old paths text entries es h = references_same text (once_of en
 pub returns-in_err-entries-clause-read : goal.returns-in_err-entries-clause-read
 returns-in_err-entries-clause-read g c =
     let marks = marks_of c.args.s.now.state in
-    rw (handed_on c.from_residual.result c.from_residual.ensures.1) (section_unread (attr_at g.A.IrText.reading) (indices_of marks) (rules_of marks) c.in_err-entries.ensures.read)
+    rw (propagated c.from_residual.result c.from_residual.ensures.1) (section_unread (attr_at g.A.IrText.reading) (indices_of marks) (rules_of marks) c.in_err-entries.ensures.read)
 
 pub returns-in_err-entries_checked-clause-read : goal.returns-in_err-entries_checked-clause-read
 returns-in_err-entries_checked-clause-read g c =
@@ -37,7 +37,7 @@ returns-in_err-entries_checked-clause-read g c =
     let a = answered k.read in
     let near = references_near (texts_of g.T.IrText.reading g.T.IrText.written) g.A.IrText.reading g.A.IrText.written g.met.A.IrText.sincere g.met.A.IrText.lawful (indices_of marks) (rules_of marks) c.args.s.now.stream.rest (k.meant entries) a.taken _ a.is in
     let same = wrong_there marks c.args.s.now.state.ctx.now.paths c.all_parse.new.s.state.ctx.now.paths (whole c.args.s.now.stream) entries (k.meant entries) k.means in
-    rw (handed_on c.from_residual-in_err-entries_checked.result c.from_residual-in_err-entries_checked.ensures.1) (section_wrong (attr_at g.A.IrText.reading) (indices_of marks) (rules_of marks) k (items_wrong (once_of entries) (items_of entries)) near same c.in_err-entries_checked.ensures)
+    rw (propagated c.from_residual-in_err-entries_checked.result c.from_residual-in_err-entries_checked.ensures.1) (section_wrong (attr_at g.A.IrText.reading) (indices_of marks) (rules_of marks) k (items_wrong (once_of entries) (items_of entries)) near same c.in_err-entries_checked.ensures)
 
 pub returns-clause-read : goal.returns-clause-read
 returns-clause-read g c =

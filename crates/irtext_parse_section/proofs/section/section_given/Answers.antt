@@ -1,12 +1,12 @@
 use Rattle.std.proofs.Common.{◌∙◌, sym, subst}
-use Rattle.irtext_base.specs.Answers.{StarvesHere}
+use Rattle.irtext_base.specs.Answers.{RunsOutHere}
 use Rattle.irtext_parse_spec.specs.Readers.Streams.{itself, replaced}
 use Rattle.irtext_parse_section.proofs.LoopSteps.{unless_err, where_err}
 use Rattle.irtext_parse_section.proofs.section.section_given.Goals as goal
 
-pub returns-then-is_err-clause-starved : goal.returns-then-is_err-clause-starved
-returns-then-is_err-clause-starved g c =
-    subst (λ v. StarvesHere itself replaced v c.out_of_memory.result c.out_of_memory.new.stream) c.entries_given.ensures.stream c.out_of_memory.ensures
+pub returns-then-is_err-clause-ran_out : goal.returns-then-is_err-clause-ran_out
+returns-then-is_err-clause-ran_out g c =
+    subst (λ v. RunsOutHere itself replaced v c.out_of_memory.result c.out_of_memory.new.stream) c.entries_given.ensures.stream c.out_of_memory.ensures
 
 pub returns-then-is_err-clause-unchanged : goal.returns-then-is_err-clause-unchanged
 returns-then-is_err-clause-unchanged g c = λ mark e.

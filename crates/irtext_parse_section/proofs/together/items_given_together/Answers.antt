@@ -1,10 +1,10 @@
 use Rattle.irtext_context.proofs.Kept.{kept_closed}
-use Rattle.irtext_tokens.proofs.Exits.{handed_on}
+use Rattle.irtext_tokens.proofs.Exits.{propagated}
 use Rattle.irtext_parse_section.proofs.AllOrNone.{gives_all, gives_kept, gives_closed}
 use Rattle.irtext_parse_section.proofs.together.items_given_together.Goals as goal
 
 pub returns-in_err-steps-clause-unchanged : goal.returns-in_err-steps-clause-unchanged
-returns-in_err-steps-clause-unchanged g c = λ mark. rw (handed_on c.from_residual.result c.from_residual.ensures.1) (c.in_err-steps.ensures.unchanged mark)
+returns-in_err-steps-clause-unchanged g c = λ mark. rw (propagated c.from_residual.result c.from_residual.ensures.1) (c.in_err-steps.ensures.unchanged mark)
 
 pub returns-in_err-steps-clause-kept : goal.returns-in_err-steps-clause-kept
 returns-in_err-steps-clause-kept g c = λ mark n. c.in_err-steps.ensures.unchanged mark

@@ -1,4 +1,4 @@
-use Rattle.irtext_grammar.proofs.Graphs.StandsClosed.{found_closed}
+use Rattle.irtext_grammar.proofs.Graphs.RepresentsClosed.{found_closed}
 use Rattle.irtext_parse_spec.proofs.laws.root_alone_is_closed.Goals as goal
 
 pub returns : goal.returns

@@ -2,7 +2,7 @@ use Rattle.std.proofs.Common.{string_bytes, inl}
 use Rattle.irtext_print.specs.Printers.Printing.{width_of}
 use Rattle.irtext_print_ops.specs.Heads as heads
 use Rattle.irtext_print_ops.proofs.Printed.{operation_fits, operation_printed}
-use Rattle.irtext_print_ops.proofs.Refused.{handed_on, under_refuses, misfits}
+use Rattle.irtext_print_ops.proofs.Refused.{propagated, under_refuses, misfits}
 use Rattle.irtext_print_ops.proofs.nested.print_nested.Goals as goal
 
 pub print_operation-requires : goal.print_operation-requires
@@ -19,4 +19,4 @@ returns-in_err-begun-clause-refused g c =
     let ctx = c.args.ctx.now in
     let s = c.args.state.now in
     let e = c.in_err-begun.field-0.0 in
-    handed_on _ c.from_residual.result e c.from_residual.ensures.1 (under_refuses g.T.IrText g.A.IrText g.A.AttrText g.A.PartialEq.eq ctx c.args.op s e (λ other. inl (misfits (heads.printing_of g.T.IrText g.A.IrText g.A.AttrText g.A.PartialEq.eq ctx) (heads.language_of g.T.IrText g.A.IrText g.A.AttrText g.A.PartialEq.eq ctx) ctx (width_of s) c.args.op e c.in_err-begun.ensures.refused other)))
+    propagated _ c.from_residual.result e c.from_residual.ensures.1 (under_refuses g.T.IrText g.A.IrText g.A.AttrText g.A.PartialEq.eq ctx c.args.op s e (λ other. inl (misfits (heads.printing_of g.T.IrText g.A.IrText g.A.AttrText g.A.PartialEq.eq ctx) (heads.language_of g.T.IrText g.A.IrText g.A.AttrText g.A.PartialEq.eq ctx) ctx (width_of s) c.args.op e c.in_err-begun.ensures.refused other)))

@@ -1,6 +1,6 @@
 use Rattle.std.proofs.Common.{◌++◌, ◌∷◌, [], ap, string_bytes}
 use Rattle.irtext_print_ops.proofs.Printed.{block_fits, block_frame, block_printed, block_unprinted}
-use Rattle.irtext_print_ops.proofs.Refused.{handed_on}
+use Rattle.irtext_print_ops.proofs.Refused.{propagated}
 use Rattle.irtext_print_ops.proofs.nested.print_nested_block.Goals as goal
 
 pub print_frames-requires : goal.print_frames-requires
@@ -19,6 +19,6 @@ returns g c =
     (ap (λ z. z ++ block_frame c.args.block c.current_indent-indent.result c.current_region_print_depth_limit-limit.result ∷ []) c.new-frames.ensures.items) c.print_frames.ensures
 
 pub returns-in_err-inner-clause-refused : goal.returns-in_err-inner-clause-refused
-returns-in_err-inner-clause-refused g c = handed_on _ c.from_residual.result c.in_err-inner.field-0.0 c.from_residual.ensures.1
+returns-in_err-inner-clause-refused g c = propagated _ c.from_residual.result c.in_err-inner.field-0.0 c.from_residual.ensures.1
     (block_unprinted g.T.IrText g.A.IrText g.A.AttrText g.A.PartialEq.eq c.args.ctx.now c.args.state.now c.indent_width-width.result c.current_indent-indent.result c.current_region_print_depth_limit-limit.result
     c.indent_width-width.ensures c.current_indent-indent.ensures c.current_region_print_depth_limit-limit.ensures c.args.block c.in_err-inner.field-0.0 c.in_err-inner.ensures.refused)

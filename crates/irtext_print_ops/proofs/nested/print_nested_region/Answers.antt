@@ -2,7 +2,7 @@ use Rattle.std.proofs.Common.{◌++◌, ◌∙◌, ap, string_bytes}
 use Rattle.irtext_print_ops.specs.Steps.{listed}
 use Rattle.irtext_print_ops.proofs.Tests.{if_none}
 use Rattle.irtext_print_ops.proofs.Printed.{region_fits, region_printed, region_unprinted}
-use Rattle.irtext_print_ops.proofs.Refused.{handed_on}
+use Rattle.irtext_print_ops.proofs.Refused.{propagated}
 use Rattle.irtext_print_ops.proofs.nested.print_nested_region.Goals as goal
 
 pub print_frames-requires : goal.print_frames-requires
@@ -20,6 +20,6 @@ returns g c =
     (ap (λ z. z ++ listed c.region_frame.result) c.new-frames.ensures.items ∙ (c.region_frame.ensures ∙ c.in_ok-begun.ensures.opens)) c.print_frames.ensures
 
 pub returns-in_err-begun-clause-refused : goal.returns-in_err-begun-clause-refused
-returns-in_err-begun-clause-refused g c = handed_on _ c.from_residual.result c.in_err-begun.field-0.0 c.from_residual.ensures.1
+returns-in_err-begun-clause-refused g c = propagated _ c.from_residual.result c.in_err-begun.field-0.0 c.from_residual.ensures.1
     (region_unprinted g.T.IrText g.A.IrText g.A.AttrText g.A.PartialEq.eq c.args.ctx.now c.args.state.now c.indent_width-width.result c.current_indent-indent.result c.current_region_print_depth_limit-limit.result
     c.indent_width-width.ensures c.current_indent-indent.ensures c.current_region_print_depth_limit-limit.ensures c.args.region c.in_err-begun.field-0.0 c.in_err-begun.ensures.refused)

@@ -3,7 +3,7 @@ use Rattle.irtext_print_ops.specs.Heads as heads
 use Rattle.irtext_print_ops.specs.Walk.{Leads}
 use Rattle.irtext_print_ops.specs.declared.frame.Frame.TheVariants as framed
 use Rattle.irtext_print_ops.proofs.Descents.{fewer_inside, reached_end, reached_fits, reached_fault, reached_on}
-use Rattle.irtext_print_ops.proofs.Refused.{handed_on}
+use Rattle.irtext_print_ops.proofs.Refused.{propagated}
 use Rattle.irtext_print_ops.proofs.step.block_step.Goals as goal
 
 pub loop-next-init : goal.loop-next-init
@@ -36,4 +36,4 @@ pub returns-in_err-next-clause-refused : goal.returns-in_err-next-clause-refused
 returns-in_err-next-clause-refused g c =
     let ctx = c.args.ctx.now in
     let e = c.in_err-next.field-0.0 in
-    handed_on _ c.from_residual.result e c.from_residual.ensures.1 (λ other. reached_fault (heads.printing_of g.T.IrText g.A.IrText g.A.AttrText g.A.PartialEq.eq ctx) (heads.language_of g.T.IrText g.A.IrText g.A.AttrText g.A.PartialEq.eq ctx) ctx c.args.width (framed.Block c.args.frame) (framed.Block c.loop-next.left) c.args.items.now.items c.loop-next.items.items c.args.frames.now.items c.loop-next.frames.items (string_bytes c.args.f.now) (string_bytes c.loop-next.f) c.loop-next.invariant e (c.in_err-next.ensures.refused other))
+    propagated _ c.from_residual.result e c.from_residual.ensures.1 (λ other. reached_fault (heads.printing_of g.T.IrText g.A.IrText g.A.AttrText g.A.PartialEq.eq ctx) (heads.language_of g.T.IrText g.A.IrText g.A.AttrText g.A.PartialEq.eq ctx) ctx c.args.width (framed.Block c.args.frame) (framed.Block c.loop-next.left) c.args.items.now.items c.loop-next.items.items c.args.frames.now.items c.loop-next.frames.items (string_bytes c.args.f.now) (string_bytes c.loop-next.f) c.loop-next.invariant e (c.in_err-next.ensures.refused other))

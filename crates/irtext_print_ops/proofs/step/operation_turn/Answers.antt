@@ -10,7 +10,7 @@ use Rattle.irtext_print_ops.specs.declared.frame.Frame.TheVariants as framed
 use Rattle.irtext_print_ops.proofs.Tests.{both_in}
 use Rattle.irtext_print_ops.proofs.Turned.{operation_ended, regions_begin, repeat_step, single_step}
 use Rattle.irtext_print_ops.proofs.Chained.{ended, all_fit}
-use Rattle.irtext_print_ops.proofs.Refused.{handed_on, region_turn_refused}
+use Rattle.irtext_print_ops.proofs.Refused.{propagated, region_turn_refused}
 use Rattle.irtext_print_ops.proofs.step.operation_turn.Goals as goal
 
 pub region_turn-requires : goal.region_turn-requires
@@ -30,7 +30,7 @@ entered-requires g c =
     let ctx = c.args.ctx.now in
     let s : Steps (heads.printing_of g.T.IrText g.A.IrText g.A.AttrText g.A.PartialEq.eq ctx) (heads.language_of g.T.IrText g.A.IrText g.A.AttrText g.A.PartialEq.eq ctx) ctx c.args.width (framed.Operation c.args.frame.now) c.args.items.now.items c.args.items.now.items [] (framed.Operation c.region_turn.new.frame ∷ begun_frames c.in_ok-begun.begun) (string_bytes c.args.f.now) (string_bytes c.region_turn.new.f) = repeat_step (heads.printing_of g.T.IrText g.A.IrText g.A.AttrText g.A.PartialEq.eq ctx) (heads.language_of g.T.IrText g.A.IrText g.A.AttrText g.A.PartialEq.eq ctx) ctx c.args.width c.args.frame.now c.args.items.now.items [] (string_bytes c.args.f.now) (string_bytes c.region_turn.new.f) (framed.Operation c.region_turn.new.frame ∷ begun_frames c.in_ok-begun.begun) c.if-frame.true c.requires.fits.0 (subst (λ z. Nested (children z) (parent z)) c.graph.ensures c.keeps_nesting.ensures.forest) c.in_ok-begun.ensures.text c.in_ok-begun.ensures.left in
     let fit = all_fit (heads.printing_of g.T.IrText g.A.IrText g.A.AttrText g.A.PartialEq.eq ctx) (heads.language_of g.T.IrText g.A.IrText g.A.AttrText g.A.PartialEq.eq ctx) ctx c.args.width (framed.Operation c.args.frame.now) c.args.items.now.items c.args.items.now.items (framed.Operation c.region_turn.new.frame ∷ begun_frames c.in_ok-begun.begun) (string_bytes c.args.f.now) (string_bytes c.region_turn.new.f) s in
-    record { stand = fit.1 }
+    record { each_fits = fit.1 }
 
 pub entered-requires-in-Region : goal.entered-requires-in-Region
 entered-requires-in-Region g c =
@@ -39,7 +39,7 @@ entered-requires-in-Region g c =
     let s : Steps (heads.printing_of g.T.IrText g.A.IrText g.A.AttrText g.A.PartialEq.eq ctx) (heads.language_of g.T.IrText g.A.IrText g.A.AttrText g.A.PartialEq.eq ctx) ctx c.args.width (framed.Operation c.args.frame.now) c.args.items.now.items c.args.items.now.items [] (framed.Operation c.region_turn-in-Region.new.frame ∷ begun_frames c.in_ok-begun-in-Region.begun) (string_bytes c.args.f.now) (string_bytes c.region_turn-in-Region.new.f) = single_step (heads.printing_of g.T.IrText g.A.IrText g.A.AttrText g.A.PartialEq.eq ctx) (heads.language_of g.T.IrText g.A.IrText g.A.AttrText g.A.PartialEq.eq ctx) ctx c.args.width c.args.frame.now c.args.items.now.items [] c.in-Region.directive stop.0.0 (string_bytes c.args.f.now) (string_bytes c.fmt_pieces.new.f) (string_bytes c.region_turn-in-Region.new.f) (framed.Operation c.region_turn-in-Region.new.frame ∷ begun_frames c.in_ok-begun-in-Region.begun)
     c.if-frame.false stop.0.1 stop.1.0 stop.1.1 (ap (λ b. b || covers (parts_left (heads.printing_of g.T.IrText g.A.IrText g.A.AttrText g.A.PartialEq.eq ctx) (heads.operation_at g.T.IrText g.A.IrText g.A.AttrText g.A.PartialEq.eq ctx c.args.frame.now.op) c.args.frame.now.directive) (seen_regions g.A.IrText.written ctx (regions_left (heads.printing_of g.T.IrText g.A.IrText g.A.AttrText g.A.PartialEq.eq ctx) (heads.language_of g.T.IrText g.A.IrText g.A.AttrText g.A.PartialEq.eq ctx) ctx c.args.frame.now.op c.args.frame.now.region))) (sym c.if-frame.false) ∙ c.requires.fits.1) c.requires.fits.0 (subst (λ z. Nested (children z) (parent z)) c.graph.ensures c.keeps_nesting.ensures.forest) c.in_ok-fmt_pieces.ensures.text c.in_ok-begun-in-Region.ensures.text c.in_ok-begun-in-Region.ensures.left in
     let fit = all_fit (heads.printing_of g.T.IrText g.A.IrText g.A.AttrText g.A.PartialEq.eq ctx) (heads.language_of g.T.IrText g.A.IrText g.A.AttrText g.A.PartialEq.eq ctx) ctx c.args.width (framed.Operation c.args.frame.now) c.args.items.now.items c.args.items.now.items (framed.Operation c.region_turn-in-Region.new.frame ∷ begun_frames c.in_ok-begun-in-Region.begun) (string_bytes c.args.f.now) (string_bytes c.region_turn-in-Region.new.f) s in
-    record { stand = fit.1 }
+    record { each_fits = fit.1 }
 
 pub returns-then-frame-clause-steps : goal.returns-then-frame-clause-steps
 returns-then-frame-clause-steps g c =
@@ -76,9 +76,9 @@ returns-in_ok-push_str-in-Regions-clause-steps g c =
 pub returns-in_err-begun-clause-refused : goal.returns-in_err-begun-clause-refused
 returns-in_err-begun-clause-refused g c =
     let ctx = c.args.ctx.now in
-    handed_on _ c.from_residual.result c.in_err-begun.field-0.0 c.from_residual.ensures.1 (region_turn_refused (heads.printing_of g.T.IrText g.A.IrText g.A.AttrText g.A.PartialEq.eq ctx) (heads.language_of g.T.IrText g.A.IrText g.A.AttrText g.A.PartialEq.eq ctx) ctx c.args.width c.args.frame.now c.in_err-begun.field-0.0 c.in_err-begun.ensures.refused)
+    propagated _ c.from_residual.result c.in_err-begun.field-0.0 c.from_residual.ensures.1 (region_turn_refused (heads.printing_of g.T.IrText g.A.IrText g.A.AttrText g.A.PartialEq.eq ctx) (heads.language_of g.T.IrText g.A.IrText g.A.AttrText g.A.PartialEq.eq ctx) ctx c.args.width c.args.frame.now c.in_err-begun.field-0.0 c.in_err-begun.ensures.refused)
 
 pub returns-in_err-begun-in-Region-clause-refused : goal.returns-in_err-begun-in-Region-clause-refused
 returns-in_err-begun-in-Region-clause-refused g c =
     let ctx = c.args.ctx.now in
-    handed_on _ c.from_residual-in_err-begun-in-Region.result c.in_err-begun-in-Region.field-0.0 c.from_residual-in_err-begun-in-Region.ensures.1 (region_turn_refused (heads.printing_of g.T.IrText g.A.IrText g.A.AttrText g.A.PartialEq.eq ctx) (heads.language_of g.T.IrText g.A.IrText g.A.AttrText g.A.PartialEq.eq ctx) ctx c.args.width c.args.frame.now c.in_err-begun-in-Region.field-0.0 c.in_err-begun-in-Region.ensures.refused)
+    propagated _ c.from_residual-in_err-begun-in-Region.result c.in_err-begun-in-Region.field-0.0 c.from_residual-in_err-begun-in-Region.ensures.1 (region_turn_refused (heads.printing_of g.T.IrText g.A.IrText g.A.AttrText g.A.PartialEq.eq ctx) (heads.language_of g.T.IrText g.A.IrText g.A.AttrText g.A.PartialEq.eq ctx) ctx c.args.width c.args.frame.now c.in_err-begun-in-Region.field-0.0 c.in_err-begun-in-Region.ensures.refused)

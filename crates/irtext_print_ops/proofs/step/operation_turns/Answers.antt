@@ -4,7 +4,7 @@ use Rattle.irtext_print_ops.specs.Steps.{turn_frames}
 use Rattle.irtext_print_ops.specs.Walk.{Steps}
 use Rattle.irtext_print_ops.specs.declared.frame.Frame.TheVariants as framed
 use Rattle.irtext_print_ops.proofs.Chained.{left_fits, left_fault, left_more, fewer_left}
-use Rattle.irtext_print_ops.proofs.Refused.{handed_on}
+use Rattle.irtext_print_ops.proofs.Refused.{propagated}
 use Rattle.irtext_print_ops.proofs.step.operation_turns.Goals as goal
 
 pub loop-inside-init : goal.loop-inside-init
@@ -43,4 +43,4 @@ pub returns-in_err-operation_turn-clause-refused : goal.returns-in_err-operation
 returns-in_err-operation_turn-clause-refused g c =
     let ctx = c.args.ctx.now in
     let e = c.in_err-operation_turn.field-0.0 in
-    handed_on _ c.from_residual.result e c.from_residual.ensures.1 (λ other. left_fault (heads.printing_of g.T.IrText g.A.IrText g.A.AttrText g.A.PartialEq.eq ctx) (heads.language_of g.T.IrText g.A.IrText g.A.AttrText g.A.PartialEq.eq ctx) ctx c.args.width (framed.Operation c.args.frame.now) c.args.items.now.items (string_bytes c.args.f.now) (framed.Operation c.loop-inside.frame) c.loop-inside.items.items (string_bytes c.loop-inside.f) c.loop-inside.invariant e (c.in_err-operation_turn.ensures.refused other))
+    propagated _ c.from_residual.result e c.from_residual.ensures.1 (λ other. left_fault (heads.printing_of g.T.IrText g.A.IrText g.A.AttrText g.A.PartialEq.eq ctx) (heads.language_of g.T.IrText g.A.IrText g.A.AttrText g.A.PartialEq.eq ctx) ctx c.args.width (framed.Operation c.args.frame.now) c.args.items.now.items (string_bytes c.args.f.now) (framed.Operation c.loop-inside.frame) c.loop-inside.items.items (string_bytes c.loop-inside.f) c.loop-inside.invariant e (c.in_err-operation_turn.ensures.refused other))

@@ -5,10 +5,10 @@ use Rattle.irtext_graph.specs.Nested.{Nested}
 use Rattle.irtext_graph.specs.Parts.{blocks}
 use Rattle.irtext_print_ops.specs.Heads as heads
 use Rattle.irtext_print_ops.specs.declared.frame.Frame.TheVariants as framed
-use Rattle.irtext_print_ops.proofs.Turned.{block_stands, region_ended, region_begins}
+use Rattle.irtext_print_ops.proofs.Turned.{block_is_live, region_ended, region_begins}
 use Rattle.irtext_print_ops.proofs.Descents.{entered}
 use Rattle.irtext_print_ops.proofs.Tests.{past_all}
-use Rattle.irtext_print_ops.proofs.Refused.{handed_on, block_refused}
+use Rattle.irtext_print_ops.proofs.Refused.{propagated, block_refused}
 use Rattle.irtext_print_ops.proofs.step.region_step.Goals as goal
 
 pub returns-then-frame-num_blocks-clause-steps : goal.returns-then-frame-num_blocks-clause-steps
@@ -17,10 +17,10 @@ returns-then-frame-num_blocks-clause-steps g c =
     (past_all (blocks c.args.ctx.now.graph c.args.frame.region) c.num_blocks.result c.args.frame.block c.num_blocks.ensures (omega (arith, c.if-frame-num_blocks.true))) c.in_ok-fmt_closing.ensures.text
 
 pub fmt_block_head-requires : goal.fmt_block_head-requires
-fmt_block_head-requires g c = record { live = block_stands (heads.printing_of g.T.IrText g.A.IrText g.A.AttrText g.A.PartialEq.eq c.args.ctx.now) (heads.language_of g.T.IrText g.A.IrText g.A.AttrText g.A.PartialEq.eq c.args.ctx.now) c.args.ctx.now c.args.width (subst (λ z. Nested (children z) (parent z)) c.graph.ensures c.keeps_nesting.ensures.forest) c.args.frame.region c.get_block-block.result c.args.frame.block c.get_block-block.ensures }
+fmt_block_head-requires g c = record { live = block_is_live (heads.printing_of g.T.IrText g.A.IrText g.A.AttrText g.A.PartialEq.eq c.args.ctx.now) (heads.language_of g.T.IrText g.A.IrText g.A.AttrText g.A.PartialEq.eq c.args.ctx.now) c.args.ctx.now c.args.width (subst (λ z. Nested (children z) (parent z)) c.graph.ensures c.keeps_nesting.ensures.forest) c.args.frame.region c.get_block-block.result c.args.frame.block c.get_block-block.ensures }
 
 pub fmt_block_mark-requires : goal.fmt_block_mark-requires
-fmt_block_mark-requires g c = record { live = block_stands (heads.printing_of g.T.IrText g.A.IrText g.A.AttrText g.A.PartialEq.eq c.args.ctx.now) (heads.language_of g.T.IrText g.A.IrText g.A.AttrText g.A.PartialEq.eq c.args.ctx.now) c.args.ctx.now c.args.width (subst (λ z. Nested (children z) (parent z)) c.graph.ensures c.keeps_nesting.ensures.forest) c.args.frame.region c.get_block-block.result c.args.frame.block c.get_block-block.ensures }
+fmt_block_mark-requires g c = record { live = block_is_live (heads.printing_of g.T.IrText g.A.IrText g.A.AttrText g.A.PartialEq.eq c.args.ctx.now) (heads.language_of g.T.IrText g.A.IrText g.A.AttrText g.A.PartialEq.eq c.args.ctx.now) c.args.ctx.now c.args.width (subst (λ z. Nested (children z) (parent z)) c.graph.ensures c.keeps_nesting.ensures.forest) c.args.frame.region c.get_block-block.result c.args.frame.block c.get_block-block.ensures }
 
 pub returns-clause-steps : goal.returns-clause-steps
 returns-clause-steps g c =
@@ -41,12 +41,12 @@ returns-in_err-indent-clause-refused g c =
     let ctx = c.args.ctx.now in
     let refused = c.in_err-indent.ensures.refused in
     let deep = refused.1 in
-    handed_on _ c.from_residual-in_err-indent.result c.in_err-indent.field-0.0 c.from_residual-in_err-indent.ensures.1 (block_refused (heads.printing_of g.T.IrText g.A.IrText g.A.AttrText g.A.PartialEq.eq ctx) (heads.language_of g.T.IrText g.A.IrText g.A.AttrText g.A.PartialEq.eq ctx) ctx c.args.width c.args.frame c.get_block-block.result c.in_err-indent.field-0.0
+    propagated _ c.from_residual-in_err-indent.result c.in_err-indent.field-0.0 c.from_residual-in_err-indent.ensures.1 (block_refused (heads.printing_of g.T.IrText g.A.IrText g.A.AttrText g.A.PartialEq.eq ctx) (heads.language_of g.T.IrText g.A.IrText g.A.AttrText g.A.PartialEq.eq ctx) ctx c.args.width c.args.frame c.get_block-block.result c.in_err-indent.field-0.0
     (subst (λ z. Nested (children z) (parent z)) c.graph.ensures c.keeps_nesting.ensures.forest) c.get_block-block.ensures refused.0 (omega (arith, deep)))
 
 pub returns-in_err-inner-clause-refused : goal.returns-in_err-inner-clause-refused
 returns-in_err-inner-clause-refused g c =
     let ctx = c.args.ctx.now in
     let refused = c.in_err-inner.ensures.refused in
-    handed_on _ c.from_residual-in_err-inner.result c.in_err-inner.field-0.0 c.from_residual-in_err-inner.ensures.1 (block_refused (heads.printing_of g.T.IrText g.A.IrText g.A.AttrText g.A.PartialEq.eq ctx) (heads.language_of g.T.IrText g.A.IrText g.A.AttrText g.A.PartialEq.eq ctx) ctx c.args.width c.args.frame c.get_block-block.result c.in_err-inner.field-0.0
+    propagated _ c.from_residual-in_err-inner.result c.in_err-inner.field-0.0 c.from_residual-in_err-inner.ensures.1 (block_refused (heads.printing_of g.T.IrText g.A.IrText g.A.AttrText g.A.PartialEq.eq ctx) (heads.language_of g.T.IrText g.A.IrText g.A.AttrText g.A.PartialEq.eq ctx) ctx c.args.width c.args.frame c.get_block-block.result c.in_err-inner.field-0.0
     (subst (λ z. Nested (children z) (parent z)) c.graph.ensures c.keeps_nesting.ensures.forest) c.get_block-block.ensures refused.0 (subst (λ z. 2 ^ 16 ≤ z + c.args.width) c.in_ok-indent.ensures.ok refused.1))

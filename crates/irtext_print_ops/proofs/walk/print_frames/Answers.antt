@@ -5,7 +5,7 @@ use Rattle.irtext_print_ops.specs.Steps.{listed}
 use Rattle.irtext_print_ops.specs.Walk.{AllFit, items_left}
 use Rattle.irtext_print_ops.proofs.Tests.{no_frame}
 use Rattle.irtext_print_ops.proofs.Walked.{FramesFault, frames_text, stepped_fault, stepped_misfits, last_fault, fit_last, stepped_text, stepped_items, stepped_fit, stepped_fewer}
-use Rattle.irtext_print_ops.proofs.Refused.{handed_on}
+use Rattle.irtext_print_ops.proofs.Refused.{propagated}
 use Rattle.irtext_print_ops.proofs.walk.print_frames.Goals as goal
 
 pub loop-frame-init : goal.loop-frame-init
@@ -49,7 +49,7 @@ returns-in_err-step-clause-refused g c =
     let ctx = c.args.ctx.now in
     let here : c.loop-frame.frames.items ≡ c.close.new.frames.items ++ c.in-Some.frame ∷ [] = c.close.ensures.all ∙ ap (λ o. c.close.new.frames.items ++ listed o) c.in-Some.is in
     let e = c.in_err-step.field-0.0 in
-    handed_on _ c.from_residual-in_err-step.result e c.from_residual-in_err-step.ensures.1 (λ other. c.loop-frame.invariant.refuses e
+    propagated _ c.from_residual-in_err-step.result e c.from_residual-in_err-step.ensures.1 (λ other. c.loop-frame.invariant.refuses e
     (subst (FramesFault (heads.printing_of g.T.IrText g.A.IrText g.A.AttrText g.A.PartialEq.eq ctx) (heads.language_of g.T.IrText g.A.IrText g.A.AttrText g.A.PartialEq.eq ctx) ctx c.args.width e) (sym here) (last_fault (heads.printing_of g.T.IrText g.A.IrText g.A.AttrText g.A.PartialEq.eq ctx) (heads.language_of g.T.IrText g.A.IrText g.A.AttrText g.A.PartialEq.eq ctx) ctx c.args.width e c.close.new.frames.items c.in-Some.frame (c.in_err-step.ensures.refused other))))
 
 pub returns-clause-text : goal.returns-clause-text

@@ -3,7 +3,7 @@ use Rattle.irtext_print_ops.specs.Heads as heads
 use Rattle.irtext_print_ops.specs.Steps.{left_frames}
 use Rattle.irtext_print_ops.specs.declared.frame.Frame.TheVariants as framed
 use Rattle.irtext_print_ops.proofs.Printed.{steps_ended, steps_fit, steps_printed}
-use Rattle.irtext_print_ops.proofs.Refused.{handed_on}
+use Rattle.irtext_print_ops.proofs.Refused.{propagated}
 use Rattle.irtext_print_ops.proofs.walk.print_operation.Goals as goal
 
 pub returns-in_default : goal.returns-in_default
@@ -22,4 +22,4 @@ returns g c = steps_printed (heads.printing_of g.T.IrText g.A.IrText g.A.AttrTex
     c.print_frames.ensures
 
 pub returns-in_err-inside-clause-refused : goal.returns-in_err-inside-clause-refused
-returns-in_err-inside-clause-refused g c = handed_on _ c.from_residual.result c.in_err-inside.field-0.0 c.from_residual.ensures.1 (λ other. inl (c.in_err-inside.ensures.refused other))
+returns-in_err-inside-clause-refused g c = propagated _ c.from_residual.result c.in_err-inside.field-0.0 c.from_residual.ensures.1 (λ other. inl (c.in_err-inside.ensures.refused other))

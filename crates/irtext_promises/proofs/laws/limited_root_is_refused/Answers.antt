@@ -5,6 +5,6 @@ use Rattle.irtext_promises.proofs.PrintedBack.{none_read}
 use Rattle.irtext_promises.proofs.laws.limited_root_is_refused.Goals as goal
 
 pub returns : goal.returns
-returns g c ctx p x width n limit bytes printed left q old new stands same b =
+returns g c ctx p x width n limit bytes printed left q old new follows_on same b =
     none_read (texts_of g.T.IrText.reading g.T.IrText.written) g.A.IrText.reading g.A.IrText.written g.met.T.IrText.lawful g.met.A.IrText.lawful g.met.A.AttrText.unreserved g.A.AttrText.outlined g.A.AttrText.print_once g.A.PartialEq.eq
-    (sound g.A.PartialEq.eq g.met.A.IrText.decides refl) (reflexive g.A.PartialEq.eq g.met.A.IrText.decides refl) ctx p x width n bytes limit printed old stands same left q new b
+    (sound g.A.PartialEq.eq g.met.A.IrText.decides refl) (reflexive g.A.PartialEq.eq g.met.A.IrText.decides refl) ctx p x width n bytes limit printed old follows_on same left q new b

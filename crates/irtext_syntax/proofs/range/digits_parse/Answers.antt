@@ -2,7 +2,7 @@ use Rattle.std.proofs.Common.{◌≡◌, ◌⊎◌, ℕ, Option, subst, Bool, fa
 use Rattle.std.specs.Char.{is_ascii_digit}
 use Rattle.irtext_base.specs.Text.{Text, begins, front, after}
 use Rattle.irtext_base.specs.Faults.{NumberRange}
-use Rattle.irtext_base.specs.Answers.{StarvesHere, FailsBehind, Bad, unless_failed}
+use Rattle.irtext_base.specs.Answers.{RunsOutHere, FailsAfter, Bad, unless_failed}
 use Rattle.irtext_base.proofs.Compose.{refuses_before, seen_after}
 use Rattle.irtext_tokens.proofs.Words.{encodes-front_digits}
 use Rattle.irtext_tokens.specs.Tokens.{value_of}
@@ -24,6 +24,6 @@ returns-in-None g c =
     let o = out g.N.FromDigits.made old.rest old.failed (sym c.has_failed.ensures ∙ c.if-has_failed.false) (sym c.begins.ensures ∙ c.if-not-begins.false) (ap g.N.FromDigits.made (sym c.take_digits-number.ensures.value) ∙ (sym c.from_digits.ensures ∙ c.in-None.is)) in
     let end = c.out_of_range.new.stream in
     let fault = c.out_of_range.result in
-    let cause = subst (λ z. StarvesHere (λ s. s) (λ s v. v) mid fault end ⊎ FailsBehind (λ s. s) (λ s v. v) (NumberRange z) old.passed mid fault end) (encodes-front_digits old.rest) (r old.passed taken same c.position-place.ensures) in
+    let cause = subst (λ z. RunsOutHere (λ s. s) (λ s v. v) mid fault end ⊎ FailsAfter (λ s. s) (λ s v. v) (NumberRange z) old.passed mid fault end) (encodes-front_digits old.rest) (r old.passed taken same c.position-place.ensures) in
     let q = refuses_before (λ s. s) (λ s v. v) (λ s v. refl) (λ s v w. refl) (NumberRange taken) old mid end taken (after is_ascii_digit old.rest) fault (sym c.has_failed.ensures ∙ c.if-has_failed.false) k cause in
     record { answers = rw o q }

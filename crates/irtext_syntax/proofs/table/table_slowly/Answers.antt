@@ -7,4 +7,4 @@ use Rattle.irtext_syntax.proofs.table.table_slowly.Goals as goal
 pub returns-in-Ok : goal.returns-in-Ok
 returns-in-Ok g c =
     let h = may_read alone (λ w. w) (dotted_at g.W.Table.word c.args.refusal.now (demand_of c.args.expected)) c.args.stream.now c.dotted_parse.new.stream (Ok c.in-Ok.word) c.in-Ok.ensures in
-    begun_by alone g.W.Table.behind h (last alone (begins_with alone g.W.Table.behind h) c.parse.ensures)
+    begun_by alone g.W.Table.following h (last alone (begins_with alone g.W.Table.following h) c.parse.ensures)

@@ -1,6 +1,6 @@
 use Rattle.std.proofs.Common.{◌≡◌, ◌∙◌, ◌++◌, ◌⊎◌, subst, false, refl, sym, ap}
 use Rattle.irtext_base.specs.Text.{front, after}
-use Rattle.irtext_base.specs.Answers.{StarvesHere, FailsBehind}
+use Rattle.irtext_base.specs.Answers.{RunsOutHere, FailsAfter}
 use Rattle.irtext_base.specs.Faults.{demand_of, OwnText}
 use Rattle.irtext_base.proofs.Compose.{refuses_before, seen_after}
 use Rattle.irtext_tokens.proofs.Words.{encodes-front}
@@ -24,7 +24,7 @@ returns g c =
     let same = sym (ap (λ v. v.passed) (seen_after (λ s. s) (λ s v. v) (λ s v. refl) (λ s v w. refl) old mid (front in_dotted text) (after in_dotted text) taken)) in
     let end = c.unregistered.new.stream in
     let fault = c.unregistered.result in
-    let cause = subst (λ z. StarvesHere (λ s. s) (λ s v. v) mid fault end ⊎ FailsBehind (λ s. s) (λ s v. v) (OwnText (refusal ++ z)) old.passed mid fault end) (encodes-front in_dotted in_dotted_ascii text) (c.unregistered.ensures old.passed (front in_dotted text) same c.position-place.ensures) in
+    let cause = subst (λ z. RunsOutHere (λ s. s) (λ s v. v) mid fault end ⊎ FailsAfter (λ s. s) (λ s v. v) (OwnText (refusal ++ z)) old.passed mid fault end) (encodes-front in_dotted in_dotted_ascii text) (c.unregistered.ensures old.passed (front in_dotted text) same c.position-place.ensures) in
     rw (dotted_refused g.W.Table.word refusal (demand_of c.args.expected) text old.failed f (sym c.begins.ensures ∙ c.if-not-begins.false) (sym c.take_dotted.ensures.word ∙ c.in-None.is))
     (refuses_before (λ s. s) (λ s v. v) (λ s v. refl) (λ s v w. refl) (OwnText (refusal ++ front in_dotted text)) old mid end (front in_dotted text) (after in_dotted text) fault f taken cause)
 

@@ -11,10 +11,10 @@ use Rattle.irtext_tests_rows.proofs.definitions.a_label_of_no_region.Goals as go
 -- the id is not preceded by names and `=`
 no_results : (ns : List (Name ℕ)) (left : Text) → results counted_demo ns (codes "test.br ^a") left → ⊥
 no_results [] left (m, (none, same), e) = true≢false none
-no_results (n ∷ []) left (m, (k, (at, (first, word, behind)), (stops, same)), e) =
-    true≢false (sym (ap (begins (the 61)) e) ∙ ap (λ m. begins (the 61) (after_space m)) (same ∙ ap after_space behind))
-no_results (n ∷ o ∷ ns) left (m, (k, (at, (first, word, behind)), (j, comma, others)), e) =
-    true≢false (sym (ap (begins (the 44)) comma) ∙ ap (λ k. begins (the 44) (after_space k)) behind)
+no_results (n ∷ []) left (m, (k, (at, (first, word, following)), (stops, same)), e) =
+    true≢false (sym (ap (begins (the 61)) e) ∙ ap (λ m. begins (the 61) (after_space m)) (same ∙ ap after_space following))
+no_results (n ∷ o ∷ ns) left (m, (k, (at, (first, word, following)), (j, comma, others)), e) =
+    true≢false (sym (ap (begins (the 44)) comma) ∙ ap (λ k. begins (the 44) (after_space k)) following)
 
 pub returns-clause-is_read : goal.returns-clause-is_read
 returns-clause-is_read c = (

@@ -78,8 +78,8 @@ named = (inl refl, (tt, ((refl, inl refl), (inl refl, tt, tt), ((refl, inl refl)
 pub returns-clause-premises : goal.returns-clause-premises
 returns-clause-premises c = (wordy, fit, small, keeps, held, refl, omega arith, named)
 
-pub returns-clause-stands : goal.returns-clause-stands
-returns-clause-stands c = (
+pub returns-clause-represented : goal.returns-clause-represented
+returns-clause-represented c = (
   refl,
   (
     record { shape = record { id = refl; result_types = refl; operands = refl; successors = refl }; attributes = refl },

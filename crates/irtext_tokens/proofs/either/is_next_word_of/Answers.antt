@@ -16,7 +16,7 @@ reset-requires g c =
       passed = old.passed;
       rest = old.rest;
       same = sym (ap (λ v. v.passed ++ v.rest) k.is ∙ (append_assoc old.passed (front in_dotted old.rest) (after in_dotted old.rest) ∙ ap (λ z. old.passed ++ z) k.same));
-      stands = c.position-place.ensures;
+      positioned = c.position-place.ensures;
     }
 
 pub returns-clause-word : goal.returns-clause-word

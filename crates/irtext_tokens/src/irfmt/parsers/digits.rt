@@ -8,7 +8,7 @@ ghost use Rattle.irtext_base.specs.Faults.{NumberRange};
 ghost use Rattle.irtext_tokens.specs.Digits.{base, is_digit_in, appended, value_in};
 ghost use Rattle.irtext_tokens.specs.Tokens.{has};
 ghost use Rattle.irtext_stream.specs.Places.{SincePlace, HasPassed};
-ghost use Rattle.irtext_tokens.specs.Reads.{TakesFront, StarvesOrFails};
+ghost use Rattle.irtext_tokens.specs.Reads.{TakesFront, RunsOutOrFails};
 
 use crate::irfmt::faults::{out_of_memory, refuse_at};
 use crate::irfmt::parsers::class::{Class, skip_class};
@@ -106,7 +106,7 @@ pub fn take_digits<S: CharStream>(stream: &mut S, radix: Radix) -> Option<u64>
 pub fn out_of_range<S: CharStream, A>(stream: &mut S, place: Place) -> ParseFault<A>
     requires { HasPassed place (S.view stream.old) }
     ensures { SincePlace place (S.view stream.old) (λ passed taken.
-        StarvesOrFails S.view S.at (NumberRange (encode_utf8_all taken)) passed stream.old result stream.new) }
+        RunsOutOrFails S.view S.at (NumberRange (encode_utf8_all taken)) passed stream.old result stream.new) }
 {
     match String::from_str(stream.allocator(), stream.text_since(place)) {
         Ok(text) => refuse_at(stream, place, Cause::NumberRange(text)),

@@ -2,12 +2,12 @@
 ghost use Rattle.std.specs.Prelude.{◌≡◌, [], ◌++◌, false, codes, IfOk, MatchResult, string_bytes};
 ghost use Rattle.std.specs.Str.{encode_utf8_all};
 ghost use Rattle.irtext_base.specs.Text.{front, begins};
-ghost use Rattle.irtext_base.specs.Places.{StandsBehind};
+ghost use Rattle.irtext_base.specs.Places.{IsPlaceAfter};
 ghost use Rattle.irtext_base.specs.Faults.{BadUnicodeEscape};
-ghost use Rattle.irtext_base.specs.Answers.{Answers, Takes, Starves, mapped, demanded};
+ghost use Rattle.irtext_base.specs.Answers.{Answers, Takes, RunsOut, mapped, demanded};
 ghost use Rattle.irtext_tokens.specs.QuotedTexts.{is_plain, escape_of, character_of, unit_at, units_at, quoted_at};
 ghost use Rattle.irtext_stream.specs.Places.{AtPlace, SincePlace, HasPassed};
-ghost use Rattle.irtext_tokens.specs.Reads.{TakesFront, ReadsAs, StarvesOrFails};
+ghost use Rattle.irtext_tokens.specs.Reads.{TakesFront, ReadsAs, RunsOutOrFails};
 
 use crate::irfmt::faults::{begins, commit_unexpected, next_is, out_of_memory, refuse_at};
 use crate::irfmt::parsers::class::{Class, skip_class};
@@ -24,7 +24,7 @@ fn append_plain<S: CharStream, A>(stream: &mut S, text: &mut String) -> ParseRes
         ++ encode_utf8_all (front is_plain (S.view stream.old).rest)) }
     ensures stream { MatchResult result
         (λ _. TakesFront S.view S.at is_plain stream.old stream.new)
-        (λ fault. Starves S.view S.at stream.old fault stream.new) }
+        (λ fault. RunsOut S.view S.at stream.old fault stream.new) }
 {
     let place = stream.position();
     skip_class(stream, Class::Plain);
@@ -54,7 +54,7 @@ fn no_character<S: CharStream, A>(stream: &mut S, escape: Place, digits: Place) 
     requires { HasPassed digits (S.view stream.old) }
     ensures { AtPlace escape (S.view stream.old) (λ before rest. SincePlace digits (S.view stream.old)
         (λ passed taken.
-        StarvesOrFails S.view S.at (BadUnicodeEscape (encode_utf8_all taken)) before stream.old result
+        RunsOutOrFails S.view S.at (BadUnicodeEscape (encode_utf8_all taken)) before stream.old result
         stream.new)) }
 {
     match String::from_str(stream.allocator(), stream.text_since(digits)) {
@@ -68,7 +68,7 @@ fn no_character<S: CharStream, A>(stream: &mut S, escape: Place, digits: Place) 
 fn unicode_parse<S: CharStream, A>(stream: &mut S, escape: Place) -> ParseResult<char, A>
     requires { (S.view stream.old).failed ≡ false }
     ensures { (before : S) → Takes S.view S.at (codes "\\u") (S.view stream.old).rest before stream.old →
-        StandsBehind escape (S.view before).passed →
+        IsPlaceAfter escape (S.view before).passed →
         Answers S.view S.at (λ c. c) (unit_at (S.view before).rest) before result stream.new }
 {
     if !next_is(stream, '{') {

@@ -5,7 +5,7 @@ use Rattle.irtext_grammar.specs.Names.Scopes.{no_scope, failures}
 use Rattle.irtext_grammar.specs.Names.Script.{done}
 use Rattle.irtext_grammar.specs.Names.Acts.{tree_script}
 use Rattle.irtext_grammar.specs.Graphs.Build.{build}
-use Rattle.irtext_grammar.specs.Graphs.Same.{stood, SameShapes}
+use Rattle.irtext_grammar.specs.Graphs.Same.{resolved_root, SameShapes}
 use Rattle.irtext_grammar.proofs.Names.Resolved.{tree_resolves}
 use Rattle.irtext_grammar.proofs.Graphs.Match.{same_shapes}
 use Rattle.irtext_grammar.proofs.Graphs.BareScript.{resolves_bare}
@@ -18,4 +18,4 @@ returns-clause-resolves g c C isolated x t f s keys closed e =
 
 pub returns-clause-shapes : goal.returns-clause-shapes
 returns-clause-shapes g c C isolated first es x t f s e =
-    shapes_bare isolated first es (λ p. first 0) [] (stood C isolated x) t (subst (λ z. SameShapes (stood C isolated x) (build isolated (λ p. first 0) [] z)) (sym e) (same_shapes C isolated (λ p. first 0) [] x f s))
+    shapes_bare isolated first es (λ p. first 0) [] (resolved_root C isolated x) t (subst (λ z. SameShapes (resolved_root C isolated x) (build isolated (λ p. first 0) [] z)) (sym e) (same_shapes C isolated (λ p. first 0) [] x f s))

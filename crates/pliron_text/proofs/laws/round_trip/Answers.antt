@@ -8,7 +8,7 @@ use Rattle.irtext_grammar.specs.Names.Scopes.{no_scope, failures}
 use Rattle.irtext_grammar.specs.Names.Script.{done}
 use Rattle.irtext_grammar.specs.Names.Acts.{tree_script}
 use Rattle.irtext_grammar.specs.Graphs.Build.{build}
-use Rattle.irtext_grammar.specs.Graphs.Same.{stood, SameShapes}
+use Rattle.irtext_grammar.specs.Graphs.Same.{resolved_root, SameShapes}
 use Rattle.irtext_grammar.proofs.Grammar.BackTree as back
 use Rattle.irtext_grammar.proofs.Grammar.Placed as placed
 use Rattle.irtext_grammar.proofs.Names.Resolved.{tree_resolves}
@@ -33,5 +33,5 @@ returns g c C isolated first es x width n f w fit s keys closed h =
       r.2,
       q.2,
       resolves_bare isolated q.0 (ap (λ z. failures same_text no_scope (tree_script isolated z done)) q.2 ∙ tree_resolves C isolated x fit s closed keys),
-      shapes_bare isolated first es (λ p. first 0) [] (stood C isolated x) q.0 (subst (λ z. SameShapes (stood C isolated x) (build isolated (λ p. first 0) [] z)) (sym q.2) (same_shapes C isolated (λ p. first 0) [] x fit s)),
+      shapes_bare isolated first es (λ p. first 0) [] (resolved_root C isolated x) q.0 (subst (λ z. SameShapes (resolved_root C isolated x) (build isolated (λ p. first 0) [] z)) (sym q.2) (same_shapes C isolated (λ p. first 0) [] x fit s)),
     )

@@ -7,12 +7,12 @@ use Rattle.irtext_graph.proofs.Numbers.{numbers_kept, erased_numbers}
 use Rattle.irtext_graph.proofs.graph.Graph.erase.Goals as goal
 
 pub drop_all_uses-requires-clause-lives : goal.drop_all_uses-requires-clause-lives
-drop_all_uses-requires-clause-lives g c = lives_at c.self.inside.made c.self.inside.counters c.self.inside.objects c.args.o (rw (← c.self.view_is) at c.requires.stands)
+drop_all_uses-requires-clause-lives g c = lives_at c.self.inside.made c.self.inside.counters c.self.inside.objects c.args.o (rw (← c.self.view_is) at c.requires.alive)
 
 pub erase-count-requires-clause-lives : goal.erase-count-requires-clause-lives
 erase-count-requires-clause-lives g c =
     let x = c.self.inside.objects in
-    still_lives x c.drop_all_uses.new.self c.args.o (c.drop_all_uses.ensures.inside c.args.o (within_self (up x) c.args.o)) (lives_at c.self.inside.made c.self.inside.counters x c.args.o (rw (← c.self.view_is) at c.requires.stands))
+    still_lives x c.drop_all_uses.new.self c.args.o (c.drop_all_uses.ensures.inside c.args.o (within_self (up x) c.args.o)) (lives_at c.self.inside.made c.self.inside.counters x c.args.o (rw (← c.self.view_is) at c.requires.alive))
 
 pub invariant_of-self : goal.invariant_of-self
 invariant_of-self g c =

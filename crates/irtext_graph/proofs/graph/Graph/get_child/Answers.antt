@@ -5,7 +5,7 @@ use Rattle.irtext_graph.proofs.Nesting.{child_fits}
 use Rattle.irtext_graph.proofs.graph.Graph.get_child.Goals as goal
 
 pub child_at-requires-clause-lives : goal.child_at-requires-clause-lives
-child_at-requires-clause-lives g c = lives_at c.self.inside.made c.self.inside.counters c.self.inside.objects c.args.o (rw (← c.self.view_is) at c.requires.stands)
+child_at-requires-clause-lives g c = lives_at c.self.inside.made c.self.inside.counters c.self.inside.objects c.args.o (rw (← c.self.view_is) at c.requires.alive)
 
 pub child_at-requires-clause-within : goal.child_at-requires-clause-within
 child_at-requires-clause-within g c =

@@ -8,7 +8,7 @@ pub insert_last-requires-clause-holder : goal.insert_last-requires-clause-holder
 insert_last-requires-clause-holder g c = lives_at c.self.inside.made c.self.inside.counters c.self.inside.objects c.args.k (rw (← c.self.view_is) at c.requires.holder)
 
 pub insert_last-requires-clause-lives : goal.insert_last-requires-clause-lives
-insert_last-requires-clause-lives g c = lives_at c.self.inside.made c.self.inside.counters c.self.inside.objects c.args.c (rw (← c.self.view_is) at c.requires.stands)
+insert_last-requires-clause-lives g c = lives_at c.self.inside.made c.self.inside.counters c.self.inside.objects c.args.c (rw (← c.self.view_is) at c.requires.alive)
 
 pub insert_last-requires-clause-can : goal.insert_last-requires-clause-can
 insert_last-requires-clause-can g c = can_at c.self.inside.made c.self.inside.counters c.self.inside.objects c.args.k c.args.c (rw (← c.self.view_is) at c.requires.can)

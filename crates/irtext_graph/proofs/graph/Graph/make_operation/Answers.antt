@@ -6,8 +6,8 @@ use Rattle.irtext_graph.specs.Used.{without_uses}
 use Rattle.irtext_graph.specs.Linking.{site_of}
 use Rattle.irtext_graph.specs.declared.object.Defined.TheVariants.{OfValue, OfBlock}
 use Rattle.irtext_graph.proofs.UsesSeen.{head_there}
-use Rattle.irtext_graph.proofs.SameSeen.{same_there, same_stands}
-use Rattle.irtext_graph.proofs.Linkings.{blank, linked_here, there_here, free_here, heads_named, stands_here, named_by, named_in, side_apart, sound_linked}
+use Rattle.irtext_graph.proofs.SameSeen.{same_there, same_is_defined}
+use Rattle.irtext_graph.proofs.Linkings.{blank, linked_here, there_here, free_here, heads_named, live_here, named_by, named_in, side_apart, sound_linked}
 use Rattle.irtext_graph.proofs.Logs.{noted_list, operation_noted}
 use Rattle.irtext_graph.proofs.LogsSeen.{logged_bare}
 use Rattle.irtext_graph.proofs.Made.{on_err, same_keeps, same_slots, slots_kept, slots_seen, operation_made, operation_made_seen, operation-keeps}
@@ -39,9 +39,9 @@ attach_all-requires-clause-there g c = λ i low. there_here c.self.inside.object
 pub attach_all-requires-clause-free : goal.attach_all-requires-clause-free
 attach_all-requires-clause-free g c = free_here c.self.inside.objects c.self.inside.made c.insert.new.self c.in_ok-p.p _ c.in_ok-p.ensures.inserts _ _ _ _ _ (blank _ _ _ _ _ _ _ _ _ c.blank_operation-blank.ensures.parent c.blank_operation-blank.ensures.children c.blank_operation-blank.ensures.value c.blank_operation-blank.ensures.operands c.blank_operation-blank.ensures.successors c.blank_operation-blank.ensures.results c.in_ok-used.ensures (c.in_ok-led_to.ensures ∙ c.in_ok-leads.ensures) c.in_ok-results.ensures) Operands
 
-pub attach_all-requires-clause-stands : goal.attach_all-requires-clause-stands
-attach_all-requires-clause-stands g c =
-    stands_here c.self.inside.objects c.self.inside.made c.insert.new.self c.in_ok-p.p _ c.in_ok-p.ensures.inserts _ _ _ _ _ (blank _ _ _ _ _ _ _ _ _ c.blank_operation-blank.ensures.parent c.blank_operation-blank.ensures.children c.blank_operation-blank.ensures.value c.blank_operation-blank.ensures.operands c.blank_operation-blank.ensures.successors c.blank_operation-blank.ensures.results c.in_ok-used.ensures (c.in_ok-led_to.ensures ∙ c.in_ok-leads.ensures) c.in_ok-results.ensures)
+pub attach_all-requires-clause-alive : goal.attach_all-requires-clause-alive
+attach_all-requires-clause-alive g c =
+    live_here c.self.inside.objects c.self.inside.made c.insert.new.self c.in_ok-p.p _ c.in_ok-p.ensures.inserts _ _ _ _ _ (blank _ _ _ _ _ _ _ _ _ c.blank_operation-blank.ensures.parent c.blank_operation-blank.ensures.children c.blank_operation-blank.ensures.value c.blank_operation-blank.ensures.operands c.blank_operation-blank.ensures.successors c.blank_operation-blank.ensures.results c.in_ok-used.ensures (c.in_ok-led_to.ensures ∙ c.in_ok-leads.ensures) c.in_ok-results.ensures)
     (heads_named c.self.inside.objects c.self.inside.made c.insert.new.self c.in_ok-p.p _ c.in_ok-p.ensures.inserts _ _ _ _ _ (blank _ _ _ _ _ _ _ _ _ c.blank_operation-blank.ensures.parent c.blank_operation-blank.ensures.children c.blank_operation-blank.ensures.value c.blank_operation-blank.ensures.operands c.blank_operation-blank.ensures.successors c.blank_operation-blank.ensures.results c.in_ok-used.ensures (c.in_ok-led_to.ensures ∙ c.in_ok-leads.ensures) c.in_ok-results.ensures)
     (λ j v e. head_there c.self.inside.made c.self.inside.counters c.self.inside.objects (OfValue v) (rw (← c.self.view_is) at (c.requires.operands j v e)))
     (λ j b e. head_there c.self.inside.made c.self.inside.counters c.self.inside.objects (OfBlock b) (rw (← c.self.view_is) at (c.requires.successors j b e))))
@@ -58,10 +58,10 @@ attach_all-requires-2-clause-there g c = λ i low.
 pub attach_all-requires-2-clause-free : goal.attach_all-requires-2-clause-free
 attach_all-requires-2-clause-free g c = λ i. c.attach_all.ensures.kept (site_of Successors c.in_ok-p.p i) (λ j. side_apart c.in_ok-p.p i j) ∙ free_here c.self.inside.objects c.self.inside.made c.insert.new.self c.in_ok-p.p _ c.in_ok-p.ensures.inserts _ _ _ _ _ (blank _ _ _ _ _ _ _ _ _ c.blank_operation-blank.ensures.parent c.blank_operation-blank.ensures.children c.blank_operation-blank.ensures.value c.blank_operation-blank.ensures.operands c.blank_operation-blank.ensures.successors c.blank_operation-blank.ensures.results c.in_ok-used.ensures (c.in_ok-led_to.ensures ∙ c.in_ok-leads.ensures) c.in_ok-results.ensures) Successors i
 
-pub attach_all-requires-2-clause-stands : goal.attach_all-requires-2-clause-stands
-attach_all-requires-2-clause-stands g c = λ i.
-    same_stands (record c.self.inside.objects { operations = c.insert.new.self }) c.attach_all.new.self c.attach_all.ensures.seen (site_of Successors c.in_ok-p.p i)
-    (stands_here c.self.inside.objects c.self.inside.made c.insert.new.self c.in_ok-p.p _ c.in_ok-p.ensures.inserts _ _ _ _ _ (blank _ _ _ _ _ _ _ _ _ c.blank_operation-blank.ensures.parent c.blank_operation-blank.ensures.children c.blank_operation-blank.ensures.value c.blank_operation-blank.ensures.operands c.blank_operation-blank.ensures.successors c.blank_operation-blank.ensures.results c.in_ok-used.ensures (c.in_ok-led_to.ensures ∙ c.in_ok-leads.ensures) c.in_ok-results.ensures)
+pub attach_all-requires-2-clause-alive : goal.attach_all-requires-2-clause-alive
+attach_all-requires-2-clause-alive g c = λ i.
+    same_is_defined (record c.self.inside.objects { operations = c.insert.new.self }) c.attach_all.new.self c.attach_all.ensures.seen (site_of Successors c.in_ok-p.p i)
+    (live_here c.self.inside.objects c.self.inside.made c.insert.new.self c.in_ok-p.p _ c.in_ok-p.ensures.inserts _ _ _ _ _ (blank _ _ _ _ _ _ _ _ _ c.blank_operation-blank.ensures.parent c.blank_operation-blank.ensures.children c.blank_operation-blank.ensures.value c.blank_operation-blank.ensures.operands c.blank_operation-blank.ensures.successors c.blank_operation-blank.ensures.results c.in_ok-used.ensures (c.in_ok-led_to.ensures ∙ c.in_ok-leads.ensures) c.in_ok-results.ensures)
     (heads_named c.self.inside.objects c.self.inside.made c.insert.new.self c.in_ok-p.p _ c.in_ok-p.ensures.inserts _ _ _ _ _ (blank _ _ _ _ _ _ _ _ _ c.blank_operation-blank.ensures.parent c.blank_operation-blank.ensures.children c.blank_operation-blank.ensures.value c.blank_operation-blank.ensures.operands c.blank_operation-blank.ensures.successors c.blank_operation-blank.ensures.results c.in_ok-used.ensures (c.in_ok-led_to.ensures ∙ c.in_ok-leads.ensures) c.in_ok-results.ensures)
     (λ j v e. head_there c.self.inside.made c.self.inside.counters c.self.inside.objects (OfValue v) (rw (← c.self.view_is) at (c.requires.operands j v e)))
     (λ j b e. head_there c.self.inside.made c.self.inside.counters c.self.inside.objects (OfBlock b) (rw (← c.self.view_is) at (c.requires.successors j b e))))

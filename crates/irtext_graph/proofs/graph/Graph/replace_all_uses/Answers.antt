@@ -6,11 +6,11 @@ use Rattle.irtext_graph.proofs.UsesSeen.{head_there}
 use Rattle.irtext_graph.proofs.Numbers.{numbers_kept, replaced_numbers}
 use Rattle.irtext_graph.proofs.graph.Graph.replace_all_uses.Goals as goal
 
-pub replace_uses-requires-clause-stands : goal.replace_uses-requires-clause-stands
-replace_uses-requires-clause-stands g c = head_there c.self.inside.made c.self.inside.counters c.self.inside.objects c.args.d (rw (← c.self.view_is) at c.requires.stands)
+pub replace_uses-requires-clause-alive : goal.replace_uses-requires-clause-alive
+replace_uses-requires-clause-alive g c = head_there c.self.inside.made c.self.inside.counters c.self.inside.objects c.args.d (rw (← c.self.view_is) at c.requires.alive)
 
-pub replace_uses-requires-clause-stands_too : goal.replace_uses-requires-clause-stands_too
-replace_uses-requires-clause-stands_too g c = head_there c.self.inside.made c.self.inside.counters c.self.inside.objects c.args.e (rw (← c.self.view_is) at c.requires.stands_too)
+pub replace_uses-requires-clause-alive_too : goal.replace_uses-requires-clause-alive_too
+replace_uses-requires-clause-alive_too g c = head_there c.self.inside.made c.self.inside.counters c.self.inside.objects c.args.e (rw (← c.self.view_is) at c.requires.alive_too)
 
 pub invariant_of-self : goal.invariant_of-self
 invariant_of-self g c =

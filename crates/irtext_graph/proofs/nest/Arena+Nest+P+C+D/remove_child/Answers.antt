@@ -1,7 +1,7 @@
 use Rattle.std.proofs.Common.{◌≡◌, ap, arith, length}
 use Rattle.irtext_few.specs.Growing.{listed}
 use Rattle.irtext_graph.specs.Nest.{kids, children_in}
-use Rattle.irtext_graph.proofs.Arenas.{stood, places_kept}
+use Rattle.irtext_graph.proofs.Arenas.{content_is_live, places_kept}
 use Rattle.irtext_graph.proofs.Children.{links_with}
 use Rattle.std.proofs.lemmas.List.Edits.{length-remove}
 use Rattle.irtext_graph.proofs.nest.Arena+Nest+P+C+D.remove_child.Goals as goal
@@ -13,7 +13,7 @@ pub returns-clause-less : goal.returns-clause-less
 returns-clause-less g c =
     let x = c.content_mut.result.now in
     let k = links_with c.args.self.now c.args.p x (record x { children = c.remove.new.self }) c.content_mut.ensures.value in
-    let r = stood c.args.self.now c.args.p x c.content_mut.ensures.value in
+    let r = content_is_live c.args.self.now c.args.p x c.content_mut.ensures.value in
     let here : length (kids c.args.self.now c.args.p) ≡ length (listed x.children) = ap (λ e. length (children_in e)) r.1 in
     let n = length-remove (listed x.children) c.args.i (omega (arith, here, c.requires.within)) in
     let m = ap length c.remove.ensures in

@@ -6,7 +6,7 @@ use Rattle.irtext_graph.proofs.Depth.{depth_of}
 use Rattle.irtext_graph.proofs.Nests.{some_eq}
 use Rattle.irtext_graph.proofs.Erased.{up_lives, parent_inside, holder_inside}
 use Rattle.irtext_graph.proofs.Places.{depth-less, parent_lives}
-use Rattle.irtext_graph.proofs.Afters.{rest, leaf_left, first_left, next_rest, last_rest, end_rest, child_inside, none_behind, empty_list}
+use Rattle.irtext_graph.proofs.Afters.{rest, leaf_left, first_left, next_rest, last_rest, end_rest, child_inside, none_follows, empty_list}
 use Rattle.irtext_graph.proofs.objects.Objects.after.Goals as goal
 
 pub loop-o-init : goal.loop-o-init
@@ -82,7 +82,7 @@ loop-o-preserved g c =
     let i = c.index_in-i.result in
     let e : up x c.loop-o.at ≡ Some k = sym c.parent_of.ensures ∙ c.in-Some.is in
     let ne : c.loop-o.at ≢ c.args.o = λ e. let yes = c.same_object.ensures.1 e in let none = c.loop-o-test.true in absurd (cc) in
-    let f : slice_get (kids x k) (suc i) ≡ None = none_behind (kids x k) (suc i) (let n = c.child_count-count.ensures in let m = c.if-i-count.false in omega (arith, n, m)) in
+    let f : slice_get (kids x k) (suc i) ≡ None = none_follows (kids x k) (suc i) (let n = c.child_count-count.ensures in let m = c.if-i-count.false in omega (arith, n, m)) in
     record {
       lives = parent_lives x c.loop-o.at k c.requires.forest e;
       inside = holder_inside x c.args.o c.loop-o.at k c.loop-o.invariant.inside ne e;
@@ -95,8 +95,8 @@ returns-clause-next g c =
     let here : c.loop-o.at ≡ c.args.o = c.same_object.ensures.0 c.loop-o-test.false in
     c.loop-o.invariant.next ∙ ap (λ ys. c.args.q ∷ ys) (ap (λ z. rest x c.args.o z) here ∙ end_rest x c.args.o c.requires.forest)
 
-pub index_in-i-requires-clause-stands : goal.index_in-i-requires-clause-stands
-index_in-i-requires-clause-stands g c = sym c.parent_of.ensures ∙ c.in-Some.is
+pub index_in-i-requires-clause-alive : goal.index_in-i-requires-clause-alive
+index_in-i-requires-clause-alive g c = sym c.parent_of.ensures ∙ c.in-Some.is
 
 pub child_count-count-requires : goal.child_count-count-requires
 child_count-count-requires g c = parent_lives c.args.self.now c.loop-o.at c.in-Some.k c.requires.forest (sym c.parent_of.ensures ∙ c.in-Some.is)

@@ -6,8 +6,8 @@ use Rattle.irtext_graph.proofs.Moves.{lower}
 use Rattle.irtext_graph.proofs.Sites.{none_beyond}
 use Rattle.irtext_graph.proofs.objects.Objects.are_values_used_inside.Goals as goal
 
-pub is_used_inside-requires-clause-stands : goal.is_used_inside-requires-clause-stands
-is_used_inside-requires-clause-stands g c = subst (λ v. IsSome (head_at c.args.self.now (OfValue v))) (sym c.sibling.ensures) ((c.value_count-i-end.ensures c.loop-i.i).1 c.loop-i-test.true)
+pub is_used_inside-requires-clause-alive : goal.is_used_inside-requires-clause-alive
+is_used_inside-requires-clause-alive g c = subst (λ v. IsSome (head_at c.args.self.now (OfValue v))) (sym c.sibling.ensures) ((c.value_count-i-end.ensures c.loop-i.i).1 c.loop-i-test.true)
 
 pub loop-i-init : goal.loop-i-init
 loop-i-init g c = record { so_far = λ j l. absurd (omega (arith, l)) }

@@ -47,4 +47,4 @@ returns-clause-used g c = λ o e.
     ap def_of (c.set_head.ensures.uses u) ∙ c.set_prev_of.ensures.values u ∙ ap def_of here ∙ ap (λ (o : Use Defined). Some o.def) same
 
 pub head_of-h-requires : goal.head_of-h-requires
-head_of-h-requires g c = c.requires.stands c.use_of-d.result c.use_of-d.ensures
+head_of-h-requires g c = c.requires.alive c.use_of-d.result c.use_of-d.ensures

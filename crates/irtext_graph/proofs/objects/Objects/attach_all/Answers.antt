@@ -3,7 +3,7 @@ use Rattle.std.proofs.lemmas.Bool.{cases_eq}
 use Rattle.irtext_graph.specs.Uses.{use_at, val}
 use Rattle.irtext_graph.specs.Linking.{site_of}
 use Rattle.irtext_graph.proofs.Linkings.{index_apart}
-use Rattle.irtext_graph.proofs.SameSeen.{same_there, same_stands, used_of}
+use Rattle.irtext_graph.proofs.SameSeen.{same_there, same_is_defined, used_of}
 use Rattle.irtext_graph.proofs.objects.Objects.attach_all.Goals as goal
 
 pub loop-i-init : goal.loop-i-init
@@ -21,9 +21,9 @@ attach-requires-clause-there g c = subst (λ u. IsSome (use_at c.loop-i.self u))
 pub attach-requires-clause-free : goal.attach-requires-clause-free
 attach-requires-clause-free g c = ap (val c.loop-i.self) c.site_at.ensures ∙ c.loop-i.invariant.later c.loop-i.i (omega arith) ∙ c.requires.free c.loop-i.i
 
-pub attach-requires-clause-stands : goal.attach-requires-clause-stands
-attach-requires-clause-stands g c = λ o e.
-    same_stands c.args.self.now c.loop-i.self c.loop-i.invariant.seen (site_of c.args.side c.args.p c.loop-i.i) (c.requires.stands c.loop-i.i) o
+pub attach-requires-clause-alive : goal.attach-requires-clause-alive
+attach-requires-clause-alive g c = λ o e.
+    same_is_defined c.args.self.now c.loop-i.self c.loop-i.invariant.seen (site_of c.args.side c.args.p c.loop-i.i) (c.requires.alive c.loop-i.i) o
     (sym (ap (use_at c.loop-i.self) c.site_at.ensures) ∙ e)
 
 pub loop-i-preserved : goal.loop-i-preserved

@@ -23,12 +23,12 @@ set_next_of-requires-clause-sites g c = λ x hx.
     let apart : x ≢ c.args.u = λ p. let r = ap c.requires.linked.rank p in omega (arith, up.2) in
     c.set_prev_of.ensures.sites x (rw (c.set_links.ensures.others x apart) (there _ _ k.0))
 
-pub set_next_of-requires-clause-stands : goal.set_next_of-requires-clause-stands
-set_next_of-requires-clause-stands g c =
+pub set_next_of-requires-clause-alive : goal.set_next_of-requires-clause-alive
+set_next_of-requires-clause-alive g c =
     let read = c.use_of-o.ensures in
     let d = c.use_of-o.result.def in
     let used : val c.args.self.now c.args.u ≡ Some d = used_def _ _ read c.requires.used in
-    let st = c.requires.linked.stands c.args.u d used in
+    let st = c.requires.linked.alive c.args.u d used in
     rw (c.set_prev_of.ensures.heads d ∙ c.set_links.ensures.heads d ∙ st.1) refl
 
 pub returns-clause-linked : goal.returns-clause-linked

@@ -1,6 +1,6 @@
 use Rattle.std.proofs.Common.{◌≡◌, ◌≢◌, ◌∙◌, sym, ap, arith, Some, inl, inr, refl}
 use Rattle.irtext_graph.specs.Objects.{up, eq_object}
-use Rattle.irtext_graph.proofs.Nests.{told, renested, some_eq}
+use Rattle.irtext_graph.proofs.Nests.{same_or_other, renested, some_eq}
 use Rattle.irtext_graph.proofs.Same.{object_tells}
 use Rattle.irtext_graph.proofs.Erased.{childless, same_on}
 use Rattle.irtext_graph.proofs.Kept.{datum_on, datum_at, sheds_on, sheds_none}
@@ -18,8 +18,8 @@ returns-clause-drops g c =
     let k_not : k ≢ o = λ s. alone (e ∙ ap Some s) in
     record {
       forest = renested eq_object object_tells u.forest
-          (λ q. elim (told object_tells q o) [ inl s ↦ rw s (v.gone_kids ∙ sym (u.kids o alone ∙ c.requires.leaf)) | inr ne ↦ (v.others q ne).same_kids ])
-          (λ q. elim (told object_tells q o) [ inl s ↦ rw s (v.gone_up ∙ sym u.free) | inr ne ↦ (v.others q ne).same_up ]);
+          (λ q. elim (same_or_other object_tells q o) [ inl s ↦ rw s (v.gone_kids ∙ sym (u.kids o alone ∙ c.requires.leaf)) | inr ne ↦ (v.others q ne).same_kids ])
+          (λ q. elim (same_or_other object_tells q o) [ inl s ↦ rw s (v.gone_up ∙ sym u.free) | inr ne ↦ (v.others q ne).same_up ]);
       gone = record { gone_up = v.gone_up; gone_kids = v.gone_kids; gone_what = v.gone };
       parent = (v.others k k_not).same_up ∙ u.ups k k_not;
       same = (v.others k k_not).same_what ∙ u.data k;

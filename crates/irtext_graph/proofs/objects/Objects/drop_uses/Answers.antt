@@ -4,7 +4,7 @@ use Rattle.irtext_graph.proofs.Dropped.{drop_linked, drop_used, alike_places, al
 use Rattle.irtext_graph.proofs.objects.Objects.drop_uses.Goals as goal
 
 pub clear_uses-requires : goal.clear_uses-requires
-clear_uses-requires g c = alike_there c.args.self.now c.detach_uses.new.self c.detach_uses.ensures.seen c.args.p c.requires.stands
+clear_uses-requires g c = alike_there c.args.self.now c.detach_uses.new.self c.detach_uses.ensures.seen c.args.p c.requires.alive
 
 pub returns-clause-linked : goal.returns-clause-linked
 returns-clause-linked g c =

@@ -6,8 +6,8 @@ use Rattle.irtext_graph.proofs.Kept.{datum_back}
 use Rattle.irtext_graph.proofs.Dropping.{dropped_up, dropped_kids, dropped_others, dropped_here}
 use Rattle.irtext_graph.proofs.objects.Objects.drop_uses_of.Goals as goal
 
-pub drop_uses-requires-clause-stands : goal.drop_uses-requires-clause-stands
-drop_uses-requires-clause-stands g c =
+pub drop_uses-requires-clause-alive : goal.drop_uses-requires-clause-alive
+drop_uses-requires-clause-alive g c =
     datum_back _ (get c.args.self.now.operations c.in-TheOperation.p) (subst (Lives c.args.self.now) c.in-TheOperation.is c.requires.lives)
 
 pub returns-in-TheOperation-clause-here : goal.returns-in-TheOperation-clause-here

@@ -8,8 +8,8 @@ loop-at-init g c =
     let i = c.innermost-at.ensures in
     erasing_begins c.args.self.now c.args.o c.innermost-at.result c.requires.forest c.requires.free c.requires.lives i.inside i.lives i.leaf
 
-pub drop_leaf-k-requires-clause-stands : goal.drop_leaf-k-requires-clause-stands
-drop_leaf-k-requires-clause-stands g c =
+pub drop_leaf-k-requires-clause-alive : goal.drop_leaf-k-requires-clause-alive
+drop_leaf-k-requires-clause-alive g c =
     let v = c.loop-at.invariant in
     let ne : c.loop-at.at ≢ c.args.o = λ e. let yes = c.same_object.ensures.1 e in let none = c.loop-at-test.true in absurd (cc) in
     let p = parent_inside c.loop-at.self c.args.o c.loop-at.at v.at_inside ne in

@@ -6,14 +6,14 @@ use Rattle.irtext_graph.specs.Erasing.{IsAllUsedInside}
 use Rattle.irtext_graph.proofs.Sites.{all_results, all_arguments, all_none, block_head}
 use Rattle.irtext_graph.proofs.objects.Objects.is_all_used_inside.Goals as goal
 
-pub are_values_used_inside-requires-clause-stands : goal.are_values_used_inside-requires-clause-stands
-are_values_used_inside-requires-clause-stands g c = subst (Lives c.args.self.now) c.in-TheOperation.is c.requires.lives
+pub are_values_used_inside-requires-clause-alive : goal.are_values_used_inside-requires-clause-alive
+are_values_used_inside-requires-clause-alive g c = subst (Lives c.args.self.now) c.in-TheOperation.is c.requires.lives
 
-pub is_used_inside-requires-clause-stands : goal.is_used_inside-requires-clause-stands
-is_used_inside-requires-clause-stands g c = block_head c.args.self.now c.in-TheBlock.b (subst (Lives c.args.self.now) c.in-TheBlock.is c.requires.lives)
+pub is_used_inside-requires-clause-alive : goal.is_used_inside-requires-clause-alive
+is_used_inside-requires-clause-alive g c = block_head c.args.self.now c.in-TheBlock.b (subst (Lives c.args.self.now) c.in-TheBlock.is c.requires.lives)
 
-pub are_values_used_inside-requires-in-TheBlock-clause-stands : goal.are_values_used_inside-requires-in-TheBlock-clause-stands
-are_values_used_inside-requires-in-TheBlock-clause-stands g c = subst (Lives c.args.self.now) c.in-TheBlock.is c.requires.lives
+pub are_values_used_inside-requires-in-TheBlock-clause-alive : goal.are_values_used_inside-requires-in-TheBlock-clause-alive
+are_values_used_inside-requires-in-TheBlock-clause-alive g c = subst (Lives c.args.self.now) c.in-TheBlock.is c.requires.lives
 
 pub returns-in-TheOperation : goal.returns-in-TheOperation
 returns-in-TheOperation g c =

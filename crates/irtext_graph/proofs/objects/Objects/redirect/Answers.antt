@@ -1,7 +1,7 @@
 use Rattle.std.proofs.Common.{◌≡◌, ◌∙◌, sym, ap, inl, inr, arith, Some, IsSome, refl}
 use Rattle.irtext_graph.specs.Uses.{use_at, val, def_of}
 use Rattle.irtext_graph.specs.Used.{without_uses, uses_left}
-use Rattle.irtext_graph.proofs.Nests.{told}
+use Rattle.irtext_graph.proofs.Nests.{same_or_other}
 use Rattle.irtext_graph.proofs.Linked.{site_tells}
 use Rattle.irtext_graph.proofs.SameSeen.{same_def, same_there, same_back, same_head_there}
 use Rattle.irtext_graph.proofs.Redirected.{val_there, val_names, renamed_there, renamed_def, renamed_free, renamed_linked, some_use}
@@ -23,10 +23,10 @@ attach-requires-clause-there g c =
 pub attach-requires-clause-free : goal.attach-requires-clause-free
 attach-requires-clause-free g c = renamed_free c.detach.new.self c.set_def.new.self c.args.u c.args.e c.detach.ensures.gone c.set_def.ensures.here
 
-pub attach-requires-clause-stands : goal.attach-requires-clause-stands
-attach-requires-clause-stands g c = λ o is.
+pub attach-requires-clause-alive : goal.attach-requires-clause-alive
+attach-requires-clause-alive g c = λ o is.
     let same : o.def ≡ c.args.e = renamed_def c.args.e _ o (sym c.set_def.ensures.here ∙ is) in
-    rw (same, c.set_def.ensures.heads c.args.e) (same_head_there c.args.self.now c.detach.new.self c.detach.ensures.seen c.args.e c.requires.stands)
+    rw (same, c.set_def.ensures.heads c.args.e) (same_head_there c.args.self.now c.detach.new.self c.detach.ensures.seen c.args.e c.requires.alive)
 
 pub returns-clause-here : goal.returns-clause-here
 returns-clause-here g c =
@@ -38,7 +38,7 @@ pub returns-clause-others : goal.returns-clause-others
 returns-clause-others g c = λ w ne. c.attach.ensures.kept w ne ∙ ap def_of (c.set_def.ensures.others w ne) ∙ c.detach.ensures.kept w ne
 
 pub returns-clause-all_used : goal.returns-clause-all_used
-returns-clause-all_used g c = λ w h. elim (told site_tells w c.args.u) [
+returns-clause-all_used g c = λ w h. elim (same_or_other site_tells w c.args.u) [
   | inl s ↦ rw (ap (val c.attach.new.self) s ∙ returns-clause-here g c) refl
   | inr ne ↦
       let before : IsSome (use_at c.set_def.new.self w) = same_back c.set_def.new.self c.attach.new.self c.attach.ensures.seen w h in

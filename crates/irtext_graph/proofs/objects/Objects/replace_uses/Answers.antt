@@ -6,8 +6,8 @@ pub loop-u-init : goal.loop-u-init
 loop-u-init g c = record {
   linked = c.requires.linked;
   all_used = c.requires.all_used;
-  stands = c.requires.stands;
-  stands_too = c.requires.stands_too;
+  alive = c.requires.alive;
+  alive_too = c.requires.alive_too;
   rest = refl;
   vals = λ u. inl refl;
 }

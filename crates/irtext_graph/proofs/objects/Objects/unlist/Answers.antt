@@ -32,10 +32,10 @@ pub returns-clause-all_data : goal.returns-clause-all_data
 returns-clause-all_data g c = data_on c.remove_child.ensures.all_data c.clear_parent.ensures.all_data
 
 pub remove_child-requires-clause-live : goal.remove_child-requires-clause-live
-remove_child-requires-clause-live g c = parent_lives c.args.self.now c.args.c c.args.k c.requires.forest c.requires.stands
+remove_child-requires-clause-live g c = parent_lives c.args.self.now c.args.c c.args.k c.requires.forest c.requires.alive
 
 pub remove_child-requires-clause-within : goal.remove_child-requires-clause-within
 remove_child-requires-clause-within g c = slice_get_within (kids c.args.self.now c.args.k) c.args.i c.args.c c.requires.at
 
 pub clear_parent-requires : goal.clear_parent-requires
-clear_parent-requires g c = rw (c.remove_child.ensures.data c.args.c) (up_lives c.args.self.now c.args.c c.args.k c.requires.stands)
+clear_parent-requires g c = rw (c.remove_child.ensures.data c.args.c) (up_lives c.args.self.now c.args.c c.args.k c.requires.alive)

@@ -5,7 +5,7 @@ use Rattle.irtext_graph.specs.declared.object.Site.TheVariants.{AtOperand}
 use Rattle.irtext_graph.specs.Graph.{parent_of}
 use Rattle.irtext_graph.specs.Store.{get}
 use Rattle.irtext_graph.specs.Used.{user}
-use Rattle.irtext_graph_queries.proofs.Preds.{met_at, same_block, user_stands, found, missed}
+use Rattle.irtext_graph_queries.proofs.Preds.{met_at, same_block, user_is_live, found, missed}
 use Rattle.irtext_graph_queries.proofs.block.PtrBasicBlockBlockParts.preds.Goals.{in-Some+in_ok-push, in_default}
 use Rattle.irtext_graph_queries.proofs.block.PtrBasicBlockBlockParts.preds.Goals as goal
 
@@ -15,7 +15,7 @@ get_parent_block-requires g c =
     let i = c.loop-u.u-index in
     let u = get_or xs i (AtOperand (record { index = 0; generation = 0; of = record {} }) 0) in
     let at : slice_get xs i ≡ Some u = slice_get-get_or xs i _ c.loop-u-test.true in
-    rw c.user.ensures (rw (← c.graph.ensures) (user_stands c.graph.result.now (OfBlock c.args.self) u (c.in_ok-uses.ensures.only u (rw (← c.deref-u-items.ensures.value) (met_at xs i u at)))))
+    rw c.user.ensures (rw (← c.graph.ensures) (user_is_live c.graph.result.now (OfBlock c.args.self) u (c.in_ok-uses.ensures.only u (rw (← c.deref-u-items.ensures.value) (met_at xs i u at)))))
 
 pub loop-u-preserved : goal.loop-u-preserved
 loop-u-preserved g c =

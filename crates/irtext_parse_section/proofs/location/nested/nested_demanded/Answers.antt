@@ -3,12 +3,12 @@ use Rattle.irtext_base.specs.Answers.{Outcome}
 use Rattle.irtext_base.specs.Locations.{AttrView, location_view}
 use Rattle.irtext_base.specs.Text.{Text}
 use Rattle.irtext_tokens.specs.AttrTexts.{attr_at}
-use Rattle.irtext_tokens.proofs.Exits.{handed_on}
+use Rattle.irtext_tokens.proofs.Exits.{propagated}
 use Rattle.irtext_parse_spec.proofs.Readers.Answered.{no_longer}
 use Rattle.irtext_parse_spec.specs.Readers.RestLengths.{LeavesNoMore}
 use Rattle.irtext_parse_spec.proofs.Readers.NewPaths.{adds_more}
 use Rattle.irtext_parse_section.specs.Frames.{frame_view}
-use Rattle.irtext_parse_section.proofs.FrameSteps.{attr_leaves, SoFar, begun, not_begun, starves_so_far, fine_so_far, opened, not_opened, came_behind, not_behind, all_read, all_kept_there, at_every, refused_every, opened_shorter, behind_less, place_opens, place_refused}
+use Rattle.irtext_parse_section.proofs.FrameSteps.{attr_leaves, SoFar, begun, not_begun, runs_out_so_far, fine_so_far, opened, not_opened, came_after, nothing_after, all_read, all_kept_there, at_every, refused_every, opened_shorter, after_less, place_opens, place_refused}
 use Rattle.irtext_parse_section.proofs.location.nested.nested_demanded.Given as given
 use Rattle.irtext_parse_section.proofs.location.nested.nested_demanded.Goals as goal
 
@@ -31,7 +31,7 @@ returns-in_err-progress-in-Inside-2-clause-adds g c = adds_more c.loop-progress.
 
 pub returns-in_err-progress-clause-read : goal.returns-in_err-progress-clause-read
 returns-in_err-progress-clause-read g c =
-    rw (handed_on c.from_residual.result c.from_residual.ensures.1) (refused_every (attr g) (no_more g) c.location_opened.new.ctx.paths (not_begun (attr g) (no_more g) c.in_err-progress.ensures.read))
+    rw (propagated c.from_residual.result c.from_residual.ensures.1) (refused_every (attr g) (no_more g) c.location_opened.new.ctx.paths (not_begun (attr g) (no_more g) c.in_err-progress.ensures.read))
 
 pub loop-progress-init : goal.loop-progress-init
 loop-progress-init g c =
@@ -52,23 +52,23 @@ pub returns-in_err-progress-in-Whole-clause-read : goal.returns-in_err-progress-
 returns-in_err-progress-in-Whole-clause-read g c =
     let paths = c.loop-progress.ctx.paths in
     let s = rw (c.in-Whole.is, c.in-Some.ensures.items) at c.loop-progress.invariant.so_far in
-    rw (handed_on c.from_residual-in_err-progress-in-Whole.result c.from_residual-in_err-progress-in-Whole.ensures.1) (refused_every (attr g) (no_more g) paths (not_behind (attr g) (no_more g) c.pop.new.self.items c.in-Some.frame s paths c.in_err-progress-in-Whole.ensures))
+    rw (propagated c.from_residual-in_err-progress-in-Whole.result c.from_residual-in_err-progress-in-Whole.ensures.1) (refused_every (attr g) (no_more g) paths (nothing_after (attr g) (no_more g) c.pop.new.self.items c.in-Some.frame s paths c.in_err-progress-in-Whole.ensures))
 
 pub loop-progress-smaller-in-Whole : goal.loop-progress-smaller-in-Whole
-loop-progress-smaller-in-Whole g c = behind_less (frame_view c.in-Some.frame) (location_view c.in-Whole.location) c.in_ok-progress-in-Whole.ensures
+loop-progress-smaller-in-Whole g c = after_less (frame_view c.in-Some.frame) (location_view c.in-Whole.location) c.in_ok-progress-in-Whole.ensures
 
 pub loop-progress-preserved-in-Whole : goal.loop-progress-preserved-in-Whole
 loop-progress-preserved-in-Whole g c =
     let s = rw (c.in-Whole.is, c.in-Some.ensures.items) at c.loop-progress.invariant.so_far in
-    record { adds = c.loop-progress.invariant.adds; so_far = came_behind (attr g) (no_more g) c.pop.new.self.items c.in-Some.frame s c.in_ok-progress-in-Whole.ensures }
+    record { adds = c.loop-progress.invariant.adds; so_far = came_after (attr g) (no_more g) c.pop.new.self.items c.in-Some.frame s c.in_ok-progress-in-Whole.ensures }
 
 pub returns-in_err-place-in-Inside-clause-read : goal.returns-in_err-place-in-Inside-clause-read
 returns-in_err-place-in-Inside-clause-read g c =
     let one = c.in_err-place-in-Inside.ensures in
-    rw (handed_on c.from_residual-in_err-place-in-Inside.result c.from_residual-in_err-place-in-Inside.ensures.1) (refused_every (attr g) (no_more g) _ (not_opened (attr g) (no_more g) c.loop-progress.frames.items c.in-Inside.frame _ one.adds.kept (rw c.in-Inside.is at c.loop-progress.invariant.so_far) (place_refused (attr g) (sym c.begins_source.ensures ∙ c.if-begins_source.true) one.read)))
+    rw (propagated c.from_residual-in_err-place-in-Inside.result c.from_residual-in_err-place-in-Inside.ensures.1) (refused_every (attr g) (no_more g) _ (not_opened (attr g) (no_more g) c.loop-progress.frames.items c.in-Inside.frame _ one.adds.kept (rw c.in-Inside.is at c.loop-progress.invariant.so_far) (place_refused (attr g) (sym c.begins_source.ensures ∙ c.if-begins_source.true) one.read)))
 
-pub location_behind-requires-then-begins_source : goal.location_behind-requires-then-begins_source
-location_behind-requires-then-begins_source g c =
+pub location_after-requires-then-begins_source : goal.location_after-requires-then-begins_source
+location_after-requires-then-begins_source g c =
     let one = c.in_ok-place-in-Inside.ensures in
     let s = rw c.in-Inside.is at c.loop-progress.invariant.so_far in
     let o = opened (attr g) (no_more g) c.loop-progress.frames.items c.in-Inside.frame c.place_demanded.new.ctx.paths one.adds.kept s (place_opens (attr g) (sym c.begins_source.ensures ∙ c.if-begins_source.true) one.read) one.paths in
@@ -80,22 +80,22 @@ returns-in_err-progress-in-Inside-clause-read g c =
     let paths = c.place_demanded.new.ctx.paths in
     let s = rw c.in-Inside.is at c.loop-progress.invariant.so_far in
     let o = opened (attr g) (no_more g) c.loop-progress.frames.items c.in-Inside.frame paths one.adds.kept s (place_opens (attr g) (sym c.begins_source.ensures ∙ c.if-begins_source.true) one.read) one.paths in
-    rw (handed_on c.from_residual-in_err-progress-in-Inside.result c.from_residual-in_err-progress-in-Inside.ensures.1) (refused_every (attr g) (no_more g) paths (not_behind (attr g) (no_more g) c.loop-progress.frames.items c.in-Inside.frame o paths c.in_err-progress-in-Inside.ensures))
+    rw (propagated c.from_residual-in_err-progress-in-Inside.result c.from_residual-in_err-progress-in-Inside.ensures.1) (refused_every (attr g) (no_more g) paths (nothing_after (attr g) (no_more g) c.loop-progress.frames.items c.in-Inside.frame o paths c.in_err-progress-in-Inside.ensures))
 
 pub loop-progress-smaller-then-begins_source : goal.loop-progress-smaller-then-begins_source
-loop-progress-smaller-then-begins_source g c = omega (arith, no_longer c.in_ok-place-in-Inside.ensures.read.read, behind_less (frame_view c.in-Inside.frame) (location_view c.in_ok-place-in-Inside.place) c.in_ok-progress-in-Inside.ensures)
+loop-progress-smaller-then-begins_source g c = omega (arith, no_longer c.in_ok-place-in-Inside.ensures.read.read, after_less (frame_view c.in-Inside.frame) (location_view c.in_ok-place-in-Inside.place) c.in_ok-progress-in-Inside.ensures)
 
 pub loop-progress-preserved-then-begins_source : goal.loop-progress-preserved-then-begins_source
 loop-progress-preserved-then-begins_source g c =
     let one = c.in_ok-place-in-Inside.ensures in
     let s = rw c.in-Inside.is at c.loop-progress.invariant.so_far in
     let o = opened (attr g) (no_more g) c.loop-progress.frames.items c.in-Inside.frame c.place_demanded.new.ctx.paths one.adds.kept s (place_opens (attr g) (sym c.begins_source.ensures ∙ c.if-begins_source.true) one.read) one.paths in
-    record { adds = adds_more c.loop-progress.invariant.adds one.adds; so_far = came_behind (attr g) (no_more g) c.loop-progress.frames.items c.in-Inside.frame o c.in_ok-progress-in-Inside.ensures }
+    record { adds = adds_more c.loop-progress.invariant.adds one.adds; so_far = came_after (attr g) (no_more g) c.loop-progress.frames.items c.in-Inside.frame o c.in_ok-progress-in-Inside.ensures }
 
 pub returns-in_default-push-clause-read : goal.returns-in_default-push-clause-read
 returns-in_default-push-clause-read g c =
     let paths = c.loop-progress.ctx.paths in
-    refused_every (attr g) (no_more g) paths (starves_so_far (attr g) (no_more g) c.loop-progress.frames.items paths c.loop-progress.invariant.so_far c.out_of_memory.ensures)
+    refused_every (attr g) (no_more g) paths (runs_out_so_far (attr g) (no_more g) c.loop-progress.frames.items paths c.loop-progress.invariant.so_far c.out_of_memory.ensures)
 
 pub loop-progress-smaller : goal.loop-progress-smaller
 loop-progress-smaller g c =
@@ -115,4 +115,4 @@ loop-progress-preserved g c =
 pub returns-in_err-progress-in-Inside-2-clause-read : goal.returns-in_err-progress-in-Inside-2-clause-read
 returns-in_err-progress-in-Inside-2-clause-read g c =
     let one = c.in_err-progress-in-Inside-2.ensures in
-    rw (handed_on c.from_residual-in_err-progress-in-Inside-2.result c.from_residual-in_err-progress-in-Inside-2.ensures.1) (refused_every (attr g) (no_more g) _ (not_opened (attr g) (no_more g) c.loop-progress.frames.items c.in-Inside.frame _ one.adds.kept (rw c.in-Inside.is at c.loop-progress.invariant.so_far) one.read))
+    rw (propagated c.from_residual-in_err-progress-in-Inside-2.result c.from_residual-in_err-progress-in-Inside-2.ensures.1) (refused_every (attr g) (no_more g) _ (not_opened (attr g) (no_more g) c.loop-progress.frames.items c.in-Inside.frame _ one.adds.kept (rw c.in-Inside.is at c.loop-progress.invariant.so_far) one.read))

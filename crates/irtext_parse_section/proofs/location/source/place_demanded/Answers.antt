@@ -5,7 +5,7 @@ use Rattle.irtext_base.specs.declared.location.Location.{SrcPos}
 use Rattle.irtext_base.specs.declared.location.Source.TheVariants.{InMemory}
 use Rattle.irtext_grammar.specs.Contexts.Held.{location_over}
 use Rattle.irtext_base.proofs.LocationViews.{seen-src_pos}
-use Rattle.irtext_tokens.proofs.Exits.{handed_on}
+use Rattle.irtext_tokens.proofs.Exits.{propagated}
 use Rattle.irtext_parse_spec.proofs.Readers.PlainStream.{alone}
 use Rattle.irtext_parse_spec.proofs.Readers.Steps.{refuses_seen, last_seen}
 use Rattle.irtext_parse_section.proofs.Places.{memory_comes, source_passed}
@@ -14,7 +14,7 @@ use Rattle.irtext_parse_section.proofs.location.source.place_demanded.Goals as g
 pub returns-in_err-pos : goal.returns-in_err-pos
 returns-in_err-pos g c =
     let s = memory_comes {A = g.row.A.Denot} c.args.stream.now c.accept.new.self (sym c.has_failed.ensures ∙ c.if-has_failed.false) c.if-accept.ensures in
-    rw (handed_on c.from_residual.result c.from_residual.ensures.1) (record { adds = search rules; read = record { known = tt; read = refuses_seen alone _ (source_passed s) c.in_err-pos.ensures }; paths = tt })
+    rw (propagated c.from_residual.result c.from_residual.ensures.1) (record { adds = search rules; read = record { known = tt; read = refuses_seen alone _ (source_passed s) c.in_err-pos.ensures }; paths = tt })
 
 pub returns-then-accept : goal.returns-then-accept
 returns-then-accept g c =

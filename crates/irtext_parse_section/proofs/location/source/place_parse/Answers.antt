@@ -4,7 +4,7 @@ use Rattle.irtext_base.specs.Paths.{path_of, written_with}
 use Rattle.irtext_base.specs.declared.location.Location.{SrcPos}
 use Rattle.irtext_grammar.specs.Contexts.Held.{location_over}
 use Rattle.irtext_base.proofs.LocationViews.{seen-src_pos}
-use Rattle.irtext_tokens.proofs.Exits.{handed_on}
+use Rattle.irtext_tokens.proofs.Exits.{propagated}
 use Rattle.irtext_parse_spec.proofs.Readers.PlainStream.{alone}
 use Rattle.irtext_parse_spec.proofs.Readers.Steps.{refuses_seen, last_seen}
 use Rattle.irtext_parse_section.proofs.Places.{source_passed}
@@ -13,7 +13,7 @@ use Rattle.irtext_parse_section.proofs.location.source.place_parse.Goals as goal
 pub returns-in_err-pos : goal.returns-in_err-pos
 returns-in_err-pos g c =
     let r = c.in_ok-src.ensures in
-    rw (handed_on c.from_residual-in_err-pos.result c.from_residual-in_err-pos.ensures.1) (record { adds = r.adds; read = record { known = tt; read = refuses_seen alone _ (source_passed r.read.read) c.in_err-pos.ensures }; paths = tt })
+    rw (propagated c.from_residual-in_err-pos.result c.from_residual-in_err-pos.ensures.1) (record { adds = r.adds; read = record { known = tt; read = refuses_seen alone _ (source_passed r.read.read) c.in_err-pos.ensures }; paths = tt })
 
 pub returns : goal.returns
 returns g c =

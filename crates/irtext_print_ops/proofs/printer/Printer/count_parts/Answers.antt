@@ -1,27 +1,27 @@
 use Rattle.std.proofs.Common.{◌≡◌, ◌∙◌, ℕ, sym, Some, length}
 use Rattle.std.proofs.lemmas.List.{length-map}
 use Rattle.irtext_context.specs.Context.{operation}
-use Rattle.irtext_context.proofs.Parts.{stands_seen}
+use Rattle.irtext_context.proofs.Parts.{seen_is_live}
 use Rattle.irtext_graph.specs.Parts.{operands, successors, results, regions}
 use Rattle.irtext_grammar.specs.Contexts.Nested.{number_of, place_of, typed_number, seen_operation}
 use Rattle.irtext_print_ops.specs.Fits.{counts_of}
 use Rattle.irtext_print_ops.specs.Names.{operand_text, label_text}
 use Rattle.irtext_print_ops.proofs.FitTexts.{all_counted, known_counted, counts_are}
-use Rattle.irtext_print_ops.proofs.PartTexts.{uses_stand}
-use Rattle.irtext_print_ops.proofs.Standing.{for_seen}
+use Rattle.irtext_print_ops.proofs.PartTexts.{uses_defined}
+use Rattle.irtext_print_ops.proofs.LiveViews.{for_seen}
 use Rattle.irtext_print_ops.proofs.printer.Printer.count_parts.Goals as goal
 
 pub count-requires : goal.count-requires
-count-requires g c = stands_seen c.args.self.ctx.now c.args.op c.requires
+count-requires g c = seen_is_live c.args.self.ctx.now c.args.op c.requires
 
 pub count-requires-2 : goal.count-requires-2
-count-requires-2 g c = stands_seen c.args.self.ctx.now c.args.op c.requires
+count-requires-2 g c = seen_is_live c.args.self.ctx.now c.args.op c.requires
 
 pub count_typed-requires : goal.count_typed-requires
-count_typed-requires g c = stands_seen c.args.self.ctx.now c.args.op c.requires
+count_typed-requires g c = seen_is_live c.args.self.ctx.now c.args.op c.requires
 
 pub num_regions-requires : goal.num_regions-requires
-num_regions-requires g c = stands_seen c.args.self.ctx.now c.args.op c.requires
+num_regions-requires g c = seen_is_live c.args.self.ctx.now c.args.op c.requires
 
 pub returns : goal.returns
 returns g c =
@@ -30,7 +30,7 @@ returns g c =
     for_seen (operation c.args.self.ctx.now c.args.op) (seen_operation g.A.IrText.written c.args.self.ctx.now c.args.op)
     (λ o. record { operands = c.count.result; successors = c.count-2.result; results = c.count_typed.result; regions = c.num_regions.result } ≡ counts_of o (length (regions c.args.self.ctx.now.graph c.args.op)))
     (λ view e. counts_are (seen_operation g.A.IrText.written c.args.self.ctx.now c.args.op view) c.count.result c.count-2.result c.count_typed.result c.num_regions.result (length (regions c.args.self.ctx.now.graph c.args.op))
-    (c.count.ensures ∙ length-map used (operand_text c.args.self.ctx.now) ∙ all_counted (number_of c.args.self.ctx.now) used (uses_stand c.args.self.ctx.now c.args.op c.keeps_operands.ensures).at)
+    (c.count.ensures ∙ length-map used (operand_text c.args.self.ctx.now) ∙ all_counted (number_of c.args.self.ctx.now) used (uses_defined c.args.self.ctx.now c.args.op c.keeps_operands.ensures).at)
     (c.count-2.ensures ∙ length-map blocks (λ b. Some (label_text c.args.self.ctx.now b)) ∙ sym (length-map blocks (place_of c.args.self.ctx.now)))
     (c.count_typed.ensures ∙ known_counted typed_number (λ (r : ℕ × _). g.T.IrText.written r.1) (results c.args.self.ctx.now.graph c.args.op))
     c.num_regions.ensures)

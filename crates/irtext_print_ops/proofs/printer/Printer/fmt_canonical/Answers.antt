@@ -1,5 +1,5 @@
 use Rattle.std.proofs.Common.{codes, refl, string_bytes}
-use Rattle.irtext_context.proofs.Parts.{stands_seen}
+use Rattle.irtext_context.proofs.Parts.{seen_is_live}
 use Rattle.irtext_print.specs.Printers.PrintedOperation.{language_in}
 use Rattle.irtext_print.proofs.Printers.Locations.{two_framed}
 use Rattle.irtext_print_ops.specs.Listed.{list_text}
@@ -8,13 +8,13 @@ use Rattle.irtext_print_ops.proofs.CanonicalTexts.{front_appended}
 use Rattle.irtext_print_ops.proofs.printer.Printer.fmt_canonical.Goals as goal
 
 pub fmt_uses-requires : goal.fmt_uses-requires
-fmt_uses-requires g c = stands_seen c.args.self.ctx.now c.args.op c.requires.live
+fmt_uses-requires g c = seen_is_live c.args.self.ctx.now c.args.op c.requires.live
 
 pub fmt_listed-requires : goal.fmt_listed-requires
-fmt_listed-requires g c = stands_seen c.args.self.ctx.now c.args.op c.requires.live
+fmt_listed-requires g c = seen_is_live c.args.self.ctx.now c.args.op c.requires.live
 
 pub fmt_listed-requires-2 : goal.fmt_listed-requires-2
-fmt_listed-requires-2 g c = stands_seen c.args.self.ctx.now c.args.op c.requires.live
+fmt_listed-requires-2 g c = seen_is_live c.args.self.ctx.now c.args.op c.requires.live
 
 pub returns : goal.returns
 returns g c =

@@ -6,11 +6,11 @@ use Rattle.irtext_print_ops.specs.Heads as heads
 use Rattle.irtext_print_ops.specs.Opened.{block_head}
 use Rattle.irtext_print_ops.proofs.BlockTexts.{head_appended}
 use Rattle.irtext_print_ops.proofs.Seen.{head_holds}
-use Rattle.irtext_print_ops.proofs.Standing.{block_stands}
+use Rattle.irtext_print_ops.proofs.LiveViews.{block_is_live}
 use Rattle.irtext_print_ops.proofs.printer.Printer.fmt_head.Goals as goal
 
 pub fmt_arguments-requires : goal.fmt_arguments-requires
-fmt_arguments-requires g c = block_stands c.args.self.ctx.now c.args.block c.requires.live
+fmt_arguments-requires g c = block_is_live c.args.self.ctx.now c.args.block c.requires.live
 
 pub returns : goal.returns
 returns g c =

@@ -3,7 +3,7 @@ use Rattle.std.specs.Prelude.{⊤}
 use Rattle.std.specs.Str.{chars}
 use Rattle.irtext_base.specs.Format as format
 use Rattle.irtext_base.specs.Format.{operand_places, successor_places}
-use Rattle.irtext_context.proofs.Parts.{stands_seen}
+use Rattle.irtext_context.proofs.Parts.{seen_is_live}
 use Rattle.irtext_context.specs.Context.{ContextView}
 use Rattle.irtext_graph.specs.Parts.{operands, successors}
 use Rattle.irtext_base.specs.FormatViews.{directives_of}
@@ -16,7 +16,7 @@ use Rattle.irtext_print_ops.specs.Listed.{list_text}
 use Rattle.irtext_print_ops.proofs.ItemTexts.{has_name, some_at}
 use Rattle.irtext_print_ops.specs.Names.{label_text, operand_text, printing_by}
 use Rattle.irtext_print_ops.specs.declared.lists.Listed.TheVariants.{Operands, Successors}
-use Rattle.irtext_print_ops.proofs.PartTexts.{attribute_is, dictionary_is, header_is, operand_is, operands_are, successor_is, successors_are, type_is, part_appended, part_written, attributes_written, uses_stand}
+use Rattle.irtext_print_ops.proofs.PartTexts.{attribute_is, dictionary_is, header_is, operand_is, operands_are, successor_is, successors_are, type_is, part_appended, part_written, attributes_written, uses_defined}
 use Rattle.irtext_print_ops.proofs.printer.Printer.fmt_part.Given as given
 use Rattle.irtext_print_ops.proofs.printer.Printer.fmt_part.Goals as goal
 
@@ -36,7 +36,7 @@ pub fmt_item_at-requires : goal.fmt_item_at-requires
 fmt_item_at-requires g c =
     let ctx = c.args.self.ctx.now in
     record {
-      live = stands_seen ctx c.args.op c.requires.live;
+      live = seen_is_live ctx c.args.op c.requires.live;
       text = some_at (operand_text ctx) (operands ctx.graph c.args.op) c.in-Operand.index (λ v e. has_name g.T.IrText.written ctx v (c.keeps_operands.ensures c.in-Operand.index v e));
     }
 
@@ -44,13 +44,13 @@ pub fmt_item_at-requires-in-Successor : goal.fmt_item_at-requires-in-Successor
 fmt_item_at-requires-in-Successor g c =
     let ctx = c.args.self.ctx.now in
     record {
-      live = stands_seen ctx c.args.op c.requires.live;
+      live = seen_is_live ctx c.args.op c.requires.live;
       text = some_at (λ b. Some (label_text ctx b)) (successors ctx.graph c.args.op) c.in-Successor.index (λ b e. refl);
     }
 
 pub returns-in-Operand : goal.returns-in-Operand
 returns-in-Operand g c = part_written (language g c.args.self.ctx.now) (printing g c.args.self.ctx.now) (directives_of c.args.directives.now) g.A.IrText.written c.args.self.ctx.now c.args.op c.fmt_item_at.result (string_bytes c.args.f.now) (string_bytes c.fmt_item_at.new.f) c.in-Operand.is c.fmt_item_at.ensures
-    (λ view e. operand_is (language g c.args.self.ctx.now) c.args.self.ctx.now c.args.op (uses_stand c.args.self.ctx.now c.args.op c.keeps_operands.ensures) c.in-Operand.index)
+    (λ view e. operand_is (language g c.args.self.ctx.now) c.args.self.ctx.now c.args.op (uses_defined c.args.self.ctx.now c.args.op c.keeps_operands.ensures) c.in-Operand.index)
 
 pub returns-in-Successor : goal.returns-in-Successor
 returns-in-Successor g c = part_written (language g c.args.self.ctx.now) (printing g c.args.self.ctx.now) (directives_of c.args.directives.now) g.A.IrText.written c.args.self.ctx.now c.args.op c.fmt_item_at-in-Successor.result (string_bytes c.args.f.now) (string_bytes c.fmt_item_at-in-Successor.new.f) c.in-Successor.is c.fmt_item_at-in-Successor.ensures
@@ -63,7 +63,7 @@ returns-in-ResultType g c = part_written (language g c.args.self.ctx.now) (print
 pub returns-in-Operands : goal.returns-in-Operands
 returns-in-Operands g c = part_written (language g c.args.self.ctx.now) (printing g c.args.self.ctx.now) (directives_of c.args.directives.now) g.A.IrText.written c.args.self.ctx.now c.args.op c.fmt_spaced.result (string_bytes c.args.f.now) (string_bytes c.fmt_spaced.new.f) c.in-Operands.is c.fmt_spaced.ensures
     (λ view e. ap (λ n. spaced (list_text g.T.IrText.written c.args.self.ctx.now (Operands c.args.op) n)) c.count_operands.ensures
-    ∙ operands_are (language g c.args.self.ctx.now) c.args.self.ctx.now c.args.op (uses_stand c.args.self.ctx.now c.args.op c.keeps_operands.ensures) (length (operand_places (directives_of c.args.directives.now))))
+    ∙ operands_are (language g c.args.self.ctx.now) c.args.self.ctx.now c.args.op (uses_defined c.args.self.ctx.now c.args.op c.keeps_operands.ensures) (length (operand_places (directives_of c.args.directives.now))))
 
 pub returns-in-Successors : goal.returns-in-Successors
 returns-in-Successors g c = part_written (language g c.args.self.ctx.now) (printing g c.args.self.ctx.now) (directives_of c.args.directives.now) g.A.IrText.written c.args.self.ctx.now c.args.op c.fmt_spaced-in-Successors.result (string_bytes c.args.f.now) (string_bytes c.fmt_spaced-in-Successors.new.f) c.in-Successors.is c.fmt_spaced-in-Successors.ensures

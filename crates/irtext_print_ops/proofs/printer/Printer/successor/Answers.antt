@@ -4,7 +4,7 @@ use Rattle.irtext_graph.specs.Graph.{IsLive}
 use Rattle.irtext_graph.specs.declared.object.Defined.TheVariants.{OfBlock}
 use Rattle.irtext_graph.specs.declared.object.Object.TheVariants.{TheBlock}
 use Rattle.irtext_graph.specs.declared.object.Site.TheVariants.{AtSuccessor}
-use Rattle.irtext_print_ops.proofs.Standing.{block_there}
+use Rattle.irtext_print_ops.proofs.LiveViews.{block_there}
 use Rattle.irtext_print_ops.proofs.printer.Printer.successor.Goals as goal
 
 pub returns-clause-there : goal.returns-clause-there

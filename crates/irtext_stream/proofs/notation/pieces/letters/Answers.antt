@@ -5,7 +5,7 @@ use Rattle.std.specs.Char.{encode_utf8}
 use Rattle.std.specs.Str.{chars}
 use Rattle.irtext_stream.specs.NotationPieces.{letters_after}
 use Rattle.irtext_stream.specs.NotationFaults.{whole}
-use Rattle.irtext_stream.proofs.NotationSteps.{spelled_more, spelled_twice, spelled_done, spelled_lacks, past_shorter, handed}
+use Rattle.irtext_stream.proofs.NotationSteps.{spelled_more, spelled_twice, spelled_done, spelled_unmet, past_shorter, handed}
 use Rattle.irtext_stream.proofs.notation.pieces.letters.Goals as goal
 use Rattle.irtext_stream.proofs.notation.pieces.letters.Goals.{else-c-eq96-via-then-c-eq96+else-not-past, else-c-eq96-via-else-c-eq96}
 
@@ -39,4 +39,4 @@ returns-in_err-push c =
     handed (λ s. chars (string_bytes s)) (whole old) (letters_after [] false old.rest) c.else-c-eq96.stream c.from_residual.result _ c.from_residual.ensures.1 tt
 
 pub returns : goal.returns
-returns c = spelled_lacks c.loop-c.invariant c.letter.new.stream c.lack.result c.in_default.ensures c.lack.ensures
+returns c = spelled_unmet c.loop-c.invariant c.letter.new.stream c.lack.result c.in_default.ensures c.lack.ensures

@@ -1,6 +1,6 @@
 use Rattle.std.proofs.Common.{◌∙◌, ◌+◌, ap, sym, refl, string_bytes, length, drop}
 use Rattle.std.specs.Str.{chars}
-use Rattle.irtext_stream.specs.Stream.{StreamView, behind}
+use Rattle.irtext_stream.specs.Stream.{StreamView, after_taken}
 use Rattle.irtext_stream.specs.Index.{ComesAt}
 use Rattle.irtext_stream.proofs.stream.TextStream.accept.Goals as goal
 
@@ -21,4 +21,4 @@ returns c =
     let bs = string_bytes i.text in
     let b : ComesAt bs i.offset c.args.text.now = rw c.as_str.ensures.value at c.if-not-comes_at.ensures in
     let rest = chars (drop (i.offset + length c.args.text.now) bs) in
-    (rest, sym (ap (λ s. s.rest) c.self.view_is) ∙ b.rest, ap (λ p. let r : StreamView = record { passed = p; rest = rest; failed = i.failed } in r) b.passed ∙ ap (λ s. behind s (chars c.args.text.now) rest) c.self.view_is)
+    (rest, sym (ap (λ s. s.rest) c.self.view_is) ∙ b.rest, ap (λ p. let r : StreamView = record { passed = p; rest = rest; failed = i.failed } in r) b.passed ∙ ap (λ s. after_taken s (chars c.args.text.now) rest) c.self.view_is)

@@ -18,9 +18,9 @@ pub range-requires-clause-end_boundary : goal.range-requires-clause-end_boundary
 range-requires-clause-end_boundary c = rw c.as_str.ensures.value (found c).to
 
 pub returns : goal.returns
-returns c = λ passed taken same stands.
+returns c = λ passed taken same positioned.
     let i = c.self.inside in
     let v = c.self.invariant in
-    let b = between (string_bytes i.text) i.offset c.args.place.offset passed taken v.0 v.1 v.2 (same ∙ sym (ap (λ s. s.passed) c.self.view_is)) stands in
+    let b = between (string_bytes i.text) i.offset c.args.place.offset passed taken v.0 v.1 v.2 (same ∙ sym (ap (λ s. s.passed) c.self.view_is)) positioned in
     let h = c.range.ensures.value in
     rw (h, c.as_str.ensures.value) b.slice

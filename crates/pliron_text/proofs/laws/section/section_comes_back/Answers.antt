@@ -2,7 +2,7 @@ use Rattle.std.specs.Prelude.{[]}
 use Rattle.std.proofs.Common.{sym, subst}
 use Rattle.irtext_base.specs.Own.{texts_of}
 use Rattle.irtext_grammar.specs.Graphs.Build.{build}
-use Rattle.irtext_grammar.specs.Graphs.Same.{stood, SameShapes}
+use Rattle.irtext_grammar.specs.Graphs.Same.{resolved_root, SameShapes}
 use Rattle.irtext_grammar.proofs.Graphs.BareBuild.{shapes_bare}
 use Rattle.irtext_grammar.proofs.Graphs.Match.{same_shapes}
 use Rattle.irtext_grammar.proofs.RoundTrips.RootResolves.{root_resolves, text_back}
@@ -25,5 +25,5 @@ returns g c location_at K first C isolated x width n compared wordy fit small ke
       r.5,
       root_resolves C equal itself isolated x wordy fit small keys closed K.text r.0 r.1 r.4 r.5,
       contents_back C equal itself K.text x r.0 r.1 r.4 r.5,
-      shapes_bare isolated first r.1 (λ p. first 0) [] (stood C isolated x) r.0 (subst (λ z. SameShapes (stood C isolated x) (build isolated (λ p. first 0) [] z)) (sym r.4) (same_shapes C isolated (λ p. first 0) [] x fit small)),
+      shapes_bare isolated first r.1 (λ p. first 0) [] (resolved_root C isolated x) r.0 (subst (λ z. SameShapes (resolved_root C isolated x) (build isolated (λ p. first 0) [] z)) (sym r.4) (same_shapes C isolated (λ p. first 0) [] x fit small)),
     )

@@ -3,7 +3,7 @@ use Rattle.irtext_base.specs.FormatViews.{format_of}
 use Rattle.irtext_base.specs.Notation.{canonical_at, notation_at}
 use Rattle.irtext_stream.specs.NotationFaults.{whole}
 use Rattle.irtext_stream.specs.declared.notation.fault.NotationPart.TheVariants as part
-use Rattle.irtext_stream.proofs.NotationSteps.{handed, lacks_so}
+use Rattle.irtext_stream.proofs.NotationSteps.{handed, unmet_so}
 use Rattle.irtext_base.proofs.NotationDirectives.{faults_as, format_listed, format_canonical, canonical_ends, canonical_goes_on}
 use Rattle.irtext_base.proofs.format.notation.read.format.Goals as goal
 
@@ -26,7 +26,7 @@ returns-then-not-ended c =
     let end = c.skip-2.new.self in
     let k = format_canonical old c.skip.new.self c.past.new.stream c.skip.ensures end c.if-not-past.ensures.0 c.if-not-past.ensures.1 c.skip-2.ensures in
     let q = canonical_goes_on end.rest (sym c.ended.ensures ∙ c.if-not-ended.true) in
-    faults_as (whole end) (whole old) (canonical_at end.rest) (notation_at old.rest) c.lack.result k.0 k.1 (lacks_so (whole end) end.rest part.End (canonical_at end.rest) c.lack.result q c.lack.ensures)
+    faults_as (whole end) (whole old) (canonical_at end.rest) (notation_at old.rest) c.lack.result k.0 k.1 (unmet_so (whole end) end.rest part.End (canonical_at end.rest) c.lack.result q c.lack.ensures)
 
 pub returns : goal.returns
 returns c =

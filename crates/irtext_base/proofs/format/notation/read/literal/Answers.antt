@@ -6,7 +6,7 @@ use Rattle.irtext_base.specs.Notation.{literal_at, filled}
 use Rattle.irtext_stream.specs.NotationPieces.{letters_after}
 use Rattle.irtext_stream.specs.NotationFaults.{whole}
 use Rattle.irtext_stream.specs.declared.notation.fault.NotationPart.TheVariants as part
-use Rattle.irtext_stream.proofs.NotationSteps.{lacks_back, handed}
+use Rattle.irtext_stream.proofs.NotationSteps.{unmet_back, handed}
 use Rattle.irtext_base.proofs.NotationDirectives.{literal_empty, literal_some, faults_followed}
 use Rattle.irtext_base.proofs.format.notation.read.literal.Goals as goal
 
@@ -21,7 +21,7 @@ returns-then-is_empty c =
     let bytes = string_bytes c.in_ok-text.text in
     let e : length bytes ≡ 0 = grind (arith, nat_tests, c.as_str.ensures.value, c.is_empty.ensures, c.if-is_empty.true) in
     let q = literal_empty old.rest c.letters.new.stream.rest bytes (IsUtf8-string_bytes c.in_ok-text.text) e c.in_ok-text.ensures.0 in
-    lacks_back old c.letters.new.stream c.position-place.result part.Character (literal_at old.rest) c.lack_at.result q c.in_ok-text.ensures.1 c.position-place.ensures c.lack_at.ensures
+    unmet_back old c.letters.new.stream c.position-place.result part.Character (literal_at old.rest) c.lack_at.result q c.in_ok-text.ensures.1 c.position-place.ensures c.lack_at.ensures
 
 pub returns : goal.returns
 returns c =

@@ -12,4 +12,4 @@ pub returns-clause-refused : goal.returns-clause-refused
 returns-clause-refused g c =
     let a = c.args in
     let id = c.in_ok-id.ensures in
-    IfErr-weaker c.put_op.result _ _ (λ e told. refused_op a.self.now.dialects a.dialect.now a.name.now _ a.format e.err id.fits id.ok told) c.put_op.ensures.refused
+    IfErr-weaker c.put_op.result _ _ (λ e said_in_error. refused_op a.self.now.dialects a.dialect.now a.name.now _ a.format e.err id.fits id.ok said_in_error) c.put_op.ensures.refused

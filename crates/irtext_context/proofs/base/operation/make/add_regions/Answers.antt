@@ -1,17 +1,17 @@
 use Rattle.std.proofs.Common.{◌≡◌, subst, arith}
 use Rattle.irtext_context.specs.Made.{AddsRegions}
-use Rattle.irtext_context.proofs.Made.{still_stands, kept_more, adds_last}
+use Rattle.irtext_context.proofs.Made.{still_live, kept_more, adds_last}
 use Rattle.irtext_context.proofs.base.operation.make.add_regions.Goals as goal
 
 pub add_region-requires : goal.add_region-requires
-add_region-requires g c = c.loop-region.invariant.stands
+add_region-requires g c = c.loop-region.invariant.alive
 
 pub loop-region-preserved : goal.loop-region-preserved
 loop-region-preserved g c =
     let i = c.loop-region.invariant in
     let a = c.in_ok-add_region.ensures.added in
     record {
-      stands = still_stands i.stands a;
+      alive = still_live i.alive a;
       adds = adds_last _ _ _ _ _ c.loop-region._region i.adds a;
       kept = λ mark h none. kept_more c.args.op mark i.count (i.kept mark) c.add_region.ensures.kept h none;
       count = let m = a.graph.made in omega (arith, i.count, m);

@@ -8,7 +8,7 @@ use Rattle.irtext_context.proofs.base.operation.make.add_regions.Given as goal
 
 abbrev pub invariant-loop-region : goal.invariant-loop-region
 invariant-loop-region g l = record {
-  stands : IsLive l.ctx.graph (TheOperation l.op);
+  alive : IsLive l.ctx.graph (TheOperation l.op);
   adds : AddsRegions l._region l.fn.ctx l.ctx l.op;
   kept : (mark : ℕ) → mark ≤ l.fn.ctx.graph.made → before mark l.fn.ctx.graph.operations l.op ≡ None → KeepsOlder mark l.fn.ctx l.ctx;
   count : l.fn.ctx.graph.made ≤ l.ctx.graph.made;

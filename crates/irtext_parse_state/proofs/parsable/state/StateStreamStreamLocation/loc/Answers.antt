@@ -4,4 +4,4 @@ use Rattle.irtext_parse_state.proofs.parsable.state.StateStreamStreamLocation.lo
 pub returns : goal.returns
 returns g c =
     let v = c.args.self.now.stream in
-    record { at = c.locate.result; is = refl; stands = c.locate.ensures v.passed v.rest refl c.position.ensures }
+    record { at = c.locate.result; is = refl; positioned = c.locate.ensures v.passed v.rest refl c.position.ensures }

@@ -14,7 +14,7 @@ returns-clause-prints g c =
     let name = c.in-Some.symbol.now in
     record {
       view = v.0;
-      stands = v.1;
+      alive = v.1;
       text = header_appended v.0 c.get_opid-id.result.now c.attributes-attributes.result.now name (string_bytes c.args.f.now) (string_bytes c.fmt_id.new.f) (string_bytes c.push_str-2.new.self)
           (seen (λ op. op.id) o v.0 c.get_opid-id.result.now v.1 c.get_opid-id.ensures) (seen (λ op. op.attributes) o v.0 c.attributes-attributes.result.now v.1 c.attributes-attributes.ensures)
           (sym c.symbol_of.ensures ∙ ap option_copied c.in-Some.is) c.in_ok-fmt_id.ensures.text

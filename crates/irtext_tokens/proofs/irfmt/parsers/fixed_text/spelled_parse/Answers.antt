@@ -1,7 +1,7 @@
 use Rattle.std.proofs.Common.{inl}
 use Rattle.irtext_base.specs.Faults.{characters}
 use Rattle.irtext_tokens.proofs.Characters.{encodes-characters}
-use Rattle.irtext_tokens.proofs.Spelling.{spelling_refused, spelling_starved, differs_spares}
+use Rattle.irtext_tokens.proofs.Spelling.{spelling_refused, spelling_ran_out, differs_spares}
 use Rattle.irtext_tokens.proofs.irfmt.parsers.fixed_text.spelled_parse.Goals as goal
 
 pub returns-in_default-clause-answers : goal.returns-in_default-clause-answers
@@ -18,7 +18,7 @@ pub returns-in-Err-clause-answers : goal.returns-in-Err-clause-answers
 returns-in-Err-clause-answers g c =
     let m = g.met.S.CharStream in
     let h = c.in-Some.ensures (characters c.args.text.now) (encodes-characters c.args.text.now c.utf8.text) in
-    inl (spelling_starved g.S.CharStream.view g.S.CharStream.at m.view_at m.at_view m.at_at (characters c.args.text.now) c.args.stream.now c.spell.new.stream c.out_of_memory.new.stream c.in-Some.begun c.out_of_memory.result c.requires h c.out_of_memory.ensures)
+    inl (spelling_ran_out g.S.CharStream.view g.S.CharStream.at m.view_at m.at_view m.at_at (characters c.args.text.now) c.args.stream.now c.spell.new.stream c.out_of_memory.new.stream c.in-Some.begun c.out_of_memory.result c.requires h c.out_of_memory.ensures)
 
 pub returns-in-Ok-clause-spares : goal.returns-in-Ok-clause-spares
 returns-in-Ok-clause-spares g c =

@@ -3,7 +3,7 @@ use Rattle.std.specs.Char.{is_ascii_hexdigit}
 use Rattle.std.specs.Option.{option_map}
 use Rattle.irtext_base.specs.Text.{front}
 use Rattle.irtext_tokens.specs.Integers.{hexadecimal_integer, hexadecimal_mark_at, hex_int_at}
-use Rattle.irtext_tokens.proofs.Exits.{handed_on}
+use Rattle.irtext_tokens.proofs.Exits.{propagated}
 use Rattle.irtext_tokens.proofs.Words.{encodes-front_hexdigits}
 use Rattle.irtext_tokens.proofs.Numerals.{marked, hexadecimal_made, mark_at-encodes, lead_refused, number_since, number_read, number_refused, number_spares}
 use Rattle.irtext_tokens.proofs.Sparing.{lead_spares}
@@ -43,9 +43,9 @@ pub returns-in_err-mark_parse-clause-spares : goal.returns-in_err-mark_parse-cla
 unfolding hex_int_at
 returns-in_err-mark_parse-clause-spares g c =
     let v = (stream g).view c.args.stream.now in
-    rw (handed_on c.from_residual.result c.from_residual.ensures.1) (lead_spares (Unit {0}) (Unit {0}) is_ascii_hexdigit (hexadecimal_integer g.N.FromStrRadix.below) v.failed (hexadecimal_mark_at v.rest) c.in_err-mark_parse.field-0.0 _ c.in_err-mark_parse.ensures.spares)
+    rw (propagated c.from_residual.result c.from_residual.ensures.1) (lead_spares (Unit {0}) (Unit {0}) is_ascii_hexdigit (hexadecimal_integer g.N.FromStrRadix.below) v.failed (hexadecimal_mark_at v.rest) c.in_err-mark_parse.field-0.0 _ c.in_err-mark_parse.ensures.spares)
 
 pub returns-in_err-mark_parse-clause-answers : goal.returns-in_err-mark_parse-clause-answers
 unfolding hex_int_at
 returns-in_err-mark_parse-clause-answers g c =
-    rw (handed_on c.from_residual.result c.from_residual.ensures.1) (lead_refused (stream g) is_ascii_hexdigit (hexadecimal_integer g.N.FromStrRadix.below) _ c.args.stream.now c.mark_parse.new.stream c.in_err-mark_parse.field-0.0 c.in_err-mark_parse.ensures.answers)
+    rw (propagated c.from_residual.result c.from_residual.ensures.1) (lead_refused (stream g) is_ascii_hexdigit (hexadecimal_integer g.N.FromStrRadix.below) _ c.args.stream.now c.mark_parse.new.stream c.in_err-mark_parse.field-0.0 c.in_err-mark_parse.ensures.answers)

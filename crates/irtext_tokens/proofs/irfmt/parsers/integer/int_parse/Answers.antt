@@ -3,7 +3,7 @@ use Rattle.std.specs.Char.{is_ascii_digit}
 use Rattle.std.specs.Option.{option_map}
 use Rattle.irtext_base.specs.Text.{front}
 use Rattle.irtext_tokens.specs.Integers.{signed_integer, sign_at, int_at}
-use Rattle.irtext_tokens.proofs.Exits.{handed_on}
+use Rattle.irtext_tokens.proofs.Exits.{propagated}
 use Rattle.irtext_tokens.proofs.Numerals.{signed, signed_made, sign_at-encodes, lead_refused, number_since, number_read, number_refused, number_spares}
 use Rattle.irtext_tokens.proofs.Sparing.{lead_spares}
 use Rattle.irtext_tokens.proofs.Steps.{Lens, lens}
@@ -42,10 +42,10 @@ returns-in-None-clause-spares g c =
 pub returns-in_err-sign-clause-answers : goal.returns-in_err-sign-clause-answers
 unfolding int_at
 returns-in_err-sign-clause-answers g c =
-    rw (handed_on c.from_residual.result c.from_residual.ensures.1) (lead_refused (stream g) is_ascii_digit (signed_integer g.N.FromStrRadix.below) _ c.args.stream.now c.sign_parse.new.stream c.in_err-sign.field-0.0 c.in_err-sign.ensures.answers)
+    rw (propagated c.from_residual.result c.from_residual.ensures.1) (lead_refused (stream g) is_ascii_digit (signed_integer g.N.FromStrRadix.below) _ c.args.stream.now c.sign_parse.new.stream c.in_err-sign.field-0.0 c.in_err-sign.ensures.answers)
 
 pub returns-in_err-sign-clause-spares : goal.returns-in_err-sign-clause-spares
 unfolding int_at
 returns-in_err-sign-clause-spares g c =
     let o = sign_at ((stream g).view c.args.stream.now).rest in
-    rw (handed_on c.from_residual.result c.from_residual.ensures.1) (lead_spares (Unit {0}) (Unit {0}) is_ascii_digit (signed_integer g.N.FromStrRadix.below) ((stream g).view c.args.stream.now).failed o c.in_err-sign.field-0.0 _ c.in_err-sign.ensures.spares)
+    rw (propagated c.from_residual.result c.from_residual.ensures.1) (lead_spares (Unit {0}) (Unit {0}) is_ascii_digit (signed_integer g.N.FromStrRadix.below) ((stream g).view c.args.stream.now).failed o c.in_err-sign.field-0.0 _ c.in_err-sign.ensures.spares)

@@ -1,6 +1,6 @@
 use Rattle.std.proofs.Common.{Ok, sym, ◌∙◌}
 use Rattle.irtext_tokens.specs.Lists.{Calls, Delimited, no_left, bad_inside, no_right, closed, Opens}
-use Rattle.irtext_tokens.proofs.Exits.{handed_on}
+use Rattle.irtext_tokens.proofs.Exits.{propagated}
 use Rattle.irtext_tokens.proofs.ListSteps.{unless_met}
 use Rattle.irtext_tokens.proofs.ListRules.{delimited_list_keeps}
 use Rattle.irtext_tokens.proofs.irfmt.parsers.lists.delimited_list_parser.Goals as goal
@@ -11,12 +11,12 @@ returns-then-not-next_is-clause-answers g c = unless_met g.S.CharStream.view g.S
 pub returns-in_err-found-clause-answers : goal.returns-in_err-found-clause-answers
 returns-in_err-found-clause-answers g c =
     let opens : Opens g.S.CharStream.view g.S.CharStream.at c.args.left c.args.stream.now c.skip_white_space.new.stream = record { mid = c.take.new.self; begins_so = sym c.next_is.ensures ∙ c.if-not-next_is.false; taken = c.take.ensures.after; skips = c.skip_white_space.ensures.is } in
-    rw (handed_on c.from_residual.result c.from_residual.ensures.1) (unless_met g.S.CharStream.view g.S.CharStream.at (Delimited g.S.CharStream.view g.S.CharStream.at (Calls (λ r. r) g.F.FnMut) c.args.left c.args.right c.args.sep c.args.item) (g.S.CharStream.view c.args.stream.now).failed c.args.stream.now _ _ (sym c.has_failed.ensures ∙ c.if-has_failed.false) (bad_inside _ _ _ _ _ opens c.in_err-found.ensures))
+    rw (propagated c.from_residual.result c.from_residual.ensures.1) (unless_met g.S.CharStream.view g.S.CharStream.at (Delimited g.S.CharStream.view g.S.CharStream.at (Calls (λ r. r) g.F.FnMut) c.args.left c.args.right c.args.sep c.args.item) (g.S.CharStream.view c.args.stream.now).failed c.args.stream.now _ _ (sym c.has_failed.ensures ∙ c.if-has_failed.false) (bad_inside _ _ _ _ _ opens c.in_err-found.ensures))
 
 pub returns-in_err-found-clause-kept : goal.returns-in_err-found-clause-kept
 returns-in_err-found-clause-kept g c =
     let opens : Opens g.S.CharStream.view g.S.CharStream.at c.args.left c.args.stream.now c.skip_white_space.new.stream = record { mid = c.take.new.self; begins_so = sym c.next_is.ensures ∙ c.if-not-next_is.false; taken = c.take.ensures.after; skips = c.skip_white_space.ensures.is } in
-    delimited_list_keeps g.S.CharStream.view g.S.CharStream.at g.met.S.CharStream.view_at (λ r. r) g.F.FnMut c.requires.rules c.args.left c.args.right c.args.sep c.args.item c.args.stream.now c.from_residual.result c.separated.new.stream (rw (handed_on c.from_residual.result c.from_residual.ensures.1) (bad_inside _ _ _ _ _ opens c.in_err-found.ensures))
+    delimited_list_keeps g.S.CharStream.view g.S.CharStream.at g.met.S.CharStream.view_at (λ r. r) g.F.FnMut c.requires.rules c.args.left c.args.right c.args.sep c.args.item c.args.stream.now c.from_residual.result c.separated.new.stream (rw (propagated c.from_residual.result c.from_residual.ensures.1) (bad_inside _ _ _ _ _ opens c.in_err-found.ensures))
 
 pub returns-then-not-next_is-2-clause-answers : goal.returns-then-not-next_is-2-clause-answers
 returns-then-not-next_is-2-clause-answers g c =

@@ -1,5 +1,5 @@
 use Rattle.std.proofs.Common.{refl, Ok, Err, sym, ◌∙◌, subst}
-use Rattle.irtext_tokens.specs.Lists.{Calls, Spaced, read, refused, refused_behind}
+use Rattle.irtext_tokens.specs.Lists.{Calls, Spaced, read, refused, refused_after}
 use Rattle.irtext_tokens.proofs.ListSteps.{called_at, commits_item, rules_at, unless_met, no_space}
 use Rattle.irtext_tokens.proofs.ListRules.{spaced_item_keeps}
 use Rattle.irtext_tokens.proofs.irfmt.parsers.lists.spaced.Goals as goal
@@ -17,12 +17,12 @@ returns-in-Ok-clause-kept g c =
 pub returns-then-begun-clause-answers : goal.returns-then-begun-clause-answers
 returns-then-begun-clause-answers g c =
     let called : Calls (λ r. r) g.F.FnMut c.args.item c.skip_white_space.new.stream (Err c.in-Err.fault) c.item.new.self c.item.new.arg2 = called_at c.in-Err.ensures refl in
-    unless_met g.S.CharStream.view g.S.CharStream.at (Spaced g.S.CharStream.view g.S.CharStream.at (Calls (λ r. r) g.F.FnMut) c.args.item) (g.S.CharStream.view c.args.stream.now).failed c.args.stream.now _ _ (sym c.has_failed.ensures ∙ c.if-has_failed.false) (refused_behind _ _ _ _ _ _ (sym c.begins-begun.ensures ∙ c.if-begun.true) c.skip_white_space.ensures.is called (commits_item g.S.CharStream.view g.S.CharStream.at g.met.S.CharStream.at_view (rules_at g.S.CharStream.view g.S.CharStream.at c.requires.rules _ _ _ _ _ called).1 c.commit.ensures))
+    unless_met g.S.CharStream.view g.S.CharStream.at (Spaced g.S.CharStream.view g.S.CharStream.at (Calls (λ r. r) g.F.FnMut) c.args.item) (g.S.CharStream.view c.args.stream.now).failed c.args.stream.now _ _ (sym c.has_failed.ensures ∙ c.if-has_failed.false) (refused_after _ _ _ _ _ _ (sym c.begins-begun.ensures ∙ c.if-begun.true) c.skip_white_space.ensures.is called (commits_item g.S.CharStream.view g.S.CharStream.at g.met.S.CharStream.at_view (rules_at g.S.CharStream.view g.S.CharStream.at c.requires.rules _ _ _ _ _ called).1 c.commit.ensures))
 
 pub returns-then-begun-clause-kept : goal.returns-then-begun-clause-kept
 returns-then-begun-clause-kept g c =
     let called : Calls (λ r. r) g.F.FnMut c.args.item c.skip_white_space.new.stream (Err c.in-Err.fault) c.item.new.self c.item.new.arg2 = called_at c.in-Err.ensures refl in
-    spaced_item_keeps g.S.CharStream.view g.S.CharStream.at g.met.S.CharStream.view_at (λ r. r) g.F.FnMut c.requires.rules c.args.item c.args.stream.now (Err c.commit.result) c.commit.new.stream (refused_behind _ _ _ _ _ _ (sym c.begins-begun.ensures ∙ c.if-begun.true) c.skip_white_space.ensures.is called (commits_item g.S.CharStream.view g.S.CharStream.at g.met.S.CharStream.at_view (rules_at g.S.CharStream.view g.S.CharStream.at c.requires.rules _ _ _ _ _ called).1 c.commit.ensures))
+    spaced_item_keeps g.S.CharStream.view g.S.CharStream.at g.met.S.CharStream.view_at (λ r. r) g.F.FnMut c.requires.rules c.args.item c.args.stream.now (Err c.commit.result) c.commit.new.stream (refused_after _ _ _ _ _ _ (sym c.begins-begun.ensures ∙ c.if-begun.true) c.skip_white_space.ensures.is called (commits_item g.S.CharStream.view g.S.CharStream.at g.met.S.CharStream.at_view (rules_at g.S.CharStream.view g.S.CharStream.at c.requires.rules _ _ _ _ _ called).1 c.commit.ensures))
 
 pub returns-clause-answers : goal.returns-clause-answers
 returns-clause-answers g c =

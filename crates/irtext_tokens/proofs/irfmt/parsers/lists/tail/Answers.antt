@@ -1,5 +1,5 @@
 use Rattle.std.proofs.Common.{rules, of_calls, refl, ◌≡◌, Ok, Err, ◌++◌, ◌∷◌, [], ◌∙◌, ap, sym, append-nil}
-use Rattle.irtext_tokens.specs.Lists.{Calls, none, insisted, no_more_room, next, prepended, HandsOn, Opens}
+use Rattle.irtext_tokens.specs.Lists.{Calls, none, insisted, no_more_room, next, prepended, MovesOn, Opens}
 use Rattle.irtext_tokens.proofs.ListSteps.{called_at, rules_at, tail_lt, prepended-more, commits_item}
 use Rattle.irtext_tokens.proofs.irfmt.parsers.lists.tail.Goals as goal
 
@@ -20,7 +20,7 @@ loop-sep-smaller g c =
     let m = g.S.CharStream in
     let called : Calls (λ r. r) g.F.FnMut c.loop-sep.item c.skip_white_space.new.stream (Ok c.in-Ok.x) c.item.new.self c.item.new.arg2 = called_at c.in-Ok.ensures refl in
     let opens : Opens m.view m.at c.args.sep c.loop-sep.stream c.skip_white_space.new.stream = record { mid = c.take.new.self; begins_so = sym c.loop-sep-test.ensures; taken = c.take.ensures.after; skips = c.skip_white_space.ensures.is } in
-    let hands : HandsOn m.view m.at c.skip_white_space.new.stream c.item.new.arg2 = rules_at m.view m.at c.requires.rules _ _ _ _ _ called in
+    let hands : MovesOn m.view m.at c.skip_white_space.new.stream c.item.new.arg2 = rules_at m.view m.at c.requires.rules _ _ _ _ _ called in
     tail_lt m.view m.at g.met.S.CharStream.view_at g.met.S.CharStream.at_at _ _ _ _ _ opens hands c.skip_white_space-in-loop-sep.ensures.is
 
 pub loop-sep-preserved : goal.loop-sep-preserved

@@ -1,7 +1,7 @@
 use Rattle.std.proofs.Common.{codes, string_bytes}
 use Rattle.irtext_tokens.specs.Tokens.{text_at}
 use Rattle.irtext_tokens.specs.QuotedTexts.{quoted_at}
-use Rattle.irtext_tokens.proofs.Exits.{handed_on}
+use Rattle.irtext_tokens.proofs.Exits.{propagated}
 use Rattle.irtext_tokens.proofs.QuotedSteps.{unquoted, quoted_by}
 use Rattle.irtext_tokens.proofs.irfmt.parsers.quoted.quoted_string_parse.Goals as goal
 
@@ -9,7 +9,7 @@ pub returns-in_err-text_parse : goal.returns-in_err-text_parse
 unfolding quoted_at
 returns-in_err-text_parse g c =
     let m = g.met.S.CharStream in
-    rw (handed_on c.from_residual.result c.from_residual.ensures.1) (unquoted g.S.CharStream.view g.S.CharStream.at m.view_at m.at_view m.at_at _ (text_at (codes "\"") (g.S.CharStream.view c.args.stream.now).rest) c.args.stream.now c.text_parse.new.stream c.in_err-text_parse.field-0.0 c.in_err-text_parse.ensures.answers)
+    rw (propagated c.from_residual.result c.from_residual.ensures.1) (unquoted g.S.CharStream.view g.S.CharStream.at m.view_at m.at_view m.at_at _ (text_at (codes "\"") (g.S.CharStream.view c.args.stream.now).rest) c.args.stream.now c.text_parse.new.stream c.in_err-text_parse.field-0.0 c.in_err-text_parse.ensures.answers)
 
 pub returns : goal.returns
 unfolding quoted_at

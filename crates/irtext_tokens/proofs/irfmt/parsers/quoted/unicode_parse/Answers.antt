@@ -1,7 +1,7 @@
 use Rattle.std.proofs.Common.{◌∙◌, sym, ap, codes}
 use Rattle.std.specs.Char.{is_ascii_hexdigit}
 use Rattle.irtext_base.specs.Text.{front}
-use Rattle.irtext_base.proofs.Compose.{seen_after, fine_before, takes_stands}
+use Rattle.irtext_base.proofs.Compose.{seen_after, fine_before, takes_same_stream}
 use Rattle.irtext_tokens.specs.QuotedTexts.{character_of}
 use Rattle.irtext_tokens.proofs.SetBack.{set_within}
 use Rattle.irtext_tokens.proofs.Steps.{lens}
@@ -31,7 +31,7 @@ returns-in_default g c = λ before k p.
     let h = digits_counted g.S.CharStream.view g.S.CharStream.at m.view_at m.at_view m.at_at before c.args.stream.now c.take.new.self c.take_digits-number.new.stream k (sym c.next_is.ensures ∙ c.if-not-next_is.false) c.take.ensures.after (sym c.begins.ensures ∙ c.if-not-begins.false) c.take_digits-number.ensures.takes in
     let e = sym (ap character_of c.take_digits-number.ensures.value) ∙ (sym c.character.ensures ∙ c.in_default.is) in
     let s = sym (ap (λ v. v.passed) (seen_after g.S.CharStream.view g.S.CharStream.at m.view_at m.at_at c.take.new.self c.take_digits-number.new.stream _ _ c.take_digits-number.ensures.takes)) in
-    let w = set_within (lens g.S.CharStream.view g.S.CharStream.at m.view_at m.at_view m.at_at) before c.take_digits-number.new.stream (takes_stands g.S.CharStream.view g.S.CharStream.at m.view_at m.at_at _ _ _ _ h.takes) in
+    let w = set_within (lens g.S.CharStream.view g.S.CharStream.at m.view_at m.at_view m.at_at) before c.take_digits-number.new.stream (takes_same_stream g.S.CharStream.view g.S.CharStream.at m.view_at m.at_at _ _ _ _ h.takes) in
     unnamed g.S.CharStream.view g.S.CharStream.at m.view_at m.at_view m.at_at before c.take.new.self c.take_digits-number.new.stream c.no_character.new.stream c.no_character.result h (sym c.next_is-2.ensures ∙ c.if-not-next_is-2.false) e
     (fine_before g.S.CharStream.view g.S.CharStream.at m.view_at m.at_at before c.args.stream.now (codes "\\u") _ k c.requires) (c.no_character.ensures _ _ w p _ (front is_ascii_hexdigit (g.S.CharStream.view c.take.new.self).rest) s c.position-digits.ensures)
 

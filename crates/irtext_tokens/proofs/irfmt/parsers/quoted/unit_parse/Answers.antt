@@ -1,7 +1,7 @@
 use Rattle.std.proofs.Common.{◌∙◌, sym, ap, subst, ◌∷◌, []}
 use Rattle.irtext_base.specs.Answers.{Takes}
 use Rattle.irtext_base.specs.Faults.{fault_of}
-use Rattle.irtext_base.proofs.Compose.{takes_fine, takes_stands}
+use Rattle.irtext_base.proofs.Compose.{takes_fine, takes_same_stream}
 use Rattle.irtext_tokens.proofs.QuotedSteps.{two_taken, unescaped, unknown_escape}
 use Rattle.irtext_tokens.proofs.SetBack.{set_within}
 use Rattle.irtext_tokens.proofs.Steps.{lens}
@@ -30,6 +30,6 @@ returns-in-None g c =
     let m = g.met.S.CharStream in
     let r = c.refuse_at.ensures in
     let k = two_taken g.S.CharStream.view g.S.CharStream.at m.view_at m.at_view m.at_at c.args.stream.now c.take.new.self c.take-2.new.self c.in-Some.c c.in-Some-take.c c.if-c-ne92.false c.in-Some.ensures.value c.take.ensures.after c.in-Some-take.ensures.value c.take-2.ensures.after in
-    let s = set_within (lens g.S.CharStream.view g.S.CharStream.at m.view_at m.at_view m.at_at) c.args.stream.now c.take-2.new.self (takes_stands g.S.CharStream.view g.S.CharStream.at m.view_at m.at_at _ _ _ _ k) in
+    let s = set_within (lens g.S.CharStream.view g.S.CharStream.at m.view_at m.at_view m.at_at) c.args.stream.now c.take-2.new.self (takes_same_stream g.S.CharStream.view g.S.CharStream.at m.view_at m.at_at _ _ _ _ k) in
     unknown_escape g.S.CharStream.view g.S.CharStream.at m.view_at m.at_view m.at_at c.args.stream.now c.take.new.self c.take-2.new.self c.refuse_at.new.stream c.in-Some.c c.in-Some-take.c c.refuse_at.result
     c.if-c-ne92.false c.in-Some.ensures.value c.take.ensures.after c.in-Some-take.ensures.value c.take-2.ensures.after c.if-c-eq117.false c.in-None.ensures c.requires (record { because = ap fault_of r.cause; committed = r.committed; place = r.at (g.S.CharStream.view c.args.stream.now).passed (g.S.CharStream.view c.args.stream.now).rest s c.position-place.ensures; left = r.left })

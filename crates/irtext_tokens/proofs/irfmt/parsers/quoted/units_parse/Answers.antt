@@ -3,8 +3,8 @@ use Rattle.std.specs.Char.{encode_utf8}
 use Rattle.std.specs.Str.{encode_utf8_all}
 use Rattle.irtext_base.specs.Text.{front}
 use Rattle.irtext_tokens.specs.QuotedTexts.{is_plain}
-use Rattle.irtext_tokens.proofs.Exits.{handed_on}
-use Rattle.irtext_tokens.proofs.QuotedSteps.{within_first, within_unit, within_more, encodes-unit, falls_by, closes, starved_within, starved_here, within_fine, spoiled}
+use Rattle.irtext_tokens.proofs.Exits.{propagated}
+use Rattle.irtext_tokens.proofs.QuotedSteps.{within_first, within_unit, within_more, encodes-unit, falls_by, closes, ran_out_within, ran_out_here, within_fine, spoiled}
 use Rattle.irtext_tokens.proofs.irfmt.parsers.quoted.units_parse.Goals as goal
 
 pub loop-stream-init : goal.loop-stream-init
@@ -31,21 +31,21 @@ pub returns-in_err-c : goal.returns-in_err-c
 returns-in_err-c g c =
     let m = g.met.S.CharStream in
     let h = c.loop-stream.invariant in
-    rw (handed_on c.from_residual-in_err-c.result c.from_residual-in_err-c.ensures.1) (spoiled g.S.CharStream.view g.S.CharStream.at m.view_at m.at_view m.at_at _ _ _ _ _ _ h.3 (sym c.next_is.ensures ∙ c.loop-stream-test.true) c.in_err-c.ensures)
+    rw (propagated c.from_residual-in_err-c.result c.from_residual-in_err-c.ensures.1) (spoiled g.S.CharStream.view g.S.CharStream.at m.view_at m.at_view m.at_at _ _ _ _ _ _ h.3 (sym c.next_is.ensures ∙ c.loop-stream-test.true) c.in_err-c.ensures)
 
 pub returns-then-is_err : goal.returns-then-is_err
 returns-then-is_err g c =
     let m = g.met.S.CharStream in
     let h = c.loop-stream.invariant in
     let n = within_unit g.S.CharStream.view g.S.CharStream.at m.view_at m.at_view m.at_at _ _ _ _ _ _ h.3 (sym c.next_is.ensures ∙ c.loop-stream-test.true) c.in_ok-c.ensures in
-    inl (starved_here g.S.CharStream.view g.S.CharStream.at m.view_at m.at_view m.at_at _ _ _ _ _ _ c.requires n.1 c.out_of_memory.ensures)
+    inl (ran_out_here g.S.CharStream.view g.S.CharStream.at m.view_at m.at_view m.at_at _ _ _ _ _ _ c.requires n.1 c.out_of_memory.ensures)
 
 pub returns-in_err-append_plain-2 : goal.returns-in_err-append_plain-2
 returns-in_err-append_plain-2 g c =
     let m = g.met.S.CharStream in
     let h = c.loop-stream.invariant in
     let n = within_unit g.S.CharStream.view g.S.CharStream.at m.view_at m.at_view m.at_at _ _ _ _ _ _ h.3 (sym c.next_is.ensures ∙ c.loop-stream-test.true) c.in_ok-c.ensures in
-    rw (handed_on c.from_residual-in_err-append_plain-2.result c.from_residual-in_err-append_plain-2.ensures.1) (inl (starved_within g.S.CharStream.view g.S.CharStream.at m.view_at m.at_view m.at_at _ _ _ _ _ _ n.1 c.in_err-append_plain-2.ensures.stream))
+    rw (propagated c.from_residual-in_err-append_plain-2.result c.from_residual-in_err-append_plain-2.ensures.1) (inl (ran_out_within g.S.CharStream.view g.S.CharStream.at m.view_at m.at_view m.at_at _ _ _ _ _ _ n.1 c.in_err-append_plain-2.ensures.stream))
 
 pub loop-stream-smaller : goal.loop-stream-smaller
 loop-stream-smaller g c =

@@ -1,18 +1,18 @@
 use Rattle.std.proofs.Common.{sym, ◌∙◌}
 use Rattle.irtext_tokens.specs.Integers.{bool_at}
-use Rattle.irtext_tokens.proofs.Exits.{handed_on}
+use Rattle.irtext_tokens.proofs.Exits.{propagated}
 use Rattle.irtext_tokens.proofs.Sparing.{failed_spares, true_spares, false_spares, neither_spares}
 use Rattle.irtext_tokens.proofs.irfmt.parsers.truth.bool_parse.Goals as goal
 
 pub returns-in_err-text_parse-clause-spares : goal.returns-in_err-text_parse-clause-spares
 returns-in_err-text_parse-clause-spares g c =
     let v = g.S.CharStream.view c.args.stream.now in
-    rw (handed_on c.from_residual.result c.from_residual.ensures.1) (true_spares (Unit {0}) (Unit {0}) v.failed v.rest c.in_err-text_parse.field-0.0 _ (sym c.has_failed.ensures ∙ c.if-has_failed.false) (sym c.next_is.ensures ∙ c.if-next_is.true) c.in_err-text_parse.ensures.spares)
+    rw (propagated c.from_residual.result c.from_residual.ensures.1) (true_spares (Unit {0}) (Unit {0}) v.failed v.rest c.in_err-text_parse.field-0.0 _ (sym c.has_failed.ensures ∙ c.if-has_failed.false) (sym c.next_is.ensures ∙ c.if-next_is.true) c.in_err-text_parse.ensures.spares)
 
 pub returns-in_err-text_parse-2-clause-spares : goal.returns-in_err-text_parse-2-clause-spares
 returns-in_err-text_parse-2-clause-spares g c =
     let v = g.S.CharStream.view c.args.stream.now in
-    rw (handed_on c.from_residual-in_err-text_parse-2.result c.from_residual-in_err-text_parse-2.ensures.1) (false_spares (Unit {0}) (Unit {0}) v.failed v.rest c.in_err-text_parse-2.field-0.0 _ (sym c.has_failed.ensures ∙ c.if-has_failed.false) (sym c.next_is.ensures ∙ c.if-next_is.false) (sym c.next_is-2.ensures ∙ c.if-next_is-2.true) c.in_err-text_parse-2.ensures.spares)
+    rw (propagated c.from_residual-in_err-text_parse-2.result c.from_residual-in_err-text_parse-2.ensures.1) (false_spares (Unit {0}) (Unit {0}) v.failed v.rest c.in_err-text_parse-2.field-0.0 _ (sym c.has_failed.ensures ∙ c.if-has_failed.false) (sym c.next_is.ensures ∙ c.if-next_is.false) (sym c.next_is-2.ensures ∙ c.if-next_is-2.true) c.in_err-text_parse-2.ensures.spares)
 
 pub returns-clause-spares : goal.returns-clause-spares
 returns-clause-spares g c =
