@@ -1,5 +1,5 @@
 -- An edit of a graph that leaves what names refer to: what is defined and in place is so afterwards, and what waits still waits. It is
--- told by what the edit leaves of each operation; blocks are unchanged.
+-- shown by what the edit leaves of each operation; blocks are unchanged.
 use Rattle.std.proofs.Common.{◌≡◌, ◌∙◌, ℕ, List, [], Option, Some, None, IsSome, map, slice_get, sym, ap, subst}
 use Rattle.std.specs.Option.{option_map}
 use Rattle.irtext_context.specs.Context.{ContextView}

@@ -150,7 +150,7 @@ module _ {S X Y : Type 0} (l : Lens S) (item : Text → Outcome X) where
         let m = rest (fine_there l (begins_with l (after_first item) i)) in
         record { meant = m.meant; means = m.means; read = never_missing l (separated_at 44 item) (separated_never_missing 44 item) (list_begun l (after_first item) i (λ _. m.read)) }
 
-  -- without a separator behind it the first item is all
+  -- without a separator after it the first item is all
   pub only_first : {A : Type 0} {Means : Y → X → Type 0} (x : X) (y : Y) {old : S} {ys : List Y} → ys ≡ y ∷ [] → begins (the 44) (l.view old).rest ≡ false → (l.view old).failed ≡ false → Means y x
       → MustMean {A = A} l.view l.at (Each Means) (λ t. items_after 44 item (length t) (x ∷ []) t) old (Ok ys) old
   only_first {Means = Means} x y {old = old} {ys = ys} e stop fine h = let p = listing_starts x y old e fine h in listing_all (Each Means) ys stop p p.each
@@ -169,7 +169,7 @@ pub turn_falls : {S X Y A : Type 0} (l : Lens S) (item : Text → Outcome X) {no
     → length (l.view new).rest < length (l.view now).rest
 turn_falls {A = A} l item {now = now} comma m a = subst (λ s. length (l.view s).rest < length (l.view now).rest) (sym a.appended.1) (item_falls l item {A = A} comma.comes comma.taken comma.spaced m.read a.spaced)
 
--- one turn of a loop over items: `,` and white space, an item and the white space behind it
+-- one turn of a loop over items: `,` and white space, an item and the white space after it
 module _ {S X Y A : Type 0} (l : Lens S) (item : Text → Outcome X) {begun : List X} {old now later : S} {found : List Y} (comma : IsAfterComma l.view l.at now later) where
   -- the item is an error
   pub turn_refused : {M N : Y → X → Type 0} {W : Type 0} {MeansAll : W → List X → Type 0} {fault : ParseFault A} {new : S} → Listing l item M begun old now found → MustMean l.view l.at N item later (Err fault) new

@@ -150,7 +150,7 @@ module _ {S A : Type 0} (l : Lens S) where
           )
       go (Err fault) rest = passed_runs_out p (rest (h.meant n) (subst (λ t. Represents before t n (h.meant n)) (sym e) h.means) (fine_there l p))
 
-  -- an uncommitted error in place of a name, behind these: no names are found
+  -- an uncommitted error in place of a name, after these: no names are found
   pub next_unlooked : (names : List Text) {Means Other : ReadName → Name ℕ → Type 0} {begun : List (Name ℕ)} {old now later new : S} {found : List ReadName} {fault : ParseFault A} (r : Result (Option (List ReadName)) (ParseFault A)) → IsAfterComma l.view l.at now later → Listing l name_at Means begun old now found
       → MayMean l.view l.at Other name_at later (Err fault) new → cond fault.committed (r ≡ Err fault) (r ≡ Ok None) → Looks l.view l.at names (λ t. items_after 44 name_at (length t) begun t) old r new
   next_unlooked names {begun = begun} {old = old} {later = later} {new = new} {fault = fault} r comma p m h = go fault.committed refl h

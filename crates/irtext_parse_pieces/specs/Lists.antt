@@ -9,14 +9,14 @@ use Rattle.irtext_base.specs.declared.parsable.fault.ParseFault.{ParseFault}
 use Rattle.irtext_tokens.specs.Reads.{TakesFront}
 
 module _ {S : Type 0} (view : S → StreamView) (at : S → StreamView → S) where
-  -- `,` came next, and was consumed with the white space behind it
+  -- `,` came next, and was consumed with the white space after it
   pub record IsAfterComma (old new : S) : Type 0 where
     pub comes : begins (the 44) (view old).rest ≡ true
     pub mid : S
     pub taken : mid ≡ at old (advanced (view old))
     pub spaced : TakesFront view at is_whitespace mid new
 
-  -- if `,` comes next, it was consumed with the white space behind it; otherwise the stream is unchanged
+  -- if `,` comes next, it was consumed with the white space after it; otherwise the stream is unchanged
   abbrev pub TakesComma : S → Bool → S → Type 0
   TakesComma old result new = MatchBool result (IsAfterComma old new) ((begins (the 44) (view old).rest ≡ false) × (new ≡ old))
 
@@ -26,7 +26,7 @@ module _ {S X A : Type 0} (view : S → StreamView) (at : S → StreamView → S
   Appended old (Ok more) new = (more ≡ items ++ item ∷ []) × (new ≡ old)
   Appended old (Err fault) new = RunsOutHere view at old fault new
 
-  -- the white space behind the item was consumed, and then the item was appended to the others, or an allocation failed
+  -- the white space after the item was consumed, and then the item was appended to the others, or an allocation failed
   pub record Appends (old : S) (result : Result (List X) (ParseFault A)) (new : S) : Type 0 where
     pub mid : S
     pub spaced : TakesFront view at is_whitespace old mid

@@ -47,7 +47,7 @@ fn with_item<X: Drop>(alloc: Global, items: Few<X>, item: X) -> Result<Few<X>, A
     }
 }
 
-/// Consumes the white space behind an item, and returns the items with this one appended. Allocates only if it is the third or a later
+/// Consumes the white space after an item, and returns the items with this one appended. Allocates only if it is the third or a later
 /// one. Fails only when out of memory.
 #[inline(always)]
 pub(crate) fn with_spaced<S: CharStream, X: Drop, A>(
@@ -64,7 +64,7 @@ pub(crate) fn with_spaced<S: CharStream, X: Drop, A>(
     }
 }
 
-/// Consumes `,` and the white space behind it if `,` comes next, and returns whether it does. Otherwise nothing changes.
+/// Consumes `,` and the white space after it if `,` comes next, and returns whether it does. Otherwise nothing changes.
 #[inline(always)]
 pub(crate) fn comma_taken<S: CharStream>(stream: &mut S) -> bool
     ensures { TakesComma S.view S.at stream.old result stream.new }

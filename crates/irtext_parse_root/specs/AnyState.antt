@@ -53,7 +53,8 @@ module _ {T A U : Type 0} (types_at : Text → Outcome T) (attr : Text → Outco
     pub falls : Falls (length old.stream.rest) leaves.items (length new.stream.rest)
     pub marked : indices_of marks ≡ tree_marks old.state.ctx.now.dialects leaves.tree
 
-  -- an operation was parsed, and then the section, as stated
+  -- an operation was parsed; and then, if it is looked for and a mark is recorded, the section of all recorded marks, the earlier ones
+  -- too
   pub record ReadsAny (look : Bool) (op : Ptr Operation) (old new : StateStream T A U) : Type 0 where
     pub mid : StateStream T A U
     pub operation : ReadsTree op old mid

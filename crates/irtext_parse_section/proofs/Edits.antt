@@ -48,7 +48,7 @@ module _ {T A : Type 0} where
   pub block_unedited : (c : ContextView T A) (p : Ptr BasicBlock) (f : BlockData A → BlockData A) → get c.graph.blocks p ≡ option_map (object_of (with_block f)) (get c.graph.blocks p) → EditsBlock c c p f
   block_unedited c p f e = block_edit c c p f refl (edits_nothing c.graph.blocks p (with_block f) e) (rest_same c)
 
-  -- what is older is kept from before one edit to behind another, where it is between them, and their objects are as they were
+  -- what is older is kept from before one edit to after another, where it is between them, and their objects are as they were
   pub kept_around : (mark : ℕ) (a b c d : ContextView T A) → SameRest a b → KeepsOlder mark b c → SameRest c d → ((q : Ptr Operation) → before mark d.graph.operations q ≡ before mark a.graph.operations q)
       → ((q : Ptr BasicBlock) → before mark d.graph.blocks q ≡ before mark a.graph.blocks q) → KeepsOlder mark a d
   kept_around mark a b c d r kept s operations blocks = record {

@@ -65,7 +65,7 @@ fn layout(alloc: Global, spaces: u16, before: u16, levels: u32) -> State<()> {
     )
 }
 
-/// The text of the first branch, and that of the module behind it once the branch is erased.
+/// The text of the first branch, and that of the module after it once the branch is erased.
 fn following(alloc: Global, ctx: &mut Ctx, op: Ptr<Operation>) -> Result<String, Fail> {
     let first = at(ctx, op, &[(0, 0, 0)])?;
     let mut state: State<()> = State::new(alloc, ());
