@@ -1,14 +1,14 @@
 //! Entering and leaving regions. The graph is unchanged, and waiting names stay tied to their placeholders. Each call is a step of the
 //! machine that processes events (`Names.History`).
-ghost use Rattle.std.specs.Prelude.{◌≡◌, ◌<◌, ◌↔◌, ℕ, List, [], ◌∷◌, length, slice_get, false, Some, None, Err, OnOk, OnErr, IfSome, IfNone};
+ghost use Rattle.std.specs.Prelude.{◌≡◌, ◌<◌, ℕ, List, [], length, slice_get, Some, None, Err, OnOk, IfSome, IfNone};
 ghost use Rattle.irtext_base.specs.Text.{Text};
 ghost use Rattle.irtext_grammar.specs.Names.History as history;
 ghost use Rattle.irtext_grammar.specs.Names.History.{enter, leave, start};
 ghost use Rattle.irtext_grammar.specs.Names.Script.{NotIsolated, UnresolvedReference};
 ghost use Rattle.irtext_graph.specs.declared.arena.Ptr.{Ptr};
 ghost use Rattle.irtext_graph.specs.declared.object.BasicBlock.{BasicBlock};
-ghost use Rattle.irtext_scopes.specs.Scopes.{is_open, outer};
-ghost use Rattle.irtext_scopes.specs.Tracker.{entered, left, unresolved};
+ghost use Rattle.irtext_scopes.specs.Scopes.{outer};
+ghost use Rattle.irtext_scopes.specs.Tracker.{EntersRegion, left, unresolved};
 ghost use Rattle.irtext_scopes.specs.declared.tracker.EnterFault.{EnterFault};
 ghost use Rattle.irtext_names.specs.Linked.{NamesAgree, Takes, FailsBy, nothing_made};
 ghost use Rattle.irtext_names.specs.Tied.{MatchesGraph, ArePending, NoneIsLeft, StaysPending};
@@ -45,12 +45,7 @@ pub fn enter_region<O: Drop, B: Drop, T: Drop>(
     isolated: bool,
 ) -> Result<(), EnterFault>
     requires { MatchesGraph names.old.values names.old.labels graph.now }
-    ensures values { OnOk result (names.new.values ≡ entered isolated names.old.values) }
-    ensures labels { OnOk result (names.new.labels ≡ [] ∷ names.old.labels) }
-    ensures shared { (result ≡ Err EnterFault.TopLevelOpRegionNotIsolatedFromAbove) ↔
-        ((isolated ≡ false) × (is_open names.old.values ≡ false)) }
-    ensures err_values { OnErr result (names.new.values ≡ names.old.values) }
-    ensures err_labels { OnErr result (names.new.labels ≡ names.old.labels) }
+    ensures region { EntersRegion isolated result names.old.values names.new.values names.old.labels names.new.labels }
     ensures names { names.new.names ≡ names.old.names }
     ensures tied { MatchesGraph names.new.values names.new.labels graph.now }
     ensures waiting { StaysPending names.old names.new graph.now graph.now }

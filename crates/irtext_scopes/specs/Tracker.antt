@@ -1,12 +1,23 @@
 -- What entering and leaving a region does to the scopes of values and of labels; and which scopes have only known names.
-use Rattle.std.specs.Prelude.{ℕ, Bool, true, false, cond, nat_lt, List, [], ◌∷◌, Option, None}
+use Rattle.std.specs.Prelude.{◌≡◌, ◌↔◌, ℕ, Bool, true, false, cond, nat_lt, List, [], ◌∷◌, Option, None, Result, Err, OnOk, OnErr}
 use Rattle.std.specs.Option.{option_or}
-use Rattle.irtext_scopes.specs.Scopes.{Scope, innermost, outer, first_pending}
+use Rattle.irtext_scopes.specs.Scopes.{Scope, innermost, outer, first_pending, is_open}
+use Rattle.irtext_scopes.specs.declared.tracker.EnterFault.{EnterFault}
+use Rattle.irtext_scopes.specs.declared.tracker.EnterFault.TheVariants.{TopLevelOpRegionNotIsolatedFromAbove}
 
 -- the scopes of values after a region is entered: it has one of its own if its operation is isolated from above
 abbrev pub entered : {V : Type 0} → Bool → List (Scope V) → List (Scope V)
 entered true ss = [] ∷ ss
 entered false ss = ss
+
+-- a call has entered a region, or its error says why not: the error that is no lack of memory comes if the region shares the scopes of
+-- values around it, and none is open. On an error no scope changes.
+pub record EntersRegion {V L A : Type 0} (isolated : Bool) (result : Result A EnterFault) (outer_values inner_values : List (Scope V)) (outer_labels inner_labels : List (Scope L)) : Type 0 where
+  pub values : OnOk result (inner_values ≡ entered isolated outer_values)
+  pub labels : OnOk result (inner_labels ≡ [] ∷ outer_labels)
+  pub shared : (result ≡ Err TopLevelOpRegionNotIsolatedFromAbove) ↔ ((isolated ≡ false) × (is_open outer_values ≡ false))
+  pub err_values : OnErr result (inner_values ≡ outer_values)
+  pub err_labels : OnErr result (inner_labels ≡ outer_labels)
 
 -- the scopes of values after a region is left
 abbrev pub left : {V : Type 0} → Bool → List (Scope V) → List (Scope V)

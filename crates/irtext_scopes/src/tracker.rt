@@ -1,5 +1,5 @@
 //! The names of values and of blocks during a parse: what each refers to in the scopes of the open regions.
-ghost use Rattle.std.specs.Prelude.{◌≡◌, ◌<◌, [], ◌∷◌, length, None, Some, Err, true, false, OnOk, OnErr, IfOk, IfSome, IfNone, ◌↔◌, option_map, slice_get};
+ghost use Rattle.std.specs.Prelude.{◌≡◌, ◌<◌, [], length, None, Some, Err, true, false, OnOk, OnErr, IfOk, IfSome, IfNone, ◌↔◌, option_map, slice_get};
 ghost use Rattle.std.specs.List.{list_any};
 ghost use Rattle.std.specs.Str.{bytes_eq};
 ghost use Rattle.irtext_scopes.specs.declared.scopes.Entry.{Entry};
@@ -8,7 +8,7 @@ ghost use Rattle.irtext_scopes.specs.declared.scopes.DefineFault.{DefineFault};
 ghost use Rattle.irtext_scopes.specs.declared.tracker.EnterFault.{EnterFault};
 ghost use Rattle.irtext_scopes.specs.Names.{number_of, with_name, KeepsNames, AreDistinct};
 ghost use Rattle.irtext_scopes.specs.Scopes.{innermost, outer, in_innermost, is_open, find, mentioned, defined, is_defined, placeholder_of, value_of};
-ghost use Rattle.irtext_scopes.specs.Tracker.{entered, left, unresolved, are_known};
+ghost use Rattle.irtext_scopes.specs.Tracker.{EntersRegion, left, unresolved, are_known};
 
 use crate::names::Interner;
 use crate::scopes::{DefineFault, Entry, Scopes};
@@ -142,12 +142,7 @@ impl<V: Copy, B: Copy> NameTracker<V, B> {
     /// isolated and no scope of values is open, the error is `TopLevelOpRegionNotIsolatedFromAbove`. When out of memory, the error is
     /// `Memory`. On an error nothing changes.
     pub fn enter_region(&mut self, isolated: bool) -> Result<(), EnterFault>
-        ensures values { OnOk result (self.new.values ≡ entered isolated self.old.values) }
-        ensures labels { OnOk result (self.new.labels ≡ [] ∷ self.old.labels) }
-        ensures shared { (result ≡ Err EnterFault.TopLevelOpRegionNotIsolatedFromAbove) ↔
-            ((isolated ≡ false) × (is_open self.old.values ≡ false)) }
-        ensures err_values { OnErr result (self.new.values ≡ self.old.values) }
-        ensures err_labels { OnErr result (self.new.labels ≡ self.old.labels) }
+        ensures region { EntersRegion isolated result self.old.values self.new.values self.old.labels self.new.labels }
         ensures names { self.new.names ≡ self.old.names }
     {
         if !isolated && !self.values.is_open() {

@@ -51,6 +51,12 @@ pub record Indexes (bytes : List ℕ) (index : TextIndex) : Type 0 where
   pub blocks : index.single ≡ false → AreBlocks bytes index.blocks.items
   pub strides : AreLines index.starts.items (length bytes) index.lines.items
 
+-- at the offset a character begins, or the bytes end
+pub record IsBoundary (bytes : List ℕ) (at : ℕ) : Type 0 where
+  pub within : at ≤ length bytes
+  pub passed_utf8 : IsUtf8 (take at bytes)
+  pub rest_utf8 : IsUtf8 (drop at bytes)
+
 -- the run of characters of a kind that begins at one offset ends at the other
 pub record Ends (bytes : List ℕ) (from : ℕ) (kind : ℕ → Bool) (to : ℕ) : Type 0 where
   pub within : to ≤ length bytes

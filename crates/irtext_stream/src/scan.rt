@@ -1,10 +1,10 @@
 //! Scans a text from a byte offset: where a run of characters of a class ends, and whether a given text comes next.
-ghost use Rattle.std.specs.Prelude.{◌≡◌, ◌≤◌, MatchBool, length, take, drop};
+ghost use Rattle.std.specs.Prelude.{◌≡◌, ◌≤◌, MatchBool, length, drop};
 ghost use Rattle.std.specs.Str.{chars, IsUtf8};
 ghost use Rattle.irtext_stream.specs.Text.{BeginsOtherwise, is_plain};
 ghost use Rattle.irtext_stream.specs.Classes.{has};
 ghost use Rattle.irtext_stream.specs.Stream.{first_of};
-ghost use Rattle.irtext_stream.specs.Index.{Ends, ComesAt, width_of};
+ghost use Rattle.irtext_stream.specs.Index.{Ends, ComesAt, IsBoundary, width_of};
 
 use crate::class::Class;
 use memchr::memchr2;
@@ -34,9 +34,7 @@ fn width_at(text: &str, at: usize, class: Class) -> usize
 /// Returns the offset at which the run of characters of the class that begins at `from` ends.
 #[inline(always)]
 pub(crate) fn end_of(text: &str, from: usize, class: Class) -> usize
-    requires within { from ≤ length text.now }
-    requires passed_utf8 { IsUtf8 (take from text.now) }
-    requires rest_utf8 { IsUtf8 (drop from text.now) }
+    requires { IsBoundary text.now from }
     ensures { Ends text.now from (has class) result }
 {
     if let Class::Plain = class {
@@ -48,9 +46,7 @@ pub(crate) fn end_of(text: &str, from: usize, class: Class) -> usize
 /// The same, byte by byte up to the first character that is not ASCII.
 #[inline(always)]
 fn end_of_run(text: &str, from: usize, class: Class) -> usize
-    requires within { from ≤ length text.now }
-    requires passed_utf8 { IsUtf8 (take from text.now) }
-    requires rest_utf8 { IsUtf8 (drop from text.now) }
+    requires { IsBoundary text.now from }
     ensures { Ends text.now from (has class) result }
 {
     let mut at = from;
@@ -69,9 +65,7 @@ fn end_of_run(text: &str, from: usize, class: Class) -> usize
 /// The same, character by character.
 #[cold]
 fn end_of_wide(text: &str, from: usize, class: Class) -> usize
-    requires within { from ≤ length text.now }
-    requires passed_utf8 { IsUtf8 (take from text.now) }
-    requires rest_utf8 { IsUtf8 (drop from text.now) }
+    requires { IsBoundary text.now from }
     ensures { Ends text.now from (has class) result }
 {
     let mut at = from;
@@ -86,9 +80,7 @@ fn end_of_wide(text: &str, from: usize, class: Class) -> usize
 
 /// The same for `Class::Plain`. All characters but `"` and `\` are plain, so only these two bytes are searched.
 fn end_of_plain(text: &str, from: usize) -> usize
-    requires within { from ≤ length text.now }
-    requires passed_utf8 { IsUtf8 (take from text.now) }
-    requires rest_utf8 { IsUtf8 (drop from text.now) }
+    requires { IsBoundary text.now from }
     ensures { Ends text.now from is_plain result }
 {
     match memchr2(b'"', b'\\', &text.as_bytes()[from..]) {
@@ -100,9 +92,7 @@ fn end_of_plain(text: &str, from: usize) -> usize
 /// Whether `word` is in the text at an offset.
 #[inline(always)]
 pub(crate) fn comes_at(text: &str, at: usize, word: &str) -> bool
-    requires within { at ≤ length text.now }
-    requires passed_utf8 { IsUtf8 (take at text.now) }
-    requires rest_utf8 { IsUtf8 (drop at text.now) }
+    requires { IsBoundary text.now at }
     ensures { MatchBool result (ComesAt text.now at word.now) (BeginsOtherwise (chars word.now)
         (chars (drop at text.now))) }
 {
