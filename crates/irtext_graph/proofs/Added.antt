@@ -1,5 +1,5 @@
 -- A region that is appended to an operation as it is made: all is sound, and nothing else changed.
-use Rattle.std.proofs.Common.{◌≡◌, ◌≢◌, ◌<◌, ◌≤◌, ◌+◌, ◌∙◌, ◌++◌, ◌∷◌, ◌⊎◌, inl, inr, ℕ, zero, suc, refl, ap, subst, arith, Option, Some, None, List, [], map}
+use Rattle.std.proofs.Common.{◌≡◌, ◌≢◌, ◌<◌, ◌≤◌, ◌+◌, ◌∙◌, ◌++◌, ◌∷◌, ◌⊎◌, inl, inr, ℕ, zero, suc, refl, ap, arith, Option, Some, None, List, [], map}
 use Rattle.std.specs.Option.{option_map}
 use Rattle.std.proofs.lemmas.List.{map-append}
 use Rattle.irtext_few.specs.Growing.{listed}
@@ -19,8 +19,8 @@ use Rattle.irtext_graph.specs.declared.object.Object.TheVariants.{TheOperation, 
 use Rattle.irtext_graph.specs.declared.objects.Objects.{Objects}
 use Rattle.irtext_graph.specs.declared.objects.OperationData.{OperationData}
 use Rattle.irtext_graph.specs.declared.objects.RegionData.{RegionData}
-use Rattle.irtext_graph.specs.Store.{Edits, Inserts, store_of, object_of, before}
-use Rattle.irtext_graph.specs.Content.{Content.{AnOperation}, node_of, operation_content, region_content}
+use Rattle.irtext_graph.specs.Store.{Edits, before}
+use Rattle.irtext_graph.specs.Content.{Content.{AnOperation}, operation_content, region_content}
 use Rattle.irtext_graph.specs.Graph.{GraphView, graph_of, KeepsOlder}
 use Rattle.irtext_graph.specs.Nest.{up as parent_at, kids as children_at, datum, parent_in, children_in}
 use Rattle.irtext_graph.specs.Nested.{Within, climb}
@@ -30,12 +30,12 @@ use Rattle.irtext_graph.specs.Sound.{IsSound, IsKept}
 use Rattle.irtext_graph.specs.Uses.{operations_seen}
 use Rattle.irtext_graph.proofs.Arenas.{older_later, older_inserted, new_view, was_none}
 use Rattle.irtext_graph.proofs.Logs.{logged_same, logged_list, logged_kept, region_noted, region_ages}
-use Rattle.irtext_graph.proofs.Made.{regions_same}
+use Rattle.irtext_graph.proofs.Made.{regions_same, node_inserted}
 use Rattle.irtext_graph.proofs.Nests.{attached, renested, some_eq}
 use Rattle.irtext_graph.proofs.Numbers.{what_kept, moved_kept}
 use Rattle.irtext_graph.proofs.Same.{object_tells}
 use Rattle.irtext_graph.proofs.Sounds.{same_use, uses_kept, sound_same}
-use Rattle.irtext_graph.proofs.Stores.{inserts_seen, inserted-keeps, edited-keeps}
+use Rattle.irtext_graph.proofs.Stores.{inserted-keeps, edited-keeps}
 
 -- the places of an arena that did not change are kept
 same_places : {X : Type 0} (a : Arena X) → KeepsPlaces a a
@@ -195,15 +195,12 @@ module _ {O B T : Type 0} where
     pub adds_seen : (v : Counters) → e.born ≡ made → Edits (operations_seen x.operations) (operations_seen grown) op (with_child p) → AddsRegion (graph_of made v x) (graph_of (made + 1) v added) op p
     adds_seen v born d = record {
       operations = d;
-      regions = subst (λ o. Inserts (store_of (node_of region_content) x.regions) (store_of (node_of region_content) after) p o) like (inserts_seen (node_of region_content) x.regions after p e i);
+      regions = node_inserted region_content x.regions after p e i born alive empty refl;
       blocks = refl;
       made = refl;
       values = refl;
       first_place = refl;
     }
-      where
-        like : object_of (node_of region_content) e ≡ record { born = made; content = record { parent = Some op; children = []; content = record {} } }
-        like = rw (born, alive, empty) refl
 
   -- what is older than the region and its operation is unchanged
   pub added-keeps : (m : ℕ) (old new : GraphView O B T) (op : Ptr Operation) (p : Ptr Region) → m ≤ old.made → before m old.operations op ≡ None → AddsRegion old new op p → KeepsOlder m old new

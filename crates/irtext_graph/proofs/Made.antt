@@ -1,5 +1,5 @@
 -- The view of an object that was made; and what is older is unchanged.
-use Rattle.std.proofs.Common.{◌≡◌, ◌≤◌, ◌+◌, ℕ, refl, sym, ap, subst, arith, ◌∙◌, None, List, [], map, slice_get, length, Result, Ok, Err, OnErr}
+use Rattle.std.proofs.Common.{◌≡◌, ◌≤◌, ◌+◌, ℕ, refl, sym, ap, subst, arith, ◌∙◌, Option, None, List, [], map, slice_get, length, Result, Ok, Err, OnErr}
 use Rattle.irtext_few.specs.Growing.{listed}
 use Rattle.irtext_graph.specs.declared.graph.Counters.{Counters}
 use Rattle.irtext_graph.specs.Arena as arena
@@ -14,11 +14,11 @@ use Rattle.irtext_graph.specs.declared.objects.Objects.{Objects}
 use Rattle.irtext_graph.specs.declared.objects.BlockData.{BlockData}
 use Rattle.irtext_graph.specs.declared.objects.OperationData.{OperationData}
 use Rattle.irtext_graph.specs.declared.objects.RegionData.{RegionData}
-use Rattle.irtext_graph.specs.Store.{store_of, object_of, before, Inserts}
+use Rattle.irtext_graph.specs.Store.{store_of, before, Inserts}
 use Rattle.irtext_graph.specs.Content.{node_of, typed, operation_content, block_content, region_content}
 use Rattle.irtext_graph.specs.declared.object.Value.{Value}
 use Rattle.irtext_graph.specs.Linking.{IsBlank}
-use Rattle.irtext_graph.specs.Graph.{GraphView, graph_of, seen, fresh, numbered, MakesRegion, MakesBlock, MakesOperation, KeepsOlder}
+use Rattle.irtext_graph.specs.Graph.{GraphView, graph_of, seen, numbered, MakesRegion, MakesBlock, MakesOperation, KeepsOlder}
 use Rattle.irtext_graph.proofs.Stores.{inserts_seen, inserted-keeps, store_same}
 use Rattle.irtext_graph.proofs.Linkings.{unlinked_defs}
 use Rattle.irtext_graph.proofs.Logs.{logged_kept, logged_list}
@@ -50,6 +50,13 @@ pub record SameSlots {X : Type 0} (a b : Arena X) : Type 0 where
 
 pub same_slots : {X : Type 0} {a : Arena X} → SameSlots a a
 same_slots = record { items = refl; free = refl }
+
+-- an object that was inserted is seen with its parent, without children, and with what its data show
+pub node_inserted : {P C D E K : Type 0} (see : D → E) (a after : Arena (Nest P C D)) (p : Ptr K) (e : Entry (Nest P C D)) {m : ℕ} {above : Option (Ptr P)} {content : E} → arena.Inserts a after p e
+    → e.born ≡ m → e.content.parent ≡ above → listed e.content.children ≡ [] → see e.content.data ≡ content
+    → Inserts (store_of (node_of see) a) (store_of (node_of see) after) p (record { born = m; content = record { parent = above; children = []; content = content } })
+node_inserted see a after p e i born above none same =
+    subst (λ o. Inserts (store_of (node_of see) a) (store_of (node_of see) after) p o) (rw (born, above, none, same) refl) (inserts_seen (node_of see) a after p e i)
 
 module _ {O B T : Type 0} where
   -- what is older is kept, by the kinds of objects and the counters
@@ -92,14 +99,11 @@ module _ {O B T : Type 0} where
   region_made m v x after p e i born none empty = record {
     operations = refl;
     blocks = refl;
-    regions = subst (λ o. Inserts (store_of (node_of region_content) x.regions) (store_of (node_of region_content) after) p o) same (inserts_seen (node_of region_content) x.regions after p e i);
+    regions = node_inserted region_content x.regions after p e i born none empty refl;
     made = refl;
     values = refl;
     first_place = refl;
   }
-    where
-      same : object_of (node_of region_content) e ≡ record { born = m; content = fresh (record {}) }
-      same = rw (born, none, empty) refl
 
   pub region-keeps : (m : ℕ) (old new : GraphView O B T) (p : Ptr Region) → m ≤ old.made → MakesRegion old new p → KeepsOlder m old new
   region-keeps m old new p up k =
@@ -110,15 +114,12 @@ module _ {O B T : Type 0} where
       → MakesBlock (graph_of m v x) (graph_of (m + 1) (record v { values = n }) (record x { blocks = after })) p value types
   block_made m v n x after p e value types i born none empty same_value numbers count = record {
     operations = refl;
-    blocks = subst (λ o. Inserts (store_of (node_of block_content) x.blocks) (store_of (node_of block_content) after) p o) same (inserts_seen (node_of block_content) x.blocks after p e i);
+    blocks = node_inserted block_content x.blocks after p e i born none empty (rw (same_value, numbers) refl);
     regions = refl;
     made = refl;
     values = count;
     first_place = refl;
   }
-    where
-      same : object_of (node_of block_content) e ≡ record { born = m; content = fresh (record { data_of = value; arguments = numbered v.values types }) }
-      same = rw (born, none, empty, same_value, numbers) refl
 
   pub block-keeps : (m : ℕ) (old new : GraphView O B T) (p : Ptr BasicBlock) (value : B) (types : List T) → m ≤ old.made → MakesBlock old new p value types → KeepsOlder m old new
   block-keeps m old new p value types up k =
@@ -128,7 +129,7 @@ module _ {O B T : Type 0} where
       (operands : List Value) (successors : List (Ptr BasicBlock)) → arena.Inserts x.operations after p e → e.born ≡ m → IsBlank e.content value types v.values operands successors → n ≡ v.values + length types
       → MakesOperation (graph_of m v x) (graph_of (m + 1) (record v { values = n }) (record x { operations = after })) p value types operands successors
   operation_made m v n x after p e value types operands successors i born b count = record {
-    operations = subst (λ o. Inserts (store_of (node_of operation_content) x.operations) (store_of (node_of operation_content) after) p o) same (inserts_seen (node_of operation_content) x.operations after p e i);
+    operations = node_inserted operation_content x.operations after p e i born b.parent b.children (rw (b.value_is, named_operands, named_successors, b.results.values) refl);
     blocks = refl;
     regions = refl;
     made = refl;
@@ -141,9 +142,6 @@ module _ {O B T : Type 0} where
 
       named_successors : map (λ u. u.def) e.content.data.successors ≡ successors
       named_successors = ap (map (λ u. u.def)) b.successor_uses ∙ unlinked_defs successors
-
-      same : object_of (node_of operation_content) e ≡ record { born = m; content = fresh (record { data_of = value; operands = operands; successors = successors; results = numbered v.values types }) }
-      same = rw (born, b.parent, b.children, b.value_is, named_operands, named_successors, b.results.values) refl
 
   -- the same where only the use lists differ
   pub operation_made_seen : (m : ℕ) (v : Counters) (n : ℕ) (x y z : Objects O B T) (p : Ptr Operation) (value : O) (types : List T) (operands : List Value) (successors : List (Ptr BasicBlock)) → seen z ≡ seen y
