@@ -1,5 +1,5 @@
 -- A location in another context says the same text, and what paths were kept on the way can be taken back.
-use Rattle.std.proofs.Common.{◌≡◌, ◌∙◌, ap, ap₂, refl, sym, ℕ, Option, Some, None, List, [], ◌∷◌, ◌++◌, length, take, position, append_assoc, true, false, ◌&&◌, ◌≢◌, fold}
+use Rattle.std.proofs.Common.{◌≡◌, ◌∙◌, ap, ap₂, refl, sym, ℕ, Bool, Option, Some, None, List, [], ◌∷◌, ◌++◌, length, take, position, append_assoc, true, false, ◌&&◌, ◌≢◌, fold}
 use Rattle.std.proofs.Math.Seq.{take-append_seam}
 use Rattle.std.specs.Prelude.{slice_get}
 use Rattle.std.specs.Str.{bytes_eq}
@@ -32,6 +32,10 @@ mutual
   row_keep paths no_location = λ i p h. h
   row_keep paths (location l ls) = λ i p h. row_keep (all_kept paths l) ls i p (all_keep paths l i p h)
 
+-- a location has known sources while other paths are kept, and so have the others
+both_known : {A : Type 0} (before after : List (List ℕ)) → KeepsPaths before after → (l : LocationView A) {others : Bool} → are_known (length before) l ≡ true → others ≡ true → (are_known (length after) l && others) ≡ true
+both_known before after keeps l known others = both_true _ _ (stays_known before after keeps l known) others
+
 mutual
   -- the location that a text says has known sources once its paths are kept
   pub under_known : {A : Type 0} (paths : List (List ℕ)) (l : Written A) → are_known (length (all_kept paths l)) (all_under paths l) ≡ true
@@ -41,20 +45,14 @@ mutual
   under_known paths (named name child) = under_known paths child
   under_known paths (call_site callee caller) =
       let before = all_kept paths callee in
-      let after = all_kept before caller in
-      both_true (are_known (length after) (all_under paths callee)) (are_known (length after) (all_under before caller))
-      (stays_known before after (all_keep before caller) (all_under paths callee) (under_known paths callee))
-      (under_known before caller)
+      both_known before (all_kept before caller) (all_keep before caller) (all_under paths callee) (under_known paths callee) (under_known before caller)
   under_known paths unknown = refl
 
   pub row_under_known : {A : Type 0} (paths : List (List ℕ)) (ls : LocationsOf (Option (List ℕ)) A) → row_known (length (row_kept paths ls)) (row_under paths ls) ≡ true
   row_under_known paths no_location = refl
   row_under_known paths (location l ls) =
       let before = all_kept paths l in
-      let after = row_kept before ls in
-      both_true (are_known (length after) (all_under paths l)) (row_known (length after) (row_under before ls))
-      (stays_known before after (row_keep before ls) (all_under paths l) (under_known paths l))
-      (row_under_known before ls)
+      both_known before (row_kept before ls) (row_keep before ls) (all_under paths l) (under_known paths l) (row_under_known before ls)
 
 mutual
   -- the location that a text says has this text
