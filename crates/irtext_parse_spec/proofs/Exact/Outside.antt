@@ -21,7 +21,7 @@ use Rattle.irtext_parse_spec.specs.Heads.{Step, flat, types, one, all, name_at, 
 use Rattle.irtext_parse_spec.proofs.Exact.Combined.{exact_as}
 use Rattle.irtext_parse_spec.proofs.Exact.Listed.{Starts, starts_so, starts_word, none_listed}
 use Rattle.irtext_parse_spec.proofs.Exact.Names.{starts_name, starts_target}
-use Rattle.irtext_parse_spec.proofs.Exact.Pieces.{Marks, exact_piece, piece_read, is_word, is_operand, is_operands, is_successor, is_successors, is_attribute, is_dictionary, is_result_type, is_header, is_types, is_no_region, is_no_regions}
+use Rattle.irtext_parse_spec.proofs.Exact.Pieces.{Marks, exact_piece, piece_read, is_made, is_types}
 
 -- ---- names
 outside_never : (o : Outcome (Name ℕ)) (n : Name ℕ) (taken rest : Text) → outside o ≡ Read n taken rest → ⊥
@@ -86,28 +86,28 @@ Named _ = ⊥
 module _ {T A : Type 0} where
   -- no piece of another step uses a name
   uses_none : (step : Step) → (Named step → ⊥) → (p : Piece ℕ T A) → IsOfStep step p → UsesNone p
-  uses_none (flat (format.word s)) unnamed p i = subst UsesNone (is_word s p i).1 tt
+  uses_none (flat (format.word s)) unnamed p i = subst UsesNone (is_made (format.word s) p i).1 tt
   uses_none (flat (format.operand k)) unnamed p i = absurd (unnamed tt)
   uses_none (flat format.operands) unnamed p i = absurd (unnamed tt)
   uses_none (flat (format.successor k)) unnamed p i = absurd (unnamed tt)
   uses_none (flat format.successors) unnamed p i = absurd (unnamed tt)
-  uses_none (flat (format.attribute k)) unnamed p i = subst UsesNone (is_attribute k p i).1 tt
-  uses_none (flat format.dictionary) unnamed p i = subst UsesNone (is_dictionary p i).1 tt
-  uses_none (flat (format.result_type k)) unnamed p i = subst UsesNone (is_result_type k p i).1 tt
-  uses_none (flat (format.region k)) unnamed p i = absurd (is_no_region k p i)
-  uses_none (flat format.regions) unnamed p i = absurd (is_no_regions p i)
-  uses_none (flat format.header) unnamed p i = subst UsesNone (is_header p i).1 tt
+  uses_none (flat (format.attribute k)) unnamed p i = subst UsesNone (is_made (format.attribute k) p i).1 tt
+  uses_none (flat format.dictionary) unnamed p i = subst UsesNone (is_made format.dictionary p i).1 tt
+  uses_none (flat (format.result_type k)) unnamed p i = subst UsesNone (is_made (format.result_type k) p i).1 tt
+  uses_none (flat (format.region k)) unnamed p i = absurd (is_made (format.region k) p i)
+  uses_none (flat format.regions) unnamed p i = absurd (is_made format.regions p i)
+  uses_none (flat format.header) unnamed p i = subst UsesNone (is_made format.header p i).1 tt
   uses_none types unnamed p i = subst UsesNone (is_types p i).1 tt
   uses_none (one k) unnamed p i = absurd i
   uses_none all unnamed p i = absurd i
 
   -- operands that are none
   no_operands : (p : Piece ℕ T A) → directive_of_piece p ≡ Some format.operands → UsesNone p → tree.operands [] ≡ p
-  no_operands p i n = let b = is_operands p i in ap (λ ns. tree.operands ns) (sym (subst UsesNone (sym b.1) n)) ∙ b.1
+  no_operands p i n = let b = is_made format.operands p i in ap (λ ns. tree.operands ns) (sym (subst UsesNone (sym b.1) n)) ∙ b.1
 
   -- successors that are none
   no_successors : (p : Piece ℕ T A) → directive_of_piece p ≡ Some format.successors → UsesNone p → tree.successors [] ≡ p
-  no_successors p i n = let b = is_successors p i in ap (λ ns. tree.successors ns) (sym (subst UsesNone (sym b.1) n)) ∙ b.1
+  no_successors p i n = let b = is_made format.successors p i in ap (λ ns. tree.successors ns) (sym (subst UsesNone (sym b.1) n)) ∙ b.1
 
   -- an empty list, of which no item may be used here, is read where its items may be used too
   empty_either_way : {none : Text → Type 0} {never_used used : Reader (Name ℕ)} (see : List (Name ℕ) → Piece ℕ T A) → UsesNone (see []) → Starts never_used none → Starts used none
@@ -154,9 +154,9 @@ module _ {T A : Type 0} (types_at : Text → Outcome T) (types_written : T → T
 
   -- What a step parses outside of each region, the grammar parses as a piece of that step that uses no name, and no other.
   pub exact_outside : (step : Step) → (Marks step → NeedsWord reading) → Exact (piece_at types_at (attr_at reading) false step) (unused_piece step)
-  exact_outside (flat (format.operand k)) h = never_read (flat (format.operand k)) (tree.operand k) used_never (λ p i n. let b = is_operand k p i in subst UsesNone (sym b.1) n)
+  exact_outside (flat (format.operand k)) h = never_read (flat (format.operand k)) (tree.operand k) used_never (λ p i n. let b = is_made (format.operand k) p i in subst UsesNone (sym b.1) n)
   exact_outside (flat format.operands) h = no_list (used_at false) (flat format.operands) tree.operands (exact_empty 44 starts_outside used_never) refl refl (λ text rest. (λ r. r, λ r. r)) no_operands
-  exact_outside (flat (format.successor k)) h = never_read (flat (format.successor k)) (tree.successor k) target_never (λ p i n. let b = is_successor k p i in subst UsesNone (sym b.1) n)
+  exact_outside (flat (format.successor k)) h = never_read (flat (format.successor k)) (tree.successor k) target_never (λ p i n. let b = is_made (format.successor k) p i in subst UsesNone (sym b.1) n)
   exact_outside (flat format.successors) h = no_list (target_at false) (flat format.successors) tree.successors (exact_empty 44 starts_no_target target_never) refl refl (λ text rest. (λ r. r, λ r. r)) no_successors
   exact_outside step h = exact_as (exact_piece types_at types_written reading written formats types_split splits step h) (λ p text rest r. (uses_none step (λ i. i) p r.0, r)) (λ p text rest r. r.1)
 

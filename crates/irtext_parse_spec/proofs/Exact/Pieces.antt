@@ -5,7 +5,7 @@ use Rattle.irtext_base.specs.Text.{Text}
 use Rattle.irtext_base.specs.Reading.{Reading}
 use Rattle.irtext_base.specs.Faults.{Fault}
 use Rattle.irtext_base.specs.Format as format
-use Rattle.irtext_base.specs.Format.{Id, Format}
+use Rattle.irtext_base.specs.Format.{Id, Format, Directive}
 use Rattle.irtext_base.specs.Answers.{Outcome, Read, Missing, mapped}
 use Rattle.irtext_base.specs.Locations.{AttrView}
 use Rattle.irtext_base.specs.Own.{Language, language, texts_of}
@@ -25,65 +25,39 @@ use Rattle.irtext_parse_spec.proofs.Exact.Types.{exact_type, starts_type}
 
 -- ---- which pieces a step parses
 module _ {T A : Type 0} where
-  -- a fixed word
-  pub is_word : (s : Text) (p : Piece ℕ T A) → directive_of_piece p ≡ Some (format.word s) → Unit {0} × (tree.word s ≡ p)
-  is_word s (tree.word t) e = (tt, let f : t ≡ s = cc e in ap (λ t. tree.word t) (sym f))
-  is_word s _ e = absurd (cc e)
+  -- the piece is made of this directive and of a value; no piece is made of one for regions
+  abbrev pub IsMade : Directive → Piece ℕ T A → Type 0
+  IsMade (format.word s) p = Unit {0} × (tree.word s ≡ p)
+  IsMade (format.operand i) p = (n : Name ℕ) × (tree.operand i n ≡ p)
+  IsMade format.operands p = (ns : List (Name ℕ)) × (tree.operands ns ≡ p)
+  IsMade (format.successor i) p = (n : Name ℕ) × (tree.successor i n ≡ p)
+  IsMade format.successors p = (ns : List (Name ℕ)) × (tree.successors ns ≡ p)
+  IsMade (format.attribute k) p = (o : Option (Attribute A)) × (tree.attribute k o ≡ p)
+  IsMade format.dictionary p = (es : List (Name ℕ × Attribute A)) × (tree.dictionary es ≡ p)
+  IsMade (format.result_type i) p = (t : T) × (tree.result_type i t ≡ p)
+  IsMade format.header p = (n : Name ℕ) × (tree.header n ≡ p)
+  IsMade _ p = ⊥
 
-  -- an operand
-  pub is_operand : (i : ℕ) (p : Piece ℕ T A) → directive_of_piece p ≡ Some (format.operand i) → (n : Name ℕ) × (tree.operand i n ≡ p)
-  is_operand i (tree.operand j n) e = (n, let f : j ≡ i = cc e in ap (λ i. tree.operand i n) (sym f))
-  is_operand i _ e = absurd (cc e)
+  made_alike : (p : Piece ℕ T A) (c d : Directive) → Some c ≡ Some d → IsMade c p → IsMade d p
+  made_alike p c d e m = let f : c ≡ d = cc e in subst (λ d. IsMade d p) f m
 
-  -- operands
-  pub is_operands : (p : Piece ℕ T A) → directive_of_piece p ≡ Some format.operands → (ns : List (Name ℕ)) × (tree.operands ns ≡ p)
-  is_operands (tree.operands ns) e = (ns, refl)
-  is_operands _ e = absurd (cc e)
-
-  -- a successor
-  pub is_successor : (i : ℕ) (p : Piece ℕ T A) → directive_of_piece p ≡ Some (format.successor i) → (n : Name ℕ) × (tree.successor i n ≡ p)
-  is_successor i (tree.successor j n) e = (n, let f : j ≡ i = cc e in ap (λ i. tree.successor i n) (sym f))
-  is_successor i _ e = absurd (cc e)
-
-  -- successors
-  pub is_successors : (p : Piece ℕ T A) → directive_of_piece p ≡ Some format.successors → (ns : List (Name ℕ)) × (tree.successors ns ≡ p)
-  is_successors (tree.successors ns) e = (ns, refl)
-  is_successors _ e = absurd (cc e)
-
-  -- an attribute, or the marker in its place
-  pub is_attribute : (k : Text) (p : Piece ℕ T A) → directive_of_piece p ≡ Some (format.attribute k) → (o : Option (Attribute A)) × (tree.attribute k o ≡ p)
-  is_attribute k (tree.attribute j o) e = (o, let f : j ≡ k = cc e in ap (λ k. tree.attribute k o) (sym f))
-  is_attribute k _ e = absurd (cc e)
-
-  -- a dictionary
-  pub is_dictionary : (p : Piece ℕ T A) → directive_of_piece p ≡ Some format.dictionary → (es : List (Name ℕ × Attribute A)) × (tree.dictionary es ≡ p)
-  is_dictionary (tree.dictionary es) e = (es, refl)
-  is_dictionary _ e = absurd (cc e)
-
-  -- a result's type
-  pub is_result_type : (i : ℕ) (p : Piece ℕ T A) → directive_of_piece p ≡ Some (format.result_type i) → (t : T) × (tree.result_type i t ≡ p)
-  is_result_type i (tree.result_type j t) e = (t, let f : j ≡ i = cc e in ap (λ i. tree.result_type i t) (sym f))
-  is_result_type i _ e = absurd (cc e)
-
-  -- a symbol's name
-  pub is_header : (p : Piece ℕ T A) → directive_of_piece p ≡ Some format.header → (n : Name ℕ) × (tree.header n ≡ p)
-  is_header (tree.header n) e = (n, refl)
-  is_header _ e = absurd (cc e)
+  -- a piece that a directive parses is made of it
+  pub is_made : (d : Directive) (p : Piece ℕ T A) → directive_of_piece p ≡ Some d → IsMade d p
+  is_made d (tree.word s) e = made_alike (tree.word s) (format.word s) d e (tt, refl)
+  is_made d (tree.operand i n) e = made_alike (tree.operand i n) (format.operand i) d e (n, refl)
+  is_made d (tree.operands ns) e = made_alike (tree.operands ns) format.operands d e (ns, refl)
+  is_made d (tree.successor i n) e = made_alike (tree.successor i n) (format.successor i) d e (n, refl)
+  is_made d (tree.successors ns) e = made_alike (tree.successors ns) format.successors d e (ns, refl)
+  is_made d (tree.attribute k o) e = made_alike (tree.attribute k o) (format.attribute k) d e (o, refl)
+  is_made d (tree.dictionary es) e = made_alike (tree.dictionary es) format.dictionary d e (es, refl)
+  is_made d (tree.result_type i t) e = made_alike (tree.result_type i t) (format.result_type i) d e (t, refl)
+  is_made d (tree.header n) e = made_alike (tree.header n) format.header d e (n, refl)
+  is_made d (tree.types ts) e = absurd (cc e)
 
   -- types
   pub is_types : (p : Piece ℕ T A) → IsOfStep types p → (ts : List T) × (tree.types ts ≡ p)
   is_types (tree.types ts) i = (ts, refl)
   is_types _ i = absurd i
-
-  -- no piece is a region
-  pub is_no_region : (i : ℕ) (p : Piece ℕ T A) → directive_of_piece p ≡ Some (format.region i) → ⊥
-  is_no_region i (tree.word s) e = cc e
-  is_no_region i _ e = cc e
-
-  -- no piece is the regions that are left
-  pub is_no_regions : (p : Piece ℕ T A) → directive_of_piece p ≡ Some format.regions → ⊥
-  is_no_regions (tree.word s) e = cc e
-  is_no_regions _ e = cc e
 
 -- the step may have a marker in the place of what it parses
 abbrev pub Marks : Step → Type 0
@@ -121,25 +95,25 @@ module _ {T A : Type 0} (types_at : Text → Outcome T) (types_written : T → T
   -- A piece that a step parses, and no other, is what the grammar parses as a piece of that step; where a marker may be in place of an
   -- attribute, each attribute begins as a word does.
   pub exact_piece : (step : Step) → (Marks step → NeedsWord reading) → Exact (piece_at types_at attr true step) (step_piece l step)
-  exact_piece (flat (format.word s)) h = by_step (exact_word s) (flat (format.word s)) (λ _. tree.word s) (λ x. refl) (λ x text rest. (λ r. r, λ r. r)) (is_word s)
+  exact_piece (flat (format.word s)) h = by_step (exact_word s) (flat (format.word s)) (λ _. tree.word s) (λ x. refl) (λ x text rest. (λ r. r, λ r. r)) (is_made (format.word s))
   exact_piece (flat (format.operand i)) h =
-      by_step (exact_used (texts_of types_at types_written) (texts_of reading written) formats) (flat (format.operand i)) (tree.operand i) (λ x. refl) (λ x text rest. (λ r. r, λ r. r)) (is_operand i)
+      by_step (exact_used (texts_of types_at types_written) (texts_of reading written) formats) (flat (format.operand i)) (tree.operand i) (λ x. refl) (λ x text rest. (λ r. r, λ r. r)) (is_made (format.operand i))
   exact_piece (flat format.operands) h =
-      by_step (exact_list 44 (exact_used (texts_of types_at types_written) (texts_of reading written) formats) starts_name) (flat format.operands) tree.operands (λ x. refl) (λ x text rest. (λ r. r, λ r. r)) is_operands
+      by_step (exact_list 44 (exact_used (texts_of types_at types_written) (texts_of reading written) formats) starts_name) (flat format.operands) tree.operands (λ x. refl) (λ x text rest. (λ r. r, λ r. r)) (is_made format.operands)
   exact_piece (flat (format.successor i)) h =
-      by_step (exact_target (texts_of types_at types_written) (texts_of reading written) formats) (flat (format.successor i)) (tree.successor i) (λ x. refl) (λ x text rest. (λ r. r, λ r. r)) (is_successor i)
+      by_step (exact_target (texts_of types_at types_written) (texts_of reading written) formats) (flat (format.successor i)) (tree.successor i) (λ x. refl) (λ x text rest. (λ r. r, λ r. r)) (is_made (format.successor i))
   exact_piece (flat format.successors) h =
-      by_step (exact_list 44 (exact_target (texts_of types_at types_written) (texts_of reading written) formats) starts_target) (flat format.successors) tree.successors (λ x. refl) (λ x text rest. (λ r. r, λ r. r)) is_successors
+      by_step (exact_list 44 (exact_target (texts_of types_at types_written) (texts_of reading written) formats) starts_target) (flat format.successors) tree.successors (λ x. refl) (λ x text rest. (λ r. r, λ r. r)) (is_made format.successors)
   exact_piece (flat (format.attribute k)) h =
-      by_step (exact_outlined (texts_of types_at types_written) reading written formats splits (h tt) k) (flat (format.attribute k)) (tree.attribute k) (λ x. refl) (λ x text rest. (λ r. r, λ r. r)) (is_attribute k)
+      by_step (exact_outlined (texts_of types_at types_written) reading written formats splits (h tt) k) (flat (format.attribute k)) (tree.attribute k) (λ x. refl) (λ x text rest. (λ r. r, λ r. r)) (is_made (format.attribute k))
   exact_piece (flat format.dictionary) h =
-      by_step (exact_dictionary (texts_of types_at types_written) reading written formats splits) (flat format.dictionary) tree.dictionary (λ x. refl) (λ x text rest. (λ r. r, λ r. r)) is_dictionary
+      by_step (exact_dictionary (texts_of types_at types_written) reading written formats splits) (flat format.dictionary) tree.dictionary (λ x. refl) (λ x text rest. (λ r. r, λ r. r)) (is_made format.dictionary)
   exact_piece (flat (format.result_type i)) h =
-      by_step (exact_type types_at types_written (texts_of reading written) formats types_split) (flat (format.result_type i)) (tree.result_type i) (λ x. refl) (λ x text rest. (λ r. r, λ r. r)) (is_result_type i)
-  exact_piece (flat (format.region i)) h = by_none (flat (format.region i)) _ (is_no_region i)
-  exact_piece (flat format.regions) h = by_none (flat format.regions) _ is_no_regions
+      by_step (exact_type types_at types_written (texts_of reading written) formats types_split) (flat (format.result_type i)) (tree.result_type i) (λ x. refl) (λ x text rest. (λ r. r, λ r. r)) (is_made (format.result_type i))
+  exact_piece (flat (format.region i)) h = by_none (flat (format.region i)) _ (is_made (format.region i))
+  exact_piece (flat format.regions) h = by_none (flat format.regions) _ (is_made format.regions)
   exact_piece (flat format.header) h =
-      by_step (exact_symbol (texts_of types_at types_written) (texts_of reading written) formats) (flat format.header) tree.header (λ x. refl) (λ x text rest. (λ r. r, λ r. r)) is_header
+      by_step (exact_symbol (texts_of types_at types_written) (texts_of reading written) formats) (flat format.header) tree.header (λ x. refl) (λ x text rest. (λ r. r, λ r. r)) (is_made format.header)
   exact_piece types h =
       by_step (exact_list 44 (exact_type types_at types_written (texts_of reading written) formats types_split) (starts_type types_at types_written (texts_of reading written) formats types_split))
       types tree.types (λ x. tt) (λ x text rest. (λ r. r, λ r. r)) is_types

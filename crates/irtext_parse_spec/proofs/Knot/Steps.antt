@@ -15,7 +15,7 @@ use Rattle.irtext_parse_spec.specs.Heads.{Step, flat, types, one, all, step_of, 
 use Rattle.irtext_parse_spec.specs.Exact.{IsOfStep}
 use Rattle.irtext_parse_spec.specs.Reached.{steps_in, front_parts, region_parts}
 use Rattle.irtext_parse_spec.proofs.Knot.Heads.{MayUseAll}
-use Rattle.irtext_parse_spec.proofs.Exact.Pieces.{is_word, is_operands, is_successors, is_dictionary, is_types, is_no_region, is_no_regions}
+use Rattle.irtext_parse_spec.proofs.Exact.Pieces.{is_made, is_types}
 
 module _ {T A : Type 0} where
   -- the part is one that the step parses
@@ -33,8 +33,8 @@ module _ {T A : Type 0} where
 
   -- ---- a body's parts are those of its format's steps
   piece_step : (p : Piece ℕ T A) (d : Directive) → directive_of_piece p ≡ Some d → IsOfStep (step_of d) p
-  piece_step p (format.region i) e = absurd (is_no_region i p e)
-  piece_step p format.regions e = absurd (is_no_regions p e)
+  piece_step p (format.region i) e = absurd (is_made (format.region i) p e)
+  piece_step p format.regions e = absurd (is_made format.regions p e)
   piece_step p _ e = e
 
   part_step : (p : Part ℕ T A) (d : Directive) → directive p ≡ Some d → IsPartOf p (step_of d)
@@ -114,7 +114,7 @@ module _ {T A : Type 0} where
       go (p ∷ ps) k =
           let q = flat_piece (format.word w) p k.0 in
           let m = h.from ps k.1 in
-          (m.0, ap₂ ◌∷◌ (q.1 ∙ ap (λ p. tree.piece p) (sym (is_word w q.0 q.2).1)) m.1)
+          (m.0, ap₂ ◌∷◌ (q.1 ∙ ap (λ p. tree.piece p) (sym (is_made (format.word w) q.0 q.2).1)) m.1)
 
   -- all regions that are left
   regions_alone : MadeSo {X = Unit {0}} (all ∷ []) (λ x. tree.regions ∷ [])
@@ -129,9 +129,9 @@ module _ {T A : Type 0} where
 
   -- the parts of a canonical body
   canonical_so : MadeSo {X = List (Name ℕ) × (List (Name ℕ) × (List (Name ℕ × Attribute A) × (List T × (List T × Unit {0}))))} canonical_steps (λ x. parts_of (tree.canonical x.0 x.1.0 x.1.1.0 x.1.1.1.0 x.1.1.1.1.0))
-  canonical_so = word_before (codes "(") (list_before tree.operands (flat format.operands) is_operands (flat_piece format.operands)
-      (word_before (codes ")") (word_before (codes "[") (list_before tree.successors (flat format.successors) is_successors (flat_piece format.successors)
-      (word_before (codes "]") (list_before tree.dictionary (flat format.dictionary) is_dictionary (flat_piece format.dictionary)
+  canonical_so = word_before (codes "(") (list_before tree.operands (flat format.operands) (is_made format.operands) (flat_piece format.operands)
+      (word_before (codes ")") (word_before (codes "[") (list_before tree.successors (flat format.successors) (is_made format.successors) (flat_piece format.successors)
+      (word_before (codes "]") (list_before tree.dictionary (flat format.dictionary) (is_made format.dictionary) (flat_piece format.dictionary)
       (word_before (codes ":") (word_before (codes "<") (word_before (codes "(") (list_before tree.types types is_types types_piece
       (word_before (codes ")") (word_before (codes "->") (word_before (codes "(") (list_before tree.types types is_types types_piece
       (word_before (codes ")") (word_before (codes ">") regions_alone))))))))))))))))
