@@ -1,14 +1,22 @@
 -- For callers: why an operation does not fit its format, in the order in which the reasons are checked.
-use Rattle.std.specs.Prelude.{◌≡◌, ◌<◌, ◌+◌, ◌^◌, ℕ, suc, Bool, true, false, cond, not, ◌||◌, ◌==◌, nat_lt, List, [], ◌∷◌, ◌++◌, length, codes, decimal, Option, Some, None, is_none, Result, Ok, Err, ⊤}
+use Rattle.std.specs.Prelude.{◌≡◌, ◌<◌, ◌+◌, ◌^◌, ℕ, suc, Bool, true, false, cond, not, ◌||◌, ◌==◌, nat_lt, List, [], ◌∷◌, ◌++◌, length, codes, decimal, Option, Some, None, is_none, Result, Ok, Err, IfSome, ⊤}
 use Rattle.irtext_base.specs.Text.{Text}
 use Rattle.irtext_base.specs.Format as format
 use Rattle.irtext_base.specs.Format.{Format, Directive, Id, count, operand_places, successor_places, type_places, is_operands, is_successors, is_dictionary}
+use Rattle.irtext_base.specs.declared.text.AttrText as attr_text
+use Rattle.irtext_context.specs.Context.{ContextView}
+use Rattle.irtext_graph.specs.Parts.{regions}
+use Rattle.irtext_graph.specs.declared.arena.Ptr.{Ptr}
+use Rattle.irtext_graph.specs.declared.object.Operation.{Operation}
+use Rattle.irtext_grammar.specs.Contexts.Formats.{isolated}
+use Rattle.irtext_grammar.specs.Contexts.Nested.{seen_own}
 use Rattle.irtext_grammar.specs.Grammar.Tree.{Attribute}
 use Rattle.irtext_grammar.specs.Graphs.Closed.{FitsFormat}
 use Rattle.irtext_grammar.specs.Graphs.Graph.{GraphOp, Printing, outlined}
 use Rattle.irtext_print.specs.Printers.FitFaults.{first_key, missing_key}
 use Rattle.irtext_print.specs.Printers.PieceText.{outlining, is_key_written}
 use Rattle.irtext_print.specs.Printers.PrintedOperation.{regions_fit, symbol_fits}
+use Rattle.irtext_print_ops.specs.Names.{printing_by}
 use Rattle.irtext_print_ops.specs.declared.fits.Counts.{Counts}
 use Rattle.irtext_print_ops.specs.declared.fits.FitFault.{FitFault}
 use Rattle.irtext_print_ops.specs.declared.fits.FitFault.TheVariants as fault
@@ -164,3 +172,12 @@ module _ {T A : Type 0} (C : Printing T A) (isolated : Id → Bool) (o : GraphOp
     pub first : first_reason (C.format_of o.id) ≡ Some (number_of reason)
     pub names : NamesIn (C.format_of o.id) reason
     pub unfit : FitsOwn → ⊥
+
+module _ {T A : Type 0} (written : A → Text) (attributes : attr_text.Ghosts A A) (same : A → A → Bool) (ctx : ContextView T A) (p : Ptr Operation) where
+  -- a live operation of a context fits its format
+  abbrev pub FitsIn : Type 0
+  FitsIn = IfSome (seen_own written ctx p) (λ o. FitsOwn (printing_by attributes same ctx) (isolated ctx.dialects) o (length (regions ctx.graph p)))
+
+  -- a live operation of a context does not fit its format, and this is the first reason
+  abbrev pub IsFirstReasonIn : FitFault → Type 0
+  IsFirstReasonIn reason = IfSome (seen_own written ctx p) (λ o. IsFirstReason (printing_by attributes same ctx) (isolated ctx.dialects) o (length (regions ctx.graph p)) reason)

@@ -17,7 +17,7 @@ ghost use Rattle.irtext_print_ops.specs.declared.lists.Listed.TheVariants.{Opera
 use crate::lists::Listed;
 use crate::printer::Printer;
 use irtext_base::text::{AttrText, IrText};
-use irtext_context::base::{Context, Operation, OperationAccess, Ptr};
+use irtext_context::base::{Operation, OperationAccess, Ptr};
 use irtext_print::ir::print::pieces::fmt_entries;
 use irtext_print::printable::Refusal;
 use irtext_print::printable::refusal::memory_alone;
@@ -37,7 +37,7 @@ impl<'c, T: IrText<A>, A: AttrText<A>> Printer<'c, T, A> {
         self.fmt_enclosed(Listed::Successors(op), ") [", "] [", ") [] [", f)
     }
 
-    /// Appends what follows the id in the canonical form, as [`fmt_canonical_front`] does.
+    /// Appends what follows the id in the canonical form, as [`fmt_canonical_front`](Self::fmt_canonical_front) does.
     fn fmt_canonical(self, op: Ptr<Operation>, f: &mut String) -> fmt::Result
         requires live { IsSome (operation self.ctx.now op) }
         ensures { OnOk result (IfSome (seen_own A.IrText.written self.entry.ctx.now op) (λ o.
@@ -53,20 +53,16 @@ impl<'c, T: IrText<A>, A: AttrText<A>> Printer<'c, T, A> {
         f.push_str(")>")?;
         Ok(())
     }
-}
 
-/// Appends what follows the id in the canonical form, before the regions: the names of the operands, the labels of the successors, the
-/// dictionary, and the types of operands and results: ` () [] []: <() -> (test.ptr )>`. The error is always `Memory`.
-pub fn fmt_canonical_front<T: IrText<A>, A: AttrText<A>>(
-    ctx: &Context<T, A>,
-    op: Ptr<Operation>,
-    f: &mut String,
-) -> Result<(), Refusal>
-    requires live { IsSome (operation ctx.now op) }
-    ensures text { OnOk result (IfSome (seen_own A.IrText.written ctx.now op) (λ o. AppendsText f.old
-        (body_front (language_in T.IrText.own A.IrText.own ctx.now)
-        (body_of (printing_by A.AttrText.own A.eq ctx.now) o (Some format.canonical))) f.new)) }
-    ensures refused { IfErr result (λ e. e ≡ refusal.Memory) }
-{
-    memory_alone(Printer { ctx }.fmt_canonical(op, f))
+    /// Appends what follows the id in the canonical form, before the regions: the names of the operands, the labels of the successors, the
+    /// dictionary, and the types of operands and results: ` () [] []: <() -> (test.ptr )>`. The error is always `Memory`.
+    pub fn fmt_canonical_front(self, op: Ptr<Operation>, f: &mut String) -> Result<(), Refusal>
+        requires live { IsSome (operation self.ctx.now op) }
+        ensures text { OnOk result (IfSome (seen_own A.IrText.written self.entry.ctx.now op) (λ o.
+            AppendsText f.old (body_front (language_in T.IrText.own A.IrText.own self.entry.ctx.now)
+            (body_of (printing_by A.AttrText.own A.eq self.entry.ctx.now) o (Some format.canonical))) f.new)) }
+        ensures refused { IfErr result (λ e. e ≡ refusal.Memory) }
+    {
+        memory_alone(self.fmt_canonical(op, f))
+    }
 }

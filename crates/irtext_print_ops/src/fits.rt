@@ -5,14 +5,13 @@ ghost use Rattle.irtext_base.specs.FormatViews.{directive_of, directives_of};
 ghost use Rattle.irtext_graph.specs.Graph.{IsLive};
 ghost use Rattle.irtext_graph.specs.Parts.{regions};
 ghost use Rattle.irtext_graph.specs.declared.object.Object.TheVariants.{TheOperation};
-ghost use Rattle.irtext_grammar.specs.Contexts.Formats.{format_of, isolated};
+ghost use Rattle.irtext_grammar.specs.Contexts.Formats.{format_of};
 ghost use Rattle.irtext_grammar.specs.Contexts.Held.{attribute_of, entries_of, known_types};
 ghost use Rattle.irtext_grammar.specs.Contexts.Nested.{seen_own};
 ghost use Rattle.irtext_print.specs.Printers.FitFaults.{missing_key};
 ghost use Rattle.irtext_print.specs.Printers.PrintedOperation.{has_symbol};
 ghost use Rattle.irtext_print_ops.specs.Fits as fits;
 ghost use Rattle.irtext_print_ops.specs.Listed as texts;
-ghost use Rattle.irtext_print_ops.specs.Names.{printing_by};
 ghost use Rattle.irtext_print_ops.specs.declared.lists.Listed.TheVariants as listed;
 
 use crate::lists::Listed;
@@ -314,12 +313,8 @@ pub fn fitting_directives<'c, T: IrText<A>, A: AttrText<A>>(
     ensures format { IfOk result (λ found. IfSome (seen_own A.IrText.written ctx.now op) (λ o.
         format_of ctx.now.dialects o.id ≡ Some (fits.format_by
         (option_map (λ ds. directives_of ds.now) found)))) }
-    ensures fits { OnOk result (IfSome (seen_own A.IrText.written ctx.now op) (λ o.
-        fits.FitsOwn (printing_by A.AttrText.own A.eq ctx.now) (isolated ctx.now.dialects) o
-        (length (regions ctx.now.graph op)))) }
-    ensures fault { IfErr result (λ reason. IfSome (seen_own A.IrText.written ctx.now op) (λ o.
-        fits.IsFirstReason (printing_by A.AttrText.own A.eq ctx.now) (isolated ctx.now.dialects) o
-        (length (regions ctx.now.graph op)) reason)) }
+    ensures fits { OnOk result (fits.FitsIn A.IrText.written A.AttrText.own A.eq ctx.now op) }
+    ensures fault { IfErr result (fits.IsFirstReasonIn A.IrText.written A.AttrText.own A.eq ctx.now op) }
 {
     let Some(info) = ctx.op_info(op.get_opid(ctx)) else {
         return Err(FitFault::NotRegistered);
@@ -345,12 +340,8 @@ pub fn check_fits<'c, T: IrText<A>, A: AttrText<A>>(
     op: Ptr<Operation>,
 ) -> Result<(), FitFault<'c>>
     requires live { IsSome (operation ctx.now op) }
-    ensures fits { OnOk result (IfSome (seen_own A.IrText.written ctx.now op) (λ o.
-        fits.FitsOwn (printing_by A.AttrText.own A.eq ctx.now) (isolated ctx.now.dialects) o
-        (length (regions ctx.now.graph op)))) }
-    ensures fault { IfErr result (λ reason. IfSome (seen_own A.IrText.written ctx.now op) (λ o.
-        fits.IsFirstReason (printing_by A.AttrText.own A.eq ctx.now) (isolated ctx.now.dialects) o
-        (length (regions ctx.now.graph op)) reason)) }
+    ensures fits { OnOk result (fits.FitsIn A.IrText.written A.AttrText.own A.eq ctx.now op) }
+    ensures fault { IfErr result (fits.IsFirstReasonIn A.IrText.written A.AttrText.own A.eq ctx.now op) }
 {
     match fitting_directives(ctx, op) {
         Ok(_directives) => Ok(()),

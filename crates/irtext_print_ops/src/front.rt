@@ -5,9 +5,8 @@ ghost use Rattle.irtext_print.specs.Printers.Appended.{AppendsText};
 ghost use Rattle.irtext_print.specs.declared.printable.refusal.Refusal.TheVariants as refusal;
 ghost use Rattle.irtext_print_ops.specs.Heads as heads;
 
-use crate::canonical::fmt_canonical_front;
 use crate::fits::fitting_directives;
-use crate::results::fmt_results;
+use crate::printer::Printer;
 use irtext_base::format::Directive;
 use irtext_base::text::{AttrText, IrText};
 use irtext_context::base::{Context, Operation, OperationAccess, Ptr};
@@ -29,12 +28,13 @@ fn fmt_front<T: IrText<A>, A: AttrText<A>>(
         f.new) }
     ensures refused { IfErr result (λ e. e ≡ refusal.Memory) }
 {
-    fmt_results(ctx, op, f)?;
+    let printer = Printer { ctx };
+    printer.fmt_results(op, f)?;
     fmt_id(op.get_opid(ctx), f)?;
     if !canonical {
         return Ok(());
     }
-    fmt_canonical_front(ctx, op, f)
+    printer.fmt_canonical_front(op, f)
 }
 
 /// Returns the directives of an operation's format, or `None` if it is printed in the canonical form. The error is always `Misfit`: the

@@ -17,7 +17,7 @@ ghost use Rattle.irtext_print_ops.specs.declared.lists.Listed.TheVariants.{Resul
 use crate::lists::Listed;
 use crate::printer::Printer;
 use irtext_base::text::{AttrText, IrText};
-use irtext_context::base::{Context, Operation, Ptr};
+use irtext_context::base::{Operation, Ptr};
 use irtext_print::printable::Refusal;
 use irtext_print::printable::refusal::memory_alone;
 use std::fmt;
@@ -36,21 +36,16 @@ impl<'c, T: IrText<A>, A: AttrText<A>> Printer<'c, T, A> {
         f.push_str(" = ")?;
         Ok(())
     }
-}
 
-/// Appends the names of an operation's results with `, ` between them, and ` = `: `x_v0, y_v1 = `. Nothing is appended if it has no
-/// result with a known type. The error is always `Memory`.
-pub fn fmt_results<T: IrText<A>, A: AttrText<A>>(
-    ctx: &Context<T, A>,
-    op: Ptr<Operation>,
-    f: &mut String,
-) -> Result<(), Refusal>
-    requires live { IsSome (operation ctx.now op) }
-    ensures text { OnOk result (IfSome (seen_own A.IrText.written ctx.now op) (λ o. AppendsText f.old
-        (results (language_in T.IrText.own A.IrText.own ctx.now)
-        (map (λ r. value (printing_by A.AttrText.own A.eq ctx.now) r.0) o.results))
-        f.new)) }
-    ensures refused { IfErr result (λ e. e ≡ refusal.Memory) }
-{
-    memory_alone(Printer { ctx }.fmt_defined(op, f))
+    /// Appends the names of an operation's results with `, ` between them, and ` = `: `x_v0, y_v1 = `. Nothing is appended if it has no
+    /// result with a known type. The error is always `Memory`.
+    pub fn fmt_results(self, op: Ptr<Operation>, f: &mut String) -> Result<(), Refusal>
+        requires live { IsSome (operation self.ctx.now op) }
+        ensures text { OnOk result (IfSome (seen_own A.IrText.written self.entry.ctx.now op) (λ o.
+            AppendsText f.old (results (language_in T.IrText.own A.IrText.own self.entry.ctx.now)
+            (map (λ r. value (printing_by A.AttrText.own A.eq self.entry.ctx.now) r.0) o.results)) f.new)) }
+        ensures refused { IfErr result (λ e. e ≡ refusal.Memory) }
+    {
+        memory_alone(self.fmt_defined(op, f))
+    }
 }

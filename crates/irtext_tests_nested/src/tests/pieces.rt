@@ -4,14 +4,13 @@ use irtext_base::format::Directive;
 use irtext_context::base::{BasicBlock, Operation, OperationAccess, Ptr, Value};
 use irtext_graph::held::HasGraph;
 use irtext_print_ops::block_heads::fmt_block_head;
-use irtext_print_ops::canonical::fmt_canonical_front;
 use irtext_print_ops::fits::check_fits;
 use irtext_print_ops::formats::{directives_in, is_canonical};
 use irtext_print_ops::front::begin_front;
 use irtext_print_ops::marks::{is_block_marked, is_operation_marked};
 use irtext_print_ops::names::{fmt_block_label, fmt_value_name};
 use irtext_print_ops::pieces::fmt_piece;
-use irtext_print_ops::results::fmt_results;
+use irtext_print_ops::printer::Printer;
 use irtext_tests_common::building::{live, live_block};
 use irtext_tests_common::contexts::{Ctx, with_context};
 use irtext_tests_common::tables::failing;
@@ -121,9 +120,9 @@ fn piece(ctx: &Ctx, op: Ptr<Operation>, index: usize, text: &mut String) -> Resu
 fn of_operation(ctx: &Ctx, op: Ptr<Operation>, call: Call, text: &mut String) -> Result<(), Fail> {
     live(ctx, op)?;
     let answer = match call {
-        Call::Results(_) => fmt_results(ctx, op, text),
+        Call::Results(_) => Printer { ctx }.fmt_results(op, text),
         Call::Front(_) => begin_front(ctx, op, text).map(|_| ()),
-        _ => fmt_canonical_front(ctx, op, text),
+        _ => Printer { ctx }.fmt_canonical_front(op, text),
     };
     Ok(answer.ok().ok_or("refused")?)
 }
