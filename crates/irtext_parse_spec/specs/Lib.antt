@@ -4,7 +4,6 @@ pub mod Agrees
 pub mod Back
 pub mod Both
 pub mod Building
-pub mod Causes
 pub mod ContextParts
 pub mod Entries
 pub mod Exact

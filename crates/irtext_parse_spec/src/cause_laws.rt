@@ -5,7 +5,7 @@ ghost use Rattle.irtext_base.specs.Faults.{Fault};
 ghost use Rattle.irtext_context.specs.Dialects.{Table};
 ghost use Rattle.irtext_tokens.specs.AttrTexts.{attr_at};
 ghost use Rattle.irtext_grammar.specs.Names.Acts.{Rule};
-ghost use Rattle.irtext_parse_spec.specs.Causes.{CauseAt, IsCauseOf};
+ghost use Rattle.irtext_parse_spec.specs.Promises.ErrorCauses.{CauseAt, IsCauseOf};
 ghost use Rattle.irtext_parse_spec.specs.Entries.{section_at};
 ghost use Rattle.irtext_parse_spec.specs.Promises.Supported.{RefusedAs};
 ghost use Rattle.irtext_parse_spec.specs.Reached.{Stopped, Actions, operation_at, region_at};

@@ -4,18 +4,18 @@ use Rattle.irtext_base.specs.Text.{Text}
 use Rattle.irtext_base.specs.Faults.{Fault}
 use Rattle.irtext_base.specs.Answers.{Outcome, Read, Missing, Bad}
 use Rattle.irtext_base.specs.Own.{Sincere}
-use Rattle.irtext_base.proofs.Sincere.{Of, of_sincere}
+use Rattle.irtext_base.proofs.Sincere.{Of, of_sincere, first_of_text}
 use Rattle.irtext_context.specs.Dialects.{Table}
 use Rattle.irtext_tokens.specs.AttrTexts.{attr_at}
 use Rattle.irtext_tokens.specs.Infix.{Reader}
 use Rattle.irtext_base.specs.Paths.{Written}
 use Rattle.irtext_grammar.specs.Grammar.Section.{Entry}
 use Rattle.irtext_grammar.specs.Names.Acts.{Rule}
-use Rattle.irtext_parse_spec.specs.Causes.{IsLeft, Returns, missing, bad, ReturnsIn, CauseAt, of_token, of_name, no_dialect, no_operation, of_type, of_attribute, IsCauseOf}
+use Rattle.irtext_parse_spec.specs.Promises.ErrorCauses.{IsLeft, missing, bad, ReturnsIn, CauseAt, of_token, of_name, no_dialect, no_operation, of_type, of_attribute, IsCauseOf}
 use Rattle.irtext_parse_spec.specs.Heads.{led_at}
 use Rattle.irtext_parse_spec.specs.Entries.{section_at}
 use Rattle.irtext_parse_spec.specs.Promises.Supported.{RefusedAs}
-use Rattle.irtext_parse_spec.specs.Reached.{Reached, Advanced, Stopped, Actions, region_at, operation_at}
+use Rattle.irtext_parse_spec.specs.Reached.{Reached, Stopped, Actions, region_at, operation_at}
 use Rattle.irtext_parse_spec.proofs.Causes.Outcomes.{Allowed, Obeys, AllObey, obeys_read, obeys_missing, obeys_bad}
 use Rattle.irtext_parse_spec.proofs.Causes.Parts.{attr_obeys, led_obeys}
 use Rattle.irtext_parse_spec.proofs.Causes.Section.{section_obeys}
@@ -26,10 +26,11 @@ left_longer : (front text left : Text) → IsLeft text left → IsLeft (front ++
 left_longer front text left h = (front ++ h.0, append_assoc front h.0 left ∙ ap (λ z. front ++ z) h.1)
 
 returns_longer : {X : Type 0} (parser : Reader X) (front text : Text) (cause : Fault) (left : Text) → ReturnsIn parser text cause left → ReturnsIn parser (front ++ text) cause left
-returns_longer parser front text cause left h = record { start = h.start; later = left_longer front text h.start h.later; returns = h.returns }
+returns_longer parser front text cause left h = record { start = h.start; later = left_longer front text h.start h.later; returns = h.returns; allowed = h.allowed }
 
 module _ {T A : Type 0} (dialects : List (Text × Table)) (types_at : Reader T) (owns_at : Reader A) where
-  cause_longer : (front text : Text) (cause : Fault) (left : Text) → CauseAt dialects types_at owns_at text cause left → CauseAt dialects types_at owns_at (front ++ text) cause left
+  -- a cause of what is left of a text is one of the text
+  pub cause_longer : (front text : Text) (cause : Fault) (left : Text) → CauseAt dialects types_at owns_at text cause left → CauseAt dialects types_at owns_at (front ++ text) cause left
   cause_longer front text cause left (of_token e l) = of_token e (left_longer front text left l)
   cause_longer front text cause left (of_name e l) = of_name e (left_longer front text left l)
   cause_longer front text cause left (no_dialect d l) = no_dialect d (left_longer front text left l)
@@ -49,9 +50,9 @@ module _ {T A : Type 0} (dialects : List (Text × Table)) (types_at : Reader T) 
   module _ {X : Type 0} (parser : Reader X) (gives : (text : Text) (cause : Fault) (left : Text) → ReturnsIn parser text cause left → CauseAt dialects types_at owns_at text cause left) where
     parser_obeys : (text : Text) (o : Outcome X) → parser text ≡ o → Of text o → Obeys K text o
     parser_obeys text (Read x taken left) e h = obeys_read text x taken left h.says
-    parser_obeys text (Missing cause) e h = obeys_missing text cause (gives text cause text (record { start = text; later = ([], refl); returns = missing e refl }))
+    parser_obeys text (Missing cause) e h = obeys_missing text cause (gives text cause text (record { start = text; later = ([], refl); returns = missing e refl; allowed = first_of_text cause h.says }))
     parser_obeys text (Bad cause upto) e h = obeys_bad text cause upto h.says.1.0 h.says.1.1
-        (gives text cause h.says.1.0 (record { start = text; later = ([], refl); returns = bad upto e h.says.1.1 }))
+        (gives text cause h.says.1.0 (record { start = text; later = ([], refl); returns = bad upto e h.says.1.1; allowed = h.says.0 }))
 
   module _ (sincere_types : Sincere types_at) (sincere : Sincere owns_at) where
     types_obey : AllObey K types_at
@@ -63,6 +64,7 @@ module _ {T A : Type 0} (dialects : List (Text × Table)) (types_at : Reader T) 
     leads_obey : AllObey K (led_at dialects)
     leads_obey = led_obeys K dialects (λ text cause left d l. no_dialect d l) (λ text cause left d l. no_operation d l)
 
+    -- a parse that is stuck has such a cause
     stuck : {X S : Type 0} (text : Text) (o : Reached X S) (s : S) (cause : Fault) (place : ℕ) → o ≡ Stopped s cause place → Ends K text o → IsCauseOf dialects types_at owns_at text cause place
     stuck text o s cause place e h = (subst (Ends K text) e h).says
 

@@ -1,8 +1,7 @@
 -- The causes at which a parse of nested text is stuck, and their places.
-use Rattle.std.proofs.Common.{◌≡◌, ◌∙◌, ◌-◌, ℕ, zero, suc, ◌≤◌, ◌<◌, Bool, true, false, cond, List, [], ◌∷◌, ◌++◌, codes, length, length-append, refl, sym, ap, subst, append_assoc, le_refl, arith}
+use Rattle.std.proofs.Common.{◌≡◌, ◌∙◌, ◌-◌, ℕ, zero, suc, ◌≤◌, ◌<◌, Bool, true, false, cond, List, [], ◌∷◌, ◌++◌, codes, length, length-append, refl, ap, subst, append_assoc, le_refl, arith}
 use Rattle.std.specs.Char.{is_whitespace}
-use Rattle.irtext_base.specs.Text.{Text, begins, front, after_space}
-use Rattle.irtext_base.specs.Reading.{the}
+use Rattle.irtext_base.specs.Text.{Text, front, after_space}
 use Rattle.irtext_base.specs.Format.{Id}
 use Rattle.irtext_base.specs.Faults.{Fault}
 use Rattle.irtext_base.specs.Answers.{Outcome, Read, Missing, Bad}
@@ -10,14 +9,14 @@ use Rattle.irtext_base.specs.Locations.{AttrView}
 use Rattle.irtext_base.proofs.Along.{front_after}
 use Rattle.irtext_context.specs.Dialects.{Table}
 use Rattle.irtext_tokens.specs.Infix.{Reader, ◌▷◌}
-use Rattle.irtext_tokens.specs.Tokens.{space_at, word}
+use Rattle.irtext_tokens.specs.Tokens.{space_at}
 use Rattle.irtext_grammar.specs.Contexts.Formats.{isolated}
 use Rattle.irtext_grammar.specs.Grammar.Tree as tree
-use Rattle.irtext_grammar.specs.Grammar.Tree.{Name, Part, Piece}
+use Rattle.irtext_grammar.specs.Grammar.Tree.{Name, Part}
 use Rattle.irtext_parse_spec.specs.Readers.Parts.{without_first}
 use Rattle.irtext_parse_spec.specs.Readers.RestLengths.{Leaves}
-use Rattle.irtext_parse_spec.specs.Heads.{Step, flat, types, one, all, front_steps, region_steps, piece_at, head_at, led_at}
-use Rattle.irtext_parse_spec.specs.Reached.{Reached, Advanced, Stopped, came, tells, Actions, Reads, begins_operation, begins_region, begins_block, steps_in, regions_by, more_by, operations_by, blocks_by, front_by, steps_by, end_by, body_by, operation_by, block_by, region_by, region_within, region_at, operation_at}
+use Rattle.irtext_parse_spec.specs.Heads.{Step, flat, types, one, all, front_steps, region_steps, piece_at, led_at}
+use Rattle.irtext_parse_spec.specs.Reached.{Reached, Advanced, Stopped, came, tells, Actions, Reads, begins_operation, steps_in, regions_by, more_by, operations_by, blocks_by, front_by, steps_by, end_by, body_by, operation_by, block_by, region_by, region_within, region_at, operation_at}
 use Rattle.irtext_parse_spec.proofs.Knot.Alike.{IsLoop}
 use Rattle.irtext_parse_spec.proofs.Knot.Bound.{regions_loop, more_loop, blocks_loop}
 use Rattle.irtext_parse_spec.proofs.Knot.Leaving.{brace_leaves}

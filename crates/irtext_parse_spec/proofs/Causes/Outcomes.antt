@@ -12,10 +12,10 @@ use Rattle.irtext_base.proofs.Sincere.{Of}
 use Rattle.irtext_tokens.specs.Demanded.{spaced_at, index_at}
 use Rattle.irtext_tokens.specs.Infix.{Reader, nothing, either, ◌▷◌, ◌◁◌, ◌▶◌, ◌⇒◌}
 use Rattle.irtext_tokens.specs.ListOutcomes.{or_empty, item_after, items_after, separated_at}
-use Rattle.irtext_tokens.specs.QuotedTexts.{escape_of, escaped, named, closed, braced, unicode_at, escape_at, unit_at, after_first, unit_before, units_at, quoted_at}
-use Rattle.irtext_tokens.specs.Tokens.{space_at, word_at, word, spelled_at, number_at, digits_at, numbered, no_digit, sign_of, after_sign, value_of, integer_at, integered, no_integer, integer_of, id_at, id_with}
+use Rattle.irtext_tokens.specs.QuotedTexts.{escape_of, escaped, closed, braced, unicode_at, escape_at, unit_at, after_first, unit_before, units_at, quoted_at}
+use Rattle.irtext_tokens.specs.Tokens.{space_at, word_at, word, spelled_at, number_at, numbered, no_digit, sign_of, after_sign, value_of, integer_at, integered, no_integer, integer_of, id_at, id_with}
 use Rattle.irtext_tokens.proofs.Honest.{CauseIs, Honest, honest_word, honest_space, honest_name, honest_number, honest_integer, honest_quoted}
-use Rattle.irtext_parse_spec.specs.Causes.{is_token_fault, is_name_fault}
+use Rattle.irtext_parse_spec.specs.Promises.ErrorCauses.{is_token_fault, is_name_fault}
 
 -- which causes are allowed at which places of a text, given by what is left there: those of tokens and about names everywhere; and what is
 -- allowed for a text is allowed for a longer one that ends so

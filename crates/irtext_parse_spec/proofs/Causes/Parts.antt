@@ -10,18 +10,18 @@ use Rattle.irtext_base.specs.Answers.{Outcome, Read, Missing, Bad}
 use Rattle.irtext_base.specs.Locations.{AttrView, given_names, ident, own}
 use Rattle.irtext_context.specs.Dialects.{Table}
 use Rattle.irtext_context.specs.DialectTable.{dialect_of, registered}
-use Rattle.irtext_tokens.specs.AttrTexts.{leads, given_name_at, names_at, given_names_at, ident_at, attr_at}
+use Rattle.irtext_tokens.specs.AttrTexts.{leads, given_name_at, given_names_at, ident_at, attr_at}
 use Rattle.irtext_tokens.specs.Infix.{Reader}
 use Rattle.irtext_tokens.specs.Tokens.{id_at}
 use Rattle.irtext_grammar.specs.Contexts.Formats.{op_id}
 use Rattle.irtext_grammar.specs.Grammar.Tree.{Name}
-use Rattle.irtext_parse_spec.specs.Causes.{IsLeft, NoDialect, NoOperation}
+use Rattle.irtext_parse_spec.specs.Promises.ErrorCauses.{IsLeft, NoDialect, NoOperation}
 use Rattle.irtext_parse_spec.specs.Readers.Directives.{attribute_at}
 use Rattle.irtext_parse_spec.specs.Readers.Marker.{marker, starts_with}
 use Rattle.irtext_parse_spec.specs.Readers.Operations.{registered_after}
 use Rattle.irtext_parse_spec.specs.Readers.Parts.{after_lead}
 use Rattle.irtext_parse_spec.specs.Heads.{name_at, label_at, symbol_at, mark_at, mark_if_at, outside, used_at, target_at, pair_at, dictionary_at, outlined_or_at, Step, flat, types, one, all, directive_at, piece_at, argument_at, dictionary_if_at, head_at, results_at, named, lead_at, led_by, led_at}
-use Rattle.irtext_parse_spec.proofs.Causes.Outcomes.{Allowed, Obeys, AllObey, obeys_read, obeys_missing, obeys_bad, obeys_prefixed, obeys_mapped, ◌then◌, ◌kept◌, ◌so◌, seen, obeying_either, obeying_nothing, obeying_word, obeying_space, obeying_name, obeying_id, obeying_spaced, obeying_index, obeying_separated}
+use Rattle.irtext_parse_spec.proofs.Causes.Outcomes.{Allowed, Obeys, AllObey, obeys_read, obeys_missing, obeys_bad, obeys_mapped, ◌then◌, ◌kept◌, ◌so◌, seen, obeying_either, obeying_nothing, obeying_word, obeying_space, obeying_name, obeying_id, obeying_spaced, obeying_index, obeying_separated}
 
 -- ---- names and marks
 module _ {K : Allowed} where

@@ -1,5 +1,5 @@
 -- The causes that the parsers of locations and of the section return, and their places.
-use Rattle.std.proofs.Common.{◌≡◌, ℕ, zero, suc, Bool, true, false, not, ◌&&◌, cond, Some, None, List, [], ◌∷◌, ◌++◌, length, codes, refl, subst}
+use Rattle.std.proofs.Common.{◌≡◌, ℕ, zero, suc, Bool, true, not, ◌&&◌, Some, None, List, [], ◌∷◌, ◌++◌, length, codes, refl, subst}
 use Rattle.std.proofs.lemmas.List.{take-append-drop}
 use Rattle.std.specs.Prelude.{◌-◌, Option, take, drop}
 use Rattle.irtext_base.specs.Text.{Text, begins}
@@ -15,11 +15,10 @@ use Rattle.irtext_grammar.specs.Grammar.Tree.{Name, Mark}
 use Rattle.irtext_grammar.specs.Names.Acts.{Rule}
 use Rattle.irtext_grammar.specs.Names.Script as script
 use Rattle.irtext_grammar.specs.Names.Script.{Cause, Failure}
-use Rattle.irtext_parse_spec.specs.Causes.{is_name_fault}
+use Rattle.irtext_parse_spec.specs.Promises.ErrorCauses.{is_name_fault}
 use Rattle.irtext_parse_spec.specs.Readers.Positions.{labelled_at, position_at}
 use Rattle.irtext_parse_spec.specs.Readers.Locations.{WrittenRow, bytes_at, source_at, name_at, place_at, metadata_at, after_location, row_of, row_at, more_at, fused_at, named_at, call_site_at, kind_at, location_within, more_within, location_at}
 use Rattle.irtext_parse_spec.specs.Readers.Section.{entry_location_at}
-use Rattle.irtext_parse_spec.specs.Heads.{mark_at}
 use Rattle.irtext_parse_spec.specs.Entries.{item_at, pair_at, is_allowed, kept, begins_given, tested, entry_head_at, pairs_at, given_at, entry_at, may_have, fault_for, upto, wrong_references, unless_wrong, referred, entries_after, entries_at, section_at}
 use Rattle.irtext_parse_spec.proofs.Causes.Outcomes.{Allowed, Obeys, AllObey, obeys_read, obeys_missing, obeys_bad, obeys_either, obeys_prefixed, obeys_followed, ◌then◌, ◌kept◌, ◌so◌, seen, obeying_either, obeying_nothing, obeying_word, obeying_space, obeying_integer, obeying_quoted, obeying_spaced, obeying_separated}
 use Rattle.irtext_parse_spec.proofs.Causes.Parts.{name_obeys, mark_obeys, attribute_obeys}

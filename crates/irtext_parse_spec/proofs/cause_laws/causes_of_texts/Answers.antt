@@ -1,4 +1,3 @@
-use Rattle.irtext_tokens.specs.AttrTexts.{attr_at}
 use Rattle.irtext_parse_spec.proofs.Causes.Found.{operation_cause, region_cause, section_cause}
 use Rattle.irtext_parse_spec.proofs.cause_laws.causes_of_texts.Goals as goal
 

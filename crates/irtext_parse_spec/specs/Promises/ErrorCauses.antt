@@ -2,11 +2,15 @@
 use Rattle.std.specs.Prelude.{◌≡◌, ℕ, Bool, true, false, is_some, List, ◌++◌, length}
 use Rattle.irtext_base.specs.Text.{Text}
 use Rattle.irtext_base.specs.Format.{Id}
-use Rattle.irtext_base.specs.Faults.{Fault, Unexpected, NumberRange, BadEscape, BadUnicodeEscape, UnregisteredDialect, UnregisteredOp, ResultCount, NoActiveScope, Unresolved, MultipleDefinitions, NotIsolated, DuplicateIndex, UnknownIndex, UnknownPrintOnce, ReservedKey}
+use Rattle.irtext_base.specs.Stream.{StreamView}
+use Rattle.irtext_base.specs.Faults.{Fault, fault_of, Memory, Failed, Unexpected, NumberRange, BadEscape, BadUnicodeEscape, UnregisteredDialect, UnregisteredOp, ResultCount, NoActiveScope, Unresolved, MultipleDefinitions, NotIsolated, DuplicateIndex, UnknownIndex, UnknownPrintOnce, ReservedKey}
 use Rattle.irtext_base.specs.Answers.{Read, Missing, Bad}
+use Rattle.irtext_base.specs.Own.{is_text_fault}
+use Rattle.irtext_base.specs.declared.parsable.fault.ParseFault.{ParseFault}
 use Rattle.irtext_context.specs.Dialects.{Table}
 use Rattle.irtext_context.specs.DialectTable.{dialect_of, registered}
 use Rattle.irtext_grammar.specs.Contexts.Formats.{op_id}
+use Rattle.irtext_grammar.specs.Contexts.Held.{whole, IsPosition}
 use Rattle.irtext_grammar.specs.Grammar.Tree.{Name}
 use Rattle.irtext_tokens.specs.Infix.{Reader}
 use Rattle.irtext_tokens.specs.Tokens.{id_at}
@@ -33,22 +37,23 @@ is_name_fault (UnknownPrintOnce index) = true
 is_name_fault (ReservedKey key) = true
 is_name_fault _ = false
 
--- the second text is what is left of the first somewhere
+-- the second text is what is left of the first at some place
 abbrev pub IsLeft : Text → Text → Type 0
 IsLeft text left = (front : Text) × (front ++ left ≡ text)
 
--- a parser returns this cause at this place: nothing that it parses begins there, or something begins before and is bad there
+-- a parser that starts with this text returns this cause at this place: nothing that it parses begins, or what begins is bad there
 pub data Returns {X : Type 0} (parser : Reader X) (start : Text) (cause : Fault) (left : Text) : Type 0 where
   missing : parser start ≡ Missing cause → left ≡ start → Returns parser start cause left
   bad : (upto : Text) → parser start ≡ Bad cause upto → upto ++ left ≡ start → Returns parser start cause left
 
--- a parser returns this cause at this place of a text, when it parses what is left of the text somewhere
+-- a caller's parser that starts at some place of the text returns this cause at this place; the cause is one that such a parser may return
 pub record ReturnsIn {X : Type 0} (parser : Reader X) (text : Text) (cause : Fault) (left : Text) : Type 0 where
   pub start : Text
   pub later : IsLeft text start
   pub returns : Returns parser start cause left
+  pub allowed : is_text_fault cause ≡ true
 
--- an id begins here, and no dialect with the id's dialect name is registered
+-- an id begins here, whose dialect is not registered
 pub record NoDialect (dialects : List (Text × Table)) (cause : Fault) (left : Text) : Type 0 where
   pub id : Id
   pub taken : Text
@@ -57,7 +62,7 @@ pub record NoDialect (dialects : List (Text × Table)) (cause : Fault) (left : T
   pub unknown : is_some (dialect_of dialects id.dialect) ≡ false
   pub is : cause ≡ UnregisteredDialect id.dialect
 
--- an operation begins here, whose id is not registered, but its dialect is; names of results may precede the id
+-- an operation begins here, whose dialect is registered, but no operation with its id; names of results may precede the id
 pub record NoOperation (dialects : List (Text × Table)) (cause : Fault) (left : Text) : Type 0 where
   pub names : List (Name ℕ)
   pub lead : Text
@@ -82,7 +87,14 @@ module _ {T A : Type 0} (dialects : List (Text × Table)) (types_at : Reader T) 
     of_type : ReturnsIn types_at text cause left → CauseAt text cause left
     of_attribute : ReturnsIn owns_at text cause left → CauseAt text cause left
 
-  -- The cause of an error at this place, the number of characters from it to the end of the text, is one that an error of the text can
-  -- have there.
+  -- the same, where a place is the number of characters from it to the end of the text
   abbrev pub IsCauseOf : Text → Fault → ℕ → Type 0
   IsCauseOf text cause place = (left : Text) × (place ≡ length left) × CauseAt text cause left
+
+  -- Why parsing fails on a stream: the stream had failed; out of memory; a cause that an error of the text to come can have at the fault's
+  -- position; or one about a name, a mark, an entry of the section or a key.
+  pub data FailsBy (old : StreamView) (fault : ParseFault A) : Type 0 where
+    had_failed : old.failed ≡ true → fault_of fault.cause ≡ Failed → FailsBy old fault
+    out_of_memory : fault_of fault.cause ≡ Memory → FailsBy old fault
+    in_text : (left : Text) → CauseAt old.rest (fault_of fault.cause) left → IsPosition (whole old) (length left) fault.pos → FailsBy old fault
+    by_name : is_name_fault (fault_of fault.cause) ≡ true → FailsBy old fault
