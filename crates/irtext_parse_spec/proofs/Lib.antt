@@ -2,6 +2,7 @@ pub mod Acts
 pub mod AllKept
 pub mod Beside
 pub mod Built
+pub mod Causes
 pub mod Claims
 pub mod Counted
 pub mod Distinct

@@ -5,3 +5,4 @@ pub mod PrintedBack
 pub mod KeptRoot
 pub mod LocationsBack
 pub mod Section
+pub mod ErrorCauses

@@ -6,6 +6,7 @@
 #![tactic(auto)]
 
 pub mod building_laws;
+pub mod cause_laws;
 pub mod context;
 pub mod laws;
 pub mod nested_laws;

@@ -1,5 +1,6 @@
 pub mod Again
 pub mod Back
+pub mod ErrorCauses
 pub mod Fitting
 pub mod Nowhere
 pub mod RoundTrips

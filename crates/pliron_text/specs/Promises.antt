@@ -6,6 +6,7 @@ pub use Rattle.irtext_parse_spec.specs.Promises.KeptRoot
 pub use Rattle.irtext_parse_spec.specs.ContextParts
 pub use Rattle.irtext_parse_spec.specs.Promises.PrintedBack
 pub use Rattle.irtext_parse_spec.specs.Promises.LocationsBack
+pub use Rattle.irtext_parse_spec.specs.Promises.ErrorCauses
 pub use Rattle.irtext_promises.specs.Promises
 pub use Rattle.irtext_promises.specs.Held
 pub use Rattle.irtext_promises.specs.OnlyNew

@@ -30,6 +30,7 @@ ghost use Rattle.irtext_grammar.specs.Spelling.Writable.{AfterOperation, AfterRo
 
 pub mod attributes;
 pub mod building;
+pub mod causes;
 pub mod headline;
 pub mod locations;
 

@@ -1,0 +1,31 @@
+//! The law of causes, over definitions alone: which causes an error of a text can have, and where.
+ghost use Rattle.std.specs.Prelude.{◌≡◌, ◌++◌, ℕ, Bool, List};
+ghost use Rattle.irtext_base.specs.Text.{Text};
+ghost use Rattle.irtext_base.specs.Faults.{Fault};
+ghost use Rattle.irtext_context.specs.Dialects.{Table};
+ghost use Rattle.irtext_tokens.specs.AttrTexts.{attr_at};
+ghost use Rattle.irtext_grammar.specs.Names.Acts.{Rule};
+ghost use Rattle.irtext_parse_spec.specs.Promises.ErrorCauses.{CauseAt, IsCauseOf};
+ghost use Rattle.irtext_parse_spec.specs.Entries.{section_at};
+ghost use Rattle.irtext_parse_spec.specs.Promises.Supported.{RefusedAs};
+ghost use Rattle.irtext_parse_spec.specs.Reached.{Stopped, Actions, operation_at, region_at};
+
+use irtext_base::text::{AttrText, IrText};
+
+/// A parse of nested text, with any actions, that is stuck at a fault of the text has a cause of these kinds: something else is expected,
+/// a number is out of range, or an escape is bad; no scope is open for a name; an id is not registered, where one begins; or the cause
+/// that the parser of the caller's types or attributes returned there. So has the section, or its cause is about an index or a key.
+pub fn causes_of_texts<T: IrText<A>, A: AttrText<A>, U>()
+    ensures operation { (dialects : List (Text × Table)) (does : Actions T A U) (inside : Bool) (text : Text)
+        (s t : U) (cause : Fault) (place : ℕ) →
+        operation_at dialects T.reading (attr_at A.reading) does inside text s ≡ Stopped t cause place →
+        IsCauseOf dialects T.reading A.reading text cause place }
+    ensures region { (dialects : List (Text × Table)) (does : Actions T A U) (isolated : Bool) (text : Text)
+        (s t : U) (cause : Fault) (place : ℕ) →
+        region_at dialects T.reading (attr_at A.reading) does isolated text s ≡ Stopped t cause place →
+        IsCauseOf dialects T.reading A.reading text cause place }
+    ensures section { (dialects : List (Text × Table)) (marks : List ℕ) (rules : ℕ → Rule A)
+        (text upto : Text) (cause : Fault) →
+        RefusedAs (section_at (attr_at A.reading) marks rules text) cause upto →
+        (left : Text) × (upto ++ left ≡ text) × CauseAt dialects T.reading A.reading text cause left }
+{}
