@@ -2,4 +2,4 @@
 
 pub mod attributes;
 
-pub use attributes::AttributeDict;
+pub use attributes::{AttributeDict, is_outlined};

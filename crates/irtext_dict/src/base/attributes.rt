@@ -15,6 +15,7 @@ mod copy;
 mod kept;
 mod others;
 
+pub use copy::is_outlined;
 use irtext_base::base::{AttrObj, GIVEN_NAMES_KEY, Identifier, Refusal};
 use others::Others;
 use std::alloc::Global;

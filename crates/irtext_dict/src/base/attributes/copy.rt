@@ -8,8 +8,10 @@ use irtext_base::base::AttrObj;
 use irtext_base::text::AttrText;
 use std::alloc::AllocError;
 
-/// Whether an attribute is outlined: it is printed in the section, and not in place.
-fn is_outlined<A: AttrText<A>>(attr: &AttrObj<A>) -> bool
+/// Whether an attribute is outlined: it is printed in the section, and not in place. Given names are, an identifier is not, and an
+/// attribute of the caller's own is if its [`AttrText::is_outlined`] says so.
+#[inline]
+pub fn is_outlined<A: AttrText<A>>(attr: &AttrObj<A>) -> bool
     ensures { result ≡ is_outlined A.outlined attr.now }
 {
     match attr {

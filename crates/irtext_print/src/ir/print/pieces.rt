@@ -15,6 +15,7 @@ use crate::printable::attributes::fmt_attr;
 use irtext_base::base::{AttrObj, Identifier};
 use irtext_base::format::Directive;
 use irtext_base::text::AttrText;
+use irtext_dict::base;
 use irtext_dict::base::AttributeDict;
 use std::fmt;
 
@@ -47,14 +48,11 @@ pub fn fmt_word(word: &str, f: &mut String) -> fmt::Result
 }
 
 /// Whether an attribute is printed in the section, and not in place.
+#[inline(always)]
 pub fn is_outlined<A: AttrText<A>>(attr: &AttrObj<A>) -> bool
     ensures { result ≡ graph.outlined (pieces.outlining A.outlined) (attribute_of attr.now) }
 {
-    match attr {
-        AttrObj::GivenNames(_) => true,
-        AttrObj::Ident(_) => false,
-        AttrObj::Own(own) => own.is_outlined(),
-    }
+    base::is_outlined(attr)
 }
 
 /// Appends the text of an attribute, or `!outlined` if it is outlined.
