@@ -1,5 +1,6 @@
 -- Which causes the outcomes of parsers have, and at which places.
 pub mod Outcomes
+pub mod Tokens
 pub mod Parts
 pub mod Section
 pub mod Nested

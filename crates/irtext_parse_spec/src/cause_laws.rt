@@ -1,4 +1,4 @@
-//! The law of causes, over definitions alone: which causes an error of a text can have, and where.
+//! The law of causes, over definitions alone: which causes an error of a text can have, and at which places.
 ghost use Rattle.std.specs.Prelude.{◌≡◌, ◌++◌, ℕ, Bool, List};
 ghost use Rattle.irtext_base.specs.Text.{Text};
 ghost use Rattle.irtext_base.specs.Faults.{Fault};
@@ -12,9 +12,8 @@ ghost use Rattle.irtext_parse_spec.specs.Reached.{Stopped, Actions, operation_at
 
 use irtext_base::text::{AttrText, IrText};
 
-/// A parse of nested text, with any actions, that is stuck at a fault of the text has a cause of these kinds: something else is expected,
-/// a number is out of range, or an escape is bad; no scope is open for a name; an id is not registered, where one begins; or the cause
-/// that the parser of the caller's types or attributes returned there. So has the section, or its cause is about an index or a key.
+/// If a parse of nested text, with any actions, is stuck at a fault of the text, its cause is one that an error of the text can have at its
+/// place (`CauseAt`). So it is for the section, whatever marks are recorded, and whatever rules say of the entry of each.
 pub fn causes_of_texts<T: IrText<A>, A: AttrText<A>, U>()
     ensures operation { (dialects : List (Text × Table)) (does : Actions T A U) (inside : Bool) (text : Text)
         (s t : U) (cause : Fault) (place : ℕ) →

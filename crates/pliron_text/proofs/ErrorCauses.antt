@@ -2,7 +2,7 @@
 use Rattle.std.proofs.Common.{◌≡◌, ◌∙◌, ◌-◌, ℕ, Bool, true, false, cond, Result, Ok, Err, List, [], ◌∷◌, ◌++◌, length, length-append, take, refl, sym, ap, subst, append_assoc, inl, inr, arith, IfErr}
 use Rattle.std.proofs.Math.Seq.{take_at}
 use Rattle.std.specs.Char.{is_whitespace}
-use Rattle.irtext_base.specs.Text.{Text, front, after_space}
+use Rattle.irtext_base.specs.Text.{Text, front}
 use Rattle.irtext_base.specs.Faults.{Fault, Memory, Failed, fault_of}
 use Rattle.irtext_base.specs.Own.{Sincere}
 use Rattle.irtext_base.specs.Stream.{StreamView, IsAt}
@@ -18,14 +18,14 @@ use Rattle.irtext_grammar.specs.Names.Script as script
 use Rattle.irtext_grammar.specs.Names.Script.{Cause}
 use Rattle.irtext_parse_spec.specs.Naming.{naming}
 use Rattle.irtext_parse_spec.specs.Reached.{Actions}
-use Rattle.irtext_parse_spec.specs.Promises.ErrorCauses.{is_name_fault, IsLeft, CauseAt, of_token, IsCauseOf, FailsBy, had_failed, out_of_memory, in_text, by_name}
-use Rattle.irtext_parse_spec.specs.Promises.Root.{IsCause, UnlessMemory}
+use Rattle.irtext_parse_spec.specs.Promises.ErrorCauses.{is_name_fault, IsLeft, CauseAt, of_token, IsCauseOf, FailsBy, out_of_memory, in_text, by_name}
+use Rattle.irtext_parse_spec.specs.Promises.Root.{IsCause}
 use Rattle.irtext_parse_spec.specs.Promises.Section.{Moves, indices_of, is_noted}
 use Rattle.irtext_parse_spec.proofs.Causes.Found.{cause_longer, operation_cause, region_cause, section_takes, section_cause}
 use Rattle.irtext_parse_root.specs.AnyRegion.{MissesRegion, not_isolated, HasRegionFault, no_brace}
 use Rattle.irtext_parse_root.specs.AnyRegion as region
-use Rattle.irtext_parse_root.specs.AnyState.{ReadsTree, MissesSection, MissesAny, no_operation, no_section}
-use Rattle.irtext_parse_root.specs.Parses.{Undoes, Answers, Parses}
+use Rattle.irtext_parse_root.specs.AnyState.{MissesSection, MissesAny, no_operation, no_section}
+use Rattle.irtext_parse_root.specs.Parses.{Undoes, Answers}
 use Rattle.irtext_parse_root.specs.Whole.{ExpectsEnd}
 use Rattle.irtext_parse_root.specs.WholeAny.{HasSection, IsRest, MissesWholeAny, no_root, more_left}
 use Rattle.irtext_parse_section.specs.Said.{rules_of}
@@ -91,8 +91,10 @@ module _ {T A : Type 0} (dialects : List (Text × Table)) (types_at : Reader T) 
     -- something is left after a root
     end_fails : (rest : Text) (front : Text) → front ++ rest ≡ old.rest → ExpectsEnd (whole old) rest fault → Says
     end_fails rest before e x = in_text (x.more ∷ x.left)
-        (subst (λ z. CauseAt dialects types_at owns_at old.rest z (x.more ∷ x.left)) (sym x.because) (of_token refl (before ++ front is_whitespace rest,
-        append_assoc before (front is_whitespace rest) (x.more ∷ x.left) ∙ (ap (λ z. before ++ (front is_whitespace rest ++ z)) (sym x.follows_on) ∙ (ap (λ z. before ++ z) (front_after is_whitespace rest) ∙ e)))))
+        (subst (λ z. CauseAt dialects types_at owns_at old.rest z (x.more ∷ x.left)) (sym x.because) (of_token refl (
+          before ++ front is_whitespace rest,
+          append_assoc before (front is_whitespace rest) (x.more ∷ x.left) ∙ (ap (λ z. before ++ (front is_whitespace rest ++ z)) (sym x.follows_on) ∙ (ap (λ z. before ++ z) (front_after is_whitespace rest) ∙ e)),
+        )))
         x.place
 
     -- a later position in the same text

@@ -20,7 +20,8 @@ use Rattle.irtext_parse_spec.specs.Reached.{Reached, Advanced, Stopped, came, te
 use Rattle.irtext_parse_spec.proofs.Knot.Alike.{IsLoop}
 use Rattle.irtext_parse_spec.proofs.Knot.Bound.{regions_loop, more_loop, blocks_loop}
 use Rattle.irtext_parse_spec.proofs.Knot.Leaving.{brace_leaves}
-use Rattle.irtext_parse_spec.proofs.Causes.Outcomes.{Allowed, Obeys, AllObey, ◌then◌, obeying_word, obeying_space}
+use Rattle.irtext_parse_spec.proofs.Causes.Outcomes.{Allowed, Obeys, AllObey, ◌then◌}
+use Rattle.irtext_parse_spec.proofs.Causes.Tokens.{obeying_word, obeying_space}
 use Rattle.irtext_parse_spec.proofs.Causes.Parts.{mark_if_obeys, piece_obeys, head_obeys}
 
 -- what is left is an end of the text; a parse that is stuck has an allowed cause at its place

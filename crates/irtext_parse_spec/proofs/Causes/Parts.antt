@@ -21,7 +21,8 @@ use Rattle.irtext_parse_spec.specs.Readers.Marker.{marker, starts_with}
 use Rattle.irtext_parse_spec.specs.Readers.Operations.{registered_after}
 use Rattle.irtext_parse_spec.specs.Readers.Parts.{after_lead}
 use Rattle.irtext_parse_spec.specs.Heads.{name_at, label_at, symbol_at, mark_at, mark_if_at, outside, used_at, target_at, pair_at, dictionary_at, outlined_or_at, Step, flat, types, one, all, directive_at, piece_at, argument_at, dictionary_if_at, head_at, results_at, named, lead_at, led_by, led_at}
-use Rattle.irtext_parse_spec.proofs.Causes.Outcomes.{Allowed, Obeys, AllObey, obeys_read, obeys_missing, obeys_bad, obeys_mapped, ◌then◌, ◌kept◌, ◌so◌, seen, obeying_either, obeying_nothing, obeying_word, obeying_space, obeying_name, obeying_id, obeying_spaced, obeying_index, obeying_separated}
+use Rattle.irtext_parse_spec.proofs.Causes.Outcomes.{Allowed, Obeys, AllObey, obeys_read, obeys_missing, obeys_bad, obeys_mapped, ◌then◌, ◌kept◌, ◌so◌, seen, obeying_either, obeying_nothing, misses}
+use Rattle.irtext_parse_spec.proofs.Causes.Tokens.{obeying_word, obeying_space, obeying_name, obeying_id, obeying_spaced, obeying_index, obeying_separated}
 
 -- ---- names and marks
 module _ {K : Allowed} where
@@ -91,7 +92,7 @@ module _ {K : Allowed} {A : Type 0} where
 -- ---- pieces and headers
 module _ {K : Allowed} {T A : Type 0} {types_at : Reader T} {attr : Reader (AttrView A)} (k : AllObey K types_at) (h : AllObey K attr) where
   no_piece : {X : Type 0} → AllObey {X = X} K (λ text. Missing (Unexpected (first_of text) AnOperation))
-  no_piece = record { at = λ text. obeys_missing text _ (K.token text _ [] text refl refl) }
+  no_piece = record { at = λ text. misses text _ refl }
 
   directive_obeys : (inside : Bool) (d : Directive) → AllObey K (directive_at types_at attr inside d)
   directive_obeys inside (format.word s) = seen _ (obeying_word s)

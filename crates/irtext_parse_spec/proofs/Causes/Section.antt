@@ -20,12 +20,13 @@ use Rattle.irtext_parse_spec.specs.Readers.Positions.{labelled_at, position_at}
 use Rattle.irtext_parse_spec.specs.Readers.Locations.{WrittenRow, bytes_at, source_at, name_at, place_at, metadata_at, after_location, row_of, row_at, more_at, fused_at, named_at, call_site_at, kind_at, location_within, more_within, location_at}
 use Rattle.irtext_parse_spec.specs.Readers.Section.{entry_location_at}
 use Rattle.irtext_parse_spec.specs.Entries.{item_at, pair_at, is_allowed, kept, begins_given, tested, entry_head_at, pairs_at, given_at, entry_at, may_have, fault_for, upto, wrong_references, unless_wrong, referred, entries_after, entries_at, section_at}
-use Rattle.irtext_parse_spec.proofs.Causes.Outcomes.{Allowed, Obeys, AllObey, obeys_read, obeys_missing, obeys_bad, obeys_either, obeys_prefixed, obeys_followed, ◌then◌, ◌kept◌, ◌so◌, seen, obeying_either, obeying_nothing, obeying_word, obeying_space, obeying_integer, obeying_quoted, obeying_spaced, obeying_separated}
+use Rattle.irtext_parse_spec.proofs.Causes.Outcomes.{Allowed, Obeys, AllObey, obeys_read, obeys_bad, obeys_either, obeys_prefixed, obeys_followed, ◌then◌, ◌kept◌, ◌so◌, seen, obeying_either, obeying_nothing, misses}
+use Rattle.irtext_parse_spec.proofs.Causes.Tokens.{obeying_word, obeying_space, obeying_integer, obeying_quoted, obeying_spaced, obeying_separated}
 use Rattle.irtext_parse_spec.proofs.Causes.Parts.{name_obeys, mark_obeys, attribute_obeys}
 
 module _ {K : Allowed} where
   demand_obeys : {X : Type 0} (demand : Demand) → AllObey {X = X} K (λ text. Missing (Unexpected (first_of text) demand))
-  demand_obeys demand = record { at = λ text. obeys_missing text _ (K.token text _ [] text refl refl) }
+  demand_obeys demand = record { at = λ text. misses text _ refl }
 
   -- ---- positions, and the parts of locations
   labelled_obeys : (w : Text) → AllObey K (labelled_at w)
@@ -152,8 +153,10 @@ module _ {K : Allowed} where
     module _ (marks : List ℕ) (rules : ℕ → Rule A) where
       entries_obey : (n : ℕ) (earlier : List (Entry ℕ A (Written A))) → AllObey K (entries_after attr marks rules n earlier)
       entries_obey zero earlier = obeying_nothing earlier
-      entries_obey (suc n) earlier = record { at = λ text. (obeying_either (begins (the 33))
-          (◌so◌ (entry_obeys (may_have marks earlier) rules) (λ e. ◌then◌ obeying_space (entries_obey n (earlier ++ e ∷ [])))) (obeying_nothing earlier)).at text }
+      entries_obey (suc n) earlier = record {
+        at = λ text. (obeying_either (begins (the 33))
+            (◌so◌ (entry_obeys (may_have marks earlier) rules) (λ e. ◌then◌ obeying_space (entries_obey n (earlier ++ e ∷ [])))) (obeying_nothing earlier)).at text;
+      }
 
       unless_obeys : (text : Text) (fs : List (Failure Text ℕ)) (o : Outcome (List (Entry ℕ A (Written A)))) → Obeys K text o → Obeys K text (unless_wrong text fs o)
       unless_obeys text [] o k = k
@@ -166,5 +169,7 @@ module _ {K : Allowed} where
 
       -- the parser of the section
       pub section_obeys : AllObey K (section_at attr marks rules)
-      section_obeys = record { at = λ text. referred_obeys text (entries_at attr marks rules text)
-          (obeys_followed text _ _ ((obeying_spaced (codes "outlined_attributes:")).at text) (λ _ t. (entries_obey (length t) []).at t)) }
+      section_obeys = record {
+        at = λ text. referred_obeys text (entries_at attr marks rules text)
+            (obeys_followed text _ _ ((obeying_spaced (codes "outlined_attributes:")).at text) (λ _ t. (entries_obey (length t) []).at t));
+      }

@@ -1,11 +1,11 @@
 -- For callers: which causes an error of a text can have, and at which places. A place is given here by the text that is left there.
-use Rattle.std.specs.Prelude.{◌≡◌, ℕ, Bool, true, false, is_some, List, ◌++◌, length}
+use Rattle.std.specs.Prelude.{◌≡◌, ℕ, Bool, true, false, is_some, List, [], ◌∷◌, ◌++◌, codes, length}
 use Rattle.irtext_base.specs.Text.{Text}
 use Rattle.irtext_base.specs.Format.{Id}
-use Rattle.irtext_base.specs.Stream.{StreamView}
+use Rattle.irtext_base.specs.Stream.{StreamView, first_of}
 use Rattle.irtext_base.specs.Faults.{Fault, fault_of, Memory, Failed, Unexpected, NumberRange, BadEscape, BadUnicodeEscape, UnregisteredDialect, UnregisteredOp, ResultCount, NoActiveScope, Unresolved, MultipleDefinitions, NotIsolated, DuplicateIndex, UnknownIndex, UnknownPrintOnce, ReservedKey}
 use Rattle.irtext_base.specs.Answers.{Read, Missing, Bad}
-use Rattle.irtext_base.specs.Own.{is_text_fault}
+use Rattle.irtext_base.specs.Own.{is_text_fault, IsFront}
 use Rattle.irtext_base.specs.declared.parsable.fault.ParseFault.{ParseFault}
 use Rattle.irtext_context.specs.Dialects.{Table}
 use Rattle.irtext_context.specs.DialectTable.{dialect_of, registered}
@@ -16,13 +16,14 @@ use Rattle.irtext_tokens.specs.Infix.{Reader}
 use Rattle.irtext_tokens.specs.Tokens.{id_at}
 use Rattle.irtext_parse_spec.specs.Heads.{lead_at}
 
--- a cause that parsers of tokens return: something else is expected, a number is out of range, or an escape is bad
-abbrev pub is_token_fault : Fault → Bool
-is_token_fault (Unexpected found demand) = true
-is_token_fault (NumberRange text) = true
-is_token_fault (BadEscape c) = true
-is_token_fault (BadUnicodeEscape digits) = true
-is_token_fault _ = false
+-- A cause that parsers of tokens return where this text is left, and what it names is there: a character, or the end, which is not what
+-- is expected; a number that is out of range; or an escape that is bad.
+abbrev pub IsTokenFault : Fault → Text → Type 0
+IsTokenFault (Unexpected found demand) left = found ≡ first_of left
+IsTokenFault (NumberRange number) left = IsFront number left
+IsTokenFault (BadEscape c) left = IsFront (92 ∷ c ∷ []) left
+IsTokenFault (BadUnicodeEscape digits) left = IsFront (codes "\\u{" ++ (digits ++ codes "}")) left
+IsTokenFault _ left = ⊥
 
 -- a cause that is about a name, a mark, an entry of the section or a key
 abbrev pub is_name_fault : Fault → Bool
@@ -80,7 +81,7 @@ module _ {T A : Type 0} (dialects : List (Text × Table)) (types_at : Reader T) 
   -- A cause that an error of the text can have at a place of the text: one of a token, or about a name; that an id is not registered, at
   -- such an id; or the cause that the parser of the caller's types, or of the caller's attributes, returns there.
   pub data CauseAt (text : Text) (cause : Fault) (left : Text) : Type 0 where
-    of_token : is_token_fault cause ≡ true → IsLeft text left → CauseAt text cause left
+    of_token : IsTokenFault cause left → IsLeft text left → CauseAt text cause left
     of_name : is_name_fault cause ≡ true → IsLeft text left → CauseAt text cause left
     no_dialect : NoDialect dialects cause left → IsLeft text left → CauseAt text cause left
     no_operation : NoOperation dialects cause left → IsLeft text left → CauseAt text cause left

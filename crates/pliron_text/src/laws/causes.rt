@@ -9,13 +9,12 @@ ghost use Rattle.irtext_parse_spec.specs.Promises.ErrorCauses.{FailsBy};
 ghost use Rattle.irtext_parse_state.specs.declared.parsable.state.StateStream.{StateStream};
 
 use irtext_base::text::{AttrText, IrText};
-
 pub use irtext_parse_spec::cause_laws::causes_of_texts;
 
 /// If an operation, a whole text or a region is not parsed, by a call that meets its contract, the cause of the error is one of these: the
-/// stream had failed; out of memory; something else is expected in the text, a number is out of range there, or an escape is bad; an id
-/// is not registered, where one begins; what the parser of the caller's types or attributes returned there; or it is about a name, a
-/// mark, an entry of the section or a key.
+/// stream had failed; out of memory; at the error's position there is a character, or the end, which is not what is expected, or a number
+/// out of range, or a bad escape; an operation begins there whose id is not registered; the parser of the caller's types or attributes
+/// returned the cause there; or it is about a name, a mark, an entry of the section or a key. So it is also for a text that is no tree.
 pub fn causes_of_errors<T: IrText<A>, A: AttrText<A>, U>()
     ensures operation { (look : Bool) (old new : StateStream T A U)
         (result : Result (Ptr Operation) (ParseFault A)) →
