@@ -1,6 +1,7 @@
 //! Texts that are rejected beside a live root: the error of each; everything live is unchanged.
 use crate::tests::live_objects::said;
-use irtext_tests_common::contexts::with_demo;
+use irtext_tests_common::contexts::Ctx;
+use irtext_tests_common::tables::failing_demo;
 use std::alloc::Global;
 use std::test::Fail;
 
@@ -267,23 +268,14 @@ const PARSED_FIRST: &[(&str, &str)] = &[
     ),
 ];
 
-/// The result for a text in a context of its own.
-fn answered(alloc: Global, text: &str) -> Result<String, Fail> {
-    with_demo(alloc, |alloc, ctx| said(alloc, ctx, text))
+/// Whether the fault of a text is the expected one.
+fn has_fault(alloc: Global, ctx: &mut Ctx, row: &(&str, &str)) -> Result<bool, Fail> {
+    Ok(said(alloc, ctx, row.0)?.as_str() == row.1)
 }
 
 #[test]
 fn a_refused_text_leaves_the_context(rt: HostRuntime) -> Result<(), Fail> {
-    for row in ROWS {
-        assert_eq!(rt; answered(rt.alloc(), row.0)?.as_str(), row.1);
-    }
-    Ok(())
-}
-
-#[test]
-fn parts_are_parsed_before_their_names_are_looked_up(rt: HostRuntime) -> Result<(), Fail> {
-    for row in PARSED_FIRST {
-        assert_eq!(rt; answered(rt.alloc(), row.0)?.as_str(), row.1);
-    }
+    assert_eq!(rt; failing_demo(rt.alloc(), ROWS, has_fault)?, None);
+    assert_eq!(rt; failing_demo(rt.alloc(), PARSED_FIRST, has_fault)?, None);
     Ok(())
 }

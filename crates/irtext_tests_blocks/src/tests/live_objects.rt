@@ -45,6 +45,19 @@ fn answered(alloc: Global, s: &mut Stream<'_>) -> Result<String, Fail> {
     }
 }
 
+/// Fails if the text of a root is not what it was before.
+pub(crate) fn is_unchanged(
+    alloc: Global,
+    ctx: &Ctx,
+    live_root: Ptr<Operation>,
+    before: &str,
+) -> Result<(), Fail> {
+    if whole(alloc, ctx, live_root)?.as_str() != before {
+        return Err(Fail::from("what stood has changed"));
+    }
+    Ok(())
+}
+
 /// The result for a text, whether a mark is recorded, and the number of live objects then.
 fn read(alloc: Global, ctx: &mut Ctx, text: &str) -> Result<(String, bool, u64), Fail> {
     let stream = TextStream::new(alloc, text)?;
@@ -66,9 +79,7 @@ fn compared(
     let before = whole(alloc, ctx, live_root)?;
     let live = ctx.num_live();
     let (said, marks, live_then) = read(alloc, ctx, text)?;
-    if whole(alloc, ctx, live_root)?.as_str() != before.as_str() {
-        return Err(Fail::from("what stood has changed"));
-    }
+    is_unchanged(alloc, ctx, live_root, before.as_str())?;
     if said.as_str() != "read" && (marks || live_then != live) {
         return Err(Fail::from("something was left"));
     }

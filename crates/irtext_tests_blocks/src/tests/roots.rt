@@ -1,8 +1,9 @@
 //! Roots that are parsed, one after the other, and what is left after an error.
+use crate::tests::live_objects::is_unchanged;
 use irtext_demo::DemoAttr;
 use irtext_tests_common::building::live;
-use irtext_tests_common::contexts::{Ctx, Stream, with_demo};
-use irtext_tests_common::tables::{failing, failing_demo};
+use irtext_tests_common::contexts::{Ctx, Stream};
+use irtext_tests_common::tables::failing_demo;
 use irtext_tests_print::reading::{alone, location, root, two, whole};
 use pliron_text::base::{Operation, Ptr};
 use pliron_text::irfmt::parsers;
@@ -90,30 +91,16 @@ const REFUSED: &[&str] = &[
 ];
 
 /// Whether a text is rejected, the root that was parsed before is unchanged, and there is no other object.
-fn leaves(
-    alloc: Global,
-    ctx: &mut Ctx,
-    live_root: Ptr<Operation>,
-    text: &str,
-) -> Result<bool, Fail> {
-    let before = whole(alloc, ctx, live_root)?;
-    let read = root(ctx, text).is_some();
-    let following = whole(alloc, ctx, live_root)?;
-    Ok(!read && ctx.num_live() == 2 && before == following)
-}
-
-/// The number of the first text that is not rejected, or leaves something else.
-fn differing(alloc: Global, ctx: &mut Ctx) -> Result<Option<usize>, Fail> {
+fn leaves(alloc: Global, ctx: &mut Ctx, text: &&str) -> Result<bool, Fail> {
     let live_root = root(ctx, "builtin.module @m {}").ok_or("refused")?;
-    failing(
-        REFUSED,
-        ctx,
-        |ctx, text| leaves(alloc, ctx, live_root, text),
-    )
+    let before = whole(alloc, ctx, live_root)?;
+    let read = root(ctx, *text).is_some();
+    is_unchanged(alloc, ctx, live_root, before.as_str())?;
+    Ok(!read && ctx.num_live() == 2)
 }
 
 #[test]
 fn a_refusal_leaves_the_context(rt: HostRuntime) -> Result<(), Fail> {
-    assert_eq!(rt; with_demo(rt.alloc(), differing)?, None);
+    assert_eq!(rt; failing_demo(rt.alloc(), REFUSED, leaves)?, None);
     Ok(())
 }

@@ -7,7 +7,7 @@ use irtext_tests_common::answers::{result_text, said, said_next};
 use irtext_tests_common::tables::differing;
 use irtext_tokens::irfmt::demanded::spaced_text_demanded;
 use irtext_tokens::irfmt::faults::{
-    begins, commit, committed, next_is, pass, refuse, refuse_at, unexpected,
+    begins, commit, committed, fail_at, next_is, pass, refuse, refuse_at, unexpected,
 };
 use irtext_tokens::irfmt::parsers::{
     Class, id_parse, identifier_parse, skip_class, skip_white_space, text_parse,
@@ -25,12 +25,13 @@ const WORDS: &[&str] = &[
     "line: 1, column: 25: The stream has failed!",
 ];
 
-/// The texts of faults after `a` in `ab`.
+/// The texts of faults after `a` in `ab`, and whether the stream has failed then.
 const FAULTS: &[&str] = &[
-    "line: 1, column: 2: Unexpected escaped character \\q",
-    "line: 1, column: 2: Unexpected `b`, expected digit!",
-    "line: 1, column: 2: No operation or block found for outline index: 3!",
-    "line: 1, column: 1: Duplicate outline index: 3!",
+    "line: 1, column: 2: Unexpected escaped character \\q false",
+    "line: 1, column: 2: Unexpected `b`, expected digit! true",
+    "line: 1, column: 2: No operation or block found for outline index: 3! true",
+    "line: 1, column: 1: Duplicate outline index: 3! true",
+    "line: 7, column: 9: No PrintOnceAttr found for outline index: 3! true",
 ];
 
 /// Texts, whether the stream had failed, and then: whether white space and `->` are skipped, the position of the stream, and whether it
@@ -179,7 +180,7 @@ fn words_and_fixed_texts(rt: HostRuntime) -> Result<(), Fail> {
     Ok(())
 }
 
-/// The fault of a line, at the position of the stream, or at its start.
+/// The fault of a line, at the position of the stream, at its start or elsewhere.
 fn fault(number: usize, stream: &mut TextStream, start: Place) -> ParseFault<()> {
     match number {
         0 => pass(stream, Cause::BadEscape('q')),
@@ -188,17 +189,23 @@ fn fault(number: usize, stream: &mut TextStream, start: Place) -> ParseFault<()>
             commit(stream, missing)
         }
         2 => refuse(stream, Cause::UnknownIndex(3)),
-        _ => refuse_at(stream, start, Cause::DuplicateIndex(3)),
+        3 => refuse_at(stream, start, Cause::DuplicateIndex(3)),
+        _ => fail_at(
+            stream,
+            SourcePosition { line: 7, column: 9 },
+            Cause::UnknownPrintOnce(3),
+        ),
     }
 }
 
-/// The text of the fault of a line, after a character.
+/// The text of the fault of a line, after a character, and whether the stream has failed then.
 fn refused(alloc: Global, text: &str, number: usize) -> Result<String, Fail> {
     let mut stream = TextStream::new(alloc, text)?;
     let start = stream.position();
     let _ = stream.take();
     let fault = fault(number, &mut stream, start);
-    result_text(alloc, &fault)
+    let text = result_text(alloc, &fault)?;
+    Ok(format!(in alloc; "{text} {}", stream.has_failed())?)
 }
 
 /// What begins at the start of a text, and after its first character.

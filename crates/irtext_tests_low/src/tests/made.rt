@@ -10,7 +10,7 @@ use irtext_graph_queries::value::ValueUses;
 use irtext_tests_common::answers::done_or_cause;
 use irtext_tests_common::building::{block, id, types};
 use irtext_tests_common::contexts::{Ctx, with_counters, with_demo};
-use irtext_tests_common::tables::failing;
+use irtext_tests_common::tables::failing_demo;
 use std::alloc::{AllocError, Global};
 use std::test::Fail;
 
@@ -125,12 +125,8 @@ const UNREGISTERED: &[(&str, &str, &str)] = &[
 ];
 
 /// Whether an operation of an id that is to use a value has this error, and leaves no trace.
-fn is_refused(
-    alloc: Global,
-    ctx: &mut Ctx,
-    used: Value,
-    row: &(&str, &str, &str),
-) -> Result<bool, Fail> {
+fn is_refused(alloc: Global, ctx: &mut Ctx, row: &(&str, &str, &str)) -> Result<bool, Fail> {
+    let used = Value::Result(made(alloc, ctx, &[], &[])?, 0);
     let answer = answered(alloc, ctx, (row.0, row.1), &[used], &[])?;
     Ok(
         done_or_cause(alloc, &answer, "made")?.as_str() == row.2
@@ -139,19 +135,9 @@ fn is_refused(
     )
 }
 
-/// The number of the first id with another result.
-fn differing(alloc: Global, ctx: &mut Ctx) -> Result<Option<usize>, Fail> {
-    let used = Value::Result(made(alloc, ctx, &[], &[])?, 0);
-    failing(
-        UNREGISTERED,
-        ctx,
-        |ctx, row| is_refused(alloc, ctx, used, row),
-    )
-}
-
 #[test]
 fn what_is_not_registered_is_not_made(rt: HostRuntime) -> Result<(), Fail> {
-    assert_eq!(rt; with_demo(rt.alloc(), differing)?, None);
+    assert_eq!(rt; failing_demo(rt.alloc(), UNREGISTERED, is_refused)?, None);
     Ok(())
 }
 
