@@ -1,16 +1,13 @@
 //! Making operations whose operands and successors need not be known to be in the context.
-ghost use Rattle.std.specs.Prelude.{◌≡◌, ◌≤◌, ℕ, IsSome, IfOk, IfErr, OnOk, OnErr};
-ghost use Rattle.irtext_base.specs.declared.location.Location.{Unknown};
-ghost use Rattle.irtext_context.specs.Context.{operation, KeepsOlder};
-ghost use Rattle.irtext_context.specs.DialectTable.{registered};
-ghost use Rattle.irtext_context.specs.Made.{AreLiveBlocks, MakesWithRegions, SameObjects, AreDefinedValues};
+ghost use Rattle.std.specs.Prelude.{IsSome, IfOk, IfErr, OnOk};
+ghost use Rattle.irtext_context.specs.Context.{operation};
+ghost use Rattle.irtext_context.specs.Made.{AreLiveBlocks, MakesRegistered, MakesWithRegions, AreDefinedValues};
 ghost use Rattle.irtext_checked.specs.Checked.{RefusesNew};
 
 use crate::contains::ContainsParts;
 use crate::unfit;
 use irtext_base::base::OpId;
 use irtext_base::result;
-use irtext_base::result::ErrorKind;
 use irtext_base::text::{AttrText, IrText};
 use irtext_context::base::{BasicBlock, Context, NewOperation, Operation, Ptr};
 use irtext_few::Few;
@@ -34,11 +31,8 @@ pub trait TryNewOperation {
             operands.now successors.now) }
         ensures live { IfOk result (λ op. IsSome (operation ctx.new op)) }
         ensures used { OnOk result (AreDefinedValues ctx.old operands.now × AreLiveBlocks ctx.old successors.now) }
-        ensures registered { OnOk result (IsSome (registered ctx.old.dialects id)) }
-        ensures kept { (mark : ℕ) → mark ≤ ctx.old.graph.made → KeepsOlder mark ctx.old ctx.new }
-        ensures objects { OnErr result (SameObjects ctx.old ctx.new) }
-        ensures refused { IfErr result (λ e. RefusesNew ctx.old id operands.now successors.now e.err) }
-        ensures kind { IfErr result (λ e. (e.kind ≡ ErrorKind.InvalidArgument) × (e.loc ≡ Unknown)) };
+        ensures registered { MakesRegistered id result ctx.old ctx.new }
+        ensures refused { IfErr result (λ e. RefusesNew ctx.old id operands.now successors.now e.err) };
 }
 
 impl TryNewOperation for Operation {

@@ -20,6 +20,25 @@ use Rattle.irtext_context.specs.declared.base.block.BlockData.{BlockData}
 use Rattle.irtext_context.specs.declared.base.operation.OperationData.{OperationData}
 use Rattle.irtext_context.proofs.Contexts.{OperationEntry, BlockEntry}
 
+-- the data x of an object are borrowed: how the state c is once other data are written, and that a change is an edit of that object alone
+record IsBorrowed {C X : Type 0} (x : X) (c : C) (after : (X → X) → C) (Edits : C → (X → X) → Type 0) : Type 0 where
+  pub write : X → C
+  pub changed : (f : X → X) → write (f x) ≡ after f
+  pub edits : (f : X → X) → Edits (after f) f
+  pub same : write x ≡ c
+
+module _ {C X A : Type 0} {x : X} {c : C} {after : (X → X) → C} {Edits : C → (X → X) → Type 0} (b : IsBorrowed x c after Edits) (entries : X → List (Text × AttrObj A)) (with_entries : List (Text × AttrObj A) → X → X)
+    (w a : List (Text × AttrObj A)) (is : entries x ≡ w) where
+  -- attributes with one more are written back: that one was put in
+  entry_put : (key : Text) (attr : AttrObj A) → a ≡ insert_entry bytes_eq w key attr → Edits (after (with_entries a)) (λ y. with_entries (insert_entry bytes_eq (entries y) key attr) y)
+  entry_put key attr e =
+      let put : X → X = λ y. with_entries (insert_entry bytes_eq (entries y) key attr) y in
+      subst (λ new. Edits new put) (sym (sym (b.changed (with_entries a)) ∙ ap (λ l. b.write (with_entries l x)) (e ∙ ap (λ l. insert_entry bytes_eq l key attr) (sym is)) ∙ b.changed put)) (b.edits put)
+
+  -- attributes are written back as they are: nothing changed
+  entries_back : with_entries (entries x) x ≡ x → a ≡ w → after (with_entries a) ≡ c
+  entries_back back e = sym (b.changed (with_entries a)) ∙ ap (λ l. b.write (with_entries l x)) (e ∙ sym is) ∙ ap b.write back ∙ b.same
+
 module _ {T A : Type 0} (c : ContextView T A) where
   module _ (p : Ptr Operation) where
     -- the context holds this of an operation
@@ -70,26 +89,23 @@ module _ {T A : Type 0} (c : ContextView T A) where
     changed_edits held change e = subst (λ new. EditsOperation c new p change) (changed held change e)
         (record { graph = edited c.graph p held (option_map change) e; paths = refl; dialects = refl })
 
-    -- changes that do the same there are the same
-    pub changed_alike : (held : Option (OperationData A)) (f h : OperationData A → OperationData A) → Holds held → option_map f held ≡ option_map h held → with_changed_operation c p f ≡ with_changed_operation c p h
-    changed_alike held f h e same = sym (changed held f e) ∙ ap (λ d. record c { graph = with_operation_data c.graph p d }) same ∙ changed held h e
+    -- its data are borrowed
+    operation_borrowed : (held : OperationData A) → Holds (Some held) → IsBorrowed held c (with_changed_operation c p) (λ new. EditsOperation c new p)
+    operation_borrowed held e = record {
+      write = λ d. record c { graph = with_operation_data c.graph p (Some d) };
+      changed = λ f. changed (Some held) f e;
+      edits = λ f. changed_edits (Some held) f e;
+      same = ap (λ g. record c { graph = g }) (unedited c.graph p (Some held) e);
+    }
 
-    -- a change that does nothing there leaves the context unchanged
-    pub unchanged : (held : Option (OperationData A)) (f : OperationData A → OperationData A) → Holds held → option_map f held ≡ held → with_changed_operation c p f ≡ c
-    unchanged held f e same = sym (changed held f e) ∙ ap (λ d. record c { graph = with_operation_data c.graph p d }) same
-        ∙ ap (λ g. record c { graph = g }) (unedited c.graph p held e)
+    -- attributes with one more are written back: that one was put in
+    pub put_edits : (w a : List (Text × AttrObj A)) → option_map (λ op. op.attributes) (operation c p) ≡ Some w → (key : Text) (attr : AttrObj A) → a ≡ insert_entry bytes_eq w key attr
+        → EditsOperation c (with_changed_operation c p (with_attributes a)) p (with_attribute key attr)
+    put_edits w a value = let h = seen_held w value in entry_put (operation_borrowed h.0 h.1) (λ d. d.attributes) with_attributes w a h.2
 
-    module _ (w a : List (Text × AttrObj A)) (value : option_map (λ op. op.attributes) (operation c p) ≡ Some w) where
-      -- attributes with one more are written back: that one was put in
-      pub put_edits : (key : Text) (attr : AttrObj A) → a ≡ insert_entry bytes_eq w key attr → EditsOperation c (with_changed_operation c p (with_attributes a)) p (with_attribute key attr)
-      put_edits key attr e =
-          let h = seen_held w value in
-          let same : Some (with_attributes a h.0) ≡ Some (with_attribute key attr h.0) = ap (λ l. Some (with_attributes l h.0)) (e ∙ ap (λ l. insert_entry bytes_eq l key attr) (sym h.2)) in
-          subst (λ new. EditsOperation c new p (with_attribute key attr)) (sym (changed_alike (Some h.0) (with_attributes a) (with_attribute key attr) h.1 same)) (changed_edits (Some h.0) (with_attribute key attr) h.1)
-
-      -- attributes are written back as they are: nothing changed
-      pub put_back : a ≡ w → with_changed_operation c p (with_attributes a) ≡ c
-      put_back e = let h = seen_held w value in unchanged (Some h.0) (with_attributes a) h.1 (ap (λ l. Some (with_attributes l h.0)) (e ∙ sym h.2))
+    -- attributes are written back as they are: nothing changed
+    pub put_back : (w a : List (Text × AttrObj A)) → option_map (λ op. op.attributes) (operation c p) ≡ Some w → a ≡ w → with_changed_operation c p (with_attributes a) ≡ c
+    put_back w a value = let h = seen_held w value in entries_back (operation_borrowed h.0 h.1) (λ d. d.attributes) with_attributes w a h.2 refl
 
   module _ (p : Ptr BasicBlock) where
     -- the context holds this of a block
@@ -127,23 +143,20 @@ module _ {T A : Type 0} (c : ContextView T A) where
     changed_block_edits held change e = subst (λ new. EditsBlock c new p change) (changed_block held change e)
         (record { graph = edited_block c.graph p held change e; paths = refl; dialects = refl })
 
-    -- changes that do the same there are the same
-    pub changed_block_alike : (held : BlockData A) (f h : BlockData A → BlockData A) → HoldsBlock held → f held ≡ h held → with_changed_block c p f ≡ with_changed_block c p h
-    changed_block_alike held f h e same = sym (changed_block held f e) ∙ ap (λ d. record c { graph = with_block_data c.graph p d }) same ∙ changed_block held h e
+    -- its data are borrowed
+    block_borrowed : (held : BlockData A) → HoldsBlock held → IsBorrowed held c (with_changed_block c p) (λ new. EditsBlock c new p)
+    block_borrowed held e = record {
+      write = λ d. record c { graph = with_block_data c.graph p d };
+      changed = λ f. changed_block held f e;
+      edits = λ f. changed_block_edits held f e;
+      same = ap (λ g. record c { graph = g }) (unedited_block c.graph p held e);
+    }
 
-    -- a change that does nothing there leaves the context unchanged
-    pub unchanged_block : (held : BlockData A) (f : BlockData A → BlockData A) → HoldsBlock held → f held ≡ held → with_changed_block c p f ≡ c
-    unchanged_block held f e same = sym (changed_block held f e) ∙ ap (λ d. record c { graph = with_block_data c.graph p d }) same
-        ∙ ap (λ g. record c { graph = g }) (unedited_block c.graph p held e)
+    -- attributes with one more are written back: that one was put in
+    pub block_put_edits : (w a : List (Text × AttrObj A)) → option_map (λ b. b.attributes) (block c p) ≡ Some w → (key : Text) (attr : AttrObj A) → a ≡ insert_entry bytes_eq w key attr
+        → EditsBlock c (with_changed_block c p (with_block_attributes a)) p (with_block_attribute key attr)
+    block_put_edits w a value = let h = block_seen_held w value in entry_put (block_borrowed h.0 h.1) (λ d. d.attributes) with_block_attributes w a h.2
 
-    module _ (w a : List (Text × AttrObj A)) (value : option_map (λ b. b.attributes) (block c p) ≡ Some w) where
-      -- attributes with one more are written back: that one was put in
-      pub block_put_edits : (key : Text) (attr : AttrObj A) → a ≡ insert_entry bytes_eq w key attr → EditsBlock c (with_changed_block c p (with_block_attributes a)) p (with_block_attribute key attr)
-      block_put_edits key attr e =
-          let h = block_seen_held w value in
-          let same : with_block_attributes a h.0 ≡ with_block_attribute key attr h.0 = ap (λ l. with_block_attributes l h.0) (e ∙ ap (λ l. insert_entry bytes_eq l key attr) (sym h.2)) in
-          subst (λ new. EditsBlock c new p (with_block_attribute key attr)) (sym (changed_block_alike h.0 (with_block_attributes a) (with_block_attribute key attr) h.1 same)) (changed_block_edits h.0 (with_block_attribute key attr) h.1)
-
-      -- attributes are written back as they are: nothing changed
-      pub block_put_back : a ≡ w → with_changed_block c p (with_block_attributes a) ≡ c
-      block_put_back e = let h = block_seen_held w value in unchanged_block h.0 (with_block_attributes a) h.1 (ap (λ l. with_block_attributes l h.0) (e ∙ sym h.2))
+    -- attributes are written back as they are: nothing changed
+    pub block_put_back : (w a : List (Text × AttrObj A)) → option_map (λ b. b.attributes) (block c p) ≡ Some w → a ≡ w → with_changed_block c p (with_block_attributes a) ≡ c
+    block_put_back w a value = let h = block_seen_held w value in entries_back (block_borrowed h.0 h.1) (λ d. d.attributes) with_block_attributes w a h.2 refl

@@ -66,6 +66,12 @@ module _ {T A : Type 0} where
       dialects = e.dialects;
     }
 
+  -- what is seen of an operation that changed, if its change is seen
+  changed_seen : (change : OperationEntry T A → OperationEntry T A) (shown : OperationView T A → OperationView T A) → ((x : OperationEntry T A) → operation_of (change x) ≡ option_map shown (operation_of x))
+      → (s : Option (OperationEntry T A)) → option_and_then operation_of (option_map change s) ≡ option_map shown (option_and_then operation_of s)
+  changed_seen change shown same None = refl
+  changed_seen change shown same (Some x) = same x
+
   module _ (old new : ContextView T A) where
     -- an operation that was made is seen
     pub made_seen : (p : Ptr Operation) (held : OperationData A) (types : List T) {operands : List Value} {successors : List (Ptr BasicBlock)}
@@ -77,15 +83,12 @@ module _ {T A : Type 0} where
     pub edited_seen : (p : Ptr Operation) (change : OperationData A → OperationData A) (shown : OperationView T A → OperationView T A)
         → ((results : List (Typed (Option T))) (regions : List (Ptr Region)) (held : OperationData A) → view_of results regions (change held) ≡ shown (view_of results regions held))
         → EditsOperation old new p change → operation new p ≡ option_map shown (operation old p)
-    edited_seen p change shown same e = ap (option_and_then operation_of) e.graph.operations.updates.changed ∙ go (get old.graph.operations p)
+    edited_seen p change shown same e = ap (option_and_then operation_of) e.graph.operations.updates.changed
+        ∙ changed_seen (object_of (with_data (option_map change))) shown (λ x. inner x.content.content.results x.content.children x.content.content.data_of) (get old.graph.operations p)
       where
         inner : (results : List (Typed (Option T))) (regions : List (Ptr Region)) (o : Option (OperationData A)) → option_map (view_of results regions) (option_map change o) ≡ option_map shown (option_map (view_of results regions) o)
         inner results regions None = refl
         inner results regions (Some held) = ap (λ v. Some v) (same results regions held)
-
-        go : (s : Option (OperationEntry T A)) → option_and_then operation_of (option_map (object_of (with_data (option_map change))) s) ≡ option_map shown (option_and_then operation_of s)
-        go None = refl
-        go (Some x) = inner x.content.content.results x.content.children x.content.content.data_of
 
     -- a block that was made is seen
     pub made_block_seen : (p : Ptr BasicBlock) (held : BlockData A) (types : List T) → MakesBlock old new p held types → block new p ≡ Some (made_block held types)
@@ -104,15 +107,12 @@ module _ {T A : Type 0} where
 
     -- an operation that gained a region has the view with this region
     pub grown_seen : (op : Ptr Operation) (r : Ptr Region) → AddsRegion old new op r → operation new op ≡ option_map (with_region r) (operation old op)
-    grown_seen op r a = ap (option_and_then operation_of) a.graph.operations.updates.changed ∙ go (get old.graph.operations op)
+    grown_seen op r a = ap (option_and_then operation_of) a.graph.operations.updates.changed
+        ∙ changed_seen (object_of (with_child r)) (with_region r) (λ x. inner x.content.content.results x.content.children x.content.content.data_of) (get old.graph.operations op)
       where
         inner : (results : List (Typed (Option T))) (regions : List (Ptr Region)) (o : Option (OperationData A)) → option_map (view_of results (regions ++ r ∷ [])) o ≡ option_map (with_region r) (option_map (view_of results regions) o)
         inner results regions None = refl
         inner results regions (Some held) = refl
-
-        go : (s : Option (OperationEntry T A)) → option_and_then operation_of (option_map (object_of (with_child r)) s) ≡ option_map (with_region r) (option_and_then operation_of s)
-        go None = refl
-        go (Some x) = inner x.content.content.results x.content.children x.content.content.data_of
 
     -- the region that was created has a view
     pub region_seen : (op : Ptr Operation) (r : Ptr Region) → AddsRegion old new op r → region new r ≡ Some (record { parent = Some op; blocks = [] })

@@ -6,3 +6,4 @@ pub mod DialectLends
 pub mod AttributeLends
 pub mod Made
 pub mod Locations
+pub mod Registers

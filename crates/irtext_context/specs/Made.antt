@@ -1,10 +1,10 @@
 -- Making a registered operation with its regions: whether it is registered, what is added to the context, and what is unchanged on an
 -- error.
-use Rattle.std.specs.Prelude.{◌≡◌, ℕ, zero, suc, List, [], Option, Some, None, IsSome, slice_get}
+use Rattle.std.specs.Prelude.{◌≡◌, ◌≤◌, ℕ, zero, suc, List, [], Option, Some, None, IsSome, slice_get, Result, OnOk, OnErr, IfErr}
 use Rattle.irtext_base.specs.Text.{Text}
 use Rattle.irtext_context.specs.Dialects.{Table}
 use Rattle.irtext_context.specs.DialectTable.{dialect_of, registered}
-use Rattle.irtext_context.specs.Context.{ContextView, OperationView, BlockView, known, MakesOperation, AddsRegion}
+use Rattle.irtext_context.specs.Context.{ContextView, OperationView, BlockView, known, KeepsOlder, MakesOperation, AddsRegion}
 use Rattle.irtext_graph.specs.Graph.{IsLive}
 use Rattle.irtext_graph.specs.Parts.{IsDefinedValue}
 use Rattle.irtext_graph.specs.Store.{get}
@@ -20,6 +20,8 @@ use Rattle.irtext_context.specs.declared.base.block.BlockData.{BlockData}
 use Rattle.irtext_context.specs.declared.base.operation.OperationData.{OperationData}
 use Rattle.irtext_base.specs.declared.location.Location.{Unknown}
 use Rattle.irtext_base.specs.declared.result.Cause.{Cause, UnregisteredDialect, UnregisteredOp}
+use Rattle.irtext_base.specs.declared.result.Error.{Error}
+use Rattle.irtext_base.specs.declared.result.ErrorKind.TheVariants.{InvalidArgument}
 
 -- why an operation is not registered: its dialect is not registered, or the dialect has no such operation
 abbrev pub IsUnregistered : {A : Type 0} → List (Text × Table) → OpId → Cause A → Type 0
@@ -72,3 +74,11 @@ module _ {T A : Type 0} where
     pub regions : (p : Ptr Region) → get new.graph.regions p ≡ get old.graph.regions p
     pub paths : KeepsPaths old.paths new.paths
     pub dialects : new.dialects ≡ old.dialects
+
+  -- a call that makes an operation makes only one that is registered, and leaves what is older; its error has no location, and leaves all
+  -- objects
+  pub record MakesRegistered {R : Type 0} (id : OpId) (result : Result R (Error A)) (old new : ContextView T A) : Type 0 where
+    pub registers : OnOk result (IsSome (registered old.dialects id))
+    pub kept : (mark : ℕ) → mark ≤ old.graph.made → KeepsOlder mark old new
+    pub objects : OnErr result (SameObjects old new)
+    pub kind : IfErr result (λ e. (e.kind ≡ InvalidArgument) × (e.loc ≡ Unknown))

@@ -5,6 +5,7 @@ ghost use Rattle.std.specs.Str.{bytes_eq};
 ghost use Rattle.irtext_context.specs.Dialects.{IsRefusedBy};
 ghost use Rattle.irtext_context.specs.DialectTable.{IsKeptAt, dialect_or_new, no_operations, with_operation, CanRegister, RefusesOp};
 ghost use Rattle.irtext_context.specs.Named.{id_of_texts};
+ghost use Rattle.irtext_context.specs.Registers.{Registers};
 ghost use Rattle.irtext_base.specs.FormatViews.{format_of};
 ghost use Rattle.irtext_base.specs.Format.{Accepted};
 ghost use Rattle.irtext_base.specs.declared.location.Location.{Unknown};
@@ -93,13 +94,7 @@ impl<T: IrText<A>, A: AttrText<A>> Context<T, A> {
         isolated: bool,
     ) -> result::Result<(), A>
         requires { IsKeptAt self.old.dialects id.dialect index self.old.dialects }
-        ensures ok { OnOk result (self.new.dialects ≡ with_operation self.old.dialects id (format_of format)
-            isolated) }
-        ensures rest { self.new ≡ record self.old { dialects = self.new.dialects } }
-        ensures err { OnErr result (self.new ≡ self.old) }
-        ensures refused { IfErr result (λ e. IsRefusedBy (dialect_or_new self.old.dialects id.dialect).name id
-            format e.err) }
-        ensures kind { IfErr result (λ e. (e.kind ≡ ErrorKind.InvalidArgument) × (e.loc ≡ Unknown)) }
+        ensures { Registers id format isolated result self.old self.new }
     {
         self.dialect_at(index).add_op(id, format, isolated)
     }
@@ -107,13 +102,7 @@ impl<T: IrText<A>, A: AttrText<A>> Context<T, A> {
     /// Registers an operation, and its dialect if it is not registered yet. On an error the context is unchanged.
     fn put_op(&mut self, id: OpId, format: OpFormat, isolated: bool) -> result::Result<(), A>
         requires { Accepted (format_of format) }
-        ensures ok { OnOk result (self.new.dialects ≡ with_operation self.old.dialects id (format_of format)
-            isolated) }
-        ensures rest { self.new ≡ record self.old { dialects = self.new.dialects } }
-        ensures err { OnErr result (self.new ≡ self.old) }
-        ensures refused { IfErr result (λ e. IsRefusedBy (dialect_or_new self.old.dialects id.dialect).name id
-            format e.err) }
-        ensures kind { IfErr result (λ e. (e.kind ≡ ErrorKind.InvalidArgument) × (e.loc ≡ Unknown)) }
+        ensures { Registers id format isolated result self.old self.new }
     {
         let alloc = self.allocator();
         match index_of(&self.dialects, &id.dialect) {

@@ -1,15 +1,13 @@
 //! Making registered operations without results, operands and successors.
-ghost use Rattle.std.specs.Prelude.{◌≡◌, ◌≤◌, ◌⊎◌, ℕ, [], IsSome, IfOk, IfErr, OnOk, OnErr};
-ghost use Rattle.irtext_context.specs.Context.{KeepsOlder};
+ghost use Rattle.std.specs.Prelude.{◌≡◌, ◌⊎◌, [], IsSome, IfOk, IfErr};
 ghost use Rattle.irtext_context.specs.DialectTable.{registered};
-ghost use Rattle.irtext_context.specs.Made.{IsUnregistered, MakesWithRegions, SameObjects};
-ghost use Rattle.irtext_base.specs.declared.location.Location.{Unknown};
+ghost use Rattle.irtext_context.specs.Made.{IsUnregistered, MakesRegistered, MakesWithRegions};
 
 use crate::base::operation::NewOperation;
 use crate::base::{Context, Operation, Ptr};
 use irtext_base::base::OpId;
 use irtext_base::result;
-use irtext_base::result::{Cause, ErrorKind};
+use irtext_base::result::Cause;
 use irtext_base::text::{AttrText, IrText};
 use irtext_few::Few;
 
@@ -25,13 +23,10 @@ pub trait NewBareOperation {
         num_regions: usize,
     ) -> result::Result<Ptr<Operation>, A>
         ensures made { IfOk result (λ op. MakesWithRegions num_regions ctx.old ctx.new op id [] [] []) }
-        ensures registered { OnOk result (IsSome (registered ctx.old.dialects id)) }
-        ensures kept { (mark : ℕ) → mark ≤ ctx.old.graph.made → KeepsOlder mark ctx.old ctx.new }
-        ensures objects { OnErr result (SameObjects ctx.old ctx.new) }
+        ensures registered { MakesRegistered id result ctx.old ctx.new }
         ensures refused { IfErr result (λ e. (IsSome (registered ctx.old.dialects id)
             × (e.err ≡ Cause.Memory)) ⊎
-            IsUnregistered ctx.old.dialects id e.err) }
-        ensures kind { IfErr result (λ e. (e.kind ≡ ErrorKind.InvalidArgument) × (e.loc ≡ Unknown)) };
+            IsUnregistered ctx.old.dialects id e.err) };
 }
 
 impl NewBareOperation for Operation {

@@ -1,12 +1,11 @@
 //! Making registered operations.
-ghost use Rattle.std.specs.Prelude.{◌≡◌, ◌≤◌, ◌⊎◌, ℕ, None, IsSome, IfOk, IfErr, OnOk, OnErr};
+ghost use Rattle.std.specs.Prelude.{◌≡◌, ◌≤◌, ◌⊎◌, ℕ, None, IsSome, IfOk, IfErr, OnOk};
 ghost use Rattle.irtext_graph.specs.Graph.{IsLive};
 ghost use Rattle.irtext_graph.specs.Store.{before};
 ghost use Rattle.irtext_graph.specs.declared.object.Object.TheVariants.{TheOperation};
 ghost use Rattle.irtext_context.specs.Context.{KeepsOlder, MakesOperation};
 ghost use Rattle.irtext_context.specs.DialectTable.{registered};
-ghost use Rattle.irtext_context.specs.Made.{bare, AddsRegions, AreLiveBlocks, IsUnregistered, MakesWithRegions, SameObjects, AreDefinedValues};
-ghost use Rattle.irtext_base.specs.declared.location.Location.{Unknown};
+ghost use Rattle.irtext_context.specs.Made.{bare, AddsRegions, AreLiveBlocks, IsUnregistered, MakesRegistered, MakesWithRegions, AreDefinedValues};
 
 use crate::base::context::making::Making;
 use crate::base::operation::OperationData;
@@ -16,7 +15,7 @@ use crate::dialect::invalid;
 use irtext_base::base::OpId;
 use irtext_base::location::Location;
 use irtext_base::result;
-use irtext_base::result::{Cause, ErrorKind};
+use irtext_base::result::Cause;
 use irtext_base::text::{AttrText, IrText};
 use irtext_dict::base::AttributeDict;
 use irtext_few::Few;
@@ -87,13 +86,10 @@ pub trait NewOperation {
         requires successors { AreLiveBlocks ctx.old successors.now }
         ensures made { IfOk result (λ op. MakesWithRegions num_regions ctx.old ctx.new op id result_types
             operands.now successors.now) }
-        ensures registered { OnOk result (IsSome (registered ctx.old.dialects id)) }
-        ensures kept { (mark : ℕ) → mark ≤ ctx.old.graph.made → KeepsOlder mark ctx.old ctx.new }
-        ensures objects { OnErr result (SameObjects ctx.old ctx.new) }
+        ensures registered { MakesRegistered id result ctx.old ctx.new }
         ensures refused { IfErr result (λ e. (IsSome (registered ctx.old.dialects id)
             × (e.err ≡ Cause.Memory)) ⊎
-            IsUnregistered ctx.old.dialects id e.err) }
-        ensures kind { IfErr result (λ e. (e.kind ≡ ErrorKind.InvalidArgument) × (e.loc ≡ Unknown)) };
+            IsUnregistered ctx.old.dialects id e.err) };
 }
 
 impl NewOperation for Operation {
