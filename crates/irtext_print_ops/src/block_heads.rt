@@ -17,7 +17,7 @@ use crate::printer::Printer;
 use irtext_base::text::{AttrText, IrText};
 use irtext_context::base::{BasicBlock, BlockAccess, Context, Ptr};
 use irtext_dict::base::AttributeDict;
-use irtext_print::ir::print::pieces::{fmt_dictionary, is_outlined};
+use irtext_print::ir::print::pieces::{DictPrinter, is_outlined};
 use irtext_print::printable::Refusal;
 use irtext_print::printable::refusal::memory_alone;
 use std::fmt;
@@ -40,7 +40,11 @@ fn fmt_inline<A: AttrText<A>>(attributes: &AttributeDict<A>, f: &mut String) -> 
         (entries_of attributes.now)) f.new) }
 {
     if has_inline(attributes) {
-        fmt_dictionary(attributes, &[], f)?;
+        DictPrinter {
+            attributes,
+            directives: &[],
+        }
+        .fmt_dictionary(f)?;
     }
     Ok(())
 }

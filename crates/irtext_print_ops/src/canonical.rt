@@ -18,7 +18,7 @@ use crate::lists::Listed;
 use crate::printer::Printer;
 use irtext_base::text::{AttrText, IrText};
 use irtext_context::base::{Operation, OperationAccess, Ptr};
-use irtext_print::ir::print::pieces::fmt_entries;
+use irtext_print::ir::print::pieces::DictPrinter;
 use irtext_print::printable::Refusal;
 use irtext_print::printable::refusal::memory_alone;
 use std::fmt;
@@ -45,7 +45,11 @@ impl<'c, T: IrText<A>, A: AttrText<A>> Printer<'c, T, A> {
             (body_of (printing_by A.AttrText.own A.eq self.entry.ctx.now) o (Some format.canonical))) f.new)) }
     {
         self.fmt_uses(op, f)?;
-        fmt_entries(op.attributes(self.ctx), &[], f)?;
+        DictPrinter {
+            attributes: op.attributes(self.ctx),
+            directives: &[],
+        }
+        .fmt_entries(f)?;
         f.push_str("]: <(")?;
         self.fmt_listed(Listed::OperandTypes(op), 0, f)?;
         f.push_str(") -> (")?;

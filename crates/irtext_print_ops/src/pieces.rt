@@ -28,7 +28,7 @@ use irtext_base::format::Directive;
 use irtext_base::text::{AttrText, IrText};
 use irtext_context::base::{Context, Operation, OperationAccess, Ptr, Value};
 use irtext_graph::held::HasGraph;
-use irtext_print::ir::print::pieces::{fmt_dictionary, fmt_keyed, fmt_symbol, fmt_word};
+use irtext_print::ir::print::pieces::{DictPrinter, fmt_keyed, fmt_symbol, fmt_word};
 use irtext_print::printable::Refusal;
 use irtext_print::printable::refusal::memory_alone;
 use std::fmt;
@@ -131,7 +131,11 @@ impl<'c, T: IrText<A>, A: AttrText<A>> Printer<'c, T, A> {
                 self.fmt_spaced(Listed::Successors(op), count_successors(directives), f)
             }
             Directive::Attr(key) => fmt_keyed(op.attributes(self.ctx), key, f),
-            Directive::AttrDict => fmt_dictionary(op.attributes(self.ctx), directives, f),
+            Directive::AttrDict => DictPrinter {
+                attributes: op.attributes(self.ctx),
+                directives,
+            }
+            .fmt_dictionary(f),
             Directive::SymbolHeader => fmt_symbol(op.attributes(self.ctx), f),
             Directive::Region(_) => Ok(()),
             Directive::Regions => Ok(()),

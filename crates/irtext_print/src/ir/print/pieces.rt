@@ -150,17 +150,6 @@ pub fn is_key_written(directives: &[Directive], key: &str) -> bool
     directives.iter().any(|d| names_key(d, key))
 }
 
-/// Whether the dictionary prints an entry: no other directive does, and it is not outlined.
-fn is_listed<A: AttrText<A>>(directives: &[Directive], key: &Identifier, attr: &AttrObj<A>) -> bool
-    ensures { result ≡ pieces.is_listed A.outlined (directives_of directives.now) (
-      key.now,
-      attribute_of
-          attr.now,
-    ) }
-{
-    !is_outlined(attr) && !is_key_written(directives, key.as_str())
-}
-
 /// Appends an entry, after `, ` if it is not the first.
 fn fmt_entry<A: AttrText<A>>(
     first: bool,
@@ -182,39 +171,51 @@ fn fmt_entry<A: AttrText<A>>(
     fmt_attr(attr, f)
 }
 
-/// Appends the entries that the dictionary prints, with `, ` between them.
-#[inline(always)]
-pub fn fmt_entries<A: AttrText<A>>(
-    attributes: &AttributeDict<A>,
-    directives: &[Directive],
-    f: &mut String,
-) -> fmt::Result
-    ensures { OnOk result (AppendsText f.old
-        (pieces.listed_text A.IrText.written A.outlined (directives_of directives.now)
-        (entries_of attributes.now)) f.new) }
-{
-    let mut first = true;
-    for (key, attr) in attributes.iter() {
-        if is_listed(directives, key, attr) {
-            fmt_entry(first, key, attr, f)?;
-            first = false;
-        }
-    }
-    Ok(())
+/// Prints the entries of a dictionary that no other directive of a format prints, if they are not outlined.
+#[derive_where(Clone, Copy)]
+pub struct DictPrinter<'a, A: AttrText<A>> {
+    /// The dictionary.
+    pub attributes: &'a AttributeDict<A>,
+    /// The directives of the format.
+    pub directives: &'a [Directive],
 }
 
-/// Appends the dictionary of the attributes that no other directive prints, after a space: ` [k: builtin.identifier x]`.
-pub fn fmt_dictionary<A: AttrText<A>>(
-    attributes: &AttributeDict<A>,
-    directives: &[Directive],
-    f: &mut String,
-) -> fmt::Result
-    ensures { OnOk result (AppendsText f.old
-        (pieces.dictionary_text A.IrText.written A.outlined (directives_of directives.now)
-        (entries_of attributes.now)) f.new) }
-{
-    f.push_str(" [")?;
-    fmt_entries(attributes, directives, f)?;
-    f.push_str("]")?;
-    Ok(())
+impl<'a, A: AttrText<A>> DictPrinter<'a, A> {
+    /// Whether the dictionary prints an entry: no other directive does, and it is not outlined.
+    fn is_listed(self, key: &Identifier, attr: &AttrObj<A>) -> bool
+        ensures { result ≡ pieces.is_listed A.outlined (directives_of self.entry.directives.now) (
+          key.now,
+          attribute_of
+              attr.now,
+        ) }
+    {
+        !is_outlined(attr) && !is_key_written(self.directives, key.as_str())
+    }
+
+    /// Appends the entries that the dictionary prints, with `, ` between them.
+    #[inline(always)]
+    pub fn fmt_entries(self, f: &mut String) -> fmt::Result
+        ensures { OnOk result (AppendsText f.old (pieces.listed_text A.IrText.written A.outlined
+            (directives_of self.entry.directives.now) (entries_of self.entry.attributes.now)) f.new) }
+    {
+        let mut first = true;
+        for (key, attr) in self.attributes.iter() {
+            if self.is_listed(key, attr) {
+                fmt_entry(first, key, attr, f)?;
+                first = false;
+            }
+        }
+        Ok(())
+    }
+
+    /// Appends the dictionary of the attributes that no other directive prints, after a space: ` [k: builtin.identifier x]`.
+    pub fn fmt_dictionary(self, f: &mut String) -> fmt::Result
+        ensures { OnOk result (AppendsText f.old (pieces.dictionary_text A.IrText.written A.outlined
+            (directives_of self.entry.directives.now) (entries_of self.entry.attributes.now)) f.new) }
+    {
+        f.push_str(" [")?;
+        self.fmt_entries(f)?;
+        f.push_str("]")?;
+        Ok(())
+    }
 }

@@ -5,10 +5,10 @@ use Rattle.irtext_dict.specs.Entries.{entries_left}
 use Rattle.irtext_print.specs.Printers.PieceText.{entry_text, dictionary_entries, rows_text}
 use Rattle.irtext_grammar.specs.Contexts.Held.{entries_of}
 use Rattle.irtext_print.proofs.Printers.Locations.{left_text}
-use Rattle.irtext_print.proofs.ir.print.pieces.fmt_entries.Given as goal
+use Rattle.irtext_print.proofs.ir.print.pieces.DictPrinter.fmt_entries.Given as goal
 
 -- what is written, and then the rest, is all
 abbrev pub invariant-loop-key : goal.invariant-loop-key
 invariant-loop-key g l =
-    string_bytes l.f ++ encode_utf8_all (left_text l.first (map (entry_text g.A.IrText.written) (dictionary_entries g.A.AttrText.outlined (directives_of l.directives) (entries_of (entries_left l.key-iterator)))))
-    ≡ string_bytes l.fn.f ++ encode_utf8_all (rows_text g.A.IrText.written (dictionary_entries g.A.AttrText.outlined (directives_of l.directives) (entries_of l.attributes)))
+    string_bytes l.f ++ encode_utf8_all (left_text l.first (map (entry_text g.A.IrText.written) (dictionary_entries g.A.AttrText.outlined (directives_of l.self.directives.now) (entries_of (entries_left l.key-iterator)))))
+    ≡ string_bytes l.fn.f ++ encode_utf8_all (rows_text g.A.IrText.written (dictionary_entries g.A.AttrText.outlined (directives_of l.self.directives.now) (entries_of l.self.attributes.now)))
