@@ -5,7 +5,7 @@ ghost use Rattle.irtext_base.specs.Faults.{Fault};
 ghost use Rattle.irtext_context.specs.Dialects.{Table};
 ghost use Rattle.irtext_tokens.specs.AttrTexts.{attr_at};
 ghost use Rattle.irtext_grammar.specs.Names.Acts.{Rule};
-ghost use Rattle.irtext_parse_spec.specs.Promises.ErrorCauses.{CauseAt, IsCauseOf};
+ghost use Rattle.irtext_parse_spec.specs.Promises.ErrorCauses.{CauseAt, CauseAtPlace};
 ghost use Rattle.irtext_parse_spec.specs.Entries.{section_at};
 ghost use Rattle.irtext_parse_spec.specs.Promises.Supported.{RefusedAs};
 ghost use Rattle.irtext_parse_spec.specs.Reached.{Stopped, Actions, operation_at, region_at};
@@ -18,11 +18,11 @@ pub fn causes_of_texts<T: IrText<A>, A: AttrText<A>, U>()
     ensures operation { (dialects : List (Text × Table)) (does : Actions T A U) (inside : Bool) (text : Text)
         (s t : U) (cause : Fault) (place : ℕ) →
         operation_at dialects T.reading (attr_at A.reading) does inside text s ≡ Stopped t cause place →
-        IsCauseOf dialects T.reading A.reading text cause place }
+        CauseAtPlace dialects T.reading A.reading text cause place }
     ensures region { (dialects : List (Text × Table)) (does : Actions T A U) (isolated : Bool) (text : Text)
         (s t : U) (cause : Fault) (place : ℕ) →
         region_at dialects T.reading (attr_at A.reading) does isolated text s ≡ Stopped t cause place →
-        IsCauseOf dialects T.reading A.reading text cause place }
+        CauseAtPlace dialects T.reading A.reading text cause place }
     ensures section { (dialects : List (Text × Table)) (marks : List ℕ) (rules : ℕ → Rule A)
         (text upto : Text) (cause : Fault) →
         RefusedAs (section_at (attr_at A.reading) marks rules text) cause upto →

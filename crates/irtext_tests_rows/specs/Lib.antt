@@ -6,3 +6,4 @@ pub mod Formats
 pub mod Located
 pub mod LocationRows
 pub mod Labels
+pub mod CauseRows

@@ -18,7 +18,7 @@ use Rattle.irtext_grammar.specs.Names.Script as script
 use Rattle.irtext_grammar.specs.Names.Script.{Cause}
 use Rattle.irtext_parse_spec.specs.Naming.{naming}
 use Rattle.irtext_parse_spec.specs.Reached.{Actions}
-use Rattle.irtext_parse_spec.specs.Promises.ErrorCauses.{is_name_fault, IsLeft, CauseAt, of_token, IsCauseOf, FailsBy, out_of_memory, in_text, by_name}
+use Rattle.irtext_parse_spec.specs.Promises.ErrorCauses.{is_name_fault, IsLeft, CauseAt, of_token, CauseAtPlace, HasReason, out_of_memory, in_text, by_name}
 use Rattle.irtext_parse_spec.specs.Promises.Root.{IsCause}
 use Rattle.irtext_parse_spec.specs.Promises.Section.{Moves, indices_of, is_noted}
 use Rattle.irtext_parse_spec.proofs.Causes.Found.{cause_longer, operation_cause, region_cause, section_takes, section_cause}
@@ -67,10 +67,10 @@ module _ {T A : Type 0} (dialects : List (Text × Table)) (types_at : Reader T) 
 
   module _ (old : StreamView) (fault : ParseFault A) where
     abbrev Says : Type 0
-    Says = FailsBy dialects types_at owns_at old fault
+    Says = HasReason dialects types_at owns_at old fault
 
     -- a cause at a place of the text
-    at_place : (cause : Fault) (place : ℕ) → fault_of fault.cause ≡ cause → IsPosition (whole old) place fault.pos → IsCauseOf dialects types_at owns_at old.rest cause place → Says
+    at_place : (cause : Fault) (place : ℕ) → fault_of fault.cause ≡ cause → IsPosition (whole old) place fault.pos → CauseAtPlace dialects types_at owns_at old.rest cause place → Says
     at_place cause place because at c = in_text c.0 (subst (λ z. CauseAt dialects types_at owns_at old.rest z c.0) (sym because) c.2) (subst (λ z. IsPosition (whole old) z fault.pos) c.1 at)
 
     -- an operation's text
@@ -113,7 +113,7 @@ module _ {T A : Type 0} (dialects : List (Text × Table)) (types_at : Reader T) 
 
 module _ {T A U : Type 0} (types_at : Reader T) (owns_at : Reader A) (sincere_types : Sincere types_at) (sincere : Sincere owns_at) (old : StateStream T A U) (fault : ParseFault A) where
   abbrev Fails : Type 0
-  Fails = FailsBy old.state.ctx.now.dialects types_at owns_at old.stream fault
+  Fails = HasReason old.state.ctx.now.dialects types_at owns_at old.stream fault
 
   -- an operation, with the section of its marks or without it
   pub any_fails : (look : Bool) → MissesAny types_at (attr_at owns_at) look old fault → Fails

@@ -11,7 +11,7 @@ use Rattle.irtext_tokens.specs.Infix.{Reader}
 use Rattle.irtext_base.specs.Paths.{Written}
 use Rattle.irtext_grammar.specs.Grammar.Section.{Entry}
 use Rattle.irtext_grammar.specs.Names.Acts.{Rule}
-use Rattle.irtext_parse_spec.specs.Promises.ErrorCauses.{IsLeft, missing, bad, ReturnsIn, CauseAt, of_token, of_name, no_dialect, no_operation, of_type, of_attribute, IsCauseOf}
+use Rattle.irtext_parse_spec.specs.Promises.ErrorCauses.{IsLeft, missing, bad, ReturnsCauseIn, CauseAt, of_token, of_name, no_dialect, no_operation, of_type, of_attribute, CauseAtPlace}
 use Rattle.irtext_parse_spec.specs.Heads.{led_at}
 use Rattle.irtext_parse_spec.specs.Entries.{section_at}
 use Rattle.irtext_parse_spec.specs.Promises.Supported.{RefusedAs}
@@ -25,7 +25,7 @@ use Rattle.irtext_parse_spec.proofs.Causes.Nested.{Ends, region_at_ends, operati
 left_longer : (front text left : Text) → IsLeft text left → IsLeft (front ++ text) left
 left_longer front text left h = (front ++ h.0, append_assoc front h.0 left ∙ ap (λ z. front ++ z) h.1)
 
-returns_longer : {X : Type 0} (parser : Reader X) (front text : Text) (cause : Fault) (left : Text) → ReturnsIn parser text cause left → ReturnsIn parser (front ++ text) cause left
+returns_longer : {X : Type 0} (parser : Reader X) (front text : Text) (cause : Fault) (left : Text) → ReturnsCauseIn parser text cause left → ReturnsCauseIn parser (front ++ text) cause left
 returns_longer parser front text cause left h = record { start = h.start; later = left_longer front text h.start h.later; returns = h.returns; allowed = h.allowed }
 
 module _ {T A : Type 0} (dialects : List (Text × Table)) (types_at : Reader T) (owns_at : Reader A) where
@@ -47,7 +47,7 @@ module _ {T A : Type 0} (dialects : List (Text × Table)) (types_at : Reader T) 
     longer = cause_longer;
   }
 
-  module _ {X : Type 0} (parser : Reader X) (gives : (text : Text) (cause : Fault) (left : Text) → ReturnsIn parser text cause left → CauseAt dialects types_at owns_at text cause left) where
+  module _ {X : Type 0} (parser : Reader X) (gives : (text : Text) (cause : Fault) (left : Text) → ReturnsCauseIn parser text cause left → CauseAt dialects types_at owns_at text cause left) where
     parser_obeys : (text : Text) (o : Outcome X) → parser text ≡ o → Of text o → Obeys K text o
     parser_obeys text (Read x taken left) e h = obeys_read text x taken left h.says
     parser_obeys text (Missing cause) e h = obeys_missing text cause (gives text cause text (record { start = text; later = ([], refl); returns = missing e refl; allowed = first_of_text cause h.says }))
@@ -65,19 +65,19 @@ module _ {T A : Type 0} (dialects : List (Text × Table)) (types_at : Reader T) 
     leads_obey = led_obeys K dialects (λ text cause left d l. no_dialect d l) (λ text cause left d l. no_operation d l)
 
     -- a parse that is stuck has such a cause
-    stuck : {X S : Type 0} (text : Text) (o : Reached X S) (s : S) (cause : Fault) (place : ℕ) → o ≡ Stopped s cause place → Ends K text o → IsCauseOf dialects types_at owns_at text cause place
+    stuck : {X S : Type 0} (text : Text) (o : Reached X S) (s : S) (cause : Fault) (place : ℕ) → o ≡ Stopped s cause place → Ends K text o → CauseAtPlace dialects types_at owns_at text cause place
     stuck text o s cause place e h = (subst (Ends K text) e h).says
 
     module _ {S : Type 0} (does : Actions T A S) where
       -- the cause of an operation's text
       pub operation_cause : (inside : Bool) (text : Text) (s t : S) (cause : Fault) (place : ℕ) → operation_at dialects types_at (attr_at owns_at) does inside text s ≡ Stopped t cause place
-          → IsCauseOf dialects types_at owns_at text cause place
+          → CauseAtPlace dialects types_at owns_at text cause place
       operation_cause inside text s t cause place e =
           stuck text _ t cause place e (operation_at_ends dialects types_at (attr_at owns_at) does types_obey (attr_obeys owns_obey) leads_obey inside text s)
 
       -- the cause of a region's text
       pub region_cause : (iso : Bool) (text : Text) (s t : S) (cause : Fault) (place : ℕ) → region_at dialects types_at (attr_at owns_at) does iso text s ≡ Stopped t cause place
-          → IsCauseOf dialects types_at owns_at text cause place
+          → CauseAtPlace dialects types_at owns_at text cause place
       region_cause iso text s t cause place e =
           stuck text _ t cause place e (region_at_ends dialects types_at (attr_at owns_at) does types_obey (attr_obeys owns_obey) leads_obey iso text s)
 

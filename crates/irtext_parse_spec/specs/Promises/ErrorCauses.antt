@@ -43,15 +43,15 @@ abbrev pub IsLeft : Text → Text → Type 0
 IsLeft text left = (front : Text) × (front ++ left ≡ text)
 
 -- a parser that starts with this text returns this cause at this place: nothing that it parses begins, or what begins is bad there
-pub data Returns {X : Type 0} (parser : Reader X) (start : Text) (cause : Fault) (left : Text) : Type 0 where
-  missing : parser start ≡ Missing cause → left ≡ start → Returns parser start cause left
-  bad : (upto : Text) → parser start ≡ Bad cause upto → upto ++ left ≡ start → Returns parser start cause left
+pub data ReturnsCause {X : Type 0} (parser : Reader X) (start : Text) (cause : Fault) (left : Text) : Type 0 where
+  missing : parser start ≡ Missing cause → left ≡ start → ReturnsCause parser start cause left
+  bad : (upto : Text) → parser start ≡ Bad cause upto → upto ++ left ≡ start → ReturnsCause parser start cause left
 
 -- a caller's parser that starts at some place of the text returns this cause at this place; the cause is one that such a parser may return
-pub record ReturnsIn {X : Type 0} (parser : Reader X) (text : Text) (cause : Fault) (left : Text) : Type 0 where
+pub record ReturnsCauseIn {X : Type 0} (parser : Reader X) (text : Text) (cause : Fault) (left : Text) : Type 0 where
   pub start : Text
   pub later : IsLeft text start
-  pub returns : Returns parser start cause left
+  pub returns : ReturnsCause parser start cause left
   pub allowed : is_text_fault cause ≡ true
 
 -- an id begins here, whose dialect is not registered
@@ -85,17 +85,17 @@ module _ {T A : Type 0} (dialects : List (Text × Table)) (types_at : Reader T) 
     of_name : is_name_fault cause ≡ true → IsLeft text left → CauseAt text cause left
     no_dialect : NoDialect dialects cause left → IsLeft text left → CauseAt text cause left
     no_operation : NoOperation dialects cause left → IsLeft text left → CauseAt text cause left
-    of_type : ReturnsIn types_at text cause left → CauseAt text cause left
-    of_attribute : ReturnsIn owns_at text cause left → CauseAt text cause left
+    of_type : ReturnsCauseIn types_at text cause left → CauseAt text cause left
+    of_attribute : ReturnsCauseIn owns_at text cause left → CauseAt text cause left
 
   -- the same, where a place is the number of characters from it to the end of the text
-  abbrev pub IsCauseOf : Text → Fault → ℕ → Type 0
-  IsCauseOf text cause place = (left : Text) × (place ≡ length left) × CauseAt text cause left
+  abbrev pub CauseAtPlace : Text → Fault → ℕ → Type 0
+  CauseAtPlace text cause place = (left : Text) × (place ≡ length left) × CauseAt text cause left
 
   -- Why parsing fails on a stream: the stream had failed; out of memory; a cause that an error of the text to come can have at the fault's
   -- position; or one about a name, a mark, an entry of the section or a key.
-  pub data FailsBy (old : StreamView) (fault : ParseFault A) : Type 0 where
-    had_failed : old.failed ≡ true → fault_of fault.cause ≡ Failed → FailsBy old fault
-    out_of_memory : fault_of fault.cause ≡ Memory → FailsBy old fault
-    in_text : (left : Text) → CauseAt old.rest (fault_of fault.cause) left → IsPosition (whole old) (length left) fault.pos → FailsBy old fault
-    by_name : is_name_fault (fault_of fault.cause) ≡ true → FailsBy old fault
+  pub data HasReason (old : StreamView) (fault : ParseFault A) : Type 0 where
+    had_failed : old.failed ≡ true → fault_of fault.cause ≡ Failed → HasReason old fault
+    out_of_memory : fault_of fault.cause ≡ Memory → HasReason old fault
+    in_text : (left : Text) → CauseAt old.rest (fault_of fault.cause) left → IsPosition (whole old) (length left) fault.pos → HasReason old fault
+    by_name : is_name_fault (fault_of fault.cause) ≡ true → HasReason old fault

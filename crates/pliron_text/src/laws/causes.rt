@@ -5,7 +5,7 @@ ghost use Rattle.irtext_graph.specs.declared.arena.Ptr.{Ptr};
 ghost use Rattle.irtext_graph.specs.declared.object.Operation.{Operation};
 ghost use Rattle.irtext_graph.specs.declared.object.Region.{Region};
 ghost use Rattle.irtext_parse_root.specs.Parses.{Parses, AnswersOperation, AnswersRegion, AnswersWhole};
-ghost use Rattle.irtext_parse_spec.specs.Promises.ErrorCauses.{FailsBy};
+ghost use Rattle.irtext_parse_spec.specs.Promises.ErrorCauses.{HasReason};
 ghost use Rattle.irtext_parse_state.specs.declared.parsable.state.StateStream.{StateStream};
 
 use irtext_base::text::{AttrText, IrText};
@@ -19,12 +19,12 @@ pub fn causes_of_errors<T: IrText<A>, A: AttrText<A>, U>()
     ensures operation { (look : Bool) (old new : StateStream T A U)
         (result : Result (Ptr Operation) (ParseFault A)) →
         Parses (AnswersOperation T.IrText.own A.IrText.own look) old result new →
-        IfErr result (FailsBy old.state.ctx.now.dialects T.IrText.reading A.IrText.reading old.stream) }
+        IfErr result (HasReason old.state.ctx.now.dialects T.IrText.reading A.IrText.reading old.stream) }
     ensures whole_text { (old new : StateStream T A U) (result : Result (Ptr Operation) (ParseFault A)) →
         Parses (AnswersWhole T.IrText.own A.IrText.own) old result new →
-        IfErr result (FailsBy old.state.ctx.now.dialects T.IrText.reading A.IrText.reading old.stream) }
+        IfErr result (HasReason old.state.ctx.now.dialects T.IrText.reading A.IrText.reading old.stream) }
     ensures region { (op : Ptr Operation) (old new : StateStream T A U)
         (result : Result (Ptr Region) (ParseFault A)) →
         Parses (AnswersRegion T.IrText.own A.IrText.own op) old result new →
-        IfErr result (FailsBy old.state.ctx.now.dialects T.IrText.reading A.IrText.reading old.stream) }
+        IfErr result (HasReason old.state.ctx.now.dialects T.IrText.reading A.IrText.reading old.stream) }
 {}
