@@ -29,6 +29,10 @@ pub trait Referent<B: Drop>: Copy {
     // what a placeholder is made with, for a contract
     ghost blank: { Self.Blank → BlankOf B kind };
 
+    /// Whether a scope of names of the kind is open, so that they can be used and defined.
+    fn has_scope(names: &Names) -> bool
+        ensures { result ≡ is_open (scopes_of kind names.now) };
+
     /// Returns what a name refers to in the innermost scope, if that scope has the name.
     fn referred(names: &Names, name: usize) -> Option<Self>
         ensures value { result ≡ option_map value_of (find name (innermost (scopes_of kind names.now))) }
@@ -84,6 +88,10 @@ impl<B: Drop> Referent<B> for Value {
 
     ghost blank = { λ with. tt };
 
+    fn has_scope(names: &Names) -> bool {
+        names.has_value_scope()
+    }
+
     fn referred(names: &Names, name: usize) -> Option<Value> {
         names.ssa_use(name)
     }
@@ -118,6 +126,10 @@ impl<B: Drop> Referent<B> for Ptr<BasicBlock> {
     ghost kind = { labels };
 
     ghost blank = { λ with. with };
+
+    fn has_scope(names: &Names) -> bool {
+        names.has_label_scope()
+    }
 
     fn referred(names: &Names, name: usize) -> Option<Ptr<BasicBlock>> {
         names.block_use(name)

@@ -16,7 +16,7 @@ use Rattle.irtext_parse_nested.proofs.Pieces.{gather_refused_first, gather_refus
 use Rattle.irtext_parse_nested.proofs.Words.{can_after_words, gathers_words, words_refused, gathers_last}
 
 -- the graph of a context
-abbrev Objects : (T A : Type 0) → Type 0
+abbrev pub Objects : (T A : Type 0) → Type 0
 Objects T A = GraphView (Option (OperationData A)) (BlockData A) (Option T)
 
 module _ {T A : Type 0} where

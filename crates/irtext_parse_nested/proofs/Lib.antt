@@ -11,6 +11,7 @@ pub mod Ends
 pub mod Marking
 pub mod Ended
 pub mod BlockPlaced
+pub mod Unplaced
 pub mod RegionBegun
 pub mod BlockKept
 pub mod StepParts
@@ -30,7 +31,9 @@ pub mod NamesGiven
 pub mod BlockEntries
 pub mod EntriesStored
 pub mod Headers
+pub mod Halves
 pub mod HeadActs
+pub mod Depths
 pub mod OperationClosed
 pub mod BlockBegun
 pub mod BlockTurn

@@ -215,12 +215,6 @@ module _ {O B T A : Type 0} (names : Names) (g : GraphView (Option O) B (Option 
   pub silent : (q q' : Piece ℕ T A) → q ≡ q' → (p : Path) (k l : ℕ) → piece_acts p k l q' ≡ [] → TakesUses (piece_acts p k l q) names names g g []
   silent q q' e p k l none = subst (λ acts. TakesUses acts names names g g []) (sym (ap (piece_acts p k l) e ∙ none)) (takes_none names g)
 
-  -- a list without names
-  none_used : (make : List (Name ℕ) → Piece ℕ T A) → ((p : Path) (k l : ℕ) → piece_acts p k l (make []) ≡ []) → (text : Text) (q : Piece ℕ T A)
-      → (ms : List (Name ℕ)) × (q ≡ make ms) × Each (Represents names.names text) [] ms → (p : Path) (k l : ℕ) → TakesUses (piece_acts p k l q) names names g g []
-  none_used make none text q ([], is, each) p k l = silent q (make []) is p k l (none p k l)
-  none_used make none text q (m ∷ ms, is, each) p k l = absurd each
-
 -- ---- a piece that uses no name
 module _ {O B T A : Type 0} (names : Names) (g : GraphView (Option O) B (Option T)) {x y : Gathered T A} where
   alone : (piece : ReadPiece T A) → ((text : Text) (q : Piece ℕ T A) → IsPiece names.names text piece q → (p : Path) (k l : ℕ) → TakesUses (piece_acts p k l q) names names g g [])
@@ -242,16 +236,6 @@ module _ {O B T A : Type 0} (names : Names) (g : GraphView (Option O) B (Option 
   pub word_one : y ≡ x → Gathers {O = O} {B = B} (read.Word ∷ []) names g x names g y
   word_one e = alone read.Word (λ text q is p a b. silent names g q (tree.word is.0) is.1 p a b refl) refl refl refl refl
       (ap (λ z. z.operands) e) (ap (λ z. z.successors) e) (ap (λ z. z.types.items) e ∙ sym (append-nil x.types.items)) (ap (λ z. z.listed) e) (ap (λ z. entries_of z.attributes) e)
-
-  pub no_operands_one : (ns : List ReadName) → ns ≡ [] → y ≡ x → Gathers {O = O} {B = B} (read.Operands ns ∷ []) names g x names g y
-  no_operands_one [] none e = alone (read.Operands []) (none_used names g tree.operands (λ p k l. refl)) refl refl refl refl
-      (ap (λ z. z.operands) e) (ap (λ z. z.successors) e) (ap (λ z. z.types.items) e ∙ sym (append-nil x.types.items)) (ap (λ z. z.listed) e) (ap (λ z. entries_of z.attributes) e)
-  no_operands_one (n ∷ ns) none e = absurd (cc)
-
-  pub no_successors_one : (ns : List ReadName) → ns ≡ [] → y ≡ x → Gathers {O = O} {B = B} (read.Successors ns ∷ []) names g x names g y
-  no_successors_one [] none e = alone (read.Successors []) (none_used names g tree.successors (λ p k l. refl)) refl refl refl refl
-      (ap (λ z. z.operands) e) (ap (λ z. z.successors) e) (ap (λ z. z.types.items) e ∙ sym (append-nil x.types.items)) (ap (λ z. z.listed) e) (ap (λ z. entries_of z.attributes) e)
-  no_successors_one (n ∷ ns) none e = absurd (cc)
 
   -- the attribute of a directive
   pub attribute_one : (k : Text) (a : AttrObj A) → y.operands ≡ x.operands → y.successors ≡ x.successors → y.types ≡ x.types → y.listed ≡ x.listed
@@ -386,11 +370,6 @@ module _ {O B T A : Type 0} (names : Names) (g : GraphView (Option O) B (Option 
   successors_outside [] n e shut = absurd (cc)
   successors_outside (m ∷ ns) n e shut = name_fails (read.Successors (m ∷ ns)) n (λ text q is. let f = labels_fail names g text m ns is.0 shut is.2 in let same : m ≡ n = cc in
       (f.0, subst (λ r. Represents names.names text r f.0) same f.1, tree.successors is.0, is.1, λ p k l. f.2 p l))
-
--- ---- lists that are none or some
-pub none_of_length : (ns : List ReadName) → length ns ≡ 0 → ns ≡ []
-none_of_length [] e = refl
-none_of_length (n ∷ ns) e = absurd (omega (arith, e))
 
 -- ---- pieces that may have been an error
 module _ {T A : Type 0} (x y : Gathered T A) where

@@ -1,22 +1,29 @@
--- A region that is entered and appended to its operation: what stays live, what waits, and the state of the machine.
-use Rattle.std.proofs.Common.{IsSome, arith, ap}
+-- A region that is created as it is entered: what stays live and what names refer to, and what came.
+use Rattle.std.proofs.Common.{◌≡◌, ◌≤◌, ℕ, [], ◌∷◌, Option, Some, None, IsSome, Result, Ok, Err, IfOk, arith, ap}
+use Rattle.std.specs.Prelude.{IfSome}
 use Rattle.std.specs.Option.{option_map}
-use Rattle.irtext_context.specs.Context.{ContextView, operation, AddsRegion}
+use Rattle.irtext_context.specs.Context.{ContextView, operation, AddsRegion, with_graph}
 use Rattle.irtext_graph.specs.declared.arena.Ptr.{Ptr}
 use Rattle.irtext_graph.specs.declared.object.Operation.{Operation}
 use Rattle.irtext_graph.specs.declared.object.Region.{Region}
-use Rattle.irtext_graph.specs.declared.object.Object.TheVariants.{TheRegion}
+use Rattle.irtext_graph.specs.declared.object.Object.TheVariants.{TheOperation, TheRegion}
 use Rattle.irtext_graph.specs.Content.{ARegion}
-use Rattle.irtext_graph.specs.Graph.{content_of, IsLive}
+use Rattle.irtext_graph.specs.Graph.{content_of, IsLive, IsNew, MakesRegion}
 use Rattle.irtext_parse_nested.specs.Items.{KeepsLive}
 use Rattle.irtext_parse_nested.proofs.Lasting.{data_there}
-use Rattle.irtext_parse_nested.proofs.RegionAdded.{operation_same, object_same, region_leaves}
+use Rattle.irtext_parse_spec.specs.Grows.{RegionCame, OperationGains}
+use Rattle.irtext_parse_spec.specs.Unchanged.{ModifiesOnly}
+use Rattle.irtext_parse_spec.proofs.Edits.{region_added_came, region_added_gains, region_added_spares}
+use Rattle.irtext_parse_nested.specs.Read.{CreatesIn}
+use Rattle.irtext_parse_nested.proofs.RegionAdded as added
+use Rattle.irtext_parse_nested.proofs.RegionAdded.{operation_same, object_same}
 use Rattle.irtext_parse_nested.proofs.NamesLeft.{LeavesNames}
-use Rattle.irtext_parse_nested.proofs.RegionCreated.{CreatesRegion, created_lasts, created_there}
+use Rattle.irtext_parse_nested.proofs.RegionCreated.{CreatesRegion, created_lasts, created_there, created_new}
+use Rattle.irtext_parse_nested.proofs.Unplaced.{alone_creates, alone_leaves, alone_came}
 
 module _ {T A : Type 0} (old new : ContextView T A) (op : Ptr Operation) (r : Ptr Region) (adds : AddsRegion old new op r) where
-  creates : CreatesRegion old new r
-  creates = record {
+  added_creates : CreatesRegion old new r
+  added_creates = record {
     operations = operation_same old.graph new.graph op r adds.graph;
     objects = object_same old.graph new.graph op r adds.graph;
     blocks = adds.graph.blocks;
@@ -26,14 +33,46 @@ module _ {T A : Type 0} (old new : ContextView T A) (op : Ptr Operation) (r : Pt
     dialects = adds.dialects;
   }
 
-  -- the open objects are still live
-  pub region_lasts : KeepsLive old new
-  region_lasts = created_lasts creates
+  -- what names refer to is left
+  added_leaves : IsSome (operation old op) → LeavesNames old.graph new.graph
+  added_leaves has = let x = data_there old op has in added.region_leaves old.graph new.graph op r adds.graph x.0 x.1
 
-  -- the region is there
-  pub region_there : IsLive new.graph (TheRegion r)
-  region_there = created_there creates
+-- ---- a region that was created, the last of an operation or without a parent
+module _ {T A : Type 0} (old new : ContextView T A) (r : Ptr Region) where
+  region_creates : (op : Option (Ptr Operation)) → CreatesIn op old new r → CreatesRegion old new r
+  region_creates (Some op) adds = added_creates old new op r adds
+  region_creates None (makes, with_it) = alone_creates old new r makes with_it
+
+  -- the open objects are still live
+  pub region_lasts : (op : Option (Ptr Operation)) → CreatesIn op old new r → KeepsLive old new
+  region_lasts op creates = created_lasts (region_creates op creates)
+
+  -- the region is there, and is new
+  pub region_there : (op : Option (Ptr Operation)) → CreatesIn op old new r → IsLive new.graph (TheRegion r)
+  region_there op creates = created_there (region_creates op creates)
+
+  pub region_new : (op : Option (Ptr Operation)) → CreatesIn op old new r → (m : ℕ) → m ≤ old.graph.made → IsNew m new.graph (TheRegion r)
+  region_new op creates = created_new (region_creates op creates)
 
   -- what names refer to is left
-  pub added_leaves : IsSome (operation old op) → LeavesNames old.graph new.graph
-  added_leaves has = let x = data_there old op has in region_leaves old.graph new.graph op r adds.graph x.0 x.1
+  pub region_leaves : (op : Option (Ptr Operation)) → IfSome op (λ o. IsSome (operation old o)) → CreatesIn op old new r → LeavesNames old.graph new.graph
+  region_leaves (Some op) has adds = added_leaves old new op r adds has
+  region_leaves None has (makes, with_it) = alone_leaves old.graph new.graph r makes
+
+  -- it came, and all else but its operation is unchanged
+  pub region_came : (op : Option (Ptr Operation)) → CreatesIn op old new r → RegionCame old new r
+  region_came (Some op) adds = region_added_came old new op r adds
+  region_came None (makes, with_it) = alone_came old new r makes with_it
+
+  pub region_gains : (op : Option (Ptr Operation)) → CreatesIn op old new r → IfSome op (λ o. OperationGains old new o r)
+  region_gains (Some op) adds = region_added_gains old new op r adds
+  region_gains None made = tt
+
+  pub region_spares : (op : Option (Ptr Operation)) → CreatesIn op old new r → IfSome op (λ o. ModifiesOnly (TheRegion r ∷ TheOperation o ∷ []) old new)
+  region_spares (Some op) adds = region_added_spares old new op r adds
+  region_spares None made = tt
+
+-- a region was made without a parent, if it was made
+pub made_alone : {T A E : Type 0} (old new : ContextView T A) (result : Result (Ptr Region) E) → IfOk result (MakesRegion old.graph new.graph) → new ≡ with_graph old new.graph → IfOk result (CreatesIn None old new)
+made_alone old new (Ok r) makes with_it = (makes, with_it)
+made_alone old new (Err e) makes with_it = tt

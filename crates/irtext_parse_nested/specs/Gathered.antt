@@ -29,6 +29,7 @@ use Rattle.irtext_grammar.specs.Names.Acts.{Rule, piece_acts, may_hold, block_ma
 use Rattle.irtext_grammar.specs.Names.History.{State, act, going, failed, run}
 use Rattle.irtext_grammar.specs.Names.Script.{Path, User, operand, successor, Cause, ReservedKey, NoActiveScope}
 use Rattle.irtext_grammar.specs.Names.TextScopes.{Act, Word, Failure}
+use Rattle.irtext_names.specs.Kinds.{NamesOf, NamesOf.{values, labels}}
 use Rattle.irtext_names.specs.Linked.{Known, NamesAgree, TakesUse}
 use Rattle.irtext_names.specs.Tied.{MatchesGraph, ArePending}
 use Rattle.irtext_names.specs.Rows.{AreKnown, TakesUses}
@@ -96,6 +97,27 @@ module _ {T A : Type 0} where
   stored_of (read.Dictionary es) = map entry_read es.items
   stored_of (read.Header s) = (sym_name_key, ident s.name) ∷ []
   stored_of _ = []
+
+  -- ---- pieces with names of a kind, and what they are gathered in
+  -- the piece with this name, which has a directive of its own
+  abbrev pub single_of : {V : Type 0} → NamesOf V → ℕ → ReadName → ReadPiece T A
+  single_of values = read.Operand
+  single_of labels = read.Successor
+
+  -- the piece with these names
+  abbrev pub list_of : {V : Type 0} → NamesOf V → List ReadName → ReadPiece T A
+  list_of values = read.Operands
+  list_of labels = read.Successors
+
+  -- the operands, or the successors
+  abbrev pub half_of : {V : Type 0} → NamesOf V → Gathered T A → Placed V
+  half_of values x = x.operands
+  half_of labels x = x.successors
+
+  -- the same with these operands, or with these successors
+  abbrev pub with_half : {V : Type 0} → NamesOf V → Gathered T A → Placed V → Gathered T A
+  with_half values x placed = record { operands = placed; successors = x.successors; types = x.types; listed = x.listed; attributes = x.attributes }
+  with_half labels x placed = record { operands = x.operands; successors = placed; types = x.types; listed = x.listed; attributes = x.attributes }
 
   -- ---- which pieces can be gathered
   -- the numbers of the piece's names are below this count
@@ -297,3 +319,9 @@ module _ {T A : Type 0} where
   -- why the pieces were not stored, whatever names and graph are
   abbrev pub RefusesAlone : List (ReadPiece T A) → NotGathered → Type 0
   RefusesAlone ps refusal = (names : Names) (g : GraphView (Option (OperationData A)) (BlockData A) (Option T)) → RefusesGathering ps names g refusal
+
+  -- The piece was used and stored, whatever was gathered besides the operands, or besides the successors.
+  abbrev pub GathersHalf : {V : Type 0} → NamesOf V → ReadPiece T A → Names → GraphView (Option (OperationData A)) (BlockData A) (Option T) → Placed V
+      → Names → GraphView (Option (OperationData A)) (BlockData A) (Option T) → Placed V → Type 0
+  GathersHalf kind piece old g before new h after = (x : Gathered T A) → half_of kind x ≡ before → CanGather old x.operands.list.items x.successors.list.items (piece ∷ [])
+      → Gathers (piece ∷ []) old g x new h (with_half kind x after)

@@ -21,6 +21,7 @@ use Rattle.irtext_graph.specs.Parts.{results}
 use Rattle.irtext_graph.specs.Store.{get}
 use Rattle.irtext_graph.specs.Used.{IsDefined}
 use Rattle.irtext_scopes.specs.declared.tracker.NameTracker.{NameTracker}
+use Rattle.irtext_scopes.specs.Names.{KeepsNames}
 use Rattle.irtext_parse_state.specs.States.{marks_of}
 use Rattle.irtext_parse_state.specs.declared.parsable.state.State as code
 use Rattle.irtext_grammar.specs.Contexts.Formats.{format_of}
@@ -39,6 +40,12 @@ use Rattle.irtext_parse_spec.specs.Reached.{Actions}
 -- the names of a parse, with the values and blocks that they refer to
 abbrev pub Names : Type 0
 Names = NameTracker Value (Ptr BasicBlock)
+
+-- The names that were known have their numbers, and as many scopes of each kind are open.
+pub record KeepsDepths (old new : Names) : Type 0 where
+  pub kept : KeepsNames old.names new.names
+  pub values : length new.values ≡ length old.values
+  pub labels : length new.labels ≡ length old.labels
 
 -- what items do with names, if the item of each place of the text has this path
 abbrev pub doing : {T A : Type 0} → List (Text × Table) → (ℕ → Path) → Actions T A Outcome

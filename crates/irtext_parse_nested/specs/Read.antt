@@ -1,5 +1,5 @@
 -- Between functions: what each action of the parser of nested text parses and does, and how it fails.
-use Rattle.std.specs.Prelude.{◌≡◌, ◌⊎◌, ℕ, ◌-◌, Bool, true, ◌||◌, List, [], ◌∷◌, codes, length, Option}
+use Rattle.std.specs.Prelude.{◌≡◌, ◌⊎◌, ℕ, ◌-◌, Bool, true, ◌||◌, List, [], ◌∷◌, codes, length, Option, Some, None}
 use Rattle.irtext_base.specs.Text.{Text}
 use Rattle.irtext_base.specs.Format.{Id}
 use Rattle.irtext_base.specs.Faults.{Fault}
@@ -9,11 +9,17 @@ use Rattle.irtext_base.specs.declared.parsable.fault.ParseFault.{ParseFault}
 use Rattle.irtext_tokens.specs.Infix.{Reader, ◌▷◌}
 use Rattle.irtext_tokens.specs.Tokens.{space_at, word}
 use Rattle.irtext_parse_state.specs.declared.parsable.state.StateStream.{StateStream}
+use Rattle.irtext_context.specs.Context.{ContextView, AddsRegion, with_graph}
+use Rattle.irtext_graph.specs.Graph.{MakesRegion}
+use Rattle.irtext_graph.specs.declared.arena.Ptr.{Ptr}
+use Rattle.irtext_graph.specs.declared.object.Operation.{Operation}
+use Rattle.irtext_graph.specs.declared.object.Region.{Region}
 use Rattle.irtext_graph.specs.declared.object.Object.TheVariants.{TheOperation, TheBlock}
 use Rattle.irtext_grammar.specs.Contexts.Held.{whole}
 use Rattle.irtext_grammar.specs.Grammar.Tree.{Name, Mark, Piece, Part, Head}
 use Rattle.irtext_grammar.specs.Names.History.{Outcome as Machine}
 use Rattle.irtext_grammar.specs.Names.Script.{Path}
+use Rattle.irtext_parse_spec.specs.Promises.Root.{UnlessMemory}
 use Rattle.irtext_parse_spec.specs.Promises.Section.{Moves}
 use Rattle.irtext_parse_spec.specs.Promises.Supported.{is_committed}
 use Rattle.irtext_parse_spec.specs.Heads.{Step, front_steps, piece_at, head_at, led_at, mark_if_at}
@@ -31,6 +37,11 @@ pub record Demands {X A : Type 0} (text : Text) (o : Outcome X) (rest : Text) (f
   pub upto : Text
   pub bad : demanded o ≡ Bad cause upto
   pub fault_is : IsTextFault text cause (length rest - length upto) fault
+
+-- a region was created: the last of an operation, or without a parent
+abbrev pub CreatesIn : {T A : Type 0} → Option (Ptr Operation) → ContextView T A → ContextView T A → Ptr Region → Type 0
+CreatesIn (Some op) old new r = AddsRegion old new op r
+CreatesIn None old new r = MakesRegion old.graph new.graph r × (new ≡ with_graph old new.graph)
 
 module _ {T A U : Type 0} (types_at : Reader T) (attr : Reader (AttrView A)) where
   -- ---- an operation begins
@@ -86,6 +97,10 @@ module _ {T A U : Type 0} (types_at : Reader T) (attr : Reader (AttrView A)) whe
       ⊎ ((piece : Piece ℕ T A) × (taken : Text) × (rest : Text) × ((space_at ▷ piece_at types_at attr o.inside step) old.stream.rest ≡ Read piece taken rest)
       × ActFails (whole old.stream) (λ path. (doing {T = T} {A = A} old.state.ctx.now.dialects path).late o.place o.id piece) before old.state [] fault)
 
+  -- the same of each operation that is open as this, and of its next step
+  abbrev pub RefusesNext : BegunOperation → Names → StateStream T A U → ParseFault A → Type 0
+  RefusesNext b before old fault = (o : OpenOperation T A) (step : Step) (ss : List Step) → IsBegun before.names (whole old.stream) old.state.ctx.now b o → o.steps ≡ step ∷ ss → UnlessMemory (RefusesPiece o step before old) fault
+
   -- ---- an operation ends
 
   -- what the end of the operation does, before its mark
@@ -106,6 +121,10 @@ module _ {T A U : Type 0} (types_at : Reader T) (attr : Reader (AttrView A)) whe
     no_mark : (names : Names) (mid : StateStream T A U) → Acts (closes_of o old) before old.state (pledge_of b o.place ∷ []) names mid.state [] → Demands (whole old.stream) ((space_at ▷ mark_if_at) old.stream.rest) old.stream.rest fault → RefusesEnd o b before old fault
     same_mark : (mark : Option (Mark ℕ)) (taken rest : Text) → (space_at ▷ mark_if_at) old.stream.rest ≡ Read mark taken rest
         → ActFails (whole old.stream) (λ path z. (doing {T = T} {A = A} old.state.ctx.now.dialects path).marks mark (closes_of o old path z)) before old.state (pledge_of b o.place ∷ []) fault → RefusesEnd o b before old fault
+
+  -- the same of each operation that is open as this
+  abbrev pub RefusesItsEnd : BegunOperation → Names → StateStream T A U → ParseFault A → Type 0
+  RefusesItsEnd b before old fault = (o : OpenOperation T A) → IsBegun before.names (whole old.stream) old.state.ctx.now b o → UnlessMemory (RefusesEnd o b before old) fault
 
   -- ---- a region begins and ends
 

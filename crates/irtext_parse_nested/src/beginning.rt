@@ -8,7 +8,7 @@ ghost use Rattle.irtext_context.specs.Context.{KeepsOlder};
 ghost use Rattle.irtext_graph.specs.Graph.{IsNew, IsLive, parent, children};
 ghost use Rattle.irtext_graph.specs.declared.object.Object.TheVariants.{TheBlock, TheOperation};
 ghost use Rattle.irtext_tokens.specs.AttrTexts.{attr_at};
-ghost use Rattle.irtext_scopes.specs.Names.{AreDistinct, KeepsNames};
+ghost use Rattle.irtext_scopes.specs.Names.{AreDistinct};
 ghost use Rattle.irtext_parse_state.specs.States.{marks_of};
 ghost use Rattle.irtext_grammar.specs.Contexts.Formats.{format_of, isolated};
 ghost use Rattle.irtext_grammar.specs.Contexts.Held.{whole};
@@ -22,7 +22,7 @@ ghost use Rattle.irtext_parse_pieces.specs.Named.{Each, NamesRead};
 ghost use Rattle.irtext_parse_nested.specs.Beginning.{FrontComes, MissesFront, IsKnownIn, SaysGather, NotGatheredAs, PlacedIn, CreatesOf, MakesOf, HasBegun, ComesInto};
 ghost use Rattle.irtext_parse_pieces.specs.Coming.{IsStep};
 ghost use Rattle.irtext_parse_nested.specs.Gathered.{CanGather};
-ghost use Rattle.irtext_parse_nested.specs.Items.{IsSound, KeepsLive};
+ghost use Rattle.irtext_parse_nested.specs.Items.{IsSound, KeepsLive, KeepsDepths};
 ghost use Rattle.irtext_base.specs.Faults.{id_of};
 ghost use Rattle.irtext_parse_spec.specs.Reached.{steps_in};
 ghost use Rattle.irtext_parse_nested.specs.Located.{IsLocated};
@@ -350,9 +350,7 @@ pub fn operation_begin<T: IrText<A>, A: AttrText<A>, U>(
         × ComesInto (IsLocated s.old.state.src (whole s.old.stream)) s.old.state.ctx.now s.new.state.ctx.now
         b.op own block) }
     ensures lasts { OnOk result (KeepsLive s.old.state.ctx.now s.new.state.ctx.now) }
-    ensures names { KeepsNames names.old.names names.new.names }
-    ensures values { length names.new.values ≡ length names.old.values }
-    ensures labels { length names.new.labels ≡ length names.old.labels }
+    ensures names { KeepsDepths names.old names.new }
     ensures sound { OnOk result ((m : ℕ) → m ≤ s.old.state.ctx.now.graph.made
         → IsSound m names.old s.old.state → IsSound m names.new s.new.state) }
     ensures new { IfOk result (λ b. (m : ℕ) → m ≤ s.old.state.ctx.now.graph.made

@@ -15,7 +15,7 @@ ghost use Rattle.irtext_names.specs.Linked.{TakesDefinition};
 ghost use Rattle.irtext_parse_nested.specs.Placing.{RefusesLabel};
 ghost use Rattle.irtext_tokens.specs.AttrTexts.{attr_at};
 ghost use Rattle.irtext_parse_state.specs.States.{marks_of};
-ghost use Rattle.irtext_scopes.specs.Names.{KeepsNames, AreDistinct};
+ghost use Rattle.irtext_scopes.specs.Names.{AreDistinct};
 ghost use Rattle.irtext_scopes.specs.Scopes.{is_open};
 ghost use Rattle.irtext_names.specs.Tied.{MatchesGraph, IsNoPlaceholder};
 ghost use Rattle.irtext_grammar.specs.Contexts.Held.{whole};
@@ -36,7 +36,7 @@ ghost use Rattle.irtext_parse_nested.specs.Blocks.{entries_in, PlacesLabelled, I
 ghost use Rattle.irtext_parse_nested.specs.Definitions.{ValuesReady, LosesPlaceholders};
 ghost use Rattle.irtext_parse_nested.specs.Ends.{numbers_of, noted_as, GainsMarks};
 ghost use Rattle.irtext_parse_nested.specs.Gathered.{Forbids};
-ghost use Rattle.irtext_parse_nested.specs.Items.{IsSound, KeepsLive};
+ghost use Rattle.irtext_parse_nested.specs.Items.{IsSound, KeepsLive, KeepsDepths};
 ghost use Rattle.irtext_parse_nested.specs.Located.{IsLocated, IsLocatedAt};
 ghost use Rattle.irtext_parse_nested.specs.Read.{BeginsBlock, RefusesBlock};
 
@@ -323,10 +323,8 @@ pub fn block_begin<T: IrText<A>, A: AttrText<A>, U>(
         (RefusesBlock T.IrText.reading (attr_at A.IrText.reading) names.old s.old)) }
     ensures committed { IfErr result (λ fault. fault.committed ≡ true) }
     ensures lasts { OnOk result (KeepsLive s.old.state.ctx.now s.new.state.ctx.now) }
-    ensures names { KeepsNames names.old.names names.new.names }
+    ensures names { KeepsDepths names.old names.new }
     ensures words { AreWords names.old.names → AreWords names.new.names }
-    ensures values { length names.new.values ≡ length names.old.values }
-    ensures labels { length names.new.labels ≡ length names.old.labels }
     ensures sound { OnOk result ((m : ℕ) → m ≤ s.old.state.ctx.now.graph.made
         → IsSound m names.old s.old.state → IsSound m names.new s.new.state) }
     ensures kept { (m : ℕ) → m ≤ s.old.state.ctx.now.graph.made → IsClosedBelow m s.old.state.ctx.now.graph

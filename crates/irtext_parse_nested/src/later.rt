@@ -1,5 +1,5 @@
 //! A piece of an operation after a region: it is parsed by the operation's next step, and what it gives is stored.
-ghost use Rattle.std.specs.Prelude.{◌≡◌, ◌≤◌, ◌<◌, ◌+◌, ◌∷◌, [], ℕ, List, None, Some, IfErr, OnOk, IsSome, length, slice_get, false, true};
+ghost use Rattle.std.specs.Prelude.{◌≡◌, ◌≤◌, ◌<◌, ◌+◌, ◌∷◌, [], ℕ, None, Some, IfErr, OnOk, IsSome, length, slice_get, false, true};
 ghost use Rattle.irtext_base.specs.Faults.{id_of};
 ghost use Rattle.irtext_base.specs.Format.{sym_name_key};
 ghost use Rattle.irtext_context.specs.Context.{KeepsOlder, operation};
@@ -9,28 +9,24 @@ ghost use Rattle.irtext_graph.specs.declared.object.Object.TheVariants.{TheOpera
 ghost use Rattle.irtext_tokens.specs.AttrTexts.{attr_at};
 ghost use Rattle.irtext_tokens.specs.Infix.{◌▷◌};
 ghost use Rattle.irtext_tokens.specs.Tokens.{space_at};
-ghost use Rattle.irtext_scopes.specs.Names.{KeepsNames};
 ghost use Rattle.irtext_parse_state.specs.States.{marks_of};
 ghost use Rattle.irtext_grammar.specs.Contexts.Held.{entries_of, whole};
 ghost use Rattle.irtext_grammar.specs.Graphs.Build.{put_all};
 ghost use Rattle.irtext_grammar.specs.Grammar.Tree.{ident};
 ghost use Rattle.irtext_names.specs.Tied.{MatchesGraph};
-ghost use Rattle.irtext_parse_spec.specs.Promises.Root.{UnlessMemory};
 ghost use Rattle.irtext_parse_spec.specs.Promises.Section.{Moves};
 ghost use Rattle.irtext_parse_spec.specs.Readers.Streams.{itself, replaced, KeepsRest};
 ghost use Rattle.irtext_parse_spec.specs.Unchanged.{ModifiesOnly};
 ghost use Rattle.irtext_parse_spec.specs.Heads.{Step, steps_of, piece_at};
 ghost use Rattle.irtext_parse_spec.specs.Reached.{steps_in};
-ghost use Rattle.irtext_parse_spec.specs.Resume.{OpenOperation};
 ghost use Rattle.irtext_parse_pieces.specs.Named.{NamesRead};
 ghost use Rattle.irtext_parse_pieces.specs.Pieces.{MustPiece};
 ghost use Rattle.irtext_parse_nested.specs.declared.operation_parts.NotGathered.TheVariants.{Memory};
-ghost use Rattle.irtext_parse_nested.specs.OpenOperation.{IsBegun};
 ghost use Rattle.irtext_parse_nested.specs.Ends.{WritesAttributes};
 ghost use Rattle.irtext_parse_nested.specs.Gathered.{stored_of};
-ghost use Rattle.irtext_parse_nested.specs.Items.{IsSound, KeepsLive};
+ghost use Rattle.irtext_parse_nested.specs.Items.{IsSound, KeepsLive, KeepsDepths};
 ghost use Rattle.irtext_parse_nested.specs.Later.{given_by, IsFlatNext, MayStore, RefusesStored, StoresPiece, NotStored, GoesOn};
-ghost use Rattle.irtext_parse_nested.specs.Read.{RefusesPiece};
+ghost use Rattle.irtext_parse_nested.specs.Read.{RefusesNext};
 
 use crate::beginning::gather_fault;
 use crate::dictionary::{Holder, entries_stored};
@@ -203,17 +199,13 @@ pub fn operation_piece<T: IrText<A>, A: AttrText<A>, U>(
     ensures moves { OnOk result (Moves s.old.stream s.new.stream) }
     ensures goes_on { OnOk result (GoesOn T.IrText.reading (attr_at A.IrText.reading) names.old s.old
         begun.old begun.new names.new s.new) }
-    ensures refused { IfErr result (λ fault. (o : OpenOperation T A) (step : Step) (ss : List Step) →
-        IsBegun names.old.names (whole s.old.stream) s.old.state.ctx.now begun.old o → o.steps ≡ step ∷ ss
-        → UnlessMemory (RefusesPiece T.IrText.reading (attr_at A.IrText.reading) o step names.old s.old)
-        fault) }
+    ensures refused { IfErr result (RefusesNext T.IrText.reading (attr_at A.IrText.reading) begun.old
+        names.old s.old) }
     ensures committed { IfErr result (λ fault. fault.committed ≡ true) }
     ensures spares { OnOk result (ModifiesOnly (TheOperation begun.old.op ∷ []) s.old.state.ctx.now
         s.new.state.ctx.now) }
     ensures lasts { OnOk result (KeepsLive s.old.state.ctx.now s.new.state.ctx.now) }
-    ensures names { KeepsNames names.old.names names.new.names }
-    ensures values { length names.new.values ≡ length names.old.values }
-    ensures labels { length names.new.labels ≡ length names.old.labels }
+    ensures names { KeepsDepths names.old names.new }
     ensures sound { OnOk result ((m : ℕ) → m ≤ s.old.state.ctx.now.graph.made
         → IsSound m names.old s.old.state → IsSound m names.new s.new.state) }
     ensures kept { (m : ℕ) → m ≤ s.old.state.ctx.now.graph.made

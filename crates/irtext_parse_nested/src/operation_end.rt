@@ -20,7 +20,6 @@ ghost use Rattle.irtext_tokens.specs.AttrTexts.{attr_at};
 ghost use Rattle.irtext_tokens.specs.Infix.{◌▷◌};
 ghost use Rattle.irtext_tokens.specs.Tokens.{space_at};
 ghost use Rattle.irtext_parse_state.specs.States.{marks_of};
-ghost use Rattle.irtext_scopes.specs.Names.{KeepsNames};
 ghost use Rattle.irtext_names.specs.Tied.{MatchesGraph, ArePending, StaysPending};
 ghost use Rattle.irtext_grammar.specs.Contexts.Held.{whole};
 ghost use Rattle.irtext_parse_spec.specs.Readers.Streams.{itself, replaced, KeepsRest};
@@ -35,9 +34,9 @@ ghost use Rattle.irtext_parse_pieces.specs.Named.{MustMean};
 ghost use Rattle.irtext_parse_nested.specs.OpenOperation.{IsBegun, pledge_of};
 ghost use Rattle.irtext_parse_nested.specs.Definitions.{ValuesReady, DefinesRow, LosesPlaceholders};
 ghost use Rattle.irtext_parse_nested.specs.Ends.{numbers_of, closes_at, RefusesResults, NotesMark, noted_as, GainsMarks, RefusesMark, WritesAttributes, GivesNames, BecomesNamed};
-ghost use Rattle.irtext_parse_nested.specs.Items.{Acts, ActFails, IsSound, KeepsLive};
+ghost use Rattle.irtext_parse_nested.specs.Items.{Acts, ActFails, IsSound, KeepsLive, KeepsDepths};
 ghost use Rattle.irtext_parse_nested.specs.Located.{IsLocated};
-ghost use Rattle.irtext_parse_nested.specs.Read.{EndsOperation, RefusesEnd};
+ghost use Rattle.irtext_parse_nested.specs.Read.{EndsOperation, RefusesItsEnd};
 
 use crate::definitions::{Definer, define_values, undefined_error};
 use crate::frame::{BegunOperation, Names};
@@ -279,10 +278,8 @@ pub fn operation_end<T: IrText<A>, A: AttrText<A>, U>(
         → IsBegun names.old.names (whole s.old.stream) s.old.state.ctx.now begun.now o
         → EndsOperation T.IrText.reading (attr_at A.IrText.reading) o begun.now names.old s.old
         names.new s.new) }
-    ensures refused { IfErr result (λ fault. (o : OpenOperation T A) →
-        IsBegun names.old.names (whole s.old.stream) s.old.state.ctx.now begun.now o
-        → UnlessMemory (RefusesEnd T.IrText.reading (attr_at A.IrText.reading) o begun.now names.old s.old)
-        fault) }
+    ensures refused { IfErr result (RefusesItsEnd T.IrText.reading (attr_at A.IrText.reading) begun.now
+        names.old s.old) }
     ensures committed { IfErr result (λ fault. fault.committed ≡ true) }
     ensures own { OnOk result (BecomesNamed (IsLocated s.old.state.src (whole s.old.stream)) names.old.names
         (whole s.old.stream) begun.now.names
@@ -294,9 +291,7 @@ pub fn operation_end<T: IrText<A>, A: AttrText<A>, U>(
         → marks_of s.new.state ≡ marks_of s.old.state ++ noted_as mark (item.Operation begun.now.op)) }
     ensures unnoted { OnErr result (GainsMarks (marks_of s.old.state) (marks_of s.new.state)) }
     ensures lasts { OnOk result (KeepsLive s.old.state.ctx.now s.new.state.ctx.now) }
-    ensures names { KeepsNames names.old.names names.new.names }
-    ensures values { length names.new.values ≡ length names.old.values }
-    ensures labels { length names.new.labels ≡ length names.old.labels }
+    ensures names { KeepsDepths names.old names.new }
     ensures sound { OnOk result ((m : ℕ) → m ≤ s.old.state.ctx.now.graph.made
         → IsSound m names.old s.old.state → IsSound m names.new s.new.state) }
     ensures kept { (m : ℕ) → m ≤ s.old.state.ctx.now.graph.made → IsClosedBelow m s.old.state.ctx.now.graph

@@ -1,7 +1,7 @@
 //! What the pieces before an operation's first region give: their names are used, and what they give the operation is gathered, in the
 //! order of the text. A name is used by looking up the value or the block that it refers to; without a definition so far it gets a
 //! placeholder.
-ghost use Rattle.std.specs.Prelude.{◌≡◌, ◌∷◌, [], IfOk, IfErr, IfSome, OnOk, true};
+ghost use Rattle.std.specs.Prelude.{◌≡◌, ◌∷◌, [], length, IfOk, IfErr, IfSome, OnOk, true};
 ghost use Rattle.irtext_base.specs.Format.{sym_name_key};
 ghost use Rattle.irtext_dict.specs.Dictionary.{RefusesEntry};
 ghost use Rattle.irtext_grammar.specs.Contexts.Held.{attribute_of, entries_of};
@@ -11,7 +11,7 @@ ghost use Rattle.irtext_names.specs.Tied.{MatchesGraph};
 ghost use Rattle.irtext_parse_pieces.specs.Canonical.{pieces_of};
 ghost use Rattle.irtext_parse_pieces.specs.declared.pieces.ReadPiece.TheVariants as read;
 ghost use Rattle.irtext_parse_nested.specs.declared.operation_parts.NotGathered.TheVariants.{Memory};
-ghost use Rattle.irtext_parse_nested.specs.Gathered.{entry_read, refused_at, GathersAlone, RefusesAlone, MayAllHold, RefusesEntries, IsNothing, CanGather, KeepsScopes, Gathers, RefusesGathering};
+ghost use Rattle.irtext_parse_nested.specs.Gathered.{entry_read, refused_at, single_of, list_of, GathersAlone, GathersHalf, RefusesAlone, MayAllHold, RefusesEntries, IsNothing, CanUseAll, CanGather, KeepsScopes, Gathers, RefusesGathering};
 
 use crate::dictionary::{Holder, entries_stored};
 use crate::frame::Names;
@@ -25,6 +25,7 @@ use irtext_dict::base::AttributeDict;
 use irtext_few::Few;
 use irtext_graph::graph::Graph;
 use irtext_graph::object::Value;
+use irtext_names::kinds::{Blank, Referent};
 use irtext_parse_pieces::canonical::CanonicalPieces;
 use irtext_parse_pieces::entries::{Key, ReadEntry};
 use irtext_parse_pieces::found::{CustomPieces, Form, Pieces};
@@ -117,111 +118,57 @@ pub(crate) fn entry_stored<A: Drop>(
     }
 }
 
-/// Uses the name of an operand that has a directive of its own.
-fn operand_gathered<T: Drop, A: Drop>(
+/// Uses the name of an operand or of a successor that has a directive of its own.
+fn name_gathered<K: Referent<BlockData<A>>, T: Drop, A: Drop>(
     names: &mut Names,
     graph: &mut Objects<T, A>,
-    gathered: &mut Gathered<T, A>,
+    placed: &mut Placed<K>,
     index: usize,
     name: ReadName,
 ) -> Result<(), NotGathered>
-    requires can { CanGather {T = T} {A = A} names.old gathered.old.operands.list.items
-        gathered.old.successors.list.items (read.Operand index name ∷ []) }
+where
+    K::Blank: Blank,
+    requires can { CanUseAll {T = T} {A = A} (length names.old.names) (single_of K.kind index name ∷ []) }
     requires tied { MatchesGraph names.old.values names.old.labels graph.old }
-    ensures gathers { OnOk result (Gathers (read.Operand index name ∷ []) names.old graph.old gathered.old
-        names.new graph.new gathered.new) }
-    ensures refused { IfErr result (RefusesGathering {T = T} {A = A} (read.Operand index name ∷ [])
+    ensures gathers { OnOk result (GathersHalf {T = T} {A = A} K.kind (single_of K.kind index name)
+        names.old graph.old placed.old names.new graph.new placed.new) }
+    ensures refused { IfErr result (RefusesGathering {T = T} {A = A} (single_of K.kind index name ∷ [])
         names.old graph.old) }
     ensures steady { KeepsScopes names.old names.new graph.old graph.new }
 {
-    if !names.has_value_scope() {
+    if !K::has_scope(names) {
         return Err(NotGathered::NoActiveScope(name));
     }
-    let single = &mut gathered.operands.single;
-    let Ok(()) = name_placed(names, graph, single, index, name.name) else {
+    let Ok(()) = name_placed(names, graph, &mut placed.single, index, name.name) else {
         return Err(NotGathered::Memory);
     };
     Ok(())
 }
 
-/// Uses the name of a successor that has a directive of its own.
-fn successor_gathered<T: Drop, A: Drop>(
+/// Uses the names of a list of operands or of successors.
+fn names_gathered<K: Referent<BlockData<A>>, T: Drop, A: Drop>(
     names: &mut Names,
     graph: &mut Objects<T, A>,
-    gathered: &mut Gathered<T, A>,
-    index: usize,
-    name: ReadName,
-) -> Result<(), NotGathered>
-    requires can { CanGather {T = T} {A = A} names.old gathered.old.operands.list.items
-        gathered.old.successors.list.items (read.Successor index name ∷ []) }
-    requires tied { MatchesGraph names.old.values names.old.labels graph.old }
-    ensures gathers { OnOk result (Gathers (read.Successor index name ∷ []) names.old graph.old gathered.old
-        names.new graph.new gathered.new) }
-    ensures refused { IfErr result (RefusesGathering {T = T} {A = A} (read.Successor index name ∷ [])
-        names.old graph.old) }
-    ensures steady { KeepsScopes names.old names.new graph.old graph.new }
-{
-    if !names.has_label_scope() {
-        return Err(NotGathered::NoActiveScope(name));
-    }
-    let single = &mut gathered.successors.single;
-    let Ok(()) = name_placed(names, graph, single, index, name.name) else {
-        return Err(NotGathered::Memory);
-    };
-    Ok(())
-}
-
-/// Uses the names of a list of operands.
-fn operands_gathered<T: Drop, A: Drop>(
-    names: &mut Names,
-    graph: &mut Objects<T, A>,
-    gathered: &mut Gathered<T, A>,
+    placed: &mut Placed<K>,
     used: Few<ReadName>,
 ) -> Result<(), NotGathered>
-    requires can { CanGather {T = T} {A = A} names.old gathered.old.operands.list.items
-        gathered.old.successors.list.items (read.Operands used ∷ []) }
+where
+    K::Blank: Blank,
+    requires can { CanUseAll {T = T} {A = A} (length names.old.names) (list_of K.kind used ∷ []) }
     requires tied { MatchesGraph names.old.values names.old.labels graph.old }
-    ensures gathers { OnOk result (Gathers (read.Operands used ∷ []) names.old graph.old gathered.old
-        names.new graph.new gathered.new) }
-    ensures refused { IfErr result (RefusesGathering {T = T} {A = A} (read.Operands used ∷ [])
-        names.old graph.old) }
+    ensures gathers { OnOk result (GathersHalf {T = T} {A = A} K.kind (list_of K.kind used) names.old
+        graph.old placed.old names.new graph.new placed.new) }
+    ensures refused { IfErr result (RefusesGathering {T = T} {A = A} (list_of K.kind used ∷ []) names.old
+        graph.old) }
     ensures steady { KeepsScopes names.old names.new graph.old graph.new }
 {
     if used.len() == 0 {
         return Ok(());
     }
-    if !names.has_value_scope() {
+    if !K::has_scope(names) {
         return Err(NotGathered::NoActiveScope(used[0]));
     }
-    let Ok(()) = names_used(names, graph, &used, &mut gathered.operands.list) else {
-        return Err(NotGathered::Memory);
-    };
-    Ok(())
-}
-
-/// Uses the names of a list of successors.
-fn successors_gathered<T: Drop, A: Drop>(
-    names: &mut Names,
-    graph: &mut Objects<T, A>,
-    gathered: &mut Gathered<T, A>,
-    used: Few<ReadName>,
-) -> Result<(), NotGathered>
-    requires can { CanGather {T = T} {A = A} names.old gathered.old.operands.list.items
-        gathered.old.successors.list.items (read.Successors used ∷ []) }
-    requires tied { MatchesGraph names.old.values names.old.labels graph.old }
-    ensures gathers { OnOk result (Gathers (read.Successors used ∷ []) names.old graph.old gathered.old
-        names.new graph.new gathered.new) }
-    ensures refused { IfErr result (RefusesGathering {T = T} {A = A} (read.Successors used ∷ [])
-        names.old graph.old) }
-    ensures steady { KeepsScopes names.old names.new graph.old graph.new }
-{
-    if used.len() == 0 {
-        return Ok(());
-    }
-    if !names.has_label_scope() {
-        return Err(NotGathered::NoActiveScope(used[0]));
-    }
-    let Ok(()) = names_used(names, graph, &used, &mut gathered.successors.list) else {
+    let Ok(()) = names_used(names, graph, &used, &mut placed.list) else {
         return Err(NotGathered::Memory);
     };
     Ok(())
@@ -340,12 +287,22 @@ fn piece_gathered<T: Drop, A: Drop>(
 {
     match piece {
         ReadPiece::Word => Ok(()),
-        ReadPiece::Operand(index, name) => operand_gathered(names, graph, gathered, index, name),
-        ReadPiece::Operands(used) => operands_gathered(names, graph, gathered, used),
-        ReadPiece::Successor(index, name) => successor_gathered(
-            names, graph, gathered, index, name,
+        ReadPiece::Operand(index, name) => name_gathered(
+            names,
+            graph,
+            &mut gathered.operands,
+            index,
+            name,
         ),
-        ReadPiece::Successors(used) => successors_gathered(names, graph, gathered, used),
+        ReadPiece::Operands(used) => names_gathered(names, graph, &mut gathered.operands, used),
+        ReadPiece::Successor(index, name) => name_gathered(
+            names,
+            graph,
+            &mut gathered.successors,
+            index,
+            name,
+        ),
+        ReadPiece::Successors(used) => names_gathered(names, graph, &mut gathered.successors, used),
         ReadPiece::Attr(key, attr) => attr_gathered(gathered, key, attr),
         ReadPiece::Dictionary(entries) => dictionary_gathered(gathered, entries),
         ReadPiece::ResultType(index, of_type) => type_gathered(gathered, index, of_type),
@@ -404,8 +361,8 @@ fn canonical_gathered<T: Drop, A: Drop>(
         inputs,
         results,
     } = pieces;
-    operands_gathered(names, graph, gathered, operands)?;
-    successors_gathered(names, graph, gathered, successors)?;
+    names_gathered(names, graph, &mut gathered.operands, operands)?;
+    names_gathered(names, graph, &mut gathered.successors, successors)?;
     dictionary_gathered(gathered, entries)?;
     types_gathered(gathered, inputs);
     types_gathered(gathered, results);

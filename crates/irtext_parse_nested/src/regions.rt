@@ -1,9 +1,9 @@
 //! The beginning and the end of a region.
-ghost use Rattle.std.specs.Prelude.{◌≡◌, ◌≤◌, ◌⊎◌, ℕ, true, false, codes, [], ◌∷◌, None, IfOk, IfErr, OnOk, IsSome};
+ghost use Rattle.std.specs.Prelude.{◌≡◌, ◌≤◌, ◌⊎◌, ℕ, true, false, codes, [], ◌∷◌, None, IfOk, IfErr, IfSome, OnOk, IsSome};
 ghost use Rattle.irtext_base.specs.Faults as fault;
 ghost use Rattle.irtext_base.specs.Faults.{fault_of};
 ghost use Rattle.irtext_base.specs.Stream.{IsAt};
-ghost use Rattle.irtext_context.specs.Context.{operation, AddsRegion, KeepsOlder};
+ghost use Rattle.irtext_context.specs.Context.{operation, KeepsOlder};
 ghost use Rattle.irtext_graph.specs.Graph.{IsNew};
 ghost use Rattle.irtext_graph.specs.declared.object.Object.TheVariants.{TheOperation, TheRegion};
 ghost use Rattle.irtext_graph.specs.declared.arena.Ptr.{Ptr};
@@ -28,7 +28,7 @@ ghost use Rattle.irtext_parse_spec.specs.Unchanged.{ModifiesOnly};
 ghost use Rattle.irtext_parse_nested.specs.OpenOperation.{IsRegion};
 ghost use Rattle.irtext_parse_nested.specs.Items.{IsSound, KeepsLive};
 ghost use Rattle.irtext_parse_nested.specs.Leaving.{IsUnresolved};
-ghost use Rattle.irtext_parse_nested.specs.Read.{BeginsRegion, RefusesRegion, EndsRegion, RefusesRegionEnd};
+ghost use Rattle.irtext_parse_nested.specs.Read.{CreatesIn, BeginsRegion, RefusesRegion, EndsRegion, RefusesRegionEnd};
 
 use crate::frame::{BegunRegion, Names};
 use crate::name_errors::{NameFault, name_error};
@@ -82,7 +82,7 @@ fn graph_of<'s, T: IrText<A>, A: AttrText<A>, U>(
 
 /// Opens the scopes of a region, over the state's graph. `isolated` says whether its operation is isolated from above; if it is not and
 /// no scope of values is open, fails at the beginning of the text. On an error the names are unchanged.
-pub fn enter_here<T: IrText<A>, A: AttrText<A>, U>(
+fn enter_here<T: IrText<A>, A: AttrText<A>, U>(
     s: &mut StateStream<'_, T, A, U>,
     names: &mut Names,
     isolated: bool,
@@ -113,27 +113,30 @@ pub fn enter_here<T: IrText<A>, A: AttrText<A>, U>(
     }
 }
 
-/// Appends a new region to an operation.
-fn add<T: IrText<A>, A: AttrText<A>, U>(
+/// Creates a region: the last of an operation, or without a parent if none is given.
+fn create<T: IrText<A>, A: AttrText<A>, U>(
     s: &mut StateStream<'_, T, A, U>,
-    op: Ptr<Operation>,
+    op: Option<Ptr<Operation>>,
 ) -> Result<Ptr<Region>, AllocError>
-    requires alive { IsSome (operation s.old.state.ctx.now op) }
+    requires alive { IfSome op (λ o. IsSome (operation s.old.state.ctx.now o)) }
     ensures lent { s.new.state.ctx.ghost_name ≡ s.old.state.ctx.ghost_name }
     ensures rest { KeepsRest s.old.state s.new.state }
     ensures marks { marks_of s.new.state ≡ marks_of s.old.state }
     ensures stream { s.new.stream ≡ s.old.stream }
-    ensures adds { IfOk result (λ r. AddsRegion s.old.state.ctx.now s.new.state.ctx.now op r) }
+    ensures creates { IfOk result (CreatesIn op s.old.state.ctx.now s.new.state.ctx.now) }
     ensures kept { (m : ℕ) → m ≤ s.old.state.ctx.now.graph.made
-        → IsNew m s.old.state.ctx.now.graph (TheOperation op)
+        → IfSome op (λ o. IsNew m s.old.state.ctx.now.graph (TheOperation o))
         → KeepsOlder m s.old.state.ctx.now s.new.state.ctx.now }
 {
     let ctx = &mut *s.state.ctx;
-    ctx.add_region(op)
+    match op {
+        Some(op) => ctx.add_region(op),
+        None => ctx.graph_mut().make_region(),
+    }
 }
 
 /// Parses the `{` of a region, and the white space after it. Every error is committed.
-pub fn brace_demanded<A>(stream: &mut TextStream) -> ParseResult<(), A>
+fn brace_demanded<A>(stream: &mut TextStream) -> ParseResult<(), A>
     ensures { MustRead itself replaced (λ u. u) (word (codes "{") ▷ space_at) stream.old result stream.new }
 {
     text_demanded(stream, "{")?;
@@ -141,16 +144,16 @@ pub fn brace_demanded<A>(stream: &mut TextStream) -> ParseResult<(), A>
     Ok(())
 }
 
-/// Begins a region: opens its scopes, appends it to the operation, and parses its `{` and the white space after it. `isolated` says
-/// whether the operation is isolated from above; if it is not and no scope of values is open, fails at the beginning of the text. Every
-/// error is committed.
+/// Begins a region: opens its scopes, creates it, and parses its `{` and the white space after it. It is the last of an operation, or has
+/// no parent if none is given. `isolated` says whether its operation is isolated from above; if it is not and no scope of values is open,
+/// fails at the beginning of the text. Every error is committed.
 pub fn region_begin<T: IrText<A>, A: AttrText<A>, U>(
     s: &mut StateStream<'_, T, A, U>,
     names: &mut Names,
-    op: Ptr<Operation>,
+    op: Option<Ptr<Operation>>,
     isolated: bool,
 ) -> ParseResult<BegunRegion, A>
-    requires alive { IsSome (operation s.old.state.ctx.now op) }
+    requires alive { IfSome op (λ o. IsSome (operation s.old.state.ctx.now o)) }
     requires fine { s.old.stream.failed ≡ false }
     requires tied { MatchesGraph names.old.values names.old.labels s.old.state.ctx.now.graph }
     ensures lent { s.new.state.ctx.ghost_name ≡ s.old.state.ctx.ghost_name }
@@ -167,20 +170,22 @@ pub fn region_begin<T: IrText<A>, A: AttrText<A>, U>(
     ensures open { OnOk result (is_open names.new.values ≡ true) }
     ensures new { IfOk result (λ r. (m : ℕ) → m ≤ s.old.state.ctx.now.graph.made
         → IsNew m s.new.state.ctx.now.graph (TheRegion r.region)) }
+    ensures creates { IfOk result (λ r. CreatesIn op s.old.state.ctx.now s.new.state.ctx.now r.region) }
     ensures came { IfOk result (λ r. RegionCame s.old.state.ctx.now s.new.state.ctx.now r.region) }
-    ensures gains { IfOk result (λ r. OperationGains s.old.state.ctx.now s.new.state.ctx.now op r.region) }
-    ensures spares { IfOk result (λ r. ModifiesOnly (TheRegion r.region ∷ TheOperation op ∷ [])
-        s.old.state.ctx.now s.new.state.ctx.now) }
+    ensures gains { IfOk result (λ r. IfSome op (λ o. OperationGains s.old.state.ctx.now
+        s.new.state.ctx.now o r.region)) }
+    ensures spares { IfOk result (λ r. IfSome op (λ o. ModifiesOnly (TheRegion r.region ∷ TheOperation o ∷ [])
+        s.old.state.ctx.now s.new.state.ctx.now)) }
     ensures lasts { OnOk result (KeepsLive s.old.state.ctx.now s.new.state.ctx.now) }
     ensures sound { OnOk result ((m : ℕ) → m ≤ s.old.state.ctx.now.graph.made
         → IsSound m names.old s.old.state → IsSound m names.new s.new.state) }
     ensures kept { (m : ℕ) → m ≤ s.old.state.ctx.now.graph.made
-        → IsNew m s.old.state.ctx.now.graph (TheOperation op)
+        → IfSome op (λ o. IsNew m s.old.state.ctx.now.graph (TheOperation o))
         → KeepsOlder m s.old.state.ctx.now s.new.state.ctx.now }
 {
     let at = s.stream.position();
     enter_here(s, names, isolated)?;
-    let Ok(region) = add(s, op) else {
+    let Ok(region) = create(s, op) else {
         return Err(out_of_memory(&mut s.stream));
     };
     brace_demanded(&mut s.stream)?;

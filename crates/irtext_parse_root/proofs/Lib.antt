@@ -43,6 +43,5 @@ pub mod Telling
 pub mod Turning
 pub mod Under
 pub mod Undoing
-pub mod Unplaced
 pub mod WholeRoot
 pub mod WholeSteps

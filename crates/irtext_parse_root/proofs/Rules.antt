@@ -87,45 +87,44 @@ module _ {T A : Type 0} (L : ℕ → Location A → Type 0) (c : ContextView T A
   kind_right i n xs ys (inl a) = inl (among_right (i, n) xs ys a)
   kind_right i n xs ys (inr h) = inr h
 
+  -- one of two lists, each recorded so
+  kind_both : (i n : ℕ) (ms ks xs ys : List (ℕ × ℕ)) → (Among (i, n) ms → IsKind i n xs) → (Among (i, n) ks → IsKind i n ys) → Among (i, n) (ms ++ ks) → IsKind i n (xs ++ ys)
+  kind_both i n ms ks xs ys left right a = elim (among_split (i, n) ms ks a) [ inl b ↦ kind_left i n xs ys (left b) | inr b ↦ kind_right i n xs ys (right b) ]
+
+  -- the mark of an operation, or one in its regions
+  one_kind : (i n : ℕ) (p : Ptr Operation) (o : Op ℕ T A) (rs : Regions (Op ℕ T A) (Head ℕ T A) (Brace ℕ)) → Among (o.place, TheOperation p) items → (Among (i, n) (marks_in_regions rs) → IsKind i n (of_regions rs))
+      → Among (i, n) (marks_in_regions rs ++ noted_as o.mark o.place) → IsKind i n (of_regions rs)
+  one_kind i n p o rs there within a = elim (among_split (i, n) (marks_in_regions rs) (noted_as o.mark o.place) a) [
+    | inl r ↦ within r
+    | inr r ↦ inr (p, subst (λ z. Among (z, TheOperation p) items) (place_noted i n o.place o.mark r) there)
+  ]
+
   mutual
     regions_kind : (i n : ℕ) (ps : PtrRegions) (rs : Regions (Op ℕ T A) (Head ℕ T A) (Brace ℕ)) → RegionsAre L c items ps rs → Among (i, n) (marks_in_regions rs) → IsKind i n (of_regions rs)
     regions_kind i n no_regions no_regions h a = absurd a
     regions_kind i n no_regions (forest.region brace bs rs) h a = absurd h
     regions_kind i n (forest.region r qs ps) no_regions h a = absurd h
-    regions_kind i n (forest.region r qs ps) (forest.region brace bs rs) (at, k, h) a = elim (among_split (i, n) (marks_in_blocks bs) (marks_in_regions rs) a) [
-      | inl b ↦ kind_left i n (of_blocks bs) (of_regions rs) (blocks_kind i n qs bs k b)
-      | inr b ↦ kind_right i n (of_blocks bs) (of_regions rs) (regions_kind i n ps rs h b)
-    ]
+    regions_kind i n (forest.region r qs ps) (forest.region brace bs rs) (at, k, h) a =
+        kind_both i n (marks_in_blocks bs) (marks_in_regions rs) (of_blocks bs) (of_regions rs) (blocks_kind i n qs bs k) (regions_kind i n ps rs h) a
 
     blocks_kind : (i n : ℕ) (ps : PtrBlocks) (bs : Blocks (Op ℕ T A) (Head ℕ T A) (Brace ℕ)) → BlocksAre L c items ps bs → Among (i, n) (marks_in_blocks bs) → IsKind i n (of_blocks bs)
     blocks_kind i n no_blocks no_blocks h a = absurd a
     blocks_kind i n no_blocks (forest.block head os bs) h a = absurd h
     blocks_kind i n (forest.block b qs ps) no_blocks h a = absurd h
-    blocks_kind i n (forest.block b qs ps) (forest.block head os bs) (at, k, h) a = elim (among_split (i, n) (noted_as head.mark head.label.place) (marks_in_operations os ++ marks_in_blocks bs) a) [
-      | inl m ↦ inl (among_left (i, n) (noted_as head.mark head.label.place) (of_operations os ++ of_blocks bs) m)
-      | inr m ↦ kind_right i n (noted_as head.mark head.label.place) (of_operations os ++ of_blocks bs) (elim (among_split (i, n) (marks_in_operations os) (marks_in_blocks bs) m) [
-        | inl o ↦ kind_left i n (of_operations os) (of_blocks bs) (operations_kind i n qs os k o)
-        | inr o ↦ kind_right i n (of_operations os) (of_blocks bs) (blocks_kind i n ps bs h o)
-      ])
-    ]
+    blocks_kind i n (forest.block b qs ps) (forest.block head os bs) (at, k, h) a =
+        let note = noted_as head.mark head.label.place in
+        kind_both i n note (marks_in_operations os ++ marks_in_blocks bs) note (of_operations os ++ of_blocks bs) (λ m. inl m)
+        (kind_both i n (marks_in_operations os) (marks_in_blocks bs) (of_operations os) (of_blocks bs) (operations_kind i n qs os k) (blocks_kind i n ps bs h)) a
 
     operations_kind : (i n : ℕ) (ps : PtrOperations) (os : Operations (Op ℕ T A) (Head ℕ T A) (Brace ℕ)) → OperationsAre L c items ps os → Among (i, n) (marks_in_operations os) → IsKind i n (of_operations os)
     operations_kind i n no_operations no_operations h a = absurd a
     operations_kind i n no_operations (forest.operation o rs os) h a = absurd h
     operations_kind i n (forest.operation p qs ps) no_operations h a = absurd h
-    operations_kind i n (forest.operation p qs ps) (forest.operation o rs os) (at, k, h) a = elim (among_split (i, n) (marks_in_regions rs ++ noted_as o.mark o.place) (marks_in_operations os) a) [
-      | inl m ↦ elim (among_split (i, n) (marks_in_regions rs) (noted_as o.mark o.place) m) [
-        | inl r ↦ kind_left i n (of_regions rs) (of_operations os) (regions_kind i n qs rs k r)
-        | inr r ↦ inr (p, subst (λ z. Among (z, TheOperation p) items) (place_noted i n o.place o.mark r) at.item)
-      ]
-      | inr m ↦ kind_right i n (of_regions rs) (of_operations os) (operations_kind i n ps os h m)
-    ]
+    operations_kind i n (forest.operation p qs ps) (forest.operation o rs os) (at, k, h) a =
+        kind_both i n (marks_in_regions rs ++ noted_as o.mark o.place) (marks_in_operations os) (of_regions rs) (of_operations os) (one_kind i n p o rs at.item (regions_kind i n qs rs k)) (operations_kind i n ps os h) a
 
   tree_kind : (i n : ℕ) (ps : Root (Ptr Operation) (Ptr BasicBlock) (Ptr Region)) (t : Tree ℕ T A) → RootIs L c items ps t → Among (i, n) (marks_in t) → IsKind i n (of_regions t.regions)
-  tree_kind i n ps t (at, h) a = elim (among_split (i, n) (marks_in_regions t.regions) (noted_as t.own.mark t.own.place) a) [
-    | inl r ↦ regions_kind i n ps.regions t.regions h r
-    | inr r ↦ inr (ps.own, subst (λ z. Among (z, TheOperation ps.own) items) (place_noted i n t.own.place t.own.mark r) at.item)
-  ]
+  tree_kind i n ps t (at, h) a = one_kind i n ps.own t.own t.regions at.item (regions_kind i n ps.regions t.regions h) a
 
   -- a block was made for the place of a block's mark, which is one of the tree
   mutual

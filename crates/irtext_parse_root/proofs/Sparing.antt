@@ -20,7 +20,7 @@ use Rattle.irtext_parse_nested.specs.Items.{Names, IsSound}
 use Rattle.irtext_parse_nested.specs.declared.frame.BegunRegion.{BegunRegion}
 use Rattle.irtext_parse_root.proofs.Chains.{remains_on, remains_so}
 use Rattle.irtext_parse_root.proofs.Looping.{keeps_itself}
-use Rattle.irtext_parse_root.proofs.Unplaced.{alone_new}
+use Rattle.irtext_parse_nested.proofs.Unplaced.{alone_new}
 use Rattle.irtext_parse_root.specs.declared.frames.Frame.{Frame}
 use Rattle.irtext_parse_root.specs.declared.frames.Frame.TheVariants as framed
 use Rattle.irtext_parse_root.specs.Levels.{AreAllNew, IsNewFrame}

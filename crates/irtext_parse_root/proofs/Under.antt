@@ -72,7 +72,7 @@ use Rattle.irtext_parse_root.proofs.Chains.{moved_whole, turned_over, faulted_ov
 use Rattle.irtext_parse_root.proofs.Nearer.{moves_fewer}
 use Rattle.irtext_parse_root.proofs.Proceeding.{entered_more, is_open_some, loops}
 use Rattle.irtext_parse_root.proofs.Telling.{goes_recorded, goes_after, stuck_recorded}
-use Rattle.irtext_parse_root.proofs.Unplaced.{alone_is, alone_came, alone_spares}
+use Rattle.irtext_parse_nested.proofs.Unplaced.{alone_is, alone_came, alone_spares}
 
 -- ---- a new object is nested in new ones only
 -- no object is above no object

@@ -14,7 +14,7 @@ ghost use Rattle.irtext_parse_spec.specs.Unchanged.{IsThere};
 ghost use Rattle.irtext_names.specs.Rows.{AreKnown};
 ghost use Rattle.irtext_parse_nested.specs.OpenOperation.{IsBegun, IsRegion};
 ghost use Rattle.irtext_parse_nested.specs.Ends.{numbers_of};
-ghost use Rattle.irtext_parse_nested.specs.Read.{RefusesOperation, RefusesPiece, RefusesEnd, RefusesRegion, RefusesRegionEnd, RefusesBlock};
+ghost use Rattle.irtext_parse_nested.specs.Read.{RefusesOperation, RefusesNext, RefusesItsEnd, RefusesRegion, RefusesRegionEnd, RefusesBlock};
 ghost use Rattle.irtext_parse_root.specs.Turned.{IsSoundOnce, Spares};
 ghost use Rattle.irtext_parse_root.specs.Turns.{IsNext, Begins, Continues, Ends, Enters, Leaves, Heads};
 ghost use Rattle.irtext_parse_pieces.specs.declared.coming.Coming.TheVariants as comes;
@@ -72,10 +72,8 @@ pub(crate) fn go_on<T: IrText<A>, A: AttrText<A>, U>(
     ensures goes_on { OnOk result (Continues T.IrText.reading (attr_at A.IrText.reading) names.old s.old
         begun.old begun.new
         names.new s.new) }
-    ensures refused { IfErr result (λ fault. (o : OpenOperation T A) (step : Step) (ss : List Step) →
-        IsBegun names.old.names (whole s.old.stream) s.old.state.ctx.now begun.old o → o.steps ≡ step ∷ ss
-        → UnlessMemory (RefusesPiece T.IrText.reading (attr_at A.IrText.reading) o step names.old s.old)
-        fault) }
+    ensures refused { IfErr result (RefusesNext T.IrText.reading (attr_at A.IrText.reading) begun.old
+        names.old s.old) }
     ensures committed { IfErr result (λ fault. fault.committed ≡ true) }
     ensures spares { Spares (λ m. IsNew m s.old.state.ctx.now.graph (TheOperation begun.old.op))
         names.old s.old.state
@@ -100,10 +98,8 @@ pub(crate) fn end<T: IrText<A>, A: AttrText<A>, U>(
     ensures lent { s.new.state.ctx.ghost_name ≡ s.old.state.ctx.ghost_name }
     ensures ends { OnOk result (Ends T.IrText.reading (attr_at A.IrText.reading) names.old s.old begun.now
         names.new s.new) }
-    ensures refused { IfErr result (λ fault. (o : OpenOperation T A) →
-        IsBegun names.old.names (whole s.old.stream) s.old.state.ctx.now begun.now o
-        → UnlessMemory (RefusesEnd T.IrText.reading (attr_at A.IrText.reading) o begun.now names.old s.old)
-        fault) }
+    ensures refused { IfErr result (RefusesItsEnd T.IrText.reading (attr_at A.IrText.reading) begun.now
+        names.old s.old) }
     ensures committed { IfErr result (λ fault. fault.committed ≡ true) }
     ensures spares { Spares (λ m. IsNew m s.old.state.ctx.now.graph (TheOperation begun.now.op))
         names.old s.old.state
@@ -131,7 +127,7 @@ pub(crate) fn enter<T: IrText<A>, A: AttrText<A>, U>(
     ensures spares { Spares (λ m. IsNew m s.old.state.ctx.now.graph (TheOperation op)) names.old s.old.state
         result names.new s.new.state }
 {
-    region_begin(s, names, op, isolated)
+    region_begin(s, names, Some(op), isolated)
 }
 
 /// Ends a region.

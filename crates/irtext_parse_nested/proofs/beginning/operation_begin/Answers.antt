@@ -1,4 +1,4 @@
-use Rattle.std.proofs.Common.{◌≡◌, ◌∙◌, Some, true, is_some, [], refl, sym, subst, slice_get, true≢false}
+use Rattle.std.proofs.Common.{◌∙◌, true, is_some, [], refl, sym, subst, true≢false}
 use Rattle.irtext_graph.specs.Back.{AllOlder}
 use Rattle.irtext_grammar.specs.Contexts.Held.{whole}
 use Rattle.irtext_parse_spec.specs.Promises.Root.{UnlessMemory}
@@ -11,6 +11,7 @@ use Rattle.irtext_names.specs.Tied.{ArePending}
 use Rattle.irtext_parse_nested.specs.Beginning.{MissesFront, NotGatheredAs}
 use Rattle.irtext_parse_nested.specs.Read.{RefusesOperation}
 use Rattle.irtext_parse_nested.proofs.BeginRead.{if_ok_both, on_ok_by}
+use Rattle.irtext_parse_nested.proofs.Depths.{depths_read, depths_on}
 use Rattle.irtext_parse_nested.proofs.Marking.{if_err}
 use Rattle.irtext_parse_nested.proofs.OperationBegun.{located_here, front_can, front_own, front_begun, front_came, front_begins, front_misses, front_fails, ungathered_commits}
 use Rattle.irtext_parse_nested.proofs.OperationMade.{begun_lasts, begun_new, begun_ties, begun_waits, begun_blanks}
@@ -71,8 +72,11 @@ returns-clause-lasts g c =
     on_ok_by c.begin_read.result (λ b m. begun_lasts m
     (subst (λ n. AllOlder n old.graph) c.made.ensures.made c.made.ensures.older)) c.begin_read.ensures.makes
 
+pub returns-in_err-front-clause-names : goal.returns-in_err-front-clause-names
+returns-in_err-front-clause-names g c = depths_read c.args.names.now c.front_read.new.names c.front_read.ensures.names
+
 pub returns-clause-names : goal.returns-clause-names
-returns-clause-names g c = λ i t e. subst (λ ns. slice_get ns i ≡ Some t) (sym c.begin_read.ensures.names) (c.front_read.ensures.names.kept i t e)
+returns-clause-names g c = let e = c.begin_read.ensures in depths_on c.args.names.now c.front_read.new.names c.begin_read.new.names (depths_read c.args.names.now c.front_read.new.names c.front_read.ensures.names) e.names e.values e.labels
 
 pub returns-clause-sound : goal.returns-clause-sound
 returns-clause-sound g c =

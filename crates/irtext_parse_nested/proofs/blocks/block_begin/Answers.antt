@@ -1,4 +1,4 @@
-use Rattle.std.proofs.Common.{◌≡◌, ◌∙◌, Some, true, length, refl, sym, ap, subst, slice_get}
+use Rattle.std.proofs.Common.{◌≡◌, ◌∙◌, true, length, refl, sym, ap, subst}
 use Rattle.irtext_tokens.specs.AttrTexts.{attr_at}
 use Rattle.irtext_tokens.proofs.Exits.{propagated}
 use Rattle.irtext_grammar.specs.Contexts.Held.{whole}
@@ -10,6 +10,7 @@ use Rattle.irtext_parse_nested.specs.Blocks.{entries_in, IsRefusalFault}
 use Rattle.irtext_parse_nested.specs.Ends.{numbers_of, GainsMarks}
 use Rattle.irtext_parse_nested.proofs.BlockOpened.{label_known, arguments_known, opened_tied, opened_ready, opened_inside, opened_there, opened_sound, opened_kept, opened_new, opened_lasts, opened_spares, opened_gains, opened_came, opened_refused, opened_noted, opened_begins}
 use Rattle.irtext_parse_nested.proofs.BlockTurn.{head_unread, keys_refused, keys_commit, of_entries}
+use Rattle.irtext_parse_nested.proofs.Depths.{depths_read, depths_on}
 use Rattle.irtext_parse_nested.proofs.Ended.{must_commit}
 use Rattle.irtext_parse_nested.proofs.Marking.{gains_nothing}
 use Rattle.irtext_parse_state.specs.States.{marks_of}
@@ -25,16 +26,10 @@ pub returns-in_err-label-clause-committed : goal.returns-in_err-label-clause-com
 returns-in_err-label-clause-committed g c = rw (propagated c.from_residual.result c.from_residual.ensures.1) (must_commit c.requires.fine c.in_err-label.ensures.read.read)
 
 pub returns-in_err-label-clause-names : goal.returns-in_err-label-clause-names
-returns-in_err-label-clause-names g c = c.in_err-label.ensures.names.kept
+returns-in_err-label-clause-names g c = depths_read c.args.names.now c.head_parse.new.names c.in_err-label.ensures.names
 
 pub returns-in_err-label-clause-words : goal.returns-in_err-label-clause-words
 returns-in_err-label-clause-words g c = c.in_err-label.ensures.names.words
-
-pub returns-in_err-label-clause-values : goal.returns-in_err-label-clause-values
-returns-in_err-label-clause-values g c = ap length c.in_err-label.ensures.names.values
-
-pub returns-in_err-label-clause-labels : goal.returns-in_err-label-clause-labels
-returns-in_err-label-clause-labels g c = ap length c.in_err-label.ensures.names.labels
 
 pub returns-in_err-label-clause-unnoted : goal.returns-in_err-label-clause-unnoted
 returns-in_err-label-clause-unnoted g c = rw (propagated c.from_residual.result c.from_residual.ensures.1) (gains_nothing refl)
@@ -58,16 +53,10 @@ pub returns-in-Err-clause-committed : goal.returns-in-Err-clause-committed
 returns-in-Err-clause-committed g c = keys_commit (whole c.head_made.new.s.stream) c.in-Err.refusal c.refusal_fault.result c.refusal_fault.ensures
 
 pub returns-in-Err-clause-names : goal.returns-in-Err-clause-names
-returns-in-Err-clause-names g c = c.in_ok-label.ensures.names.kept
+returns-in-Err-clause-names g c = depths_read c.args.names.now c.head_parse.new.names c.in_ok-label.ensures.names
 
 pub returns-in-Err-clause-words : goal.returns-in-Err-clause-words
 returns-in-Err-clause-words g c = c.in_ok-label.ensures.names.words
-
-pub returns-in-Err-clause-values : goal.returns-in-Err-clause-values
-returns-in-Err-clause-values g c = ap length c.in_ok-label.ensures.names.values
-
-pub returns-in-Err-clause-labels : goal.returns-in-Err-clause-labels
-returns-in-Err-clause-labels g c = ap length c.in_ok-label.ensures.names.labels
 
 pub returns-in-Err-clause-kept : goal.returns-in-Err-clause-kept
 returns-in-Err-clause-kept g c = λ m le closed sound new. c.in-Err.ensures.kept m le new
@@ -103,16 +92,10 @@ returns-in_err-head_named-clause-refused g c =
     (opened_refused g.T.IrText.reading (attr_at g.A.IrText.reading) c.args.names.now c.head_parse.new.names c.args.s.now c.head_parse.new.stream c.in_ok-label.field-0 c.in_ok-label.ensures.read c.in_ok-label.ensures.names c.in_ok-label.ensures.distinct c.head_made.new.s.state c.args.region c.in-Ok.made.0 c.in-Ok.ensures.makes c.in-Ok.ensures.marks c.in-Ok.made.1 c.in-Ok.ensures.names (whole c.head_made.new.s.stream) (ap whole c.in-Ok.ensures.stream) _ c.in_err-head_named.ensures.refused)
 
 pub returns-in_err-head_named-clause-names : goal.returns-in_err-head_named-clause-names
-returns-in_err-head_named-clause-names g c = λ i t e. subst (λ ns. slice_get ns i ≡ Some t) (sym c.in_err-head_named.ensures.same) (c.in_ok-label.ensures.names.kept i t e)
+returns-in_err-head_named-clause-names g c = let e = c.in_err-head_named.ensures in depths_on c.args.names.now c.head_parse.new.names c.head_named.new.names (depths_read c.args.names.now c.head_parse.new.names c.in_ok-label.ensures.names) e.same e.values e.labels
 
 pub returns-in_err-head_named-clause-words : goal.returns-in_err-head_named-clause-words
 returns-in_err-head_named-clause-words g c = λ w. subst AreWords (sym c.in_err-head_named.ensures.same) (c.in_ok-label.ensures.names.words w)
-
-pub returns-in_err-head_named-clause-values : goal.returns-in_err-head_named-clause-values
-returns-in_err-head_named-clause-values g c = c.in_err-head_named.ensures.values ∙ ap length c.in_ok-label.ensures.names.values
-
-pub returns-in_err-head_named-clause-labels : goal.returns-in_err-head_named-clause-labels
-returns-in_err-head_named-clause-labels g c = c.in_err-head_named.ensures.labels ∙ ap length c.in_ok-label.ensures.names.labels
 
 pub returns-in_err-head_named-clause-kept : goal.returns-in_err-head_named-clause-kept
 returns-in_err-head_named-clause-kept g c = λ m le closed sound new.
@@ -127,16 +110,10 @@ returns-in-Err-clause-unnoted g c = gains_nothing c.in-Err.ensures.marks
 
 -- ---- the block is begun
 pub returns-clause-names : goal.returns-clause-names
-returns-clause-names g c = λ i t e. subst (λ ns. slice_get ns i ≡ Some t) (sym c.in_ok-head_named.ensures.same) (c.in_ok-label.ensures.names.kept i t e)
+returns-clause-names g c = let e = c.in_ok-head_named.ensures in depths_on c.args.names.now c.head_parse.new.names c.head_named.new.names (depths_read c.args.names.now c.head_parse.new.names c.in_ok-label.ensures.names) e.same e.values e.labels
 
 pub returns-clause-words : goal.returns-clause-words
 returns-clause-words g c = λ w. subst AreWords (sym c.in_ok-head_named.ensures.same) (c.in_ok-label.ensures.names.words w)
-
-pub returns-clause-values : goal.returns-clause-values
-returns-clause-values g c = c.in_ok-head_named.ensures.values ∙ ap length c.in_ok-label.ensures.names.values
-
-pub returns-clause-labels : goal.returns-clause-labels
-returns-clause-labels g c = c.in_ok-head_named.ensures.labels ∙ ap length c.in_ok-label.ensures.names.labels
 
 pub returns-clause-kept : goal.returns-clause-kept
 returns-clause-kept g c = λ m le closed sound new.

@@ -1,9 +1,10 @@
-use Rattle.std.proofs.Common.{refl, ap, subst, length}
+use Rattle.std.proofs.Common.{refl, subst}
 use Rattle.irtext_grammar.specs.Contexts.Held.{whole}
 use Rattle.irtext_tokens.specs.AttrTexts.{attr_at}
 use Rattle.irtext_tokens.proofs.Exits.{propagated}
 use Rattle.irtext_parse_nested.specs.Later.{NotStored, StoresPiece}
 use Rattle.irtext_parse_nested.specs.Ends.{WritesAttributes}
+use Rattle.irtext_parse_nested.proofs.Depths.{depths_read}
 use Rattle.irtext_parse_nested.proofs.LaterRead.{next_missing, next_commits, next_moves, next_whole, next_goes_on, next_unstored, unstored_commits, piece_lasts, piece_spares, piece_keeps, piece_sound}
 use Rattle.irtext_parse_nested.proofs.Marking.{on_ok, on_both, always_ok, if_err}
 use Rattle.irtext_parse_nested.proofs.later.operation_piece.Goals as goal
@@ -32,11 +33,8 @@ returns-in_err-piece-clause-lasts g c = rw (propagated c.from_residual.result c.
 pub returns-in_err-piece-clause-sound : goal.returns-in_err-piece-clause-sound
 returns-in_err-piece-clause-sound g c = rw (propagated c.from_residual.result c.from_residual.ensures.1) tt
 
-pub returns-in_err-piece-clause-values : goal.returns-in_err-piece-clause-values
-returns-in_err-piece-clause-values g c = ap length c.in_err-piece.ensures.names.values
-
-pub returns-in_err-piece-clause-labels : goal.returns-in_err-piece-clause-labels
-returns-in_err-piece-clause-labels g c = ap length c.in_err-piece.ensures.names.labels
+pub returns-in_err-piece-clause-names : goal.returns-in_err-piece-clause-names
+returns-in_err-piece-clause-names g c = depths_read c.args.names.now c.piece_read.new.names c.in_err-piece.ensures.names
 
 -- ---- the piece is stored, or not
 pub returns-clause-moves : goal.returns-clause-moves
@@ -64,11 +62,8 @@ returns-clause-lasts g c = always_ok c.piece_done.result (piece_lasts _ _ c.args
 pub returns-clause-sound : goal.returns-clause-sound
 returns-clause-sound g c = always_ok c.piece_done.result (λ m le h. piece_sound c.args.names.now c.piece_read.new.names c.args.s.now c.piece_done.new.s c.args.begun.now.op c.in_ok-piece.ensures.names (subst (λ b. WritesAttributes c.args.s.now.state.ctx.now c.piece_done.new.s.state.ctx.now b.op) c.in_ok-piece.ensures.following c.piece_done.ensures.writes) m h)
 
-pub returns-clause-values : goal.returns-clause-values
-returns-clause-values g c = ap length c.in_ok-piece.ensures.names.values
-
-pub returns-clause-labels : goal.returns-clause-labels
-returns-clause-labels g c = ap length c.in_ok-piece.ensures.names.labels
+pub returns-clause-names : goal.returns-clause-names
+returns-clause-names g c = depths_read c.args.names.now c.piece_read.new.names c.in_ok-piece.ensures.names
 
 pub returns-clause-kept : goal.returns-clause-kept
 returns-clause-kept g c = λ m le new. piece_keeps _ _ c.args.begun.now.op (subst (λ b. WritesAttributes c.args.s.now.state.ctx.now c.piece_done.new.s.state.ctx.now b.op) c.in_ok-piece.ensures.following c.piece_done.ensures.writes) m new

@@ -10,6 +10,7 @@ use Rattle.irtext_parse_nested.specs.Ends.{BecomesNamed}
 use Rattle.irtext_parse_nested.specs.Items.{KeepsLive}
 use Rattle.irtext_parse_nested.specs.Located.{IsLocated}
 use Rattle.irtext_parse_nested.specs.Read.{no_results}
+use Rattle.irtext_parse_nested.proofs.Depths.{depths_same}
 use Rattle.irtext_parse_nested.proofs.Ended.{end_read, end_marked, end_unread, end_noted, must_commit}
 use Rattle.irtext_parse_nested.proofs.Marking.{on_both, on_err, always_ok, if_err, gains_nothing}
 use Rattle.irtext_parse_nested.proofs.operation_end.operation_end.Goals as goal
@@ -19,10 +20,7 @@ pub returns-in_err-close-clause-refused : goal.returns-in_err-close-clause-refus
 returns-in_err-close-clause-refused g c = rw (propagated c.from_residual.result c.from_residual.ensures.1) (λ o is. elim c.in_err-close.ensures.refused [ inl ran_out ↦ inl ran_out | inr f ↦ inr (no_results (f o is)) ])
 
 pub returns-in_err-close-clause-names : goal.returns-in_err-close-clause-names
-returns-in_err-close-clause-names g c = rw c.in_err-close.ensures.names (λ i t e. e)
-
-pub returns-in_err-close-clause-labels : goal.returns-in_err-close-clause-labels
-returns-in_err-close-clause-labels g c = ap length c.in_err-close.ensures.labels
+returns-in_err-close-clause-names g c = let e = c.in_err-close.ensures in depths_same c.args.names.now c.close.new.names e.names e.values (ap length e.labels)
 
 pub returns-in_err-close-clause-kept : goal.returns-in_err-close-clause-kept
 returns-in_err-close-clause-kept g c = λ m le closed sound new. c.in_err-close.ensures.kept m closed sound new
@@ -40,10 +38,7 @@ returns-in_err-mark-clause-committed g c =
     rw (propagated c.from_residual-in_err-mark.result c.from_residual-in_err-mark.ensures.1) (must_commit (ap (λ v. v.failed) c.in_ok-close.ensures.stream ∙ c.requires.fine) c.in_err-mark.ensures.read)
 
 pub returns-in_err-mark-clause-names : goal.returns-in_err-mark-clause-names
-returns-in_err-mark-clause-names g c = rw c.in_ok-close.ensures.names (λ i t e. e)
-
-pub returns-in_err-mark-clause-labels : goal.returns-in_err-mark-clause-labels
-returns-in_err-mark-clause-labels g c = ap length c.in_ok-close.ensures.labels
+returns-in_err-mark-clause-names g c = let e = c.in_ok-close.ensures in depths_same c.args.names.now c.close.new.names e.names e.values (ap length e.labels)
 
 pub returns-in_err-mark-clause-kept : goal.returns-in_err-mark-clause-kept
 returns-in_err-mark-clause-kept g c = λ m le closed sound new. c.in_ok-close.ensures.kept m closed sound new
@@ -66,10 +61,7 @@ pub returns-clause-sound : goal.returns-clause-sound
 returns-clause-sound g c = always_ok c.note_mark.result (λ m le sound. let r = c.in_ok-close.ensures.sound m sound in record { tied = rw c.note_mark.ensures.ctx r.tied; waiting = rw c.note_mark.ensures.ctx r.waiting; blanks = rw c.note_mark.ensures.ctx r.blanks })
 
 pub returns-clause-names : goal.returns-clause-names
-returns-clause-names g c = rw c.in_ok-close.ensures.names (λ i t e. e)
-
-pub returns-clause-labels : goal.returns-clause-labels
-returns-clause-labels g c = ap length c.in_ok-close.ensures.labels
+returns-clause-names g c = let e = c.in_ok-close.ensures in depths_same c.args.names.now c.close.new.names e.names e.values (ap length e.labels)
 
 pub returns-clause-kept : goal.returns-clause-kept
 returns-clause-kept g c = λ m le closed sound new. rw c.note_mark.ensures.ctx (c.in_ok-close.ensures.kept m closed sound new)

@@ -1,70 +1,72 @@
 use Rattle.std.proofs.Common.{[], ◌∷◌}
+use Rattle.irtext_names.specs.Kinds.{NamesOf.{values, labels}}
 use Rattle.irtext_parse_pieces.specs.declared.pieces.ReadPiece.TheVariants as read
 use Rattle.irtext_parse_pieces.specs.Canonical.{pieces_of}
 use Rattle.irtext_parse_pieces.specs.Found.{with_words}
 use Rattle.irtext_parse_nested.specs.Gathered.{RefusesGathering}
 use Rattle.irtext_parse_nested.proofs.Gathering.{gathering_begins, gathering_can, gathering_more, gathering_refused, gathering_ends}
+use Rattle.irtext_parse_nested.proofs.Halves.{gathering_half}
 use Rattle.irtext_parse_nested.proofs.Steady.{steady_itself, steady_both}
 use Rattle.irtext_parse_nested.proofs.Stores.{exit_from}
 use Rattle.irtext_parse_nested.proofs.operation_parts.canonical_gathered.Goals as goal
 
-pub operands_gathered-requires-clause-can : goal.operands_gathered-requires-clause-can
-operands_gathered-requires-clause-can g c =
+pub names_gathered-requires-clause-can : goal.names_gathered-requires-clause-can
+names_gathered-requires-clause-can g c =
     let p = c.args.pieces in
     let s0 = gathering_begins (pieces_of p) c.args.names.now c.args.graph.now c.args.gathered.now c.requires.tied c.requires.can in
-    gathering_can 1 (read.Operands p.operands) (with_words ((2, read.Successors p.successors) ∷ (1, read.Dictionary p.entries) ∷ (3, read.Types p.inputs) ∷ (3, read.Types p.results) ∷ []) 2) s0
+    (gathering_can 1 (read.Operands p.operands) (with_words ((2, read.Successors p.successors) ∷ (1, read.Dictionary p.entries) ∷ (3, read.Types p.inputs) ∷ (3, read.Types p.results) ∷ []) 2) s0).names_are
 
-pub successors_gathered-requires-clause-can : goal.successors_gathered-requires-clause-can
-successors_gathered-requires-clause-can g c =
+pub names_gathered-requires-2-clause-can : goal.names_gathered-requires-2-clause-can
+names_gathered-requires-2-clause-can g c =
     let p = c.args.pieces in
     let s0 = gathering_begins (pieces_of p) c.args.names.now c.args.graph.now c.args.gathered.now c.requires.tied c.requires.can in
-    let s1 = gathering_more 1 (read.Operands p.operands) (with_words ((2, read.Successors p.successors) ∷ (1, read.Dictionary p.entries) ∷ (3, read.Types p.inputs) ∷ (3, read.Types p.results) ∷ []) 2) s0 c.operands_gathered.ensures.steady c.in_ok-operands_gathered.ensures.gathers in
-    gathering_can 2 (read.Successors p.successors) (with_words ((1, read.Dictionary p.entries) ∷ (3, read.Types p.inputs) ∷ (3, read.Types p.results) ∷ []) 2) s1
+    let s1 = gathering_half values c.names_gathered.new.placed 1 (read.Operands p.operands) (with_words ((2, read.Successors p.successors) ∷ (1, read.Dictionary p.entries) ∷ (3, read.Types p.inputs) ∷ (3, read.Types p.results) ∷ []) 2) s0 c.names_gathered.ensures.steady c.in_ok-names_gathered.ensures.gathers in
+    (gathering_can 2 (read.Successors p.successors) (with_words ((1, read.Dictionary p.entries) ∷ (3, read.Types p.inputs) ∷ (3, read.Types p.results) ∷ []) 2) s1).names_are
 
-pub successors_gathered-requires-clause-tied : goal.successors_gathered-requires-clause-tied
-successors_gathered-requires-clause-tied g c = c.operands_gathered.ensures.steady.tied
+pub names_gathered-requires-2-clause-tied : goal.names_gathered-requires-2-clause-tied
+names_gathered-requires-2-clause-tied g c = c.names_gathered.ensures.steady.tied
 
-pub returns-in_err-operands_gathered-clause-refused : goal.returns-in_err-operands_gathered-clause-refused
-returns-in_err-operands_gathered-clause-refused g c =
+pub returns-in_err-names_gathered-clause-refused : goal.returns-in_err-names_gathered-clause-refused
+returns-in_err-names_gathered-clause-refused g c =
     let p = c.args.pieces in
     let s0 = gathering_begins (pieces_of p) c.args.names.now c.args.graph.now c.args.gathered.now c.requires.tied c.requires.can in
     exit_from c.from_residual.result c.from_residual.ensures.1 (RefusesGathering (read.Operands p.operands ∷ []) c.args.names.now c.args.graph.now) (RefusesGathering (pieces_of p) c.args.names.now c.args.graph.now)
-    (λ r h. gathering_refused 1 (read.Operands p.operands) (with_words ((2, read.Successors p.successors) ∷ (1, read.Dictionary p.entries) ∷ (3, read.Types p.inputs) ∷ (3, read.Types p.results) ∷ []) 2) s0 r h) c.in_err-operands_gathered.ensures.refused
+    (λ r h. gathering_refused 1 (read.Operands p.operands) (with_words ((2, read.Successors p.successors) ∷ (1, read.Dictionary p.entries) ∷ (3, read.Types p.inputs) ∷ (3, read.Types p.results) ∷ []) 2) s0 r h) c.in_err-names_gathered.ensures.refused
 
-pub returns-in_err-successors_gathered-clause-refused : goal.returns-in_err-successors_gathered-clause-refused
-returns-in_err-successors_gathered-clause-refused g c =
+pub returns-in_err-names_gathered-2-clause-refused : goal.returns-in_err-names_gathered-2-clause-refused
+returns-in_err-names_gathered-2-clause-refused g c =
     let p = c.args.pieces in
     let s0 = gathering_begins (pieces_of p) c.args.names.now c.args.graph.now c.args.gathered.now c.requires.tied c.requires.can in
-    let s1 = gathering_more 1 (read.Operands p.operands) (with_words ((2, read.Successors p.successors) ∷ (1, read.Dictionary p.entries) ∷ (3, read.Types p.inputs) ∷ (3, read.Types p.results) ∷ []) 2) s0 c.operands_gathered.ensures.steady c.in_ok-operands_gathered.ensures.gathers in
-    exit_from c.from_residual-in_err-successors_gathered.result c.from_residual-in_err-successors_gathered.ensures.1 (RefusesGathering (read.Successors p.successors ∷ []) c.operands_gathered.new.names c.operands_gathered.new.graph) (RefusesGathering (pieces_of p) c.args.names.now c.args.graph.now)
-    (λ r h. gathering_refused 2 (read.Successors p.successors) (with_words ((1, read.Dictionary p.entries) ∷ (3, read.Types p.inputs) ∷ (3, read.Types p.results) ∷ []) 2) s1 r h) c.in_err-successors_gathered.ensures.refused
+    let s1 = gathering_half values c.names_gathered.new.placed 1 (read.Operands p.operands) (with_words ((2, read.Successors p.successors) ∷ (1, read.Dictionary p.entries) ∷ (3, read.Types p.inputs) ∷ (3, read.Types p.results) ∷ []) 2) s0 c.names_gathered.ensures.steady c.in_ok-names_gathered.ensures.gathers in
+    exit_from c.from_residual-in_err-names_gathered-2.result c.from_residual-in_err-names_gathered-2.ensures.1 (RefusesGathering (read.Successors p.successors ∷ []) c.names_gathered.new.names c.names_gathered.new.graph) (RefusesGathering (pieces_of p) c.args.names.now c.args.graph.now)
+    (λ r h. gathering_refused 2 (read.Successors p.successors) (with_words ((1, read.Dictionary p.entries) ∷ (3, read.Types p.inputs) ∷ (3, read.Types p.results) ∷ []) 2) s1 r h) c.in_err-names_gathered-2.ensures.refused
 
 pub returns-in_err-dictionary_gathered-clause-refused : goal.returns-in_err-dictionary_gathered-clause-refused
 returns-in_err-dictionary_gathered-clause-refused g c =
     let p = c.args.pieces in
     let s0 = gathering_begins (pieces_of p) c.args.names.now c.args.graph.now c.args.gathered.now c.requires.tied c.requires.can in
-    let s1 = gathering_more 1 (read.Operands p.operands) (with_words ((2, read.Successors p.successors) ∷ (1, read.Dictionary p.entries) ∷ (3, read.Types p.inputs) ∷ (3, read.Types p.results) ∷ []) 2) s0 c.operands_gathered.ensures.steady c.in_ok-operands_gathered.ensures.gathers in
-    let s2 = gathering_more 2 (read.Successors p.successors) (with_words ((1, read.Dictionary p.entries) ∷ (3, read.Types p.inputs) ∷ (3, read.Types p.results) ∷ []) 2) s1 c.successors_gathered.ensures.steady c.in_ok-successors_gathered.ensures.gathers in
-    exit_from c.from_residual-in_err-dictionary_gathered.result c.from_residual-in_err-dictionary_gathered.ensures.1 (RefusesGathering (read.Dictionary p.entries ∷ []) c.successors_gathered.new.names c.successors_gathered.new.graph) (RefusesGathering (pieces_of p) c.args.names.now c.args.graph.now)
-    (λ r h. gathering_refused 1 (read.Dictionary p.entries) (with_words ((3, read.Types p.inputs) ∷ (3, read.Types p.results) ∷ []) 2) s2 r h) (c.in_err-dictionary_gathered.ensures.refused c.successors_gathered.new.names c.successors_gathered.new.graph)
+    let s1 = gathering_half values c.names_gathered.new.placed 1 (read.Operands p.operands) (with_words ((2, read.Successors p.successors) ∷ (1, read.Dictionary p.entries) ∷ (3, read.Types p.inputs) ∷ (3, read.Types p.results) ∷ []) 2) s0 c.names_gathered.ensures.steady c.in_ok-names_gathered.ensures.gathers in
+    let s2 = gathering_half labels c.names_gathered-2.new.placed 2 (read.Successors p.successors) (with_words ((1, read.Dictionary p.entries) ∷ (3, read.Types p.inputs) ∷ (3, read.Types p.results) ∷ []) 2) s1 c.names_gathered-2.ensures.steady c.in_ok-names_gathered-2.ensures.gathers in
+    exit_from c.from_residual-in_err-dictionary_gathered.result c.from_residual-in_err-dictionary_gathered.ensures.1 (RefusesGathering (read.Dictionary p.entries ∷ []) c.names_gathered-2.new.names c.names_gathered-2.new.graph) (RefusesGathering (pieces_of p) c.args.names.now c.args.graph.now)
+    (λ r h. gathering_refused 1 (read.Dictionary p.entries) (with_words ((3, read.Types p.inputs) ∷ (3, read.Types p.results) ∷ []) 2) s2 r h) (c.in_err-dictionary_gathered.ensures.refused c.names_gathered-2.new.names c.names_gathered-2.new.graph)
 
-pub returns-in_err-successors_gathered-clause-steady : goal.returns-in_err-successors_gathered-clause-steady
-returns-in_err-successors_gathered-clause-steady g c = steady_both c.operands_gathered.ensures.steady c.successors_gathered.ensures.steady
+pub returns-in_err-names_gathered-2-clause-steady : goal.returns-in_err-names_gathered-2-clause-steady
+returns-in_err-names_gathered-2-clause-steady g c = steady_both c.names_gathered.ensures.steady c.names_gathered-2.ensures.steady
 
 pub returns-in_err-dictionary_gathered-clause-steady : goal.returns-in_err-dictionary_gathered-clause-steady
-returns-in_err-dictionary_gathered-clause-steady g c = steady_both c.operands_gathered.ensures.steady c.successors_gathered.ensures.steady
+returns-in_err-dictionary_gathered-clause-steady g c = steady_both c.names_gathered.ensures.steady c.names_gathered-2.ensures.steady
 
 pub returns-clause-steady : goal.returns-clause-steady
-returns-clause-steady g c = steady_both c.operands_gathered.ensures.steady c.successors_gathered.ensures.steady
+returns-clause-steady g c = steady_both c.names_gathered.ensures.steady c.names_gathered-2.ensures.steady
 
 pub returns-clause-gathers : goal.returns-clause-gathers
 returns-clause-gathers g c =
     let p = c.args.pieces in
     let s0 = gathering_begins (pieces_of p) c.args.names.now c.args.graph.now c.args.gathered.now c.requires.tied c.requires.can in
-    let s1 = gathering_more 1 (read.Operands p.operands) (with_words ((2, read.Successors p.successors) ∷ (1, read.Dictionary p.entries) ∷ (3, read.Types p.inputs) ∷ (3, read.Types p.results) ∷ []) 2) s0 c.operands_gathered.ensures.steady c.in_ok-operands_gathered.ensures.gathers in
-    let s2 = gathering_more 2 (read.Successors p.successors) (with_words ((1, read.Dictionary p.entries) ∷ (3, read.Types p.inputs) ∷ (3, read.Types p.results) ∷ []) 2) s1 c.successors_gathered.ensures.steady c.in_ok-successors_gathered.ensures.gathers in
-    let names = c.successors_gathered.new.names in
-    let graph = c.successors_gathered.new.graph in
+    let s1 = gathering_half values c.names_gathered.new.placed 1 (read.Operands p.operands) (with_words ((2, read.Successors p.successors) ∷ (1, read.Dictionary p.entries) ∷ (3, read.Types p.inputs) ∷ (3, read.Types p.results) ∷ []) 2) s0 c.names_gathered.ensures.steady c.in_ok-names_gathered.ensures.gathers in
+    let s2 = gathering_half labels c.names_gathered-2.new.placed 2 (read.Successors p.successors) (with_words ((1, read.Dictionary p.entries) ∷ (3, read.Types p.inputs) ∷ (3, read.Types p.results) ∷ []) 2) s1 c.names_gathered-2.ensures.steady c.in_ok-names_gathered-2.ensures.gathers in
+    let names = c.names_gathered-2.new.names in
+    let graph = c.names_gathered-2.new.graph in
     let still = steady_itself names graph s2.steady.tied in
     let s3 = gathering_more 1 (read.Dictionary p.entries) (with_words ((3, read.Types p.inputs) ∷ (3, read.Types p.results) ∷ []) 2) s2 still (c.in_ok-dictionary_gathered.ensures.gathers names graph) in
     let s4 = gathering_more 3 (read.Types p.inputs) (with_words ((3, read.Types p.results) ∷ []) 2) s3 still (c.types_gathered.ensures names graph) in

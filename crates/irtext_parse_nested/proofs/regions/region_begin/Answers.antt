@@ -1,16 +1,19 @@
-use Rattle.std.proofs.Common.{◌∙◌, [], refl, sym, subst, IsSome}
+use Rattle.std.proofs.Common.{◌≤◌, ◌∙◌, [], refl, sym, subst, IsSome}
+use Rattle.std.specs.Prelude.{IfSome}
 use Rattle.std.proofs.lemmas.Result.{err_from_is_err_and}
-use Rattle.irtext_context.specs.Context.{operation, AddsRegion}
+use Rattle.irtext_context.specs.Context.{operation, KeepsOlder}
+use Rattle.irtext_graph.specs.Graph.{IsNew}
+use Rattle.irtext_graph.specs.declared.object.Object.TheVariants.{TheOperation}
 use Rattle.irtext_tokens.specs.AttrTexts.{attr_at}
-use Rattle.irtext_parse_spec.proofs.Edits.{region_added_came, region_added_gains, region_added_spares}
 use Rattle.irtext_parse_nested.specs.Items.{KeepsLive}
+use Rattle.irtext_parse_nested.specs.Read.{CreatesIn}
 use Rattle.irtext_parse_nested.proofs.Entering.{unentered, unbraced, braced}
 use Rattle.irtext_parse_nested.proofs.NamesLeft.{sound_left}
-use Rattle.irtext_parse_nested.proofs.RegionBegun.{region_lasts, region_there, added_leaves}
+use Rattle.irtext_parse_nested.proofs.RegionBegun.{region_lasts, region_there, region_new, region_leaves, region_came, region_gains, region_spares}
 use Rattle.irtext_parse_nested.proofs.regions.region_begin.Goals as goal
 
-pub add-requires : goal.add-requires
-add-requires g c = record { alive = subst (λ x. IsSome (operation x c.args.op)) (sym c.in_ok-enter_here.ensures.ctx) c.requires.alive }
+pub create-requires : goal.create-requires
+create-requires g c = record { alive = subst (λ x. IfSome c.args.op (λ o. IsSome (operation x o))) (sym c.in_ok-enter_here.ensures.ctx) c.requires.alive }
 
 pub returns-in_err-enter_here-clause-refused : goal.returns-in_err-enter_here-clause-refused
 returns-in_err-enter_here-clause-refused g c =
@@ -22,40 +25,55 @@ returns-in_err-brace_demanded-clause-refused g c =
     let e = c.in_ok-enter_here.ensures in
     let a = c.in-Ok.ensures in
     let p = err_from_is_err_and c.from_residual-in_err-brace_demanded.result c.from_residual-in_err-brace_demanded.ensures.1 in
-    let adds = subst (λ x. AddsRegion x c.add.new.s.state.ctx.now c.args.op c.in-Ok.region) e.ctx a.adds in
-    rw (p.1, p.2) (unbraced g.T.IrText.reading (attr_at g.A.IrText.reading) c.args.isolated c.args.names.now c.args.s.now c.enter_here.new.names c.add.new.s e.takes
-    (added_leaves _ _ c.args.op c.in-Ok.region adds c.requires.alive) e.tied (a.marks ∙ e.marks) (a.stream ∙ e.stream) _ _ c.requires.fine c.in_err-brace_demanded.ensures)
+    let creates = subst (λ x. CreatesIn c.args.op x c.create.new.s.state.ctx.now c.in-Ok.region) e.ctx a.creates in
+    rw (p.1, p.2) (unbraced g.T.IrText.reading (attr_at g.A.IrText.reading) c.args.isolated c.args.names.now c.args.s.now c.enter_here.new.names c.create.new.s e.takes
+    (region_leaves _ _ c.in-Ok.region c.args.op c.requires.alive creates) e.tied (a.marks ∙ e.marks) (a.stream ∙ e.stream) _ _ c.requires.fine c.in_err-brace_demanded.ensures)
 
 pub returns-clause-begins : goal.returns-clause-begins
 returns-clause-begins g c =
     let e = c.in_ok-enter_here.ensures in
     let a = c.in-Ok.ensures in
-    let adds = subst (λ x. AddsRegion x c.add.new.s.state.ctx.now c.args.op c.in-Ok.region) e.ctx a.adds in
-    braced g.T.IrText.reading (attr_at g.A.IrText.reading) c.args.isolated c.args.names.now c.args.s.now c.enter_here.new.names c.add.new.s e.takes
-    (added_leaves _ _ c.args.op c.in-Ok.region adds c.requires.alive) e.tied (a.marks ∙ e.marks) (a.stream ∙ e.stream)
-    c.in-Ok.region (region_there _ _ c.args.op c.in-Ok.region adds)
+    let creates = subst (λ x. CreatesIn c.args.op x c.create.new.s.state.ctx.now c.in-Ok.region) e.ctx a.creates in
+    braced g.T.IrText.reading (attr_at g.A.IrText.reading) c.args.isolated c.args.names.now c.args.s.now c.enter_here.new.names c.create.new.s e.takes
+    (region_leaves _ _ c.in-Ok.region c.args.op c.requires.alive creates) e.tied (a.marks ∙ e.marks) (a.stream ∙ e.stream)
+    c.in-Ok.region (region_there _ _ c.in-Ok.region c.args.op creates)
     (record { region = c.in-Ok.region; isolated = c.args.isolated; at = c.position-at.result }) _ refl c.in_ok-brace_demanded.ensures refl refl
     (record { passed = c.args.s.now.stream.passed; rest = c.args.s.now.stream.rest; same = refl; positioned = c.position-at.ensures; counts = refl })
 
 pub returns-clause-lasts : goal.returns-clause-lasts
-returns-clause-lasts g c = subst (λ x. KeepsLive x c.add.new.s.state.ctx.now) c.in_ok-enter_here.ensures.ctx (region_lasts _ _ c.args.op c.in-Ok.region c.in-Ok.ensures.adds)
+returns-clause-lasts g c = subst (λ x. KeepsLive x c.create.new.s.state.ctx.now) c.in_ok-enter_here.ensures.ctx (region_lasts _ _ c.in-Ok.region c.args.op c.in-Ok.ensures.creates)
 
 pub returns-clause-sound : goal.returns-clause-sound
 returns-clause-sound g c = λ m le h.
     let e = c.in_ok-enter_here.ensures in
     let a = c.in-Ok.ensures in
-    let adds = subst (λ x. AddsRegion x c.add.new.s.state.ctx.now c.args.op c.in-Ok.region) e.ctx a.adds in
-    sound_left c.args.s.now.state.ctx.now c.add.new.s.state.ctx.now (added_leaves _ _ c.args.op c.in-Ok.region adds c.requires.alive) c.enter_here.new.names c.args.s.now.state c.add.new.s.state refl refl m
+    let creates = subst (λ x. CreatesIn c.args.op x c.create.new.s.state.ctx.now c.in-Ok.region) e.ctx a.creates in
+    sound_left c.args.s.now.state.ctx.now c.create.new.s.state.ctx.now (region_leaves _ _ c.in-Ok.region c.args.op c.requires.alive creates) c.enter_here.new.names c.args.s.now.state c.create.new.s.state refl refl m
     (record { tied = e.tied; waiting = e.waiting m [] h.waiting; blanks = h.blanks })
 
+pub returns-clause-creates : goal.returns-clause-creates
+returns-clause-creates g c = subst (λ x. CreatesIn c.args.op x c.create.new.s.state.ctx.now c.in-Ok.region) c.in_ok-enter_here.ensures.ctx c.in-Ok.ensures.creates
+
+pub returns-clause-new : goal.returns-clause-new
+returns-clause-new g c = region_new _ _ c.in-Ok.region c.args.op (subst (λ x. CreatesIn c.args.op x c.create.new.s.state.ctx.now c.in-Ok.region) c.in_ok-enter_here.ensures.ctx c.in-Ok.ensures.creates)
+
 pub returns-clause-came : goal.returns-clause-came
-returns-clause-came g c = region_added_came _ _ c.args.op c.in-Ok.region (subst (λ x. AddsRegion x c.add.new.s.state.ctx.now c.args.op c.in-Ok.region) c.in_ok-enter_here.ensures.ctx c.in-Ok.ensures.adds)
+returns-clause-came g c = region_came _ _ c.in-Ok.region c.args.op (subst (λ x. CreatesIn c.args.op x c.create.new.s.state.ctx.now c.in-Ok.region) c.in_ok-enter_here.ensures.ctx c.in-Ok.ensures.creates)
 
 pub returns-clause-gains : goal.returns-clause-gains
-returns-clause-gains g c = region_added_gains _ _ c.args.op c.in-Ok.region (subst (λ x. AddsRegion x c.add.new.s.state.ctx.now c.args.op c.in-Ok.region) c.in_ok-enter_here.ensures.ctx c.in-Ok.ensures.adds)
+returns-clause-gains g c = region_gains _ _ c.in-Ok.region c.args.op (subst (λ x. CreatesIn c.args.op x c.create.new.s.state.ctx.now c.in-Ok.region) c.in_ok-enter_here.ensures.ctx c.in-Ok.ensures.creates)
 
 pub returns-clause-spares : goal.returns-clause-spares
-returns-clause-spares g c = region_added_spares _ _ c.args.op c.in-Ok.region (subst (λ x. AddsRegion x c.add.new.s.state.ctx.now c.args.op c.in-Ok.region) c.in_ok-enter_here.ensures.ctx c.in-Ok.ensures.adds)
+returns-clause-spares g c = region_spares _ _ c.in-Ok.region c.args.op (subst (λ x. CreatesIn c.args.op x c.create.new.s.state.ctx.now c.in-Ok.region) c.in_ok-enter_here.ensures.ctx c.in-Ok.ensures.creates)
 
 pub returns-clause-open : goal.returns-clause-open
 returns-clause-open g c = c.in_ok-enter_here.ensures.open
+
+pub returns-in_default-clause-kept : goal.returns-in_default-clause-kept
+returns-in_default-clause-kept g c = λ m. subst (λ x. m ≤ x.graph.made → IfSome c.args.op (λ o. IsNew m x.graph (TheOperation o)) → KeepsOlder m x c.create.new.s.state.ctx.now) c.in_ok-enter_here.ensures.ctx (c.create.ensures.kept m)
+
+pub returns-in_err-brace_demanded-clause-kept : goal.returns-in_err-brace_demanded-clause-kept
+returns-in_err-brace_demanded-clause-kept g c = λ m. subst (λ x. m ≤ x.graph.made → IfSome c.args.op (λ o. IsNew m x.graph (TheOperation o)) → KeepsOlder m x c.create.new.s.state.ctx.now) c.in_ok-enter_here.ensures.ctx (c.in-Ok.ensures.kept m)
+
+pub returns-clause-kept : goal.returns-clause-kept
+returns-clause-kept g c = λ m. subst (λ x. m ≤ x.graph.made → IfSome c.args.op (λ o. IsNew m x.graph (TheOperation o)) → KeepsOlder m x c.create.new.s.state.ctx.now) c.in_ok-enter_here.ensures.ctx (c.in-Ok.ensures.kept m)

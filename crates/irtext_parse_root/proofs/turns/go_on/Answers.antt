@@ -22,9 +22,9 @@ operation_piece-requires-clause-step g c = flat_here (slice_get (steps_in c.args
 pub returns-clause-goes_on : goal.returns-clause-goes_on
 returns-clause-goes_on g c =
     let e = c.operation_piece.ensures in
-    goes_given g.T.IrText.reading (attr_at g.A.IrText.reading) c.args.names.now c.args.s.now c.operation_piece.new.names c.operation_piece.new.s e.rest c.args.begun.now c.operation_piece.new.begun c.operation_piece.result e.names e.values e.labels e.marks e.moves e.goes_on e.spares e.lasts e.sound
+    goes_given g.T.IrText.reading (attr_at g.A.IrText.reading) c.args.names.now c.args.s.now c.operation_piece.new.names c.operation_piece.new.s e.rest c.args.begun.now c.operation_piece.new.begun c.operation_piece.result e.names.kept e.names.values e.names.labels e.marks e.moves e.goes_on e.spares e.lasts e.sound
 
 pub returns-clause-spares : goal.returns-clause-spares
 returns-clause-spares g c =
     let e = c.operation_piece.ensures in
-    spares_same g.T.IrText.reading (attr_at g.A.IrText.reading) c.args.names.now c.args.s.now c.operation_piece.new.names c.operation_piece.new.s e.rest c.operation_piece.result e.names e.marks e.kept
+    spares_same g.T.IrText.reading (attr_at g.A.IrText.reading) c.args.names.now c.args.s.now c.operation_piece.new.names c.operation_piece.new.s e.rest c.operation_piece.result e.names.kept e.marks e.kept

@@ -19,9 +19,9 @@ returns-clause-first g c =
 pub returns-clause-heads : goal.returns-clause-heads
 returns-clause-heads g c =
     let e = c.block_begin.ensures in
-    heads_given g.T.IrText.reading (attr_at g.A.IrText.reading) c.args.names.now c.args.s.now c.block_begin.new.names c.block_begin.new.s e.rest c.args.region c.block_begin.result e.names e.values e.labels e.begins e.came e.gains e.spares e.lasts e.sound e.new e.noted
+    heads_given g.T.IrText.reading (attr_at g.A.IrText.reading) c.args.names.now c.args.s.now c.block_begin.new.names c.block_begin.new.s e.rest c.args.region c.block_begin.result e.names.kept e.names.values e.names.labels e.begins e.came e.gains e.spares e.lasts e.sound e.new e.noted
 
 pub returns-clause-spares : goal.returns-clause-spares
 returns-clause-spares g c =
     let e = c.block_begin.ensures in
-    spares_more g.T.IrText.reading (attr_at g.A.IrText.reading) c.args.names.now c.args.s.now c.block_begin.new.names c.block_begin.new.s e.rest c.block_begin.result e.names e.unnoted e.kept
+    spares_more g.T.IrText.reading (attr_at g.A.IrText.reading) c.args.names.now c.args.s.now c.block_begin.new.names c.block_begin.new.s e.rest c.block_begin.result e.names.kept e.unnoted e.kept

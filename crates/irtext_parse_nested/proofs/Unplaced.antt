@@ -55,8 +55,8 @@ module _ {T A : Type 0} (old new : ContextView T A) (r : Ptr Region) (makes : Ma
       go (TheBlock b) apart = let e = ap (λ s. get s b) makes.blocks in (ap (option_map block_of) e, ap (λ x. option_map TheRegion (parent_of x)) e)
       go (TheRegion q) apart = ap (option_map region_of) (makes.regions.updates.others q (λ e. apart (inl (ap TheRegion e))))
 
-  creates : CreatesRegion old new r
-  creates = record {
+  pub alone_creates : CreatesRegion old new r
+  alone_creates = record {
     operations = operation_same old.graph new.graph r makes;
     objects = object_same old.graph new.graph r makes;
     blocks = makes.blocks;
@@ -68,12 +68,12 @@ module _ {T A : Type 0} (old new : ContextView T A) (r : Ptr Region) (makes : Ma
 
   -- it is new
   pub alone_new : (m : ℕ) → m ≤ old.graph.made → IsNew m new.graph (TheRegion r)
-  alone_new = created_new creates
+  alone_new = created_new alone_creates
 
   -- the open objects are still live
   pub alone_lasts : KeepsLive old new
-  alone_lasts = created_lasts creates
+  alone_lasts = created_lasts alone_creates
 
   -- the region is live
   pub alone_there : IsLive new.graph (TheRegion r)
-  alone_there = created_there creates
+  alone_there = created_there alone_creates
