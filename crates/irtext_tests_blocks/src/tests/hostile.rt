@@ -5,31 +5,11 @@ use irtext_tests_common::tables::failing_demo;
 use std::alloc::Global;
 use std::test::Fail;
 
-/// Texts, and the fault of each, with `!` if it is committed.
-const ROWS: &[(&str, &str)] = &[
+/// Texts with a syntax error, and the fault of each, with `!` if it is committed.
+const SYNTAX: &[(&str, &str)] = &[
     (
         "",
         "line: 1, column: 1: Unexpected end of input, expected operation",
-    ),
-    (
-        "builtin.module @m { ^a(): test.scope { ^c(): x = test.make: builtin.integer si64 }; test.scope { ^d(): x = test.make: builtin.integer si64 } }",
-        "line: 1, column: 104: Identifier x defined more than once in the scope!",
-    ),
-    (
-        "builtin.module @m { ^a(): test.scope { ^c(): test.br ^a } }",
-        "line: 1, column: 38: Identifier a was not resolved to any definition in the scope!",
-    ),
-    (
-        "x = test.make: builtin.integer si64",
-        "line: 1, column: 1: No active scope for identifier x!",
-    ),
-    (
-        "test.scope {}",
-        "line: 1, column: 1: Regions in a top-level operation must be IsolatedFromAbove!",
-    ),
-    (
-        "builtin.module @m { ^a() !0: test.nop !0 }",
-        "line: 1, column: 39: Duplicate outline index: 0!",
     ),
     (
         "builtin.module @m {} !0",
@@ -48,12 +28,40 @@ const ROWS: &[(&str, &str)] = &[
         "line: 1, column: 20: Unexpected end of input, expected `}`!",
     ),
     (
-        "builtin.module @m { ^a(): test.use y; test.use x }",
-        "line: 1, column: 19: Identifier y was not resolved to any definition in the scope!",
+        "builtin.module @m {} !18446744073709551616",
+        "line: 1, column: 23: Number out of range: 18446744073709551616!",
     ),
     (
-        "builtin.module @m { ^a(): test.br ^b; test.use x }",
-        "line: 1, column: 19: Identifier x was not resolved to any definition in the scope!",
+        "builtin.module @m {} !-0",
+        "line: 1, column: 23: Number out of range: -0!",
+    ),
+    (
+        "builtin.module @m {} !0 outlined_attributes: !0 = @[name: \"\\q\", loc: (?)], []",
+        "line: 1, column: 60: Unexpected escaped character \\q!",
+    ),
+    (
+        "builtin.module @m {} !0 outlined_attributes: !0 = @[name: \"\\u{d800}\", loc: (?)], []",
+        "line: 1, column: 60: Invalid unicode escape \\u{d800}!",
+    ),
+    (
+        "builtin.module @m {} !0 outlined_attributes: !0 = @[name: \"\\u{}\", loc: (?)], []",
+        "line: 1, column: 63: Unexpected `}`, expected hexadecimal digit!",
+    ),
+    (
+        "builtin.module @m { ^b: test.nop }",
+        "line: 1, column: 23: Unexpected `:`, expected `(`!",
+    ),
+    (
+        "builtin.module @m { ^a(): test.nop ^a b }",
+        "line: 1, column: 39: Unexpected `b`, expected `(`!",
+    ),
+];
+
+/// Texts that define a name twice, or name another number of results than there are.
+const DEFINED: &[(&str, &str)] = &[
+    (
+        "builtin.module @m { ^a(): test.scope { ^c(): x = test.make: builtin.integer si64 }; test.scope { ^d(): x = test.make: builtin.integer si64 } }",
+        "line: 1, column: 104: Identifier x defined more than once in the scope!",
     ),
     (
         "builtin.module @m { ^a(): ^a(): }",
@@ -72,22 +80,6 @@ const ROWS: &[(&str, &str)] = &[
         "line: 1, column: 27: Operation has 1 results and 0 names!",
     ),
     (
-        "builtin.module @m {} !3 outlined_attributes: !3 = [dbg = !9]",
-        "line: 1, column: 58: No PrintOnceAttr found for outline index: 9!",
-    ),
-    (
-        "builtin.module @m {} !3 outlined_attributes: !3 = [] !3 = []",
-        "line: 1, column: 54: No operation or block found for outline index: 3!",
-    ),
-    (
-        "builtin.module @m {} !3 outlined_attributes: !3 = [builtin_given_names = test.dbg \"s\"]",
-        "line: 1, column: 52: Reserved attribute key: builtin_given_names!",
-    ),
-    (
-        "builtin.module @m { ^a(): x = test.make: builtin.integer si64; builtin.func @f: builtin.function <()->()> { ^b(): test.use x } }",
-        "line: 1, column: 107: Identifier x was not resolved to any definition in the scope!",
-    ),
-    (
         "builtin.module @m { ^a(): x = test.make: builtin.integer si64; x = test.make: builtin.integer si64 }",
         "line: 1, column: 64: Identifier x defined more than once in the scope!",
     ),
@@ -100,52 +92,36 @@ const ROWS: &[(&str, &str)] = &[
         "line: 1, column: 27: Operation has 1 results and 2 names!",
     ),
     (
-        "builtin.module @m { ^a(): test.nop !0; test.nop !0 }",
-        "line: 1, column: 49: Duplicate outline index: 0!",
+        "builtin.module @m { ^a(): x = test.global () [] []: <() -> ()> }",
+        "line: 1, column: 27: Operation has 0 results and 1 names!",
     ),
     (
-        "builtin.module @m {} !18446744073709551616",
-        "line: 1, column: 23: Number out of range: 18446744073709551616!",
+        "builtin.module @m { ^a(): x, x = test.global () [] []: <() -> (test.ptr, test.ptr)> }",
+        "line: 1, column: 30: Identifier x defined more than once in the scope!",
     ),
     (
-        "builtin.module @m {} !-0",
-        "line: 1, column: 23: Number out of range: -0!",
+        "builtin.module @m { ^a(): test.use x; x = test.make: builtin.integer si64 ^b(x: test.ptr): }",
+        "line: 1, column: 78: Identifier x defined more than once in the scope!",
+    ),
+];
+
+/// Texts with a name that nothing in its scope defines.
+const UNRESOLVED: &[(&str, &str)] = &[
+    (
+        "builtin.module @m { ^a(): test.scope { ^c(): test.br ^a } }",
+        "line: 1, column: 38: Identifier a was not resolved to any definition in the scope!",
     ),
     (
-        "builtin.module @m {} !0 outlined_attributes: !1 = []",
-        "line: 1, column: 46: No operation or block found for outline index: 1!",
+        "builtin.module @m { ^a(): test.use y; test.use x }",
+        "line: 1, column: 19: Identifier y was not resolved to any definition in the scope!",
     ),
     (
-        "builtin.module @m {} !0 outlined_attributes: !0 = @[name: \"\\q\", loc: (?)], []",
-        "line: 1, column: 60: Unexpected escaped character \\q!",
+        "builtin.module @m { ^a(): test.br ^b; test.use x }",
+        "line: 1, column: 19: Identifier x was not resolved to any definition in the scope!",
     ),
     (
-        "builtin.module @m {} !0 outlined_attributes: !0 = @[name: \"\\u{d800}\", loc: (?)], []",
-        "line: 1, column: 60: Invalid unicode escape \\u{d800}!",
-    ),
-    (
-        "builtin.module @m {} !0 outlined_attributes: !0 = @[name: \"\\u{}\", loc: (?)], []",
-        "line: 1, column: 63: Unexpected `}`, expected hexadecimal digit!",
-    ),
-    (
-        "builtin.module @m { ^a() !0: } outlined_attributes: !0 = [builtin_block_label = test.dbg \"s\"]",
-        "line: 1, column: 59: Reserved attribute key: builtin_block_label!",
-    ),
-    (
-        "builtin.module @m { ^a() [builtin_block_label: builtin.identifier z]: }",
-        "line: 1, column: 27: Reserved attribute key: builtin_block_label!",
-    ),
-    (
-        "builtin.module @m { ^a(): test.global () [] [builtin_given_names: builtin.identifier x]: <() -> ()> }",
-        "line: 1, column: 46: Reserved attribute key: builtin_given_names!",
-    ),
-    (
-        "builtin.module @m { ^b: test.nop }",
-        "line: 1, column: 23: Unexpected `:`, expected `(`!",
-    ),
-    (
-        "builtin.module @m { ^a(): test.nop ^a b }",
-        "line: 1, column: 39: Unexpected `b`, expected `(`!",
+        "builtin.module @m { ^a(): x = test.make: builtin.integer si64; builtin.func @f: builtin.function <()->()> { ^b(): test.use x } }",
+        "line: 1, column: 107: Identifier x was not resolved to any definition in the scope!",
     ),
     (
         "builtin.module @m { ^a(): test.scope { ^b(): test.use x }; builtin.func @f: builtin.function <()->()> { ^c(): x = test.make: builtin.integer si64 } }",
@@ -168,32 +144,20 @@ const ROWS: &[(&str, &str)] = &[
         "line: 1, column: 19: Identifier c was not resolved to any definition in the scope!",
     ),
     (
-        "builtin.module @m { ^a(): x = test.global () [] []: <() -> ()> }",
-        "line: 1, column: 27: Operation has 0 results and 1 names!",
-    ),
-    (
-        "builtin.module @m { ^a(): x, x = test.global () [] []: <() -> (test.ptr, test.ptr)> }",
-        "line: 1, column: 30: Identifier x defined more than once in the scope!",
-    ),
-    (
-        "builtin.module @m { ^a(): test.use x; x = test.make: builtin.integer si64 ^b(x: test.ptr): }",
-        "line: 1, column: 78: Identifier x defined more than once in the scope!",
-    ),
-    (
-        "builtin.module @m { ^a() !1: test.nop !1 }",
-        "line: 1, column: 39: Duplicate outline index: 1!",
-    ),
-    (
-        "builtin.module @m { ^a() !1: ^b() !1: }",
-        "line: 1, column: 35: Duplicate outline index: 1!",
-    ),
-    (
-        "builtin.module @m { ^a() !1: } !1",
-        "line: 1, column: 32: Duplicate outline index: 1!",
-    ),
-    (
         "builtin.module @m { ^a(): test.scope { ^b(): builtin.module @n { ^c(): test.use x } } }",
         "line: 1, column: 64: Identifier x was not resolved to any definition in the scope!",
+    ),
+];
+
+/// Texts with a name outside of every region, or a region that is not isolated in a root.
+const OUTSIDE: &[(&str, &str)] = &[
+    (
+        "x = test.make: builtin.integer si64",
+        "line: 1, column: 1: No active scope for identifier x!",
+    ),
+    (
+        "test.scope {}",
+        "line: 1, column: 1: Regions in a top-level operation must be IsolatedFromAbove!",
     ),
     (
         "test.use x",
@@ -206,6 +170,58 @@ const ROWS: &[(&str, &str)] = &[
     (
         "test.global () [] []: <() -> ()> {}",
         "line: 1, column: 1: Regions in a top-level operation must be IsolatedFromAbove!",
+    ),
+];
+
+/// Texts with marks or a section that do not fit together, or a reserved key.
+const SECTIONS: &[(&str, &str)] = &[
+    (
+        "builtin.module @m { ^a() !0: test.nop !0 }",
+        "line: 1, column: 39: Duplicate outline index: 0!",
+    ),
+    (
+        "builtin.module @m {} !3 outlined_attributes: !3 = [dbg = !9]",
+        "line: 1, column: 58: No PrintOnceAttr found for outline index: 9!",
+    ),
+    (
+        "builtin.module @m {} !3 outlined_attributes: !3 = [] !3 = []",
+        "line: 1, column: 54: No operation or block found for outline index: 3!",
+    ),
+    (
+        "builtin.module @m {} !3 outlined_attributes: !3 = [builtin_given_names = test.dbg \"s\"]",
+        "line: 1, column: 52: Reserved attribute key: builtin_given_names!",
+    ),
+    (
+        "builtin.module @m { ^a(): test.nop !0; test.nop !0 }",
+        "line: 1, column: 49: Duplicate outline index: 0!",
+    ),
+    (
+        "builtin.module @m {} !0 outlined_attributes: !1 = []",
+        "line: 1, column: 46: No operation or block found for outline index: 1!",
+    ),
+    (
+        "builtin.module @m { ^a() !0: } outlined_attributes: !0 = [builtin_block_label = test.dbg \"s\"]",
+        "line: 1, column: 59: Reserved attribute key: builtin_block_label!",
+    ),
+    (
+        "builtin.module @m { ^a() [builtin_block_label: builtin.identifier z]: }",
+        "line: 1, column: 27: Reserved attribute key: builtin_block_label!",
+    ),
+    (
+        "builtin.module @m { ^a(): test.global () [] [builtin_given_names: builtin.identifier x]: <() -> ()> }",
+        "line: 1, column: 46: Reserved attribute key: builtin_given_names!",
+    ),
+    (
+        "builtin.module @m { ^a() !1: test.nop !1 }",
+        "line: 1, column: 39: Duplicate outline index: 1!",
+    ),
+    (
+        "builtin.module @m { ^a() !1: ^b() !1: }",
+        "line: 1, column: 35: Duplicate outline index: 1!",
+    ),
+    (
+        "builtin.module @m { ^a() !1: } !1",
+        "line: 1, column: 32: Duplicate outline index: 1!",
     ),
     (
         "builtin.module @m { ^a(): test.nop } !0 outlined_attributes: !0 = [k = !0]",
@@ -275,7 +291,11 @@ fn has_fault(alloc: Global, ctx: &mut Ctx, row: &(&str, &str)) -> Result<bool, F
 
 #[test]
 fn a_refused_text_leaves_the_context(rt: HostRuntime) -> Result<(), Fail> {
-    assert_eq!(rt; failing_demo(rt.alloc(), ROWS, has_fault)?, None);
+    assert_eq!(rt; failing_demo(rt.alloc(), SYNTAX, has_fault)?, None);
+    assert_eq!(rt; failing_demo(rt.alloc(), DEFINED, has_fault)?, None);
+    assert_eq!(rt; failing_demo(rt.alloc(), UNRESOLVED, has_fault)?, None);
+    assert_eq!(rt; failing_demo(rt.alloc(), OUTSIDE, has_fault)?, None);
+    assert_eq!(rt; failing_demo(rt.alloc(), SECTIONS, has_fault)?, None);
     assert_eq!(rt; failing_demo(rt.alloc(), PARSED_FIRST, has_fault)?, None);
     Ok(())
 }
