@@ -1,21 +1,9 @@
 -- Uses leave their use lists, one after another.
-use Rattle.std.proofs.Common.{◌≡◌, ◌≢◌, ◌<◌, ◌≤◌, ◌+◌, ◌∙◌, ◌∷◌, inl, inr, ℕ, zero, suc, refl, sym, ap, arith, List, [], Option, Some, None, IsSome, length, slice_get}
-use Rattle.std.specs.Option.{option_map}
-use Rattle.std.proofs.lemmas.Option.{slice_get_past}
-use Rattle.irtext_graph.specs.Arena.{get}
+use Rattle.std.proofs.Common.{◌≡◌, ◌≢◌, ◌<◌, ◌≤◌, ◌+◌, ◌∙◌, inl, inr, ℕ, refl, sym, ap, arith, Option, Some, None}
 use Rattle.irtext_graph.specs.Graph.{seen}
-use Rattle.irtext_graph.specs.Uses.{use_at, operand_in, successor_in, either, val, def_of, AreUsesLinked}
-use Rattle.irtext_graph.specs.declared.arena.Entry.{Entry}
-use Rattle.irtext_graph.specs.declared.arena.Ptr.{Ptr}
-use Rattle.irtext_graph.specs.declared.nest.Nest.{Nest}
-use Rattle.irtext_graph.specs.declared.object.BasicBlock.{BasicBlock}
-use Rattle.irtext_graph.specs.declared.object.Defined.TheVariants.{OfValue, OfBlock}
-use Rattle.irtext_graph.specs.declared.object.Region.{Region}
-use Rattle.irtext_graph.specs.declared.objects.OperationData.{OperationData}
+use Rattle.irtext_graph.specs.Uses.{use_at, val, def_of, AreUsesLinked}
 use Rattle.irtext_graph.specs.declared.object.Defined.{Defined}
-use Rattle.irtext_graph.specs.declared.object.Operation.{Operation}
 use Rattle.irtext_graph.specs.declared.object.Site.{Site}
-use Rattle.irtext_graph.specs.declared.object.Site.TheVariants.{AtOperand, AtSuccessor}
 use Rattle.irtext_graph.specs.declared.objects.Objects.{Objects}
 use Rattle.irtext_graph.specs.declared.objects.Use.{Use}
 use Rattle.irtext_graph.proofs.Backs.{use_there, not_some}

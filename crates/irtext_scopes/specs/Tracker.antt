@@ -10,7 +10,7 @@ abbrev pub entered : {V : Type 0} → Bool → List (Scope V) → List (Scope V)
 entered true ss = [] ∷ ss
 entered false ss = ss
 
--- a call has entered a region, or its error says why not: the error that is no lack of memory comes if the region shares the scopes of
+-- a call has entered a region, or its error says why not: an error other than out of memory comes if the region shares the scopes of
 -- values around it, and none is open. On an error no scope changes.
 pub record EntersRegion {V L A : Type 0} (isolated : Bool) (result : Result A EnterFault) (outer_values inner_values : List (Scope V)) (outer_labels inner_labels : List (Scope L)) : Type 0 where
   pub values : OnOk result (inner_values ≡ entered isolated outer_values)
