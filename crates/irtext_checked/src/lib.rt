@@ -1,5 +1,5 @@
 //! Calls for front ends and passes that test what the calls below them require: an operation is made, inserted and changed, and where the
-//! call without a test could not be made, the answer is an error.
+//! call without a test could not be made, the answer is an error. Also the types of the values of a context.
 #![tactic(auto)]
 
 ghost use Rattle.std.specs.Prelude.{◌≡◌};
