@@ -73,11 +73,9 @@ fn make_two(alloc: Global, ctx: &mut Ctx) -> Result<Ptr<Operation>, Fail> {
     Ok(made.ok().ok_or("refused")?)
 }
 
-/// Whether these are the types of a byte and of a pointer, in this order.
+/// Whether these are two types, and only the second is a pointer.
 fn are_types(listed: &[&DemoType]) -> bool {
-    listed.len() == 2
-        && matches!(listed[0], DemoType::Integer(_))
-        && *listed[1] == DemoType::Pointer
+    listed.len() == 2 && *listed[0] != DemoType::Pointer && *listed[1] == DemoType::Pointer
 }
 
 /// Whether an operation's results are a pointer and a byte, and another's operands a byte and a pointer, as lists and one by one.
