@@ -1,1 +1,2 @@
 pub mod MadeLive
+mod TypesListed

@@ -6,7 +6,8 @@ use Rattle.irtext_base.specs.declared.base.attributes.AttrObj.{AttrObj}
 use Rattle.irtext_base.specs.declared.result.Cause.{Cause, Memory, ReservedKey, Text as IsText}
 use Rattle.irtext_dict.specs.Dictionary.{is_reserved_for}
 use Rattle.irtext_context.specs.Context.{ContextView}
-use Rattle.irtext_context.specs.Made.{AreLiveBlocks, IsUnregistered, AreDefinedValues}
+use Rattle.irtext_context.specs.Made.{AreLiveBlocks, IsUnregistered}
+use Rattle.irtext_checked.specs.Types.{AreContainedValues}
 use Rattle.irtext_graph.specs.Graph.{GraphView, CanInsert, IsLive}
 use Rattle.irtext_graph.specs.Parts.{regions}
 use Rattle.irtext_graph.specs.declared.arena.Ptr.{Ptr}
@@ -31,7 +32,7 @@ RefusesAttribute object key attr _ = ⊥
 module _ {T A : Type 0} where
   -- why an operation is not made: it would use what is not in the context, else it is not registered; or an allocation failed
   abbrev pub RefusesNew : ContextView T A → OpId → List Value → List (Ptr BasicBlock) → Cause A → Type 0
-  RefusesNew c id operands successors (IsText text) = AreDefinedValues c operands × AreLiveBlocks c successors → ⊥
+  RefusesNew c id operands successors (IsText text) = AreContainedValues c operands × AreLiveBlocks c successors → ⊥
   RefusesNew c id operands successors Memory = Unit {0}
   RefusesNew c id operands successors cause = IsUnregistered c.dialects id cause
 

@@ -2,6 +2,7 @@
 ghost use Rattle.std.specs.Prelude.{◌↔◌, IsTrue};
 ghost use Rattle.irtext_graph.specs.Parts.{IsDefinedValue};
 ghost use Rattle.irtext_context.specs.Made.{AreLiveBlocks, AreDefinedValues};
+ghost use Rattle.irtext_checked.specs.Types.{IsContainedValue, AreContainedValues};
 
 use irtext_base::text::{AttrText, IrText};
 use irtext_context::base::{BasicBlock, Context, Ptr};
@@ -19,13 +20,17 @@ pub trait ContainsParts {
     // the context
     ghost context: { Self → ContextView Self.T Self.A };
 
-    /// Whether the value is defined: its operation or block is live, and has a result or an argument with this index.
+    /// Whether the value is in the context: its operation or block is live, and has a result or an argument with this index, which is no
+    /// placeholder. So it has a type, and it is defined, as calls on its uses require.
     fn contains_value(&self, value: Value) -> bool
-        ensures { IsTrue result ↔ IsDefinedValue (context self.now).graph value };
+        ensures contained { IsTrue result ↔ IsContainedValue (context self.now) value }
+        ensures defined { IsTrue result → IsDefinedValue (context self.now).graph value };
 
-    /// Whether each of these values is defined, as `Operation::new` requires of its operands.
+    /// Whether each of these values is in the context, as `contains_value` tests it. So each is defined, as `Operation::new` requires of its
+    /// operands.
     fn contains_values(&self, values: &[Value]) -> bool
-        ensures { IsTrue result ↔ AreDefinedValues (context self.now) values.now };
+        ensures contained { IsTrue result ↔ AreContainedValues (context self.now) values.now }
+        ensures defined { IsTrue result → AreDefinedValues (context self.now) values.now };
 
     /// Whether each of these blocks is live, as `Operation::new` requires of its successors.
     fn contains_blocks(&self, blocks: &[Ptr<BasicBlock>]) -> bool
@@ -40,11 +45,17 @@ impl<T: IrText<A>, A: AttrText<A>> ContainsParts for Context<T, A> {
     ghost context = { λ c. c };
 
     fn contains_value(&self, value: Value) -> bool {
-        self.graph().contains_value(value)
+        let graph = self.graph();
+        graph.contains_value(value) && graph.type_of(value).is_some()
     }
 
     fn contains_values(&self, values: &[Value]) -> bool {
-        self.graph().contains_values(values)
+        for value in values {
+            if !self.contains_value(*value) {
+                return false;
+            }
+        }
+        true
     }
 
     fn contains_blocks(&self, blocks: &[Ptr<BasicBlock>]) -> bool {

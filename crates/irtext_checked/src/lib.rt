@@ -1,5 +1,5 @@
 //! Calls for front ends and passes that test what the calls below them require: an operation is made, inserted and changed, and where the
-//! call without a test could not be made, the answer is an error.
+//! call without a test could not be made, the answer is an error. Also the types of the values of a context.
 #![tactic(auto)]
 
 ghost use Rattle.std.specs.Prelude.{◌≡◌};
@@ -10,6 +10,7 @@ pub mod access;
 pub mod contains;
 pub mod insert;
 pub mod make;
+pub mod types;
 
 use irtext_base::location::Location;
 use irtext_base::result::{Cause, Error, ErrorKind};

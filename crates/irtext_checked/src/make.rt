@@ -1,8 +1,9 @@
 //! Making operations whose operands and successors need not be known to be in the context.
 ghost use Rattle.std.specs.Prelude.{IsSome, IfOk, IfErr, OnOk};
 ghost use Rattle.irtext_context.specs.Context.{operation};
-ghost use Rattle.irtext_context.specs.Made.{AreLiveBlocks, MakesRegistered, MakesWithRegions, AreDefinedValues};
+ghost use Rattle.irtext_context.specs.Made.{AreLiveBlocks, MakesRegistered, MakesWithRegions};
 ghost use Rattle.irtext_checked.specs.Checked.{RefusesNew};
+ghost use Rattle.irtext_checked.specs.Types.{AreContainedValues};
 
 use crate::contains::ContainsParts;
 use crate::unfit;
@@ -30,7 +31,7 @@ pub trait TryNewOperation {
         ensures made { IfOk result (λ op. MakesWithRegions num_regions ctx.old ctx.new op id result_types
             operands.now successors.now) }
         ensures live { IfOk result (λ op. IsSome (operation ctx.new op)) }
-        ensures used { OnOk result (AreDefinedValues ctx.old operands.now × AreLiveBlocks ctx.old successors.now) }
+        ensures used { OnOk result (AreContainedValues ctx.old operands.now × AreLiveBlocks ctx.old successors.now) }
         ensures registered { MakesRegistered id result ctx.old ctx.new }
         ensures refused { IfErr result (λ e. RefusesNew ctx.old id operands.now successors.now e.err) };
 }

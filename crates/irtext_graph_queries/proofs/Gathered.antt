@@ -46,6 +46,14 @@ all_seen see (x ∷ xs) (y ∷ ys) e same =
     let head : see x ≡ y = cc in
     ap (λ z. z ∷ map see xs) head ∙ ap (λ zs. y ∷ zs) (all_seen see xs ys (omega (arith, e)) (λ i z at. same (suc i) z at))
 
+-- the images of f of all numbers below the length of a list are the list, if the image at each is what the list has there
+pub seen_each : {X Y : Type 0} (see : X → Y) (f : ℕ → X) (ys : List Y) → ((i : ℕ) → i < length ys → slice_get ys i ≡ Some (see (f i))) → map see (each f (length ys)) ≡ ys
+seen_each see f ys at = all_seen see (each f (length ys)) ys (length_each f (length ys)) (λ i x e.
+    let less : i < length ys = rw (← length_each f (length ys)) (slice_get_within (each f (length ys)) i x e) in
+    let here : Some x ≡ Some (f i) = sym e ∙ at_each f (length ys) i less in
+    let same : f i ≡ x = cc in
+    at i less ∙ ap (λ z. Some (see z)) same)
+
 -- the same of items that were gathered
 gathered_all : {X Y : Type 0} {Allows : ℕ → X → Type 0} (n : ℕ) (see : X → Y) (xs : List X) (ys : List Y) → AreGathered Allows n xs → n ≡ length ys → ((i : ℕ) (x : X) → i < n → Allows i x → slice_get ys i ≡ Some (see x)) → map see xs ≡ ys
 gathered_all n see xs ys so count means = all_seen see xs ys (so.count ∙ count) (λ i x at. means i x (rw (← so.count) (slice_get_within xs i x at)) (so.each i x at))

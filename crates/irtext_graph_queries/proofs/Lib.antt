@@ -1,5 +1,5 @@
 mod Preds
 mod Unions
 mod FirstResults
-mod Gathered
+pub mod Gathered
 mod NestedOperations

@@ -7,4 +7,5 @@ mod gather;
 pub mod nested;
 pub mod operation;
 pub mod region;
+pub mod types;
 pub mod value;

@@ -1,12 +1,12 @@
 //! The operands, successors and results of an operation, the uses of its results, and its regions.
-ghost use Rattle.std.specs.Prelude.{◌≡◌, ◌<◌, ◌↔◌, ℕ, Some, IfOk, IsTrue, length, map, option_map, slice_get};
+ghost use Rattle.std.specs.Prelude.{◌≡◌, ◌<◌, ◌↔◌, ℕ, Some, IfOk, IsTrue, length, slice_get};
 ghost use Rattle.irtext_graph.specs.declared.object.Object.TheVariants.{TheOperation};
 ghost use Rattle.irtext_graph.specs.declared.object.Defined.TheVariants.{OfValue};
 ghost use Rattle.irtext_graph.specs.declared.object.Site.{Site};
 ghost use Rattle.irtext_graph.specs.declared.object.Value.TheVariants.{Result};
 ghost use Rattle.irtext_graph.specs.Chained.{Lists, Counts};
 ghost use Rattle.irtext_graph.specs.Graph.{IsLive};
-ghost use Rattle.irtext_graph.specs.Parts.{operands, successors, results, regions, value_at, IsDefinedValue};
+ghost use Rattle.irtext_graph.specs.Parts.{operands, successors, results, regions, IsDefinedValue};
 ghost use Rattle.irtext_graph.specs.Used.{IsUse};
 ghost use Rattle.irtext_graph_queries.specs.Lists.{each};
 ghost use Rattle.irtext_graph_queries.specs.ResultUses.{IsUseOf};
@@ -42,13 +42,6 @@ pub trait OperationParts: Sized {
         requires { IsLive (C.graph ctx.now) (TheOperation (pointer self)) }
         ensures { IfOk result (λ all. all.items ≡ operands (C.graph ctx.now) (pointer self)) };
 
-    /// Returns the types of the operands of the operation, in order.
-    fn operand_types<C: HasGraph>(self, ctx: &C) -> Result<Vec<&C::T>, AllocError>
-        requires { IsLive (C.graph ctx.now) (TheOperation (pointer self)) }
-        ensures { IfOk result (λ all. map (λ t. Some t.now) all.items
-            ≡ map (λ v. option_map (λ t. t.of_type) (value_at (C.graph ctx.now) v))
-            (operands (C.graph ctx.now) (pointer self))) };
-
     /// Returns the number of successors of the operation.
     fn get_num_successors<C: HasGraph>(self, ctx: &C) -> usize
         requires { IsLive (C.graph ctx.now) (TheOperation (pointer self)) }
@@ -82,18 +75,6 @@ pub trait OperationParts: Sized {
         ensures { IfOk result (λ all. all.items ≡ each (Result (pointer self))
             (length (results (C.graph ctx.now) (pointer self)))) };
 
-    /// Returns the type of the result of the operation at an index, which must be below their number.
-    fn get_type<C: HasGraph>(self, ctx: &C, index: usize) -> &C::T
-        requires { index < length (results (C.graph ctx.now) (pointer self)) }
-        ensures { option_map (λ v. v.of_type) (slice_get (results (C.graph ctx.now) (pointer self)) index) ≡
-            Some result.now };
-
-    /// Returns the types of the results of the operation, in order.
-    fn result_types<C: HasGraph>(self, ctx: &C) -> Result<Vec<&C::T>, AllocError>
-        requires { IsLive (C.graph ctx.now) (TheOperation (pointer self)) }
-        ensures { IfOk result (λ all. map (λ t. t.now) all.items ≡ map (λ v. v.of_type)
-            (results (C.graph ctx.now) (pointer self))) };
-
     /// Whether a result of the operation is an operand of some operation.
     fn has_use<C: HasGraph>(self, ctx: &C) -> bool
         requires { IsLive (C.graph ctx.now) (TheOperation (pointer self)) }
@@ -126,19 +107,6 @@ fn count_results<C: HasGraph>(ctx: &C, op: Ptr<Operation>) -> usize
     graph.num_results(op)
 }
 
-/// Returns the type of the operand of an operation at an index.
-fn type_of_operand<C: HasGraph>(ctx: &C, op: Ptr<Operation>, index: usize) -> &C::T
-    requires alive { IsLive (C.graph ctx.now) (TheOperation op) }
-    requires within { index < length (operands (C.graph ctx.now) op) }
-    ensures { slice_get (map (λ v. option_map (λ t. t.of_type) (value_at (C.graph ctx.now) v))
-        (operands (C.graph ctx.now) op)) index
-        ≡ Some (Some result.now) }
-{
-    let graph = ctx.graph();
-    graph.keeps_nesting();
-    graph.type_of(graph.get_operand(op, index))
-}
-
 impl OperationParts for Ptr<Operation> {
     ghost pointer = { λ p. p };
 
@@ -153,15 +121,6 @@ impl OperationParts for Ptr<Operation> {
     fn operands<C: HasGraph>(self, ctx: &C) -> Result<Vec<Value>, AllocError> {
         let count = self.get_num_operands(ctx);
         gather(ctx.graph().allocator(), count, |i| self.get_operand(ctx, i))
-    }
-
-    fn operand_types<C: HasGraph>(self, ctx: &C) -> Result<Vec<&C::T>, AllocError> {
-        let count = self.get_num_operands(ctx);
-        gather(
-            ctx.graph().allocator(),
-            count,
-            |i| type_of_operand(ctx, self, i),
-        )
     }
 
     fn get_num_successors<C: HasGraph>(self, ctx: &C) -> usize {
@@ -192,15 +151,6 @@ impl OperationParts for Ptr<Operation> {
     fn results<C: HasGraph>(self, ctx: &C) -> Result<Vec<Value>, AllocError> {
         let count = self.get_num_results(ctx);
         gather(ctx.graph().allocator(), count, |i| Value::Result(self, i))
-    }
-
-    fn get_type<C: HasGraph>(self, ctx: &C, index: usize) -> &C::T {
-        ctx.graph().type_of(Value::Result(self, index))
-    }
-
-    fn result_types<C: HasGraph>(self, ctx: &C) -> Result<Vec<&C::T>, AllocError> {
-        let count = self.get_num_results(ctx);
-        gather(ctx.graph().allocator(), count, |i| self.get_type(ctx, i))
     }
 
     fn has_use<C: HasGraph>(self, ctx: &C) -> bool {

@@ -1,10 +1,10 @@
 //! The uses of a value, and their replacement by another value.
-ghost use Rattle.std.specs.Prelude.{◌≡◌, ◌↔◌, ℕ, Some, IfOk, IsTrue, option_map};
+ghost use Rattle.std.specs.Prelude.{◌≡◌, ◌↔◌, ℕ, IfOk, IsTrue};
 ghost use Rattle.irtext_graph.specs.declared.object.Defined.TheVariants.{OfValue};
 ghost use Rattle.irtext_graph.specs.declared.object.Site.{Site};
 ghost use Rattle.irtext_graph.specs.Chained.{Lists, Counts};
 ghost use Rattle.irtext_graph.specs.Graph.{KeepsOlder};
-ghost use Rattle.irtext_graph.specs.Parts.{value_at, IsDefinedValue};
+ghost use Rattle.irtext_graph.specs.Parts.{IsDefinedValue};
 ghost use Rattle.irtext_graph.specs.Used.{IsUse, Replaces, IsUnusedBelow, user};
 
 use irtext_graph::arena::Ptr;
@@ -35,17 +35,12 @@ impl UseSite for Site {
     }
 }
 
-/// The type and the uses of a value, in any holder of a graph. The value must be live in the graph.
+/// The uses of a value, in any holder of a graph. The value must be live in the graph.
 pub trait ValueUses: Sized {
     ghost use Rattle.irtext_graph.specs.declared.object.Value.{Value};
 
     // the value
     ghost value: { Self → Value };
-
-    /// Returns the type of the value.
-    fn get_type<C: HasGraph>(self, ctx: &C) -> &C::T
-        requires { IsDefinedValue (C.graph ctx.now) (value self) }
-        ensures { option_map (λ v. v.of_type) (value_at (C.graph ctx.now) (value self)) ≡ Some result.now };
 
     /// Whether the value is an operand of some operation.
     fn has_use<C: HasGraph>(self, ctx: &C) -> bool
@@ -75,10 +70,6 @@ pub trait ValueUses: Sized {
 
 impl ValueUses for Value {
     ghost value = { λ v. v };
-
-    fn get_type<C: HasGraph>(self, ctx: &C) -> &C::T {
-        ctx.graph().type_of(self)
-    }
 
     fn has_use<C: HasGraph>(self, ctx: &C) -> bool {
         ctx.graph().has_use(Defined::OfValue(self))

@@ -5,6 +5,7 @@ pub use irtext_checked::access::{TryAccess, TryBlockAccess};
 pub use irtext_checked::contains::ContainsParts;
 pub use irtext_checked::insert::TryInsert;
 pub use irtext_checked::make::TryNewOperation;
+pub use irtext_checked::types::{OperationTypes, ValueType};
 pub use irtext_context::base::{
     BasicBlock, BlockAccess, Context, NewBareOperation, NewBlock, NewOperation, Operation,
     OperationAccess, Ptr, Region,

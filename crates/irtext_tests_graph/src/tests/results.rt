@@ -5,6 +5,7 @@ use irtext_few::Few;
 use irtext_graph::arena::Ptr;
 use irtext_graph::object::{Object, Operation, Site, Value};
 use irtext_graph_queries::operation::OperationParts;
+use irtext_graph_queries::types::GraphTypes;
 use std::alloc::AllocError;
 use std::test::Fail;
 

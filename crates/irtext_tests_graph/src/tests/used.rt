@@ -11,6 +11,7 @@ use irtext_graph::object::{BasicBlock, Object, Operation, Region, Value};
 use irtext_graph_queries::block::BlockParts;
 use irtext_graph_queries::operation::OperationParts;
 use irtext_graph_queries::region::RegionParts;
+use irtext_graph_queries::types::GraphTypes;
 use irtext_graph_queries::value::{UseSite, ValueUses};
 use std::alloc::AllocError;
 use std::test::Fail;
@@ -205,7 +206,7 @@ fn lists_results(holder: &Holder, s: Scene) -> Result<bool, AllocError> {
         sum = sum.wrapping_add(**of_type);
     }
     let second = s.maker.get_result(holder, 1);
-    let typed = *s.maker.get_type(holder, 1) == 13 && *second.get_type(holder) == 13;
+    let typed = *holder.graph.type_of(second) == 13;
     Ok(typed && sum == 25 && results.as_slice() == [Value::Result(s.maker, 0), second].as_slice())
 }
 

@@ -71,8 +71,8 @@ fn byte() -> Option<DemoType> {
 fn is_typed(ctx: &Ctx, op: Ptr<Operation>) -> bool {
     ctx.contains_operation(op)
         && op.get_num_results(ctx) == 2
-        && *op.get_type(ctx, 0) == Some(DemoType::Pointer)
-        && *op.get_type(ctx, 1) == byte()
+        && *ctx.graph().type_of(op.get_result(ctx, 0)) == Some(DemoType::Pointer)
+        && *ctx.graph().type_of(op.get_result(ctx, 1)) == byte()
 }
 
 /// The number of operands that are a value, if it is live.

@@ -3,7 +3,7 @@ use Rattle.std.specs.Option.{option_map}
 use Rattle.std.proofs.lemmas.List.{length-map}
 use Rattle.irtext_graph.specs.Parts.{operands, value_at}
 use Rattle.irtext_graph_queries.proofs.Gathered.{gathered_seen}
-use Rattle.irtext_graph_queries.proofs.operation.PtrOperationOperationParts.operand_types.Goals as goal
+use Rattle.irtext_graph_queries.proofs.types.PtrOperationGraphTypes.operand_types.Goals as goal
 
 pub returns : goal.returns
 returns g c =

@@ -4,7 +4,7 @@ use Rattle.std.proofs.lemmas.Option.{slice_get-map}
 use Rattle.irtext_graph.specs.declared.object.Defined.TheVariants.{OfValue}
 use Rattle.irtext_graph.specs.declared.object.Site.TheVariants.{AtOperand}
 use Rattle.irtext_graph.specs.Parts.{operands, value_at}
-use Rattle.irtext_graph_queries.proofs.operation.type_of_operand.Goals as goal
+use Rattle.irtext_graph_queries.proofs.types.type_of_operand.Goals as goal
 
 pub type_of-requires : goal.type_of-requires
 type_of-requires g c = c.keeps_nesting.ensures.uses (AtOperand c.args.op c.args.index) (OfValue c.get_operand.result) (ap (option_map OfValue) c.get_operand.ensures)

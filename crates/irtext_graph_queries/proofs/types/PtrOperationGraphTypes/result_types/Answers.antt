@@ -4,7 +4,7 @@ use Rattle.std.proofs.lemmas.List.{length-map}
 use Rattle.std.proofs.lemmas.Option.{slice_get-map}
 use Rattle.irtext_graph.specs.Parts.{results}
 use Rattle.irtext_graph_queries.proofs.Gathered.{gathered_seen}
-use Rattle.irtext_graph_queries.proofs.operation.PtrOperationOperationParts.result_types.Goals as goal
+use Rattle.irtext_graph_queries.proofs.types.PtrOperationGraphTypes.result_types.Goals as goal
 
 pub returns : goal.returns
 returns g c =
