@@ -1,5 +1,5 @@
 -- The texts of single items: of values with their types, and of what a list has at an index.
-use Rattle.std.proofs.Common.{◌≡◌, ◌≤◌, ◌<◌, ◌∙◌, ◌+◌, ◌++◌, ◌∷◌, ℕ, zero, suc, arith, drop, refl, sym, ap, subst, List, [], Option, Some, None, IsSome, IfSome, true, map, length, slice_get, codes}
+use Rattle.std.proofs.Common.{◌≡◌, ◌≤◌, ◌<◌, ◌∙◌, ◌+◌, ◌++◌, ◌∷◌, ℕ, zero, suc, arith, drop, refl, sym, ap, subst, List, [], Option, Some, None, IsSome, IfSome, Bool, true, false, not, ◌&&◌, is_some, map, length, slice_get, codes}
 use Rattle.std.specs.Option.{option_map, option_and_then}
 use Rattle.std.specs.Str.{encode_utf8_all}
 use Rattle.std.proofs.lemmas.Option.{slice_get-map}
@@ -7,16 +7,20 @@ use Rattle.std.proofs.lemmas.List.{append-nil}
 use Rattle.irtext_base.specs.Text.{Text}
 use Rattle.irtext_context.specs.Context.{ContextView}
 use Rattle.irtext_graph.specs.Content.{Typed}
-use Rattle.irtext_graph.specs.Parts.{value_at}
+use Rattle.irtext_graph.specs.Parts.{value_at, operands, successors}
+use Rattle.irtext_graph.specs.declared.arena.Ptr.{Ptr}
+use Rattle.irtext_graph.specs.declared.object.BasicBlock.{BasicBlock}
+use Rattle.irtext_graph.specs.declared.object.Operation.{Operation}
 use Rattle.irtext_graph.specs.declared.object.Value.{Value}
 use Rattle.irtext_grammar.specs.Contexts.Nested.{number_of}
 use Rattle.irtext_grammar.specs.Contexts.Held.{known_types}
 use Rattle.irtext_print.specs.Printers.PieceText.{spaced_if}
 use Rattle.irtext_print.proofs.Printers.Locations.{more, worded}
-use Rattle.irtext_print_ops.specs.Listed.{facet_text, next_text}
-use Rattle.irtext_print_ops.specs.Names.{name_of, operand_text, or_nothing}
+use Rattle.irtext_print_ops.specs.Listed.{facet_text, next_text, operand_type_text, text_at}
+use Rattle.irtext_print_ops.specs.Names.{name_of, operand_text, label_text, or_nothing}
 use Rattle.irtext_print_ops.specs.declared.lists.Facet.{Facet}
 use Rattle.irtext_print_ops.specs.declared.lists.Facet.TheVariants as facet
+use Rattle.irtext_print_ops.specs.declared.lists.Listed.TheVariants as listed
 
 module _ {T A : Type 0} (written : T → Text) (ctx : ContextView T A) (v : Value) where
   -- a value that is there has a name
@@ -117,3 +121,39 @@ missed [] zero left r h e = sym e
 missed [] (suc i) left r h e = sym e
 missed (x ∷ xs) zero left r h e = absurd (omega (arith, h))
 missed (x ∷ xs) (suc i) left r h e = missed xs i left r (omega (arith, h)) e
+
+-- ---- the text at an index, by what is there
+
+module _ {T A : Type 0} (written : T → Text) (ctx : ContextView T A) where
+  -- the name of an operand
+  pub operand_at : (p : Ptr Operation) (i : ℕ) (v : Value) → slice_get (operands ctx.graph p) i ≡ Some v → operand_text ctx v ≡ text_at written ctx (listed.Operands p) i
+  operand_at p i v e = sym (ap (option_and_then (operand_text ctx)) e) ∙ found_at (operand_text ctx) (operands ctx.graph p) i
+
+  -- the label of a successor
+  pub successor_at : (p : Ptr Operation) (i : ℕ) (b : Ptr BasicBlock) → slice_get (successors ctx.graph p) i ≡ Some b → Some (label_text ctx b) ≡ text_at written ctx (listed.Successors p) i
+  successor_at p i b e = sym (ap (option_and_then (λ x. Some (label_text ctx x))) e) ∙ found_at (λ x. Some (label_text ctx x)) (successors ctx.graph p) i
+
+  -- the type of an operand
+  pub operand_type_at : (p : Ptr Operation) (i : ℕ) (v : Value) → slice_get (operands ctx.graph p) i ≡ Some v → operand_type_text written ctx v ≡ text_at written ctx (listed.OperandTypes p) i
+  operand_type_at p i v e = sym (ap (option_and_then (operand_type_text written ctx)) e) ∙ found_at (operand_type_text written ctx) (operands ctx.graph p) i
+
+-- an item that has a text is not the first of those that come after it
+pub not_first : (first : Bool) (o u : Option Text) → IsSome o → o ≡ u → false ≡ (first && not (is_some u))
+not_first first o u h e = subst (λ x. false ≡ (first && not (is_some x))) e (go first o h)
+  where
+    go : (first : Bool) (o : Option Text) → IsSome o → false ≡ (first && not (is_some o))
+    go first None h = absurd (cc)
+    go true (Some t) h = refl
+    go false (Some t) h = refl
+
+-- an index of a list's texts is one of the list
+pub index_in : {X Y : Type 0} (f : X → Y) (xs : List X) (i : ℕ) → i < length (map f xs) → i < length xs
+index_in f [] i less = absurd (omega (arith, less))
+index_in f (x ∷ xs) zero less = omega arith
+index_in f (x ∷ xs) (suc i) less = let inner = index_in f xs i (omega (arith, less)) in omega (arith, inner)
+
+-- there is an item at it
+pub item_there : {X Y : Type 0} (f : X → Y) (xs : List X) (i : ℕ) → i < length (map f xs) → IsSome (slice_get xs i)
+item_there f [] i less = absurd (omega (arith, less))
+item_there f (x ∷ xs) zero less = refl
+item_there f (x ∷ xs) (suc i) less = item_there f xs i (omega (arith, less))
