@@ -1,5 +1,5 @@
 -- A child was appended to an object and given that parent, in the arenas of the two kinds.
-use Rattle.std.proofs.Common.{◌≡◌, ◌≢◌, ◌++◌, ◌∷◌, ◌∙◌, refl, ap, Option, Some, List, [], map, option_map}
+use Rattle.std.proofs.Common.{◌≡◌, ◌≢◌, ◌⊎◌, inl, inr, ◌++◌, ◌∷◌, ◌∙◌, refl, sym, ap, Option, Some, List, [], map, option_map}
 use Rattle.std.proofs.lemmas.List.{map-append}
 use Rattle.irtext_graph.specs.declared.arena.Arena.{Arena}
 use Rattle.irtext_graph.specs.declared.arena.Ptr.{Ptr}
@@ -16,7 +16,8 @@ use Rattle.irtext_graph.specs.declared.objects.RegionData.{RegionData}
 use Rattle.irtext_graph.specs.Content.{Content.{AnOperation, ABlock, ARegion}, operation_content, block_content, region_content}
 use Rattle.irtext_graph.specs.Nest.{datum}
 use Rattle.irtext_graph.specs.Nest as nest
-use Rattle.irtext_graph.specs.Objects.{up, kids, what, Appends}
+use Rattle.irtext_graph.specs.Objects.{up, kids, what, SameAt, Appends}
+use Rattle.irtext_graph.proofs.Pointers.{ptr_or}
 
 -- a child was appended to what a pointer refers to, and all else of the arena is unchanged
 pub record Holds {P C D K : Type 0} (old new : Arena (Nest P C D)) (p : Ptr K) (c : Ptr C) : Type 0 where
@@ -31,6 +32,20 @@ pub record Stands {P C D K : Type 0} (old new : Arena (Nest P C D)) (p : Ptr K) 
   pub others : (q : Ptr K) → q ≢ p → nest.up new q ≡ nest.up old q
   pub lists : (q : Ptr K) → nest.kids new q ≡ nest.kids old q
   pub all_data : (q : Ptr K) → datum new q ≡ datum old q
+
+-- nothing was appended to what a pointer refers to, and all else of the arena is unchanged
+pub record Refuses {P C D K : Type 0} (old new : Arena (Nest P C D)) (p : Ptr K) : Type 0 where
+  pub here : nest.kids new p ≡ nest.kids old p
+  pub others : (q : Ptr K) → q ≢ p → nest.kids new q ≡ nest.kids old q
+  pub ups : (q : Ptr K) → nest.up new q ≡ nest.up old q
+  pub all_data : (q : Ptr K) → datum new q ≡ datum old q
+
+same_lists : {P C D K : Type 0} (old new : Arena (Nest P C D)) (p : Ptr K) → Refuses old new p → (q : Ptr K) → nest.kids new q ≡ nest.kids old q
+same_lists {K = K} old new p r q = go (ptr_or q p)
+  where
+    go : (q ≡ p) ⊎ (q ≢ p) → nest.kids new q ≡ nest.kids old q
+    go (inl e) = ap (λ k. nest.kids new k) e ∙ r.here ∙ sym (ap (λ k. nest.kids old k) e)
+    go (inr ne) = r.others q ne
 
 module _ {O B T : Type 0} (x : Objects O B T) where
   -- a region of an operation
@@ -110,3 +125,33 @@ module _ {O B T : Type 0} (x : Objects O B T) where
         whats (TheOperation q) = ap (option_map (λ d. AnOperation d.0 (operation_content d.1))) (s.all_data q)
         whats (TheBlock q) = ap (option_map (λ d. ABlock d.0 (block_content d.1))) (h.all_data q)
         whats (TheRegion q) = refl
+
+  -- nothing was appended to an operation
+  pub operation_refused : (holders : Arena (Nest BasicBlock Region (OperationData O T))) (p : Ptr Operation) → Refuses x.operations holders p → (o : Object) → SameAt x (record x { operations = holders }) o
+  operation_refused holders p r (TheOperation q) = record {
+    same_up = ap (option_map TheBlock) (r.ups q);
+    same_kids = ap (map TheRegion) (same_lists x.operations holders p r q);
+    same_what = ap (option_map (λ d. AnOperation d.0 (operation_content d.1))) (r.all_data q);
+  }
+  operation_refused holders p r (TheBlock q) = record { same_up = refl; same_kids = refl; same_what = refl }
+  operation_refused holders p r (TheRegion q) = record { same_up = refl; same_kids = refl; same_what = refl }
+
+  -- nothing was appended to a region
+  pub region_refused : (holders : Arena (Nest Operation BasicBlock RegionData)) (p : Ptr Region) → Refuses x.regions holders p → (o : Object) → SameAt x (record x { regions = holders }) o
+  region_refused holders p r (TheOperation q) = record { same_up = refl; same_kids = refl; same_what = refl }
+  region_refused holders p r (TheBlock q) = record { same_up = refl; same_kids = refl; same_what = refl }
+  region_refused holders p r (TheRegion q) = record {
+    same_up = ap (option_map TheOperation) (r.ups q);
+    same_kids = ap (map TheBlock) (same_lists x.regions holders p r q);
+    same_what = ap (option_map (λ d. ARegion d.0 (region_content d.1))) (r.all_data q);
+  }
+
+  -- nothing was appended to a block
+  pub block_refused : (holders : Arena (Nest Region Operation (BlockData B T))) (p : Ptr BasicBlock) → Refuses x.blocks holders p → (o : Object) → SameAt x (record x { blocks = holders }) o
+  block_refused holders p r (TheOperation q) = record { same_up = refl; same_kids = refl; same_what = refl }
+  block_refused holders p r (TheBlock q) = record {
+    same_up = ap (option_map TheRegion) (r.ups q);
+    same_kids = ap (map TheOperation) (same_lists x.blocks holders p r q);
+    same_what = ap (option_map (λ d. ABlock d.0 (block_content d.1))) (r.all_data q);
+  }
+  block_refused holders p r (TheRegion q) = record { same_up = refl; same_kids = refl; same_what = refl }

@@ -22,3 +22,6 @@ insert_at_back-requires-clause-alive g c = rw (c.graph_mut.ensures.value, c.obje
 
 pub insert_at_back-requires-clause-can : goal.insert_at_back-requires-clause-can
 insert_at_back-requires-clause-can g c = rw (c.graph_mut.ensures.value, c.object.ensures, c.object-item.ensures) c.requires.can
+
+pub insert_at_back-requires-clause-fits : goal.insert_at_back-requires-clause-fits
+insert_at_back-requires-clause-fits g c = rw (c.object.ensures, c.object-item.ensures) (g.met.H.Holds.fits c.args.holder c.args.self)
