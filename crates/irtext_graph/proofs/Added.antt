@@ -1,5 +1,5 @@
 -- A region that is appended to an operation as it is made: all is sound, and nothing else changed.
-use Rattle.std.proofs.Common.{◌≡◌, ◌≢◌, ◌<◌, ◌≤◌, ◌+◌, ◌∙◌, ◌++◌, ◌∷◌, ◌⊎◌, inl, inr, ℕ, zero, suc, refl, ap, arith, Option, Some, None, List, [], map}
+use Rattle.std.proofs.Common.{◌≡◌, ◌≢◌, ◌<◌, ◌≤◌, ◌+◌, ◌∙◌, ◌++◌, ◌∷◌, ◌⊎◌, inl, inr, ℕ, zero, suc, refl, ap, arith, Option, Some, None, List, [], map, IsSome}
 use Rattle.std.specs.Option.{option_map}
 use Rattle.std.proofs.lemmas.List.{map-append}
 use Rattle.irtext_few.specs.Growing.{listed}
@@ -25,7 +25,7 @@ use Rattle.irtext_graph.specs.Graph.{GraphView, graph_of, KeepsOlder}
 use Rattle.irtext_graph.specs.Nest.{up as parent_at, kids as children_at, datum, parent_in, children_in}
 use Rattle.irtext_graph.specs.Nested.{Within, climb}
 use Rattle.irtext_graph.specs.Objects.{up, kids, what, eq_object, SameData, IsForest}
-use Rattle.irtext_graph.specs.Regions.{with_child, AddsRegion}
+use Rattle.irtext_graph.specs.Regions.{with_child, AddsRegion, HasRoom}
 use Rattle.irtext_graph.specs.Sound.{IsSound, IsKept}
 use Rattle.irtext_graph.specs.Uses.{operations_seen}
 use Rattle.irtext_graph.proofs.Arenas.{older_later, older_inserted, new_view, was_none}
@@ -48,6 +48,11 @@ places_on a b c k l = record {
   len = l.len ∙ k.len;
   age = λ mark h. l.age mark (k.age mark h);
 }
+
+-- what has room is live
+pub room_live : {P C D : Type 0} (s : Option (Entry (Nest P C D))) → HasRoom s → IsSome s
+room_live None h = absurd h
+room_live (Some e) h = refl
 
 -- what is reached upwards is where the way began, or something's parent
 reached : {U : Type 0} (up : U → Option U) (n : ℕ) (s : Option U) (c : U) → climb up n s ≡ Some c → (s ≡ Some c) ⊎ ((q : U) × (up q ≡ Some c))

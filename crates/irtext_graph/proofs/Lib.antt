@@ -26,6 +26,10 @@ pub mod Listed
 pub mod UsesSeen
 pub mod Fewer
 pub mod Fields
+pub mod Puts
+pub mod Slots
+pub mod Appending
+pub mod Lookups
 pub mod Redirected
 pub mod Bare
 pub mod SameSeen

@@ -3,13 +3,14 @@ ghost use Rattle.std.specs.Prelude.{◌≡◌, ◌≢◌, ◌<◌, ◌≤◌, �
 ghost use Rattle.irtext_graph.specs.Graph.{MakesRegion, MakesBlock, MakesOperation, KeepsOlder, IsLive};
 ghost use Rattle.irtext_graph.specs.Parts.{IsDefinedValue};
 ghost use Rattle.irtext_few.specs.Growing.{listed};
-ghost use Rattle.irtext_graph.specs.Linking.{Defines};
+ghost use Rattle.irtext_graph.specs.Linking.{Defines, IsBlank};
+ghost use Rattle.std.specs.Vec.{vec_len, vec_capacity};
 ghost use Rattle.irtext_graph.specs.Regions.{HasRoom, with_child, AddsRegion};
 ghost use Rattle.irtext_graph.specs.Store.{Edits, before};
 
 use crate::arena::{Arena, Ptr};
 use crate::graph::Graph;
-use crate::log::{make_room, note};
+use crate::log::{Made, make_room, note};
 use crate::nest::Nest;
 use crate::new_uses::{Side, unlinked_uses};
 use crate::object::{BasicBlock, Object, Operation, Region, Value};
@@ -58,6 +59,17 @@ fn check_limit(count: u64) -> Result<(), AllocError>
     Ok(())
 }
 
+/// Reserves room in the log for one more object. Fails if no more objects can be counted.
+#[inline(always)]
+fn make_place(log: &mut Vec<Made>, made: u64) -> Result<(), AllocError>
+    ensures same { log.new.items ≡ log.old.items }
+    ensures room { OnOk result (vec_len log.new < vec_capacity log.new) }
+    ensures below { OnOk result (made < 18446744073709551615) }
+{
+    check_limit(made)?;
+    make_room(log)
+}
+
 /// Returns the number of the next value when so many are numbered from `from`. Fails if it is too large.
 #[inline(always)]
 fn number_after(from: u64, count: usize) -> Result<u64, AllocError>
@@ -92,6 +104,20 @@ fn definitions<T: Drop>(
     }
 }
 
+/// Makes values with these types, numbered from `from`, without uses. Fails if the number after them is too large.
+#[inline(always)]
+fn next_definitions<T: Drop>(
+    alloc: Global,
+    types: Few<T>,
+    from: u64,
+) -> Result<Lone<Definition<T>>, AllocError>
+    ensures defines { IfOk result (λ ds. Defines ds types from) }
+    ensures room { OnOk result (from + length types ≤ 18446744073709551615) }
+{
+    number_after(from, types.len())?;
+    definitions(alloc, types, from)
+}
+
 /// Makes an operation with this data and these lists, without a parent and regions.
 #[inline(always)]
 fn blank_operation<O: Drop, T: Drop>(
@@ -119,6 +145,26 @@ fn blank_operation<O: Drop, T: Drop>(
             results,
         },
     }
+}
+
+/// Makes an operation with this data, without a parent and regions. Its results are numbered from `from`, and its uses are in no list.
+#[inline(always)]
+fn new_operation<O: Drop, T: Drop>(
+    alloc: Global,
+    value: O,
+    types: Few<T>,
+    from: u64,
+    operands: &[Value],
+    successors: &[Ptr<BasicBlock>],
+) -> Result<Nest<BasicBlock, Region, OperationData<O, T>>, AllocError>
+    ensures blank { IfOk result (λ n. IsBlank n value types from operands.now successors.now) }
+    ensures room { OnOk result (from + length types ≤ 18446744073709551615) }
+{
+    let results = next_definitions(alloc, types, from)?;
+    let used = unlinked_uses(alloc, operands)?;
+    let leads = unlinked_uses(alloc, successors)?;
+    let led_to = Lone::from_few(alloc, leads)?;
+    Ok(blank_operation(alloc, value, results, used, led_to))
 }
 
 impl<O: Drop, T: Drop> Arena<Nest<BasicBlock, Region, OperationData<O, T>>> {
@@ -168,14 +214,13 @@ impl<O: Drop, B: Drop, T: Drop> Graph<O, B, T> {
         ensures kept { (m : ℕ) → m ≤ self.old.made → KeepsOlder m self.old self.new }
     {
         let made = self.made;
-        check_limit(made)?;
+        make_place(&mut self.log, made)?;
         let region = Nest {
             parent: None,
             children: Growing::new(self.alloc),
             noted: 0,
             data: RegionData {},
         };
-        make_room(&mut self.log)?;
         let first = self.counters.first_place;
         let p = self.objects.regions.insert(first, made, region)?;
         note(&mut self.log, made, Object::TheRegion(p));
@@ -192,8 +237,7 @@ impl<O: Drop, B: Drop, T: Drop> Graph<O, B, T> {
             → KeepsOlder m self.old self.new }
     {
         let made = self.made;
-        check_limit(made)?;
-        make_room(&mut self.log)?;
+        make_place(&mut self.log, made)?;
         self.objects.operations.make_region_room(op)?;
         let region = Nest {
             parent: Some(op),
@@ -217,9 +261,9 @@ impl<O: Drop, B: Drop, T: Drop> Graph<O, B, T> {
         ensures kept { (m : ℕ) → m ≤ self.old.made → KeepsOlder m self.old self.new }
     {
         let made = self.made;
-        check_limit(made)?;
-        let next = number_after(self.counters.values, types.len())?;
-        let arguments = definitions(self.alloc, types, self.counters.values)?;
+        let count = types.len() as u64;
+        let arguments = next_definitions(self.alloc, types, self.counters.values)?;
+        make_place(&mut self.log, made)?;
         let block = Nest {
             parent: None,
             children: Growing::new(self.alloc),
@@ -230,12 +274,11 @@ impl<O: Drop, B: Drop, T: Drop> Graph<O, B, T> {
                 preds: None,
             },
         };
-        make_room(&mut self.log)?;
         let first = self.counters.first_place;
         let p = self.objects.blocks.insert(first, made, block)?;
         note(&mut self.log, made, Object::TheBlock(p));
         self.made = made + 1;
-        self.counters.values = next;
+        self.counters.values += count;
         Ok(p)
     }
 
@@ -248,10 +291,7 @@ impl<O: Drop, B: Drop, T: Drop> Graph<O, B, T> {
         ensures kept { (m : ℕ) → m ≤ self.old.made → KeepsOlder m self.old self.new }
     {
         let made = self.made;
-        if made == u64::MAX {
-            return Err(AllocError);
-        }
-        make_room(&mut self.log)?;
+        make_place(&mut self.log, made)?;
         let results = Lone::none();
         let used = Few::none();
         let led_to = Lone::none();
@@ -280,15 +320,11 @@ impl<O: Drop, B: Drop, T: Drop> Graph<O, B, T> {
         ensures err { OnErr result (self.new ≡ self.old) }
         ensures kept { (m : ℕ) → m ≤ self.old.made → KeepsOlder m self.old self.new }
     {
-        let next = number_after(self.counters.values, types.len())?;
-        let results = definitions(self.alloc, types, self.counters.values)?;
-        let used = unlinked_uses(self.alloc, operands)?;
-        let leads = unlinked_uses(self.alloc, successors)?;
-        let led_to = Lone::from_few(self.alloc, leads)?;
         let made = self.made;
-        check_limit(made)?;
-        make_room(&mut self.log)?;
-        let blank = blank_operation(self.alloc, value, results, used, led_to);
+        let from = self.counters.values;
+        let count = types.len() as u64;
+        let blank = new_operation(self.alloc, value, types, from, operands, successors)?;
+        make_place(&mut self.log, made)?;
         let first = self.counters.first_place;
         let p = self.objects.operations.insert(first, made, blank)?;
         note(&mut self.log, made, Object::TheOperation(p));
@@ -296,7 +332,7 @@ impl<O: Drop, B: Drop, T: Drop> Graph<O, B, T> {
         self.objects
             .attach_all(Side::Successors, p, successors.len());
         self.made = made + 1;
-        self.counters.values = next;
+        self.counters.values = from + count;
         Ok(p)
     }
 }

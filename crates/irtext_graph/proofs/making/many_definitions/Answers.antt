@@ -20,6 +20,10 @@ nothing_left : {T : Type 0} (ds : List (Definition T)) → map typed ds ++ [] �
 nothing_left [] = refl
 nothing_left (d ∷ ds) = ap (λ zs. typed d ∷ zs) (nothing_left ds)
 
+all_left : {T : Type 0} (ds : List (Definition T)) (n : ℕ) (ts : List T) (all : List (Typed T)) → length ts ≡ 0 → map typed ds ++ numbered n ts ≡ all → map typed ds ≡ all
+all_left ds n [] all e same = sym (nothing_left ds) ∙ same
+all_left ds n (t ∷ ts) all e same = absurd (cc)
+
 pub loop-of_type-preserved : goal.loop-of_type-preserved
 loop-of_type-preserved g c =
     let inv = c.loop-of_type.invariant in
@@ -34,4 +38,13 @@ loop-of_type-preserved g c =
       values = ap (λ xs. map typed xs ++ numbered (n + 1) left) e ∙ appended ds d (numbered (n + 1) left) ∙ ap (λ ts. map typed ds ++ numbered n ts) (sym steps) ∙ inv.values;
       unused = λ i u f. unused_on ds d refl inv.unused i u (ap (λ xs. first_of (slice_get xs i)) (sym e) ∙ f);
       room = let r = inv.room in omega (arith, r, count);
+    }
+
+pub returns : goal.returns
+returns g c =
+    let inv = c.loop-of_type.invariant in
+    let rest = c.loop-of_type.of_type-iterator.rest in
+    record {
+      values = all_left c.loop-of_type.defined.items c.loop-of_type.number rest.items _ (omega (arith, c.in-None.ensures.steps.0, rest.ok.0)) inv.values;
+      unused = inv.unused;
     }

@@ -7,10 +7,10 @@ use Rattle.irtext_graph.proofs.graph.Graph.make_bare_operation.Goals as goal
 
 pub invariant_of-self-in_err-p : goal.invariant_of-self-in_err-p
 invariant_of-self-in_err-p g c =
-    slots_kept c.self.inside.made c.self.inside.counters c.self.inside.log.items c.make_room.new.log.items c.self.inside.objects _ c.make_room.ensures.same (record { items = c.in_err-p.ensures.err; free = c.in_err-p.ensures.err_free }) same_slots same_slots c.self.invariant
+    slots_kept c.self.inside.made c.self.inside.counters c.self.inside.log.items c.make_place.new.log.items c.self.inside.objects _ c.make_place.ensures.same (record { items = c.in_err-p.ensures.err; free = c.in_err-p.ensures.err_free }) same_slots same_slots c.self.invariant
 
-pub returns-in_err-make_room-clause-kept : goal.returns-in_err-make_room-clause-kept
-returns-in_err-make_room-clause-kept g c = λ m up. same_keeps m _ _ c.self.view_is
+pub returns-in_err-make_place-clause-kept : goal.returns-in_err-make_place-clause-kept
+returns-in_err-make_place-clause-kept g c = λ m up. same_keeps m _ _ c.self.view_is
 
 pub returns-in_err-p-clause-kept : goal.returns-in_err-p-clause-kept
 returns-in_err-p-clause-kept g c = λ m up. same_keeps m _ _ (slots_seen c.self.inside.made c.self.inside.counters c.self.inside.objects (record c.self.inside.objects { operations = c.insert.new.self }) (record { items = c.in_err-p.ensures.err; free = c.in_err-p.ensures.err_free }) same_slots same_slots ∙ c.self.view_is)
@@ -22,7 +22,7 @@ invariant_of-self-2 g c =
     let bare = (blank_bare _ _ _ c.blank_operation-blank.ensures.parent c.blank_operation-blank.ensures.children c.blank_operation-blank.ensures.value (c.blank_operation-blank.ensures.operands ∙ c.none-used.ensures) (c.blank_operation-blank.ensures.successors ∙ c.none-led_to.ensures) (c.blank_operation-blank.ensures.results ∙ c.none-results.ensures)) in
     record {
       sound = sound_bare x c.self.inside.made c.insert.new.self c.in_ok-p.p _ e.inserts _ _ c.self.inside.counters.values bare c.self.invariant.sound (omega arith) (e.few c.self.invariant.sound.few_operations);
-      logged = operation_noted c.self.inside.made c.self.inside.log.items c.note.new.log.items x c.insert.new.self c.in_ok-p.p _ (noted_list c.self.inside.log.items c.make_room.new.log.items c.note.new.log.items _ c.make_room.ensures.same c.note.ensures) c.self.invariant.logged e.inserts.updates refl;
+      logged = operation_noted c.self.inside.made c.self.inside.log.items c.note.new.log.items x c.insert.new.self c.in_ok-p.p _ (noted_list c.self.inside.log.items c.make_place.new.log.items c.note.new.log.items _ c.make_place.ensures.same c.note.ensures) c.self.invariant.logged e.inserts.updates refl;
       numbered = operation_numbers _ _ c.in_ok-p.p _ _ _ _
           (operation_made c.self.inside.made c.self.inside.counters c.self.inside.counters.values x c.insert.new.self c.in_ok-p.p _ _ _ _ _ e.inserts refl bare (omega arith))
           c.self.invariant.numbered;

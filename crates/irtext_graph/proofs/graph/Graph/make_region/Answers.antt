@@ -6,10 +6,10 @@ use Rattle.irtext_graph.proofs.graph.Graph.make_region.Goals as goal
 
 pub invariant_of-self-in_err-p : goal.invariant_of-self-in_err-p
 invariant_of-self-in_err-p g c =
-    slots_kept c.self.inside.made c.self.inside.counters c.self.inside.log.items c.make_room.new.log.items c.self.inside.objects _ c.make_room.ensures.same same_slots same_slots (record { items = c.in_err-p.ensures.err; free = c.in_err-p.ensures.err_free }) c.self.invariant
+    slots_kept c.self.inside.made c.self.inside.counters c.self.inside.log.items c.make_place.new.log.items c.self.inside.objects _ c.make_place.ensures.same same_slots same_slots (record { items = c.in_err-p.ensures.err; free = c.in_err-p.ensures.err_free }) c.self.invariant
 
-pub returns-in_err-make_room-clause-kept : goal.returns-in_err-make_room-clause-kept
-returns-in_err-make_room-clause-kept g c = λ m up. same_keeps m _ _ c.self.view_is
+pub returns-in_err-make_place-clause-kept : goal.returns-in_err-make_place-clause-kept
+returns-in_err-make_place-clause-kept g c = λ m up. same_keeps m _ _ c.self.view_is
 
 pub returns-in_err-p-clause-kept : goal.returns-in_err-p-clause-kept
 returns-in_err-p-clause-kept g c = λ m up. same_keeps m _ _ (slots_seen c.self.inside.made c.self.inside.counters c.self.inside.objects (record c.self.inside.objects { regions = c.insert.new.self }) same_slots same_slots (record { items = c.in_err-p.ensures.err; free = c.in_err-p.ensures.err_free }) ∙ c.self.view_is)
@@ -19,7 +19,7 @@ invariant_of-self-2 g c =
     let e = c.in_ok-p.ensures in
     record {
       sound = sound_region c.self.inside.objects c.self.inside.made c.insert.new.self c.in_ok-p.p _ e.inserts refl c.new.ensures c.self.invariant.sound (omega arith) (e.few c.self.invariant.sound.few_regions);
-      logged = region_noted c.self.inside.made c.self.inside.log.items c.note.new.log.items c.self.inside.objects c.insert.new.self c.in_ok-p.p _ (noted_list c.self.inside.log.items c.make_room.new.log.items c.note.new.log.items _ c.make_room.ensures.same c.note.ensures) c.self.invariant.logged e.inserts.updates refl;
+      logged = region_noted c.self.inside.made c.self.inside.log.items c.note.new.log.items c.self.inside.objects c.insert.new.self c.in_ok-p.p _ (noted_list c.self.inside.log.items c.make_place.new.log.items c.note.new.log.items _ c.make_place.ensures.same c.note.ensures) c.self.invariant.logged e.inserts.updates refl;
       numbered = record { below = c.self.invariant.numbered.below; differ = c.self.invariant.numbered.differ };
     }
 

@@ -1,6 +1,7 @@
-use Rattle.std.proofs.Common.{ap}
+use Rattle.std.proofs.Common.{refl, ap}
+use Rattle.irtext_graph.specs.Nest.{parent_in, children_in, datum_in}
 use Rattle.irtext_graph.specs.Content.{operation_content, node_of}
-use Rattle.irtext_graph.proofs.Arenas.{places_kept}
+use Rattle.irtext_graph.proofs.Arenas.{places_kept, replaced, same_view}
 use Rattle.irtext_graph.proofs.Stores.{content_same}
 use Rattle.irtext_graph.proofs.making.Arena+Nest+BasicBlock+Region+OperationData+O+T.make_region_room.Goals as goal
 
@@ -12,3 +13,12 @@ returns-clause-seen g c =
 
 pub returns-clause-places : goal.returns-clause-places
 returns-clause-places g c = places_kept c.args.self.now c.args.p c.content_mut.result.now _ c.content_mut.ensures.value
+
+pub returns-clause-ups : goal.returns-clause-ups
+returns-clause-ups g c = same_view parent_in (replaced c.args.self.now c.args.p c.content_mut.result.now _ c.content_mut.ensures.value) (λ b. refl)
+
+pub returns-clause-data : goal.returns-clause-data
+returns-clause-data g c = same_view datum_in (replaced c.args.self.now c.args.p c.content_mut.result.now _ c.content_mut.ensures.value) (λ b. refl)
+
+pub returns-clause-kids : goal.returns-clause-kids
+returns-clause-kids g c = same_view children_in (replaced c.args.self.now c.args.p c.content_mut.result.now _ c.content_mut.ensures.value) (λ b. c.make_room.ensures.same)

@@ -1,5 +1,5 @@
 use Rattle.std.proofs.Common.{arith, refl}
-use Rattle.irtext_graph.specs.Nest.{children_in}
+use Rattle.irtext_graph.specs.Nest.{parent_in, children_in, datum_in}
 use Rattle.irtext_graph.proofs.Arenas.{places_kept, replaced, same_view}
 use Rattle.irtext_graph.proofs.Children.{links_with}
 use Rattle.irtext_graph.proofs.nest.Arena+Nest+P+C+D.note.Goals as goal
@@ -12,3 +12,9 @@ returns-clause-kids g c = λ q. same_view children_in (replaced c.args.self.now 
 
 pub returns-clause-links : goal.returns-clause-links
 returns-clause-links g c = let x = c.content_mut.result.now in let k = links_with c.args.self.now c.args.p x (record x { noted = c.args.index }) c.content_mut.ensures.value in omega (arith, k)
+
+pub returns-clause-ups : goal.returns-clause-ups
+returns-clause-ups g c = same_view parent_in (replaced c.args.self.now c.args.p c.content_mut.result.now _ c.content_mut.ensures.value) (λ b. refl)
+
+pub returns-clause-data : goal.returns-clause-data
+returns-clause-data g c = same_view datum_in (replaced c.args.self.now c.args.p c.content_mut.result.now _ c.content_mut.ensures.value) (λ b. refl)

@@ -1,5 +1,5 @@
-use Rattle.std.proofs.Common.{arith, refl}
-use Rattle.irtext_graph.specs.Nest.{children_in, datum_in}
+use Rattle.std.proofs.Common.{ap, arith, refl}
+use Rattle.irtext_graph.specs.Nest.{parent_in, children_in, datum_in}
 use Rattle.irtext_graph.proofs.Arenas.{replaced, same_view, places_kept}
 use Rattle.irtext_graph.proofs.Children.{links_with}
 use Rattle.irtext_graph.proofs.nest.Arena+Nest+P+C+D.set_parent.Goals as goal
@@ -15,3 +15,12 @@ returns-clause-data g c = λ q. same_view datum_in (replaced c.args.self.now c.a
 
 pub returns-clause-links : goal.returns-clause-links
 returns-clause-links g c = let x = c.content_mut.result.now in let k = links_with c.args.self.now c.args.p x (record x { parent = c.args.parent }) c.content_mut.ensures.value in omega (arith, k)
+
+pub returns-clause-others : goal.returns-clause-others
+returns-clause-others g c = λ q ne. let x = c.content_mut.result.now in let r = replaced c.args.self.now c.args.p x (record x { parent = c.args.parent }) c.content_mut.ensures.value in ap parent_in (r.others q ne)
+
+pub returns-clause-here : goal.returns-clause-here
+returns-clause-here g c =
+    let x = c.content_mut.result.now in
+    let r = replaced c.args.self.now c.args.p x (record x { parent = c.args.parent }) c.content_mut.ensures.value in
+    ap parent_in r.now

@@ -1,0 +1,32 @@
+use Rattle.std.proofs.Common.{◌≡◌, ◌∙◌, ap, sym, arith, set, IsSome}
+use Rattle.irtext_graph.specs.declared.arena.Slot.TheVariants.{Vacant}
+use Rattle.irtext_graph.specs.Arena.{get}
+use Rattle.irtext_graph.proofs.Slots.{not_vacant, full_content, vacated_updates, vacated_generations, some_object}
+use Rattle.irtext_graph.proofs.arena.Arena.remove.Goals.{then-p, else-p}
+use Rattle.irtext_graph.proofs.arena.Arena.remove.Goals as goal
+
+pub unreachable-requires : goal.unreachable-requires
+unreachable-requires g c = not_vacant c.args.self.now c.args.p c.index_mut.result.now _ _ (c.contains.ensures.0 c.if-not-contains.false) c.index_mut.ensures.value (sym c.replace.ensures.value ∙ c.in-Vacant.is)
+
+pub returns-clause-value : goal.returns-clause-value
+returns-clause-value g c = sym (full_content c.args.self.now c.args.p c.index_mut.result.now _ _ (c.contains.ensures.0 c.if-not-contains.false) c.index_mut.ensures.value (sym c.replace.ensures.value ∙ c.in-Full.is))
+
+pub returns-clause-updates : goal.returns-clause-updates
+returns-clause-updates g c =
+    let a = c.args.self.now in
+    let o = some_object (get a c.args.p) (c.contains.ensures.0 c.if-not-contains.false) in
+    let items : c.if-p.self.slots.items ≡ set a.slots.items c.args.p.index (Vacant c.args.p.generation a.free) = elim c.if-p.branch [
+      | then-p w ↦ ap (λ b. b.slots.items) w.self-is ∙ ap (λ s. set a.slots.items c.args.p.index s) c.replace.ensures.after
+      | else-p w ↦ ap (λ b. b.slots.items) w.self-is ∙ ap (λ s. set a.slots.items c.args.p.index s) c.replace.ensures.after
+    ] in
+    vacated_updates a c.if-p.self c.args.p a.free o.0 o.1 items
+
+pub returns-clause-generations : goal.returns-clause-generations
+returns-clause-generations g c =
+    let a = c.args.self.now in
+    let o = some_object (get a c.args.p) (c.contains.ensures.0 c.if-not-contains.false) in
+    let items : c.if-p.self.slots.items ≡ set a.slots.items c.args.p.index (Vacant c.args.p.generation a.free) = elim c.if-p.branch [
+      | then-p w ↦ ap (λ b. b.slots.items) w.self-is ∙ ap (λ s. set a.slots.items c.args.p.index s) c.replace.ensures.after
+      | else-p w ↦ ap (λ b. b.slots.items) w.self-is ∙ ap (λ s. set a.slots.items c.args.p.index s) c.replace.ensures.after
+    ] in
+    vacated_generations a c.if-p.self c.args.p a.free o.0 o.1 items
