@@ -16,6 +16,7 @@ pub mod Looks
 pub mod MarkSteps
 pub mod Meanings
 pub mod NameSteps
+pub mod Pairings
 pub mod PairSteps
 pub mod PieceSteps
 pub mod SignatureParts

@@ -77,6 +77,18 @@ pub(crate) fn comma_taken<S: CharStream>(stream: &mut S) -> bool
     true
 }
 
+/// Whether an error is committed.
+#[inline(always)]
+fn is_committed<A>(fault: &ParseFault<A>) -> bool
+    ensures { result ≡ fault.now.committed }
+{
+    fault.committed
+}
+
+/// Ends a value.
+#[inline(always)]
+fn ended<X: Drop>(_value: X) {}
+
 /// Returns the value in place of an error that is not committed, and a committed error unchanged.
 #[inline(always)]
 pub(crate) fn unless_committed<X: Drop, A: Drop>(
@@ -85,9 +97,10 @@ pub(crate) fn unless_committed<X: Drop, A: Drop>(
 ) -> ParseResult<X, A>
     ensures { cond fault.committed (result ≡ Err fault) (result ≡ Ok value) }
 {
-    if fault.committed {
+    if is_committed(&fault) {
         return Err(fault);
     }
+    ended(fault);
     Ok(value)
 }
 

@@ -48,3 +48,9 @@ returns-clause-read g c = λ name means fine.
     let l = lens_of g.world g.met.S.CharStream in
     let p = c.loop-stream.invariant.1 name means fine in
     turn_ends l (argument_at g.T.IrText.reading (attr_at g.A.IrText.reading)) (Each (IsArgument c.loop-stream.names.names (whole (l.view c.args.stream.now)))) c.loop-stream.found c.loop-stream-test.ensures p p.each
+
+pub returns-in_err-next-clause-names : goal.returns-in_err-next-clause-names
+returns-in_err-next-clause-names g c = names_more _ _ _ c.loop-stream.invariant.0 c.argument_parse-answer.ensures.names
+
+pub returns-clause-names : goal.returns-clause-names
+returns-clause-names g c = c.loop-stream.invariant.0

@@ -37,3 +37,9 @@ returns-in_err-inputs-clause-names g c = names_more _ _ _ c.in_ok-operands.ensur
 
 pub returns-clause-names : goal.returns-clause-names
 returns-clause-names g c = names_more _ _ _ c.in_ok-operands.ensures.names c.in_ok-successors.ensures.names
+
+pub returns-in_err-operands-clause-names : goal.returns-in_err-operands-clause-names
+returns-in_err-operands-clause-names g c = c.in_err-operands.ensures.names
+
+pub returns-in_err-entries-clause-names : goal.returns-in_err-entries-clause-names
+returns-in_err-entries-clause-names g c = names_more _ _ _ c.in_ok-operands.ensures.names c.in_ok-successors.ensures.names

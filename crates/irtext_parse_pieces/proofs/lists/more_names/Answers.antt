@@ -42,3 +42,9 @@ returns-clause-read g c = λ name means fine.
     let l = lens_of g.world g.met.S.CharStream in
     let p = c.loop-kind.invariant.1 name means fine in
     turn_ends l (named_at c.args.kind c.args.inside) (Each (Represents c.loop-kind.names.names (whole (l.view c.args.stream.now)))) c.loop-kind.found c.loop-kind-test.ensures p p.each
+
+pub returns-in_err-next-clause-names : goal.returns-in_err-next-clause-names
+returns-in_err-next-clause-names g c = names_more _ _ _ c.loop-kind.invariant.0 c.named_parse-answer.ensures.names
+
+pub returns-clause-names : goal.returns-clause-names
+returns-clause-names g c = c.loop-kind.invariant.0
