@@ -16,7 +16,6 @@ pub mod Looks
 pub mod MarkSteps
 pub mod Meanings
 pub mod NameSteps
-pub mod Pairings
 pub mod PairSteps
 pub mod PieceSteps
 pub mod SignatureParts

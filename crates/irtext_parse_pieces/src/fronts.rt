@@ -9,6 +9,7 @@ ghost use Rattle.irtext_parse_pieces.specs.Fronts.{HasFront, TakesText, MustFron
 ghost use Rattle.irtext_parse_pieces.specs.Named.{NamesRead};
 ghost use Rattle.irtext_parse_pieces.specs.Steps.{custom_steps, seen_step};
 
+use crate::beside::failed;
 use crate::canonical::canonical_parse;
 use crate::found::{CustomPieces, Pieces};
 use crate::keys::Keys;
@@ -134,7 +135,9 @@ fn pieces_parse<S: OwnStream, V: Copy, B: Copy, T: IrText<A>, A: AttrText<A>>(
             return Ok(found);
         }
         skip_white_space(stream);
-        piece_found(stream, names, step, inside, keys, &mut found)?;
+        if let Err(fault) = piece_found(stream, names, step, inside, keys, &mut found) {
+            return failed(found, fault);
+        }
     }
     Ok(found)
 }

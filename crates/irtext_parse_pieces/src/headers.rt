@@ -7,7 +7,7 @@ ghost use Rattle.irtext_parse_pieces.specs.Marks.{IsMarkIf};
 ghost use Rattle.irtext_parse_pieces.specs.Named.{MustMean, NamesRead, whole};
 
 use crate::arguments::arguments_parse;
-use crate::beside::beside;
+use crate::beside::{beside, failed};
 use crate::entries::{ReadEntry, dictionary_if_parse};
 use crate::keys::Keys;
 use crate::marks::{ReadMark, mark_parse};
@@ -85,9 +85,11 @@ pub fn block_head_parse<S: OwnStream, V: Copy, B: Copy, T: IrText<A>, A: AttrTex
 {
     let label = label_demanded(stream, names)?;
     spaced_text_demanded(stream, "(")?;
-    let found = arguments_parse(stream, names)?;
-    let answer = head_end_parse(stream);
-    let (arguments, (attributes, mark)) = beside(found, answer)?;
+    let arguments = arguments_parse(stream, names)?;
+    let (attributes, mark) = match head_end_parse(stream) {
+        Ok(end) => end,
+        Err(fault) => return failed(arguments, fault),
+    };
     Ok(BlockHead {
         label,
         arguments,

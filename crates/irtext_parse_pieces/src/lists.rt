@@ -6,6 +6,7 @@ ghost use Rattle.irtext_parse_pieces.specs.Lists.{TakesComma, Appends};
 ghost use Rattle.irtext_parse_pieces.specs.Named.{MayName, MustNames, NamesAfter, NamesRead};
 ghost use Rattle.irtext_parse_pieces.specs.Kinds.{beginning, named_at};
 
+use crate::beside::failed;
 use crate::names::{ReadName, used_parse};
 use irtext_base::parsable::{CharStream, ParseFault, ParseResult};
 use irtext_few::{Few, Items};
@@ -87,7 +88,7 @@ fn is_committed<A>(fault: &ParseFault<A>) -> bool
 
 /// Ends a value.
 #[inline(always)]
-fn ended<X: Drop>(_value: X) {}
+pub(crate) fn ended<X: Drop>(_value: X) {}
 
 /// Returns the value in place of an error that is not committed, and a committed error unchanged.
 #[inline(always)]
@@ -143,7 +144,10 @@ fn more_names<S: CharStream, V: Copy, B: Copy, A: Drop>(
     let mut found = Few::one(first);
     while comma_taken(stream) {
         let answer = named_parse(stream, names, kind, inside);
-        let next = committed(stream, answer)?;
+        let next = match committed(stream, answer) {
+            Ok(next) => next,
+            Err(fault) => return failed(found, fault),
+        };
         found = with_spaced(stream, found, next)?;
     }
     Ok(found)

@@ -3,7 +3,6 @@ use Rattle.irtext_tokens.proofs.Exits.{propagated}
 use Rattle.irtext_parse_pieces.proofs.HeaderSteps.{no_label, no_opening, no_arguments, no_end, head_read}
 use Rattle.irtext_parse_pieces.proofs.Lenses.{lens_of}
 use Rattle.irtext_parse_pieces.proofs.Meanings.{names_more}
-use Rattle.irtext_parse_pieces.proofs.Pairings.{paired_ok, paired_err}
 use Rattle.irtext_parse_pieces.proofs.headers.block_head_parse.Goals as goal
 
 pub returns-in_err-label : goal.returns-in_err-label
@@ -18,24 +17,22 @@ returns-in_err-spaced_text_demanded g c = record {
   names = c.in_ok-label.ensures.names;
 }
 
-pub returns-in_err-found : goal.returns-in_err-found
-returns-in_err-found g c = record {
-  read = rw (propagated c.from_residual-in_err-found.result c.from_residual-in_err-found.ensures.1) (no_arguments (lens_of g.world g.met.S.CharStream) g.T.IrText.reading (attr_at g.A.IrText.reading) c.label_demanded.new.names.names c.in_ok-label.ensures.read c.in_ok-spaced_text_demanded.ensures c.arguments_parse.new.names.names c.in_err-found.ensures.read);
-  names = names_more _ _ _ c.in_ok-label.ensures.names c.in_err-found.ensures.names;
-}
-
 pub returns-in_err-arguments : goal.returns-in_err-arguments
 returns-in_err-arguments g c = record {
+  read = rw (propagated c.from_residual-in_err-arguments.result c.from_residual-in_err-arguments.ensures.1) (no_arguments (lens_of g.world g.met.S.CharStream) g.T.IrText.reading (attr_at g.A.IrText.reading) c.label_demanded.new.names.names c.in_ok-label.ensures.read c.in_ok-spaced_text_demanded.ensures c.arguments_parse.new.names.names c.in_err-arguments.ensures.read);
+  names = names_more _ _ _ c.in_ok-label.ensures.names c.in_err-arguments.ensures.names;
+}
+
+pub returns-in-Err : goal.returns-in-Err
+returns-in-Err g c = record {
   read =
-      let e = paired_err _ _ _ c.in_err-arguments.ensures in
-      rw (propagated c.from_residual-in_err-arguments.result c.from_residual-in_err-arguments.ensures.1) (no_end (lens_of g.world g.met.S.CharStream) g.T.IrText.reading (attr_at g.A.IrText.reading) c.label_demanded.new.names.names c.in_ok-label.ensures.read c.in_ok-spaced_text_demanded.ensures c.arguments_parse.new.names.names c.in_ok-found.ensures.read (rw e at c.head_end_parse-answer.ensures));
-  names = names_more _ _ _ c.in_ok-label.ensures.names c.in_ok-found.ensures.names;
+      rw c.failed.ensures (no_end (lens_of g.world g.met.S.CharStream) g.T.IrText.reading (attr_at g.A.IrText.reading) c.label_demanded.new.names.names c.in_ok-label.ensures.read c.in_ok-spaced_text_demanded.ensures c.arguments_parse.new.names.names c.in_ok-arguments.ensures.read c.in-Err.ensures);
+  names = names_more _ _ _ c.in_ok-label.ensures.names c.in_ok-arguments.ensures.names;
 }
 
 pub returns : goal.returns
 returns g c = record {
   read =
-      let e = paired_ok _ _ _ c.in_ok-arguments.ensures in
-      rw e.0 (head_read (lens_of g.world g.met.S.CharStream) g.T.IrText.reading (attr_at g.A.IrText.reading) c.label_demanded.new.names.names c.in_ok-label.ensures.read c.in_ok-spaced_text_demanded.ensures c.arguments_parse.new.names.names c.in_ok-found.ensures.read c.in_ok-found.ensures.names.kept (rw e.1 at c.head_end_parse-answer.ensures));
-  names = names_more _ _ _ c.in_ok-label.ensures.names c.in_ok-found.ensures.names;
+      head_read (lens_of g.world g.met.S.CharStream) g.T.IrText.reading (attr_at g.A.IrText.reading) c.label_demanded.new.names.names c.in_ok-label.ensures.read c.in_ok-spaced_text_demanded.ensures c.arguments_parse.new.names.names c.in_ok-arguments.ensures.read c.in_ok-arguments.ensures.names.kept c.in-Ok.ensures;
+  names = names_more _ _ _ c.in_ok-label.ensures.names c.in_ok-arguments.ensures.names;
 }

@@ -5,7 +5,6 @@ use Rattle.irtext_base.specs.declared.base.identifier.OpId.{OpId}
 use Rattle.irtext_base.proofs.Compose.{seen_after, takes_same_stream}
 use Rattle.irtext_context.specs.Named.{id_of_texts}
 use Rattle.irtext_tokens.proofs.Words.{encodes-front_word, taken_since}
-use Rattle.irtext_parse_spec.proofs.Readers.Steps.{Lens, lens}
 use Rattle.irtext_parse_pieces.proofs.Leads.{dotted, unmoved_same_stream, dotted_same_stream, word_same_stream, found_there}
 use Rattle.irtext_parse_pieces.proofs.Lenses.{lens_of}
 use Rattle.irtext_parse_pieces.proofs.ids.look_up.Goals as goal
