@@ -18,6 +18,7 @@ use Rattle.irtext_grammar.specs.Grammar.Tree as tree
 use Rattle.irtext_grammar.specs.Grammar.Tree.{Piece, Part}
 use Rattle.irtext_parse_spec.specs.Heads.{Step, piece_at}
 use Rattle.irtext_parse_spec.specs.Resume.{front_at}
+use Rattle.irtext_parse_pieces.specs.Beside as closing
 use Rattle.irtext_parse_pieces.specs.declared.pieces.ReadPiece.{ReadPiece}
 use Rattle.irtext_parse_pieces.specs.declared.pieces.ReadPiece.TheVariants as read
 use Rattle.irtext_parse_pieces.specs.Canonical.{word_step, MustSteps}
@@ -246,3 +247,9 @@ module _ {S T A X Y : Type 0} (l : Lens S) (types : Text → Outcome T) (attr : 
           -- all was read
           pub closed : {new : S} → ((l.view last).failed ≡ false → MustRead {A = A} {Y = Unit {0}} l.view l.at (λ u. u) (space_at ▷ text_at closes) last (Ok tt) new) → MustSteps l.view l.at names types attr inside enclosed enclosed_pieces old (Ok y) new
           closed w = steps_end l types attr inside enclosed_pieces y refl (word_more l types attr inside closes [] after_item w)
+
+          -- all was read, or the last of the texts is refused
+          pub ended : (w : Result (Unit {0}) (ParseFault A)) {r : Result Y (ParseFault A)} {new : S} → r ≡ closing.closed y w → ((l.view last).failed ≡ false → MustRead {Y = Unit {0}} l.view l.at (λ u. u) (space_at ▷ text_at closes) last w new)
+              → MustSteps l.view l.at names types attr inside enclosed enclosed_pieces old r new
+          ended (Ok u) e h = rw e (closed h)
+          ended (Err fault) e h = rw e (unclosed h)

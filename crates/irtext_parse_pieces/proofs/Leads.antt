@@ -14,7 +14,7 @@ use Rattle.irtext_base.specs.Places.{IsPlaceAfter}
 use Rattle.irtext_base.specs.declared.base.identifier.OpId.{OpId}
 use Rattle.irtext_base.specs.declared.parsable.fault.ParseFault.{ParseFault}
 use Rattle.irtext_stream.specs.declared.position.Place.{Place}
-use Rattle.irtext_base.proofs.Compose.{seen_after, takes_more, takes_same_stream, runs_out_after, answers_after, answers_demanded, same_stream_failed, gives_mapped, refuses_mapped}
+use Rattle.irtext_base.proofs.Compose.{seen_after, takes_none, takes_more, takes_same_stream, runs_out_after, answers_after, answers_demanded, same_stream_failed, gives_mapped, refuses_mapped}
 use Rattle.irtext_context.specs.Dialects.{Table, same_id}
 use Rattle.irtext_context.specs.DialectTable as table
 use Rattle.irtext_context.specs.DialectTable.{dialect_of, registered}
@@ -62,6 +62,11 @@ module _ {S : Type 0} (l : Lens S) where
         between = sym v ∙ (f.1 ∙ ap (λ z. 46 ∷ z) (sym r));
         takes = subst (λ z. Takes l.view l.at (front in_word text ++ (46 ∷ [])) z old mid) (sym r) (takes_more l.view l.at l.view_at l.at_at old word mid (front in_word text) (after in_word text) (46 ∷ []) f.0 t k);
       }
+
+  -- nothing was consumed
+  pub unmoved_same_stream : {old new : S} → new ≡ old → SameStream l.view l.at (l.view old).failed old new
+  unmoved_same_stream {old = old} e =
+      subst (λ s. SameStream l.view l.at (l.view old).failed old s) (sym e) (takes_same_stream l.view l.at l.view_at l.at_at old old [] (l.view old).rest (takes_none l.view l.at l.view_at l.at_at l.at_view old))
 
   -- after them the stream is over the same text
   pub dotted_same_stream : {old mid new : S} → Dotted old mid → new ≡ mid → SameStream l.view l.at (l.view old).failed old new

@@ -3,16 +3,17 @@ use Rattle.std.proofs.Common.{◌≡◌, ℕ, suc, Bool, true, false, cond, Resu
 use Rattle.std.specs.Char.{is_whitespace}
 use Rattle.irtext_base.specs.Text.{Text, begins, front, after, begins_word, in_word}
 use Rattle.irtext_base.specs.Reading.{the}
+use Rattle.irtext_base.specs.Stream.{advanced}
 use Rattle.irtext_base.specs.Answers.{Outcome, Read, Missing, Bad, Takes, Gives, Commits, SameStream, RunsOut, RunsOutHere, Refuses, demanded, prefixed, mapped, followed, unless_failed}
 use Rattle.irtext_base.specs.declared.parsable.fault.ParseFault.{ParseFault}
 use Rattle.irtext_base.specs.Faults.{Failed}
 use Rattle.irtext_base.proofs.Compose.{runs_out_in_rest, same_stream_after, takes_same_stream, takes_none, seen_after, runs_out_after}
 use Rattle.irtext_tokens.specs.ListOutcomes.{item_after, items_after, or_empty, separated_at}
 use Rattle.irtext_tokens.specs.MustRead.{MayRead}
-use Rattle.irtext_tokens.specs.Tokens.{space_at, word_at}
+use Rattle.irtext_tokens.specs.Tokens.{space_at, text_at, word_at}
 use Rattle.irtext_tokens.proofs.ListOutcomes.{after_spaces}
 use Rattle.irtext_tokens.proofs.Spelling.{begins_the}
-use Rattle.irtext_tokens.proofs.Steps.{Lens, Passed, begins_with, fine_there}
+use Rattle.irtext_tokens.proofs.Steps.{Lens, Passed, mapped_is_followed, turned, first, took, ends, begins_with, fine_there}
 use Rattle.irtext_grammar.specs.Grammar.Tree.{Name}
 use Rattle.irtext_parse_spec.specs.Heads.{name_at, results_at, named}
 use Rattle.irtext_parse_pieces.specs.declared.names.ReadName.{ReadName}
@@ -54,6 +55,15 @@ pub next_unread : (n : ℕ) (found : List (Name ℕ)) (text : Text) → is_read 
 next_unread n found text e =
     unread_followed (item_after 44 name_at found text) (λ more v. items_after 44 name_at n more v) (unread_followed (name_at text) (λ x t. mapped (λ _. found ++ (x ∷ [])) (space_at t)) e)
 
+-- a character that does not come next is not parsed
+unread_word : {X : Type 0} (k : Unit {0} → X) (c : ℕ) (text : Text) → begins (the c) text ≡ false → is_read (mapped k (text_at (c ∷ []) text)) ≡ false
+unread_word k c [] e = refl
+unread_word k c (d ∷ text) e = rw e refl
+
+-- what follows the names of results
+abbrev after_names : List (Name ℕ) → Text → Outcome (List (Name ℕ))
+after_names names t = mapped (λ _. names) (text_at (61 ∷ []) t)
+
 begun_read : (t text : Text) (o : Outcome (List (Name ℕ))) → is_read (prefixed t o) ≡ false → is_read (or_empty (prefixed t o) text) ≡ false
 begun_read t text (Read x u r) e = absurd (true≢false e)
 begun_read t text (Missing cause) e = refl
@@ -67,6 +77,10 @@ module _ {S : Type 0} (l : Lens S) where
   -- the stream is over the same text
   pub passed_same_stream : {V : Type 0} {outcome next : Text → Outcome V} {old mid : S} → Passed l outcome next old mid → SameStream l.view l.at false old mid
   passed_same_stream {old = old} {mid = mid} p = subst (λ b. SameStream l.view l.at b old mid) p.fine (takes_same_stream l.view l.at l.view_at l.at_at old mid p.taken (l.view mid).rest p.takes)
+
+  -- without names there are no results
+  pub none_there : {old mid : S} → (is_read (separated_at 44 name_at (l.view old).rest) ≡ false) × SameStream l.view l.at false old mid → (is_read (results_at (l.view old).rest) ≡ false) × SameStream l.view l.at false old mid
+  none_there {old = old} h = (unread_followed (separated_at 44 name_at (l.view old).rest) after_names h.0, h.1)
 
   -- a word was taken, and `.` follows
   pub dotted_there : (old mid : S) → begins begins_word (l.view old).rest ≡ true → Takes l.view l.at (front in_word (l.view old).rest) (after in_word (l.view old).rest) old mid → begins (the 46) (l.view mid).rest ≡ true → is_read (results_at (l.view old).rest) ≡ false
@@ -92,6 +106,19 @@ module _ {S A : Type 0} (l : Lens S) where
   -- what is missing is not parsed, and the stream stays
   pub missing_unread : {X Y : Type 0} {see : Y → X} {f : Text → Outcome X} {old new : S} {fault : ParseFault A} → MayRead l.view l.at see f old (Err fault) new → fault.committed ≡ false → (is_read (f (l.view old).rest) ≡ false) × (new ≡ old)
   missing_unread {see = see} {f = f} {old = old} {new = new} {fault = fault} h c = unread (l.view old).failed (f (l.view old).rest) see old new fault c h.answers
+
+  -- without `=` after the names there are no results
+  pub no_equals : {names : List Text} {old mid : S} {found : List ReadName} → MustNames {A = A} l.view l.at names (separated_at 44 name_at) old (Ok found) mid → begins (the 61) (l.view mid).rest ≡ false → Looks {A = A} l.view l.at names results_at old (Ok None) mid
+  no_equals {mid = mid} {found = found} h e =
+      let p : Passed l results_at (after_names (h.meant found)) _ mid = first l after_names h.read in
+      (passed_unread l p (unread_word (λ _. h.meant found) 61 (l.view mid).rest e), passed_same_stream l p)
+
+  -- the names, and `=` after them
+  pub equals_taken : {names : List Text} {old mid new : S} {found : List ReadName} → MustNames {A = A} l.view l.at names (separated_at 44 name_at) old (Ok found) mid → begins (the 61) (l.view mid).rest ≡ true → new ≡ l.at mid (advanced (l.view mid)) → MustNames {A = A} l.view l.at names results_at old (Ok found) new
+  equals_taken {mid = mid} {found = found} h e n =
+      let p : Passed l results_at (after_names (h.meant found)) _ mid = first l after_names h.read in
+      let q = turned l (λ t. followed (text_at (61 ∷ []) t) (λ _ u. Read (h.meant found) [] u)) (mapped_is_followed (λ _. h.meant found) (text_at (61 ∷ []) (l.view mid).rest)) p in
+      record { meant = λ _. h.meant found; means = h.means; read = ends l (λ _. h.meant found) found (took l 61 (λ _ u. Read (h.meant found) [] u) q e n) }
 
   bad_name : (b : Bool) (text : Text) (old new : S) (fault : ParseFault A) → begins begins_word text ≡ b → fault.committed ≡ true → RunsOut l.view l.at old fault new ⊎ Refuses l.view l.at (name_at text) old fault new → RunsOut l.view l.at old fault new
   unfolding word_at

@@ -1,5 +1,5 @@
 -- Steps of the parsers of a name, `:`, and a value.
-use Rattle.std.proofs.Common.{◌≡◌, ℕ, Ok, Err, refl, codes}
+use Rattle.std.proofs.Common.{◌≡◌, ℕ, Result, Ok, Err, refl, codes}
 use Rattle.irtext_base.specs.Answers.{Outcome, mapped, followed}
 use Rattle.irtext_base.specs.Text.{Text}
 use Rattle.irtext_base.specs.declared.parsable.fault.ParseFault.{ParseFault}
@@ -8,6 +8,7 @@ use Rattle.irtext_tokens.specs.MustRead.{MustRead}
 use Rattle.irtext_tokens.proofs.Steps.{Lens, begins_with, begins_refused, begun_by, more, refuses, refuses_seen, last_seen}
 use Rattle.irtext_grammar.specs.Grammar.Tree.{Name}
 use Rattle.irtext_parse_spec.specs.Heads.{name_at}
+use Rattle.irtext_parse_pieces.specs.Beside.{paired}
 use Rattle.irtext_parse_pieces.specs.Named.{MayMean}
 use Rattle.irtext_parse_pieces.proofs.Meanings.{may_refuse, may_unread}
 
@@ -50,3 +51,8 @@ module _ {S A Y Z V : Type 0} (l : Lens S) (value : Text → Outcome V) (seen : 
             means = (name.means, refl);
             read = begun_by l (after_name value) name.read (last_seen l (λ _. (name.meant y, seen z)) (λ v. (name.meant y, v)) (y, z) refl q h);
           }
+
+      -- all of it was parsed, or the value is an error
+      pub pair_ended : (w : Result Z (ParseFault A)) {r : Result (Y × Z) (ParseFault A)} {new : S} → r ≡ paired y w → MustRead l.view l.at seen value s2 w new → MayMean {A = A} l.view l.at (λ (w : Y × Z) (x : Name ℕ × V). Means w.0 x.0 × (seen w.1 ≡ x.1)) (pair value) old r new
+      pair_ended (Ok z) e h = rw e (pair_read h)
+      pair_ended (Err fault) e h = rw e (pair_unvalued h)

@@ -1,8 +1,7 @@
 -- Steps of the parsers of pieces.
-use Rattle.std.proofs.Common.{◌≡◌, ℕ, Bool, true, false, cond, Result, Ok, Err, Some, None, IfOk, List, [], ◌∷◌, ◌++◌, length, refl, ap, subst, ◌∙◌, inr}
+use Rattle.std.proofs.Common.{◌≡◌, ℕ, true, false, Result, Ok, Err, Some, None, IfOk, List, [], ◌∷◌, length, refl, ap, subst, ◌∙◌, inr}
 use Rattle.std.specs.Char.{is_whitespace}
 use Rattle.irtext_base.specs.Text.{Text, front, after}
-use Rattle.irtext_base.specs.Reading.{the}
 use Rattle.irtext_base.specs.Answers.{Outcome, Read, Missing, Bad, Takes, Gives, RunsOutHere, Commits, mapped, demanded, unless_failed}
 use Rattle.irtext_base.specs.Faults.{Fault, Failed}
 use Rattle.irtext_base.specs.Locations.{AttrView}

@@ -11,6 +11,7 @@ use Rattle.irtext_tokens.proofs.Steps.{Lens, fine_there}
 use Rattle.irtext_parse_spec.specs.Heads.{Step}
 use Rattle.irtext_parse_pieces.specs.declared.pieces.ReadPiece.{ReadPiece}
 use Rattle.irtext_parse_pieces.specs.declared.pieces.ReadPiece.TheVariants as read
+use Rattle.irtext_parse_pieces.specs.Beside.{closed}
 use Rattle.irtext_parse_pieces.specs.Canonical.{type_steps, type_pieces, signature_steps, signature_pieces, MustSteps}
 use Rattle.irtext_parse_pieces.proofs.CanonicalSteps.{Through, steps_begin, steps_more, steps_refused, steps_end, word_more, word_refused}
 
@@ -75,3 +76,8 @@ module _ {S T A : Type 0} (l : Lens S) (types : Text → Outcome T) (attr : Text
             -- all parts were parsed
             pub types_read : {s6 : S} → Word (codes ">") s5 (Ok tt) s6 → MustSteps {A = A} l.view l.at names types attr inside signature_steps signature_pieces old (Ok (inputs, results)) s6
             types_read w = steps_end l types attr inside signature_pieces (inputs, results) refl (word_more l types attr inside (codes ">") [] at5 w)
+
+            -- all parts were parsed, or the last of them is refused
+            pub types_ended : (w : Result (Unit {0}) (ParseFault A)) {r : Result (List T × List T) (ParseFault A)} {s6 : S} → r ≡ closed (inputs, results) w → Word (codes ">") s5 w s6 → MustSteps l.view l.at names types attr inside signature_steps signature_pieces old r s6
+            types_ended (Ok u) e w = rw e (types_read w)
+            types_ended (Err fault) e w = rw e (no_end w)

@@ -1,5 +1,6 @@
 -- Names, lists, dictionaries, headers and pieces as they were parsed, with what they represent.
 pub mod Arguments
+pub mod Beside
 pub mod Canonical
 pub mod Coming
 pub mod Entries

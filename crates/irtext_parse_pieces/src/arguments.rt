@@ -5,6 +5,7 @@ ghost use Rattle.irtext_parse_spec.specs.Heads.{argument_at};
 ghost use Rattle.irtext_parse_pieces.specs.Arguments.{IsArgument, MustArguments, ArgumentsAfter};
 ghost use Rattle.irtext_parse_pieces.specs.Named.{MayMean, NamesRead, whole};
 
+use crate::beside::failed;
 use crate::lists::{NameKind, comma_taken, none_named, unless_committed, with_spaced};
 use crate::names::{ReadName, name_parse};
 use irtext_base::parsable::{CharStream, ParseResult};
@@ -47,7 +48,10 @@ fn more_arguments<S: OwnStream, V: Copy, B: Copy, T: IrText<A>, A: AttrText<A>>(
     let mut found = Few::one(first);
     while comma_taken(stream) {
         let answer = argument_parse(stream, names);
-        let next = committed(stream, answer)?;
+        let next = match committed(stream, answer) {
+            Ok(next) => next,
+            Err(fault) => return failed(found, fault),
+        };
         found = with_spaced(stream, found, next)?;
     }
     Ok(found)

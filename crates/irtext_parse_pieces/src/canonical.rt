@@ -9,6 +9,7 @@ ghost use Rattle.irtext_tokens.specs.Tokens.{space_at, text_at};
 ghost use Rattle.irtext_parse_pieces.specs.Canonical.{canonical_front, name_steps, dictionary_steps, type_steps, signature_steps, name_pieces, dictionary_pieces, type_pieces, signature_pieces, pieces_of, MustSteps};
 ghost use Rattle.irtext_parse_pieces.specs.Named.{NamesRead};
 
+use crate::beside::{closed_by, failed};
 use crate::entries::{ReadEntry, dictionary_parse};
 use crate::keys::Keys;
 use crate::lists::{NameKind, names_parse};
@@ -80,8 +81,8 @@ fn names_between<S: OwnStream, V: Copy, B: Copy, T: IrText<A>, A: AttrText<A>>(
     word_parse(stream, opening)?;
     skip_white_space(stream);
     let found = names_parse(stream, names, kind, inside)?;
-    word_parse(stream, closing)?;
-    Ok(found)
+    let answer = word_parse(stream, closing);
+    closed_by(found, answer)
 }
 
 /// Parses the dictionary.
@@ -112,8 +113,8 @@ fn parenthesized_parse<S: OwnStream, T: IrText<A>, A: AttrText<A>>(
     word_parse(stream, "(")?;
     skip_white_space(stream);
     let types = types_parse(stream)?;
-    word_parse(stream, ")")?;
-    Ok(types)
+    let answer = word_parse(stream, ")");
+    closed_by(types, answer)
 }
 
 /// Parses the types of the operands and of the results, as `: <(builtin.integer si64) -> ()>`.
@@ -129,10 +130,15 @@ fn signature_parse<S: OwnStream, T: IrText<A>, A: AttrText<A>>(
     word_parse(stream, ":")?;
     word_parse(stream, "<")?;
     let inputs = parenthesized_parse(stream, inside)?;
-    word_parse(stream, "->")?;
-    let results = parenthesized_parse(stream, inside)?;
-    word_parse(stream, ">")?;
-    Ok((inputs, results))
+    if let Err(fault) = word_parse(stream, "->") {
+        return failed(inputs, fault);
+    }
+    let results = match parenthesized_parse(stream, inside) {
+        Ok(results) => results,
+        Err(fault) => return failed(inputs, fault),
+    };
+    let answer = word_parse(stream, ">");
+    closed_by((inputs, results), answer)
 }
 
 /// Parses the canonical form up to its regions, on a stream that has not failed. `inside` says whether it is inside of a region; outside of
@@ -159,16 +165,25 @@ pub(crate) fn canonical_parse<S: OwnStream, V: Copy, B: Copy, T: IrText<A>, A: A
         "(",
         ")",
     )?;
-    let successors = names_between::<S, V, B, T, A>(
+    let successors = match names_between::<S, V, B, T, A>(
         stream,
         names,
         NameKind::Block,
         inside,
         "[",
         "]",
-    )?;
-    let entries = entries_parse::<S, T, A>(stream, keys, inside)?;
-    let (inputs, results) = signature_parse(stream, inside)?;
+    ) {
+        Ok(successors) => successors,
+        Err(fault) => return failed(operands, fault),
+    };
+    let entries = match entries_parse::<S, T, A>(stream, keys, inside) {
+        Ok(entries) => entries,
+        Err(fault) => return failed((operands, successors), fault),
+    };
+    let (inputs, results) = match signature_parse(stream, inside) {
+        Ok(types) => types,
+        Err(fault) => return failed((operands, successors, entries), fault),
+    };
     Ok(CanonicalPieces {
         operands,
         successors,

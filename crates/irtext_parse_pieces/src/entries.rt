@@ -8,8 +8,9 @@ ghost use Rattle.irtext_parse_spec.specs.Heads.{name_at, pair_at, dictionary_at}
 ghost use Rattle.irtext_parse_pieces.specs.Entries.{IsKey, IsEntry, TakesWord, MustEntries, EntriesAfter, MustDictionaryIf};
 ghost use Rattle.irtext_parse_pieces.specs.Named.{MayMean, whole};
 
+use crate::beside::{beside, closed_by, failed};
 use crate::keys::Keys;
-use crate::lists::{NameKind, comma_taken, none_named, unless_committed};
+use crate::lists::{NameKind, comma_taken, ended, none_named, unless_committed};
 use irtext_base::base::{AttrObj, Identifier};
 use irtext_base::parsable::{CharStream, ParseResult, Place};
 use irtext_base::result::{Cause, Expected};
@@ -103,9 +104,11 @@ fn entry_parse<S: OwnStream, A: AttrText<A>>(
         (pair_at (attr_at A.IrText.reading)) stream.old result stream.new }
 {
     let key = key_parse(stream, keys, index)?;
-    spaced_text_demanded(stream, ":")?;
-    let attr = attr_demanded(stream)?;
-    Ok((key, attr))
+    if let Err(fault) = spaced_text_demanded(stream, ":") {
+        return failed(key, fault);
+    }
+    let answer = attr_demanded(stream);
+    beside(key, answer)
 }
 
 /// Parses the entries after the first one, as long as `,` comes next.
@@ -119,13 +122,18 @@ fn more_entries<S: OwnStream, A: AttrText<A>>(
 {
     let mut found = Vec::new(stream.allocator());
     let Ok(()) = found.push(first) else {
+        ended(found);
         return Err(out_of_memory(stream));
     };
     while comma_taken(stream) {
         let answer = entry_parse(stream, keys, found.len());
-        let next = committed(stream, answer)?;
+        let next = match committed(stream, answer) {
+            Ok(next) => next,
+            Err(fault) => return failed(found, fault),
+        };
         skip_white_space(stream);
         let Ok(()) = found.push(next) else {
+            ended(found);
             return Err(out_of_memory(stream));
         };
     }
@@ -165,8 +173,8 @@ fn bracketed_parse<S: OwnStream, A: AttrText<A>>(
     text_demanded(stream, "[")?;
     skip_white_space(stream);
     let entries = entries_parse(stream, keys)?;
-    text_demanded(stream, "]")?;
-    Ok(entries)
+    let answer = text_demanded(stream, "]");
+    closed_by(entries, answer)
 }
 
 /// Parses a dictionary: entries in brackets, separated by `,`, each a key, `:` and an attribute, as `[key: attribute]`. Reserved and

@@ -9,6 +9,7 @@ ghost use Rattle.irtext_parse_pieces.specs.Fronts.{HasFront, TakesText, MustFron
 ghost use Rattle.irtext_parse_pieces.specs.Named.{NamesRead};
 ghost use Rattle.irtext_parse_pieces.specs.Steps.{custom_steps, seen_step};
 
+use crate::beside::failed;
 use crate::canonical::canonical_parse;
 use crate::found::{CustomPieces, Pieces};
 use crate::keys::Keys;
@@ -90,6 +91,29 @@ fn step_found<S: OwnStream, V: Copy, B: Copy, T: IrText<A>, A: AttrText<A>>(
     }
 }
 
+/// Parses what a step of a format describes, which is no region, and appends it to the pieces. Every error is committed. A fixed text that
+/// comes next as a whole costs little.
+#[inline(always)]
+fn piece_found<S: OwnStream, V: Copy, B: Copy, T: IrText<A>, A: AttrText<A>>(
+    stream: &mut S,
+    names: &mut NameTracker<V, B>,
+    step: FormatStep<'_>,
+    inside: bool,
+    keys: &mut Keys,
+    found: &mut CustomPieces<T, A>,
+) -> ParseResult<(), A>
+    requires { length found.old + 1 < 2 ^ 64 }
+    ensures read { MustFind S.CharStream.view S.CharStream.at names.new.names
+        (piece_at T.IrText.reading (attr_at A.IrText.reading) inside (seen_step step.entry)) found.old
+        found.new stream.old result stream.new }
+    ensures names { NamesRead names.old names.new }
+{
+    if word_found(stream, step, found) {
+        return Ok(());
+    }
+    step_found(stream, names, step, inside, keys, found)
+}
+
 /// Parses what the directives of a format describe, up to the first one that parses regions, with white space before each.
 fn pieces_parse<S: OwnStream, V: Copy, B: Copy, T: IrText<A>, A: AttrText<A>>(
     stream: &mut S,
@@ -111,10 +135,9 @@ fn pieces_parse<S: OwnStream, V: Copy, B: Copy, T: IrText<A>, A: AttrText<A>>(
             return Ok(found);
         }
         skip_white_space(stream);
-        if word_found(stream, step, &mut found) {
-            continue;
+        if let Err(fault) = piece_found(stream, names, step, inside, keys, &mut found) {
+            return failed(found, fault);
         }
-        step_found(stream, names, step, inside, keys, &mut found)?;
     }
     Ok(found)
 }

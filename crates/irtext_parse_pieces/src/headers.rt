@@ -1,9 +1,13 @@
 //! Parsing of the headers of blocks.
+ghost use Rattle.std.specs.Prelude.{◌≡◌, false};
 ghost use Rattle.irtext_tokens.specs.AttrTexts.{attr_at};
-ghost use Rattle.irtext_parse_pieces.specs.Headers.{MustHead};
-ghost use Rattle.irtext_parse_pieces.specs.Named.{NamesRead};
+ghost use Rattle.irtext_parse_pieces.specs.Entries.{MustDictionaryIf};
+ghost use Rattle.irtext_parse_pieces.specs.Headers.{mark_end_at, MustHead, MustHeadEnd};
+ghost use Rattle.irtext_parse_pieces.specs.Marks.{IsMarkIf};
+ghost use Rattle.irtext_parse_pieces.specs.Named.{MustMean, NamesRead, whole};
 
 use crate::arguments::arguments_parse;
+use crate::beside::{beside, failed};
 use crate::entries::{ReadEntry, dictionary_if_parse};
 use crate::keys::Keys;
 use crate::marks::{ReadMark, mark_parse};
@@ -25,6 +29,49 @@ pub struct BlockHead<T, A> {
     pub mark: Option<ReadMark>,
 }
 
+/// What a block's header has after its arguments: the entries of its dictionary if it has one, and its mark if it has one.
+type HeadEnd<A> = (Option<Vec<ReadEntry<A>>>, Option<ReadMark>);
+
+/// Parses a dictionary as `dictionary_if_parse` does, and keeps no key.
+#[inline(always)]
+fn dictionary_alone<S: OwnStream, A: AttrText<A>>(
+    stream: &mut S,
+) -> ParseResult<Option<Vec<ReadEntry<A>>>, A>
+    ensures { MustDictionaryIf S.CharStream.view S.CharStream.at (attr_at A.IrText.reading) stream.old result
+        stream.new }
+{
+    let mut keys = Keys::none(stream.allocator());
+    dictionary_if_parse(stream, &mut keys)
+}
+
+/// Parses the end of a block's header, on a stream that has not failed: a mark if `!` comes next, and `:`, with white space before each.
+/// Every error is committed.
+#[inline(always)]
+fn mark_end_parse<S: CharStream, A>(stream: &mut S) -> ParseResult<Option<ReadMark>, A>
+    ensures { (S.view stream.old).failed ≡ false → MustMean S.view S.at (IsMarkIf (whole (S.view stream.old))) mark_end_at
+        stream.old result stream.new }
+{
+    skip_white_space(stream);
+    let mark = mark_parse(stream)?;
+    skip_white_space(stream);
+    text_demanded(stream, ":")?;
+    Ok(mark)
+}
+
+/// Parses what a block's header has after its arguments: `)`, a dictionary if `[` comes next, a mark if `!` comes next, and `:`. Every
+/// error is committed.
+#[inline(always)]
+fn head_end_parse<S: OwnStream, A: AttrText<A>>(stream: &mut S) -> ParseResult<HeadEnd<A>, A>
+    ensures { MustHeadEnd S.CharStream.view S.CharStream.at (attr_at A.IrText.reading) stream.old result
+        stream.new }
+{
+    text_demanded(stream, ")")?;
+    skip_white_space(stream);
+    let attributes = dictionary_alone(stream)?;
+    let answer = mark_end_parse(stream);
+    beside(attributes, answer)
+}
+
 /// Parses the header of a block: `^` and its label, its arguments in parentheses, a dictionary if `[` comes next, a mark if `!` comes
 /// next, and `:`, as `^b(x: builtin.integer si64) !0:`. Reserved and repeated keys of the dictionary are accepted here. Every error is
 /// committed.
@@ -39,14 +86,10 @@ pub fn block_head_parse<S: OwnStream, V: Copy, B: Copy, T: IrText<A>, A: AttrTex
     let label = label_demanded(stream, names)?;
     spaced_text_demanded(stream, "(")?;
     let arguments = arguments_parse(stream, names)?;
-    text_demanded(stream, ")")?;
-    skip_white_space(stream);
-    let mut keys = Keys::none(stream.allocator());
-    let attributes = dictionary_if_parse(stream, &mut keys)?;
-    skip_white_space(stream);
-    let mark = mark_parse(stream)?;
-    skip_white_space(stream);
-    text_demanded(stream, ":")?;
+    let (attributes, mark) = match head_end_parse(stream) {
+        Ok(end) => end,
+        Err(fault) => return failed(arguments, fault),
+    };
     Ok(BlockHead {
         label,
         arguments,

@@ -6,6 +6,7 @@ ghost use Rattle.irtext_parse_spec.specs.Readers.Operations.{Registers};
 ghost use Rattle.irtext_parse_pieces.specs.Ids.{TakesId, IsKnown, IsLed, id_in, AnswersLed};
 ghost use Rattle.irtext_parse_pieces.specs.Named.{MayMean, MustNames, NamesRead, whole};
 
+use crate::beside::failed;
 use crate::names::ReadName;
 use crate::results::results_parse;
 use irtext_base::base::OpId;
@@ -174,6 +175,9 @@ pub fn results_and_id_parse<'c, S: CharStream, V: Copy, B: Copy, T: IrText<A>, A
     let start = stream.position();
     let results = lead_parse(stream, names)?;
     let led = !stream.text_since(start).is_empty();
-    let (id, info) = id_after(stream, ctx, start, led)?;
+    let (id, info) = match id_after(stream, ctx, start, led) {
+        Ok(op) => op,
+        Err(fault) => return failed(results, fault),
+    };
     Ok((results, id, info))
 }

@@ -3,6 +3,7 @@
 #![tactic(auto)]
 
 pub mod arguments;
+mod beside;
 pub mod canonical;
 pub mod coming;
 pub mod counting;

@@ -6,6 +6,7 @@ ghost use Rattle.irtext_parse_pieces.specs.Lists.{TakesComma, Appends};
 ghost use Rattle.irtext_parse_pieces.specs.Named.{MayName, MustNames, NamesAfter, NamesRead};
 ghost use Rattle.irtext_parse_pieces.specs.Kinds.{beginning, named_at};
 
+use crate::beside::failed;
 use crate::names::{ReadName, used_parse};
 use irtext_base::parsable::{CharStream, ParseFault, ParseResult};
 use irtext_few::{Few, Items};
@@ -77,6 +78,18 @@ pub(crate) fn comma_taken<S: CharStream>(stream: &mut S) -> bool
     true
 }
 
+/// Whether an error is committed.
+#[inline(always)]
+fn is_committed<A>(fault: &ParseFault<A>) -> bool
+    ensures { result ≡ fault.now.committed }
+{
+    fault.committed
+}
+
+/// Ends a value.
+#[inline(always)]
+pub(crate) fn ended<X: Drop>(_value: X) {}
+
 /// Returns the value in place of an error that is not committed, and a committed error unchanged.
 #[inline(always)]
 pub(crate) fn unless_committed<X: Drop, A: Drop>(
@@ -85,9 +98,10 @@ pub(crate) fn unless_committed<X: Drop, A: Drop>(
 ) -> ParseResult<X, A>
     ensures { cond fault.committed (result ≡ Err fault) (result ≡ Ok value) }
 {
-    if fault.committed {
+    if is_committed(&fault) {
         return Err(fault);
     }
+    ended(fault);
     Ok(value)
 }
 
@@ -130,7 +144,10 @@ fn more_names<S: CharStream, V: Copy, B: Copy, A: Drop>(
     let mut found = Few::one(first);
     while comma_taken(stream) {
         let answer = named_parse(stream, names, kind, inside);
-        let next = committed(stream, answer)?;
+        let next = match committed(stream, answer) {
+            Ok(next) => next,
+            Err(fault) => return failed(found, fault),
+        };
         found = with_spaced(stream, found, next)?;
     }
     Ok(found)

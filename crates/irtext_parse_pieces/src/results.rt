@@ -5,7 +5,7 @@ ghost use Rattle.irtext_parse_spec.specs.Heads.{name_at, results_at};
 ghost use Rattle.irtext_parse_pieces.specs.Named.{MustNames, NamesRead};
 ghost use Rattle.irtext_parse_pieces.specs.Results.{is_read, results_if_at, Looks, LooksAfter};
 
-use crate::lists::{comma_taken, unless_committed, with_spaced};
+use crate::lists::{comma_taken, ended, unless_committed, with_spaced};
 use crate::names::{ReadName, name_parse};
 use irtext_base::parsable::{CharStream, ParseResult};
 use irtext_base::result::Cause;
@@ -43,7 +43,10 @@ fn more_results<S: CharStream, V: Copy, B: Copy, A: Drop>(
     while comma_taken(stream) {
         let next = match name_parse(stream, names) {
             Ok(next) => next,
-            Err(fault) => return unless_committed(fault, None),
+            Err(fault) => {
+                ended(found);
+                return unless_committed(fault, None);
+            }
         };
         found = with_spaced(stream, found, next)?;
     }

@@ -4,6 +4,7 @@ ghost use Rattle.irtext_tokens.specs.ListOutcomes.{separated_at};
 ghost use Rattle.irtext_parse_pieces.specs.Pieces.{MustTypes, TypesAfter};
 ghost use Rattle.irtext_parse_pieces.specs.Named.{MayMean};
 
+use crate::beside::failed;
 use crate::lists::{comma_taken, unless_committed, with_spaced};
 use irtext_base::parsable::{CharStream, ParseResult};
 use irtext_base::text::IrText;
@@ -31,7 +32,10 @@ fn more_types<S: OwnStream, T: IrText<A>, A: Drop>(
     let mut found = Few::one(first);
     while comma_taken(stream) {
         let answer = type_parse(stream);
-        let next = committed(stream, answer)?;
+        let next = match committed(stream, answer) {
+            Ok(next) => next,
+            Err(fault) => return failed(found, fault),
+        };
         found = with_spaced(stream, found, next)?;
     }
     Ok(found)

@@ -5,7 +5,7 @@ use Rattle.irtext_tokens.specs.AttrTexts.{attr_at}
 use Rattle.irtext_parse_spec.specs.Heads.{flat}
 use Rattle.irtext_parse_pieces.specs.Kinds.{named_at, names_directive, names_tree, read_names}
 use Rattle.irtext_parse_pieces.specs.Named.{Represents, Each}
-use Rattle.irtext_parse_pieces.proofs.CanonicalSteps.{unopened, unfilled, unclosed, closed}
+use Rattle.irtext_parse_pieces.proofs.CanonicalSteps.{unopened, unfilled, ended}
 use Rattle.irtext_parse_pieces.proofs.KindSteps.{names_step, names_represent}
 use Rattle.irtext_parse_pieces.proofs.Lenses.{lens_of}
 use Rattle.irtext_parse_pieces.proofs.canonical.names_between.Goals as goal
@@ -22,13 +22,7 @@ returns-in_err-found-clause-read g c = λ fine.
     (unfilled (lens_of g.world g.met.S.CharStream) g.T.IrText.reading (attr_at g.A.IrText.reading) c.args.inside (characters c.args.opening.now) (characters c.args.closing.now) (flat (names_directive c.args.kind)) (separated_at 44 (named_at c.args.kind c.args.inside)) (names_tree c.args.kind)
     (names_step g.T.IrText.reading (attr_at g.A.IrText.reading) c.args.inside c.args.kind) (λ names text. Each (Represents names text)) (read_names c.args.kind) (names_represent g.row.T.Denot g.row.A.Denot c.args.kind) fine c.in_ok-word_parse.ensures c.skip_white_space.ensures c.names_parse.new.names.names c.in_err-found.ensures.read)
 
-pub returns-in_err-word_parse-2-clause-read : goal.returns-in_err-word_parse-2-clause-read
-returns-in_err-word_parse-2-clause-read g c = λ fine.
-    rw (propagated c.from_residual-in_err-word_parse-2.result c.from_residual-in_err-word_parse-2.ensures.1)
-    (unclosed (lens_of g.world g.met.S.CharStream) g.T.IrText.reading (attr_at g.A.IrText.reading) c.args.inside (characters c.args.opening.now) (characters c.args.closing.now) (flat (names_directive c.args.kind)) (separated_at 44 (named_at c.args.kind c.args.inside)) (names_tree c.args.kind)
-    (names_step g.T.IrText.reading (attr_at g.A.IrText.reading) c.args.inside c.args.kind) (λ names text. Each (Represents names text)) (read_names c.args.kind) (names_represent g.row.T.Denot g.row.A.Denot c.args.kind) fine c.in_ok-word_parse.ensures c.skip_white_space.ensures c.names_parse.new.names.names c.in_ok-found.ensures.read c.in_err-word_parse-2.ensures)
-
 pub returns-clause-read : goal.returns-clause-read
 returns-clause-read g c = λ fine.
-    closed (lens_of g.world g.met.S.CharStream) g.T.IrText.reading (attr_at g.A.IrText.reading) c.args.inside (characters c.args.opening.now) (characters c.args.closing.now) (flat (names_directive c.args.kind)) (separated_at 44 (named_at c.args.kind c.args.inside)) (names_tree c.args.kind)
-    (names_step g.T.IrText.reading (attr_at g.A.IrText.reading) c.args.inside c.args.kind) (λ names text. Each (Represents names text)) (read_names c.args.kind) (names_represent g.row.T.Denot g.row.A.Denot c.args.kind) fine c.in_ok-word_parse.ensures c.skip_white_space.ensures c.names_parse.new.names.names c.in_ok-found.ensures.read c.in_ok-word_parse-2.ensures
+    ended (lens_of g.world g.met.S.CharStream) g.T.IrText.reading (attr_at g.A.IrText.reading) c.args.inside (characters c.args.opening.now) (characters c.args.closing.now) (flat (names_directive c.args.kind)) (separated_at 44 (named_at c.args.kind c.args.inside)) (names_tree c.args.kind)
+    (names_step g.T.IrText.reading (attr_at g.A.IrText.reading) c.args.inside c.args.kind) (λ names text. Each (Represents names text)) (read_names c.args.kind) (names_represent g.row.T.Denot g.row.A.Denot c.args.kind) fine c.in_ok-word_parse.ensures c.skip_white_space.ensures c.names_parse.new.names.names c.in_ok-found.ensures.read c.word_parse-answer.result c.closed_by.ensures c.word_parse-answer.ensures

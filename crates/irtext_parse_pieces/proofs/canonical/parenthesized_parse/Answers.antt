@@ -6,7 +6,7 @@ use Rattle.irtext_grammar.specs.Grammar.Tree as tree
 use Rattle.irtext_parse_spec.specs.Heads.{types}
 use Rattle.irtext_parse_pieces.specs.declared.pieces.ReadPiece.TheVariants as read
 use Rattle.irtext_parse_pieces.specs.Named.{Each}
-use Rattle.irtext_parse_pieces.proofs.CanonicalSteps.{unopened, unfilled, unclosed, closed}
+use Rattle.irtext_parse_pieces.proofs.CanonicalSteps.{unopened, unfilled, ended}
 use Rattle.irtext_parse_pieces.proofs.PieceSteps.{each_same}
 use Rattle.irtext_parse_pieces.proofs.Lenses.{lens_of}
 use Rattle.irtext_parse_pieces.proofs.canonical.parenthesized_parse.Goals as goal
@@ -23,13 +23,7 @@ returns-in_err-types g c = λ names fine.
     (unfilled (lens_of g.world g.met.S.CharStream) g.T.IrText.reading (attr_at g.A.IrText.reading) c.args.inside (codes "(") (codes ")") types (separated_at 44 g.T.IrText.reading) tree.types (λ u. refl)
     (λ names text. Each ◌≡◌) read.Types (λ names text y x m. ap tree.types (sym (each_same y x m))) fine c.in_ok-word_parse.ensures c.skip_white_space.ensures names c.in_err-types.ensures)
 
-pub returns-in_err-word_parse-2 : goal.returns-in_err-word_parse-2
-returns-in_err-word_parse-2 g c = λ names fine.
-    rw (propagated c.from_residual-in_err-word_parse-2.result c.from_residual-in_err-word_parse-2.ensures.1)
-    (unclosed (lens_of g.world g.met.S.CharStream) g.T.IrText.reading (attr_at g.A.IrText.reading) c.args.inside (codes "(") (codes ")") types (separated_at 44 g.T.IrText.reading) tree.types (λ u. refl)
-    (λ names text. Each ◌≡◌) read.Types (λ names text y x m. ap tree.types (sym (each_same y x m))) fine c.in_ok-word_parse.ensures c.skip_white_space.ensures names c.in_ok-types.ensures c.in_err-word_parse-2.ensures)
-
 pub returns : goal.returns
 returns g c = λ names fine.
-    closed (lens_of g.world g.met.S.CharStream) g.T.IrText.reading (attr_at g.A.IrText.reading) c.args.inside (codes "(") (codes ")") types (separated_at 44 g.T.IrText.reading) tree.types (λ u. refl)
-    (λ names text. Each ◌≡◌) read.Types (λ names text y x m. ap tree.types (sym (each_same y x m))) fine c.in_ok-word_parse.ensures c.skip_white_space.ensures names c.in_ok-types.ensures c.in_ok-word_parse-2.ensures
+    ended (lens_of g.world g.met.S.CharStream) g.T.IrText.reading (attr_at g.A.IrText.reading) c.args.inside (codes "(") (codes ")") types (separated_at 44 g.T.IrText.reading) tree.types (λ u. refl)
+    (λ names text. Each ◌≡◌) read.Types (λ names text y x m. ap tree.types (sym (each_same y x m))) fine c.in_ok-word_parse.ensures c.skip_white_space.ensures names c.in_ok-types.ensures c.word_parse-answer.result c.closed_by.ensures c.word_parse-answer.ensures

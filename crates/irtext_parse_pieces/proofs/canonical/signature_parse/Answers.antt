@@ -1,7 +1,7 @@
 use Rattle.irtext_tokens.proofs.Exits.{propagated}
 use Rattle.irtext_tokens.specs.AttrTexts.{attr_at}
 use Rattle.irtext_parse_pieces.proofs.Lenses.{lens_of}
-use Rattle.irtext_parse_pieces.proofs.SignatureParts.{no_colon, no_angle, no_inputs, no_arrow, no_results, no_end, types_read}
+use Rattle.irtext_parse_pieces.proofs.SignatureParts.{no_colon, no_angle, no_inputs, no_arrow, no_results, types_ended}
 use Rattle.irtext_parse_pieces.proofs.canonical.signature_parse.Goals as goal
 
 pub returns-in_err-word_parse : goal.returns-in_err-word_parse
@@ -19,21 +19,16 @@ returns-in_err-inputs g c = λ names fine.
     rw (propagated c.from_residual-in_err-inputs.result c.from_residual-in_err-inputs.ensures.1)
     (no_inputs (lens_of g.world g.met.S.CharStream) g.T.IrText.reading (attr_at g.A.IrText.reading) c.args.inside names fine c.in_ok-word_parse.ensures c.in_ok-word_parse-2.ensures c.in_err-inputs.ensures)
 
-pub returns-in_err-word_parse-3 : goal.returns-in_err-word_parse-3
-returns-in_err-word_parse-3 g c = λ names fine.
-    rw (propagated c.from_residual-in_err-word_parse-3.result c.from_residual-in_err-word_parse-3.ensures.1)
-    (no_arrow (lens_of g.world g.met.S.CharStream) g.T.IrText.reading (attr_at g.A.IrText.reading) c.args.inside names fine c.in_ok-word_parse.ensures c.in_ok-word_parse-2.ensures c.in_ok-inputs.ensures c.in_err-word_parse-3.ensures)
+pub returns-in-Err : goal.returns-in-Err
+returns-in-Err g c = λ names fine.
+    rw c.failed.ensures
+    (no_arrow (lens_of g.world g.met.S.CharStream) g.T.IrText.reading (attr_at g.A.IrText.reading) c.args.inside names fine c.in_ok-word_parse.ensures c.in_ok-word_parse-2.ensures c.in_ok-inputs.ensures c.in-Err.ensures)
 
-pub returns-in_err-results : goal.returns-in_err-results
-returns-in_err-results g c = λ names fine.
-    rw (propagated c.from_residual-in_err-results.result c.from_residual-in_err-results.ensures.1)
-    (no_results (lens_of g.world g.met.S.CharStream) g.T.IrText.reading (attr_at g.A.IrText.reading) c.args.inside names fine c.in_ok-word_parse.ensures c.in_ok-word_parse-2.ensures c.in_ok-inputs.ensures c.in_ok-word_parse-3.ensures c.in_err-results.ensures)
-
-pub returns-in_err-word_parse-4 : goal.returns-in_err-word_parse-4
-returns-in_err-word_parse-4 g c = λ names fine.
-    rw (propagated c.from_residual-in_err-word_parse-4.result c.from_residual-in_err-word_parse-4.ensures.1)
-    (no_end (lens_of g.world g.met.S.CharStream) g.T.IrText.reading (attr_at g.A.IrText.reading) c.args.inside names fine c.in_ok-word_parse.ensures c.in_ok-word_parse-2.ensures c.in_ok-inputs.ensures c.in_ok-word_parse-3.ensures c.in_ok-results.ensures c.in_err-word_parse-4.ensures)
+pub returns-in-Err-parenthesized_parse : goal.returns-in-Err-parenthesized_parse
+returns-in-Err-parenthesized_parse g c = λ names fine.
+    rw c.failed-in-Err-parenthesized_parse.ensures
+    (no_results (lens_of g.world g.met.S.CharStream) g.T.IrText.reading (attr_at g.A.IrText.reading) c.args.inside names fine c.in_ok-word_parse.ensures c.in_ok-word_parse-2.ensures c.in_ok-inputs.ensures c.in_default.ensures c.in-Err-parenthesized_parse.ensures)
 
 pub returns : goal.returns
 returns g c = λ names fine.
-    types_read (lens_of g.world g.met.S.CharStream) g.T.IrText.reading (attr_at g.A.IrText.reading) c.args.inside names fine c.in_ok-word_parse.ensures c.in_ok-word_parse-2.ensures c.in_ok-inputs.ensures c.in_ok-word_parse-3.ensures c.in_ok-results.ensures c.in_ok-word_parse-4.ensures
+    types_ended (lens_of g.world g.met.S.CharStream) g.T.IrText.reading (attr_at g.A.IrText.reading) c.args.inside names fine c.in_ok-word_parse.ensures c.in_ok-word_parse-2.ensures c.in_ok-inputs.ensures c.in_default.ensures c.in-Ok.ensures c.word_parse-answer.result c.closed_by.ensures c.word_parse-answer.ensures

@@ -1,5 +1,6 @@
-use Rattle.std.proofs.Common.{sym, ◌∙◌}
+use Rattle.std.proofs.Common.{sym, ◌∙◌, ap}
 use Rattle.irtext_base.specs.Text.{front, after, in_word}
+use Rattle.irtext_base.proofs.Compose.{seen_after}
 use Rattle.irtext_tokens.proofs.Words.{encodes-front_word, is_identifier-front, taken_since}
 use Rattle.irtext_parse_pieces.proofs.EntrySteps.{key_there}
 use Rattle.irtext_parse_pieces.proofs.Meanings.{may_fail}
@@ -19,6 +20,14 @@ returns-in-Some g c =
     let l = lens_of g.world g.met.S.CharStream in
     let w = c.in-Some.ensures in
     key_there l (record { name = c.in-Some.name; at = c.position-at.result }) (sym c.has_failed.ensures ∙ c.if-has_failed.false) (sym c.begins.ensures ∙ c.if-not-begins.false) (whole_taken l w) c.position-at.ensures (whole_key l w)
+
+pub text_since-requires : goal.text_since-requires
+text_since-requires g c =
+    let l = lens_of g.world g.met.S.CharStream in
+    let old = c.args.stream.now in
+    let text = (l.view old).rest in
+    let t = word_after l c.key_again.ensures c.skip_class.ensures in
+    ((l.view old).passed, front in_word text, sym (ap (λ v. v.passed) (seen_after l.view l.at l.view_at l.at_at old c.skip_class.new.stream (front in_word text) (after in_word text) t)), c.position-at.ensures)
 
 pub key-requires : goal.key-requires
 key-requires g c =

@@ -1,5 +1,4 @@
 use Rattle.std.proofs.Common.{[], ◌∷◌, ◌++◌, ap, refl, ◌∙◌, Ok, Err}
-use Rattle.irtext_tokens.proofs.Exits.{propagated}
 use Rattle.irtext_tokens.specs.AttrTexts.{attr_at}
 use Rattle.irtext_parse_spec.specs.Heads.{pair_at}
 use Rattle.irtext_parse_pieces.specs.Entries.{IsEntry, AreEntries}
@@ -13,24 +12,24 @@ pub loop-stream-init : goal.loop-stream-init
 loop-stream-init g c = λ entry means fine.
     listing_starts (lens_of g.world g.met.S.CharStream) (pair_at (attr_at g.A.IrText.reading)) entry c.args.first c.args.stream.now (c.in-Ok.ensures.items ∙ ap (λ z. z ++ c.args.first ∷ []) c.new-found.ensures.items) fine means
 
-pub returns-in_err-next : goal.returns-in_err-next
-returns-in_err-next g c = λ entry means fine.
+pub returns-in-Err : goal.returns-in-Err
+returns-in-Err g c = λ entry means fine.
     let l = lens_of g.world g.met.S.CharStream in
-    rw (propagated c.from_residual.result c.from_residual.ensures.1)
+    rw c.failed.ensures
     (turn_refused l (pair_at (attr_at g.A.IrText.reading)) c.loop-stream-test.ensures (c.loop-stream.invariant entry means fine)
-    (insisted_mean l c.entry_parse-answer.result (Err _) c.entry_parse-answer.ensures c.in_err-next.ensures))
+    (insisted_mean l c.entry_parse-answer.result (Err _) c.entry_parse-answer.ensures c.in-Err.ensures))
 
 pub loop-stream-preserved : goal.loop-stream-preserved
 loop-stream-preserved g c = λ entry means fine.
     let l = lens_of g.world g.met.S.CharStream in
-    let m = insisted_mean l c.entry_parse-answer.result (Ok c.in_ok-next.next) c.entry_parse-answer.ensures c.in_ok-next.ensures in
+    let m = insisted_mean l c.entry_parse-answer.result (Ok c.in-Ok-committed.next) c.entry_parse-answer.ensures c.in-Ok-committed.ensures in
     turn_keeps {A = g.row.A.Denot} l (pair_at (attr_at g.A.IrText.reading)) c.loop-stream-test.ensures IsEntry IsEntry (λ y x k. k) m (c.loop-stream.invariant entry means fine)
     (record { mid = _; spaced = c.skip_white_space.ensures; appended = (c.in-Ok-push.ensures.items, refl) })
 
 pub loop-stream-smaller : goal.loop-stream-smaller
 loop-stream-smaller g c =
     let l = lens_of g.world g.met.S.CharStream in
-    let m = insisted_mean l c.entry_parse-answer.result (Ok c.in_ok-next.next) c.entry_parse-answer.ensures c.in_ok-next.ensures in
+    let m = insisted_mean l c.entry_parse-answer.result (Ok c.in-Ok-committed.next) c.entry_parse-answer.ensures c.in-Ok-committed.ensures in
     let test = c.loop-stream-test.ensures in
     item_falls l (pair_at (attr_at g.A.IrText.reading)) {A = g.row.A.Denot} test.comes test.taken test.spaced m.read c.skip_white_space.ensures
 
@@ -45,7 +44,7 @@ returns-in_default g c = λ entry means fine.
 pub returns-in_default-push : goal.returns-in_default-push
 returns-in_default-push g c = λ entry means fine.
     let l = lens_of g.world g.met.S.CharStream in
-    let m = insisted_mean l c.entry_parse-answer.result (Ok c.in_ok-next.next) c.entry_parse-answer.ensures c.in_ok-next.ensures in
+    let m = insisted_mean l c.entry_parse-answer.result (Ok c.in-Ok-committed.next) c.entry_parse-answer.ensures c.in-Ok-committed.ensures in
     turn_ran_out l (pair_at (attr_at g.A.IrText.reading)) c.loop-stream-test.ensures IsEntry IsEntry (λ y x k. k) m (c.loop-stream.invariant entry means fine)
     (record { mid = _; spaced = c.skip_white_space.ensures; appended = c.out_of_memory-in_default-push.ensures })
 

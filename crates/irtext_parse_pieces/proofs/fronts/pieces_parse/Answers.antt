@@ -1,6 +1,5 @@
-use Rattle.std.proofs.Common.{◌≡◌, ◌∙◌, ◌+◌, ◌<◌, ◌^◌, Some, None, slice_get, drop, length, suc, ap, sym, subst, arith}
+use Rattle.std.proofs.Common.{◌≡◌, ◌∙◌, Some, None, slice_get, drop, length, suc, ap, sym, subst, arith}
 use Rattle.irtext_tokens.specs.AttrTexts.{attr_at}
-use Rattle.irtext_tokens.proofs.Exits.{propagated}
 use Rattle.irtext_parse_pieces.proofs.Meanings.{names_none, names_more}
 use Rattle.irtext_parse_pieces.proofs.FormatSteps.{Counts, next_left, none_left, count_none, count_all, count_more, fewer_left, left_more, front_over, front_ended}
 use Rattle.irtext_parse_pieces.proofs.FrontSteps.{Fronting, front_begins, front_more, front_refused, front_ends}
@@ -37,54 +36,17 @@ returns-then-not-reads_piece-clause-count g c =
     let over = front_ended (drop n steps) (drop (suc n) steps) step (next_left steps n step there) (sym c.reads_piece.ensures ∙ c.if-not-reads_piece.true) in
     count_all steps (drop n steps) n over c.loop-step.invariant.1
 
-pub word_found-requires : goal.word_found-requires
-word_found-requires g c = rw c.len.ensures at c.in-Some.ensures.fits
-
-pub loop-step-preserved-then-word_found : goal.loop-step-preserved-then-word_found
-loop-step-preserved-then-word_found g c =
-    let l = lens_of g.world g.met.S.CharStream in
-    let steps = custom_steps c.args.directives.now in
-    let step = seen_step c.in-Some.step in
-    let found = c.loop-step.found in
-    let new = c.word_found.new in
-    let names = c.loop-step.names in
-    let read = c.if-word_found.ensures names.names c.args.inside in
-    let n = length found in
-    let there : slice_get steps n ≡ Some step = rw c.len.ensures at (sym c.in-Some.ensures.step) in
-    let flat = sym c.reads_piece.ensures ∙ c.if-not-reads_piece.false in (
-      c.loop-step.invariant.0,
-      subst (λ z. Counts (length z) steps (drop (length z) steps)) (sym read.means.1) (count_more steps found read.means.0 step there flat c.loop-step.invariant.1),
-      λ fine.
-          subst (λ left. Fronting l g.T.IrText.reading (attr_at g.A.IrText.reading) c.args.inside names.names steps left c.args.stream.now new.stream new.found)
-          (left_more steps found read.means.0 ∙ ap (λ z. drop (length z) steps) (sym read.means.1))
-          (front_more l g.T.IrText.reading (attr_at g.A.IrText.reading) c.args.inside (drop (suc n) steps) step names.names (next_left steps n step there) flat (c.loop-step.invariant.2 fine) c.skip_white_space.ensures (names_none names).kept read),
-    )
-
-pub loop-step-smaller-then-word_found : goal.loop-step-smaller-then-word_found
-loop-step-smaller-then-word_found g c =
-    let steps = custom_steps c.args.directives.now in
-    let step = seen_step c.in-Some.step in
-    let there : slice_get steps (length c.loop-step.found) ≡ Some step = rw c.len.ensures at (sym c.in-Some.ensures.step) in
-    let read = c.if-word_found.ensures c.loop-step.names.names c.args.inside in
-    let fewer = fewer_left steps c.loop-step.found read.means.0 step there _ read.means.1 in
-    omega (arith, fewer)
-
-pub step_found-requires : goal.step_found-requires
-step_found-requires g c = subst (λ z. length z + 1 < 2 ^ 64) (sym c.if-word_found.ensures.1) (rw c.len.ensures at c.in-Some.ensures.fits)
-
-pub returns-in_err-step_found-clause-read : goal.returns-in_err-step_found-clause-read
-returns-in_err-step_found-clause-read g c = λ fine.
+pub returns-in-Err-clause-read : goal.returns-in-Err-clause-read
+returns-in-Err-clause-read g c = λ fine.
     let steps = custom_steps c.args.directives.now in
     let step = seen_step c.in-Some.step in
     let n = length c.loop-step.found in
     let there : slice_get steps n ≡ Some step = rw c.len.ensures at (sym c.in-Some.ensures.step) in
-    let read0 = rw c.if-word_found.ensures.0 at c.in_err-step_found.ensures.read in
-    let read = rw c.if-word_found.ensures.1 at read0 in
-    rw (propagated c.from_residual.result c.from_residual.ensures.1)
-    (front_refused (lens_of g.world g.met.S.CharStream) g.T.IrText.reading (attr_at g.A.IrText.reading) c.args.inside (drop (suc n) steps) step (next_left steps n step there) (sym c.reads_piece.ensures ∙ c.if-not-reads_piece.false) (c.loop-step.invariant.2 fine) c.skip_white_space.ensures read)
+    rw c.failed.ensures
+    (front_refused (lens_of g.world g.met.S.CharStream) g.T.IrText.reading (attr_at g.A.IrText.reading) c.args.inside (drop (suc n) steps) step (next_left steps n step there) (sym c.reads_piece.ensures ∙ c.if-not-reads_piece.false) (c.loop-step.invariant.2 fine) c.skip_white_space.ensures c.in-Err.ensures.read)
 
-pub returns-in_err-step_found-clause-names : goal.returns-in_err-step_found-clause-names
-returns-in_err-step_found-clause-names g c = names_more _ _ _ c.loop-step.invariant.0 c.in_err-step_found.ensures.names
+pub returns-in-Err-clause-names : goal.returns-in-Err-clause-names
+returns-in-Err-clause-names g c = names_more _ _ _ c.loop-step.invariant.0 c.in-Err.ensures.names
 
 pub loop-step-preserved : goal.loop-step-preserved
 loop-step-preserved g c =
@@ -92,19 +54,18 @@ loop-step-preserved g c =
     let steps = custom_steps c.args.directives.now in
     let step = seen_step c.in-Some.step in
     let found = c.loop-step.found in
-    let new = c.step_found.new in
-    let read0 = rw c.if-word_found.ensures.0 at c.in_ok-step_found.ensures.read in
-    let read = rw c.if-word_found.ensures.1 at read0 in
+    let new = c.piece_found.new in
+    let read = c.in_default-piece_found.ensures.read in
     let n = length found in
     let names = new.names.names in
     let there : slice_get steps n ≡ Some step = rw c.len.ensures at (sym c.in-Some.ensures.step) in
     let flat = sym c.reads_piece.ensures ∙ c.if-not-reads_piece.false in (
-      names_more _ _ _ c.loop-step.invariant.0 c.in_ok-step_found.ensures.names,
+      names_more _ _ _ c.loop-step.invariant.0 c.in_default-piece_found.ensures.names,
       subst (λ z. Counts (length z) steps (drop (length z) steps)) (sym read.means.1) (count_more steps found read.means.0 step there flat c.loop-step.invariant.1),
       λ fine.
           subst (λ left. Fronting l g.T.IrText.reading (attr_at g.A.IrText.reading) c.args.inside names steps left c.args.stream.now new.stream new.found)
           (left_more steps found read.means.0 ∙ ap (λ z. drop (length z) steps) (sym read.means.1))
-          (front_more l g.T.IrText.reading (attr_at g.A.IrText.reading) c.args.inside (drop (suc n) steps) step names (next_left steps n step there) flat (c.loop-step.invariant.2 fine) c.skip_white_space.ensures c.in_ok-step_found.ensures.names.kept read),
+          (front_more l g.T.IrText.reading (attr_at g.A.IrText.reading) c.args.inside (drop (suc n) steps) step names (next_left steps n step there) flat (c.loop-step.invariant.2 fine) c.skip_white_space.ensures c.in_default-piece_found.ensures.names.kept read),
     )
 
 pub loop-step-smaller : goal.loop-step-smaller
@@ -112,7 +73,7 @@ loop-step-smaller g c =
     let steps = custom_steps c.args.directives.now in
     let step = seen_step c.in-Some.step in
     let there : slice_get steps (length c.loop-step.found) ≡ Some step = rw c.len.ensures at (sym c.in-Some.ensures.step) in
-    let read = rw c.if-word_found.ensures.1 at c.in_ok-step_found.ensures.read in
+    let read = c.in_default-piece_found.ensures.read in
     let fewer = fewer_left steps c.loop-step.found read.means.0 step there _ read.means.1 in
     omega (arith, fewer)
 

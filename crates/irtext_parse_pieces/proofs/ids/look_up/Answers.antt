@@ -2,13 +2,58 @@ use Rattle.std.proofs.Common.{◌≡◌, sym, ◌∙◌, ap, subst}
 use Rattle.std.specs.Prelude.{IfSome}
 use Rattle.irtext_base.specs.Text.{front, after, in_word}
 use Rattle.irtext_base.specs.declared.base.identifier.OpId.{OpId}
-use Rattle.irtext_base.proofs.Compose.{seen_after}
+use Rattle.irtext_base.proofs.Compose.{seen_after, takes_same_stream}
 use Rattle.irtext_context.specs.Named.{id_of_texts}
 use Rattle.irtext_tokens.proofs.Words.{encodes-front_word, taken_since}
-use Rattle.irtext_parse_spec.proofs.Readers.Steps.{Lens, lens}
-use Rattle.irtext_parse_pieces.proofs.Leads.{dotted, dotted_same_stream, word_same_stream, found_there}
+use Rattle.irtext_parse_pieces.proofs.Leads.{dotted, unmoved_same_stream, dotted_same_stream, word_same_stream, found_there}
 use Rattle.irtext_parse_pieces.proofs.Lenses.{lens_of}
 use Rattle.irtext_parse_pieces.proofs.ids.look_up.Goals as goal
+
+pub returns-then-not-skip_identifier-clause-read : goal.returns-then-not-skip_identifier-clause-read
+returns-then-not-skip_identifier-clause-read g c = tt
+
+pub returns-then-not-skip_identifier-clause-known : goal.returns-then-not-skip_identifier-clause-known
+returns-then-not-skip_identifier-clause-known g c = tt
+
+pub returns-then-not-skip_identifier-clause-same_stream : goal.returns-then-not-skip_identifier-clause-same_stream
+returns-then-not-skip_identifier-clause-same_stream g c = unmoved_same_stream (lens_of g.world g.met.S.CharStream) c.if-not-skip_identifier.ensures
+
+pub text_since-requires : goal.text_since-requires
+text_since-requires g c =
+    let l = lens_of g.world g.met.S.CharStream in
+    let old = c.args.stream.now in
+    let text = (l.view old).rest in
+    ((l.view old).passed, front in_word text, sym (ap (λ v. v.passed) (seen_after l.view l.at l.view_at l.at_at old c.skip_identifier.new.stream (front in_word text) (after in_word text) c.if-not-skip_identifier.ensures.1)), c.position-place.ensures)
+
+pub returns-in_err-dialect-clause-read : goal.returns-in_err-dialect-clause-read
+returns-in_err-dialect-clause-read g c = rw c.from_residual.ensures tt
+
+pub returns-in_err-dialect-clause-known : goal.returns-in_err-dialect-clause-known
+returns-in_err-dialect-clause-known g c = rw c.from_residual.ensures tt
+
+pub returns-in_err-dialect-clause-same_stream : goal.returns-in_err-dialect-clause-same_stream
+returns-in_err-dialect-clause-same_stream g c =
+    let l = lens_of g.world g.met.S.CharStream in
+    let old = c.args.stream.now in
+    takes_same_stream l.view l.at l.view_at l.at_at old c.skip_identifier.new.stream _ _ c.if-not-skip_identifier.ensures.1
+
+pub returns-then-not-next_is-clause-read : goal.returns-then-not-next_is-clause-read
+returns-then-not-next_is-clause-read g c = tt
+
+pub returns-then-not-next_is-clause-known : goal.returns-then-not-next_is-clause-known
+returns-then-not-next_is-clause-known g c = tt
+
+pub returns-then-not-next_is-clause-same_stream : goal.returns-then-not-next_is-clause-same_stream
+returns-then-not-next_is-clause-same_stream g c =
+    let l = lens_of g.world g.met.S.CharStream in
+    let old = c.args.stream.now in
+    takes_same_stream l.view l.at l.view_at l.at_at old c.skip_identifier.new.stream _ _ c.if-not-skip_identifier.ensures.1
+
+pub returns-then-not-skip_identifier-2-clause-read : goal.returns-then-not-skip_identifier-2-clause-read
+returns-then-not-skip_identifier-2-clause-read g c = tt
+
+pub returns-then-not-skip_identifier-2-clause-known : goal.returns-then-not-skip_identifier-2-clause-known
+returns-then-not-skip_identifier-2-clause-known g c = tt
 
 pub returns-then-not-skip_identifier-2-clause-same_stream : goal.returns-then-not-skip_identifier-2-clause-same_stream
 returns-then-not-skip_identifier-2-clause-same_stream g c =

@@ -10,17 +10,17 @@ use Rattle.irtext_parse_pieces.proofs.lists.more_names.Goals as goal
 pub loop-kind-init : goal.loop-kind-init
 loop-kind-init g c = (names_none c.args.names.now, λ name means fine. listing_starts (lens_of g.world g.met.S.CharStream) (named_at c.args.kind c.args.inside) name c.args.first c.args.stream.now c.one-found.ensures fine means)
 
-pub returns-in_err-next-clause-read : goal.returns-in_err-next-clause-read
-returns-in_err-next-clause-read g c = λ name means fine.
+pub returns-in-Err-clause-read : goal.returns-in-Err-clause-read
+returns-in-Err-clause-read g c = λ name means fine.
     let l = lens_of g.world g.met.S.CharStream in
-    let m = insisted_mean l c.named_parse-answer.result (Err _) c.named_parse-answer.ensures.read c.in_err-next.ensures in
-    rw (propagated c.from_residual.result c.from_residual.ensures.1) (turn_refused l (named_at c.args.kind c.args.inside) c.loop-kind-test.ensures (c.loop-kind.invariant.1 name means fine) m)
+    let m = insisted_mean l c.named_parse-answer.result (Err _) c.named_parse-answer.ensures.read c.in-Err.ensures in
+    rw c.failed.ensures (turn_refused l (named_at c.args.kind c.args.inside) c.loop-kind-test.ensures (c.loop-kind.invariant.1 name means fine) m)
 
 pub returns-in_err-found : goal.returns-in_err-found
 returns-in_err-found g c = record {
   read = λ name means fine.
-      let m = insisted_mean (lens_of g.world g.met.S.CharStream) c.named_parse-answer.result (Ok c.in_ok-next.next) c.named_parse-answer.ensures.read c.in_ok-next.ensures in
-      rw (propagated c.from_residual-in_err-found.result c.from_residual-in_err-found.ensures.1)
+      let m = insisted_mean (lens_of g.world g.met.S.CharStream) c.named_parse-answer.result (Ok c.in-Ok.next) c.named_parse-answer.ensures.read c.in-Ok.ensures in
+      rw (propagated c.from_residual.result c.from_residual.ensures.1)
       (turn_ran_out (lens_of g.world g.met.S.CharStream) (named_at c.args.kind c.args.inside) c.loop-kind-test.ensures (Represents c.loop-kind.names.names) (Represents c.named_parse-answer.new.names.names) (names_still_represent c.named_parse-answer.ensures.names) m (c.loop-kind.invariant.1 name means fine) c.in_err-found.ensures);
   names = names_more _ _ _ c.loop-kind.invariant.0 c.named_parse-answer.ensures.names;
 }
@@ -29,16 +29,22 @@ pub loop-kind-preserved : goal.loop-kind-preserved
 loop-kind-preserved g c = (
   names_more _ _ _ c.loop-kind.invariant.0 c.named_parse-answer.ensures.names,
   λ name means fine.
-      turn_keeps (lens_of g.world g.met.S.CharStream) (named_at c.args.kind c.args.inside) c.loop-kind-test.ensures (Represents c.loop-kind.names.names) (Represents c.named_parse-answer.new.names.names) (names_still_represent c.named_parse-answer.ensures.names) (insisted_mean (lens_of g.world g.met.S.CharStream) c.named_parse-answer.result (Ok c.in_ok-next.next) c.named_parse-answer.ensures.read c.in_ok-next.ensures) (c.loop-kind.invariant.1 name means fine) c.in_ok-found.ensures,
+      turn_keeps (lens_of g.world g.met.S.CharStream) (named_at c.args.kind c.args.inside) c.loop-kind-test.ensures (Represents c.loop-kind.names.names) (Represents c.named_parse-answer.new.names.names) (names_still_represent c.named_parse-answer.ensures.names) (insisted_mean (lens_of g.world g.met.S.CharStream) c.named_parse-answer.result (Ok c.in-Ok.next) c.named_parse-answer.ensures.read c.in-Ok.ensures) (c.loop-kind.invariant.1 name means fine) c.in_ok-found.ensures,
 )
 
 pub loop-kind-smaller : goal.loop-kind-smaller
 loop-kind-smaller g c =
     let l = lens_of g.world g.met.S.CharStream in
-    turn_falls l (named_at c.args.kind c.args.inside) c.loop-kind-test.ensures (insisted_mean l c.named_parse-answer.result (Ok c.in_ok-next.next) c.named_parse-answer.ensures.read c.in_ok-next.ensures) c.in_ok-found.ensures
+    turn_falls l (named_at c.args.kind c.args.inside) c.loop-kind-test.ensures (insisted_mean l c.named_parse-answer.result (Ok c.in-Ok.next) c.named_parse-answer.ensures.read c.in-Ok.ensures) c.in_ok-found.ensures
 
 pub returns-clause-read : goal.returns-clause-read
 returns-clause-read g c = λ name means fine.
     let l = lens_of g.world g.met.S.CharStream in
     let p = c.loop-kind.invariant.1 name means fine in
     turn_ends l (named_at c.args.kind c.args.inside) (Each (Represents c.loop-kind.names.names (whole (l.view c.args.stream.now)))) c.loop-kind.found c.loop-kind-test.ensures p p.each
+
+pub returns-in-Err-clause-names : goal.returns-in-Err-clause-names
+returns-in-Err-clause-names g c = names_more _ _ _ c.loop-kind.invariant.0 c.named_parse-answer.ensures.names
+
+pub returns-clause-names : goal.returns-clause-names
+returns-clause-names g c = c.loop-kind.invariant.0

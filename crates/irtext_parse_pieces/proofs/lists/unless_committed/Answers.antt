@@ -1,8 +1,8 @@
-use Rattle.std.proofs.Common.{refl}
+use Rattle.std.proofs.Common.{refl, sym, ◌∙◌}
 use Rattle.irtext_parse_pieces.proofs.lists.unless_committed.Goals as goal
 
-pub returns-then-fault : goal.returns-then-fault
-returns-then-fault g c = rw c.if-fault.true refl
+pub returns-then-is_committed : goal.returns-then-is_committed
+returns-then-is_committed g c = rw (sym c.is_committed.ensures ∙ c.if-is_committed.true) refl
 
 pub returns : goal.returns
-returns g c = rw c.if-fault.false refl
+returns g c = rw (sym c.is_committed.ensures ∙ c.if-is_committed.false) refl

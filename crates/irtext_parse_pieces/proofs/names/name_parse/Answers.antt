@@ -1,11 +1,19 @@
 use Rattle.std.proofs.Common.{sym, ◌∙◌, ap, subst, Some}
 use Rattle.irtext_base.specs.Text.{front, after, in_word, is_identifier}
+use Rattle.irtext_base.proofs.Compose.{seen_after}
 use Rattle.irtext_tokens.proofs.Words.{encodes-front_word, is_identifier-front, taken_since}
 use Rattle.irtext_parse_pieces.proofs.Interned.{words_with}
 use Rattle.irtext_parse_pieces.specs.Named.{AreWords}
 use Rattle.irtext_parse_pieces.proofs.NameSteps.{unstored, name_there}
 use Rattle.irtext_parse_pieces.proofs.Lenses.{lens_of}
 use Rattle.irtext_parse_pieces.proofs.names.name_parse.Goals as goal
+
+pub text_since-requires : goal.text_since-requires
+text_since-requires g c =
+    let l = lens_of g.world g.met.S.CharStream in
+    let old = c.args.stream.now in
+    let text = (l.view old).rest in
+    ((l.view old).passed, front in_word text, sym (ap (λ v. v.passed) (seen_after l.view l.at l.view_at l.at_at old c.skip_class.new.stream (front in_word text) (after in_word text) c.skip_class.ensures)), c.position-at.ensures)
 
 pub returns-in-Ok : goal.returns-in-Ok
 returns-in-Ok g c =

@@ -1,7 +1,10 @@
-use Rattle.std.proofs.Common.{◌++◌, ◌∷◌, ◌+◌, [], sym, ◌∙◌, ap}
+use Rattle.std.proofs.Common.{◌++◌, ◌∷◌, ◌+◌, [], length, sym, ◌∙◌, ap}
 use Rattle.irtext_parse_pieces.specs.Found.{with_words}
 use Rattle.irtext_parse_pieces.proofs.Founds.{piece_more, one_longer}
 use Rattle.irtext_parse_pieces.proofs.found.CustomPieces.push.Goals as goal
+
+pub invariant_of-self : goal.invariant_of-self
+invariant_of-self g c = c.self.invariant ∙ ap (λ l. length (with_words l c.self.inside.words)) (sym c.in_err-push_roomy.ensures.err)
 
 pub invariant_of-self-2 : goal.invariant_of-self-2
 invariant_of-self-2 g c =
