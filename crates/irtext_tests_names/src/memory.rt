@@ -3,12 +3,9 @@ ghost use Rattle.irtext_names.specs.Tied.{MatchesGraph};
 
 use crate::steps::{Names, Tested, defines, labels};
 use irtext_graph::arena::Ptr;
-use irtext_graph::graph::Graph;
 use irtext_graph::object::{BasicBlock, Value};
-use irtext_names::regions::{enter_region, exit_region, no_names};
+use irtext_names::regions::{enter_region, exit_region};
 use irtext_names::uses::use_name;
-use std::alloc::Global;
-use std::test::Fail;
 
 /// The observable state of a name and of the graph: what the name refers to as a value and as a label, and the number of objects.
 type Seen = (Option<Value>, Option<Ptr<BasicBlock>>, u64);
@@ -110,35 +107,35 @@ fn enters(names: &mut Names, graph: &Tested, isolated: bool) -> bool
 }
 
 /// Whether everything succeeds in the end if one allocation fails: early uses, their definitions, and definitions of new names.
-fn accepts_all(names: &mut Names, graph: &mut Tested) -> Option<bool>
+pub(crate) fn accepts_all(names: &mut Names, graph: &mut Tested) -> Option<bool>
     requires { MatchesGraph names.old.values names.old.labels graph.old }
 {
-    let entered = enters(names, graph, true) && enters(names, graph, false);
+    let entered = enters(names, graph, true) & enters(names, graph, false);
     let x = known(names, graph, "x")?;
     let y = known(names, graph, "y")?;
-    let used = uses_name(names, graph, x, Sort::Value) && uses_name(names, graph, x, Sort::Label);
+    let used = uses_name(names, graph, x, Sort::Value) & uses_name(names, graph, x, Sort::Label);
     let defined = defines_name(names, graph, x, Sort::Value)
-        && defines_name(names, graph, x, Sort::Label);
+        & defines_name(names, graph, x, Sort::Label);
     let new = defines_name(names, graph, y, Sort::Value)
-        && defines_name(names, graph, y, Sort::Label);
+        & defines_name(names, graph, y, Sort::Label);
     let inner = exit_region(names, graph, false).is_none();
     let outer = exit_region(names, graph, true).is_none();
-    Some(entered && used && defined && new && inner && outer)
+    Some(entered & used & defined & new & inner & outer)
 }
 
 /// No number of a value is left: a new name fails, and a label does not, since its placeholder takes no number.
-fn numbers_end(names: &mut Names, graph: &mut Tested) -> Option<bool>
+pub(crate) fn numbers_end(names: &mut Names, graph: &mut Tested) -> Option<bool>
     requires { MatchesGraph names.old.values names.old.labels graph.old }
 {
     enter_region(names, graph, true).ok()?;
     let x = names.intern("x").ok()?;
-    let refused = refuses(names, graph, x, Sort::Value) && refuses(names, graph, x, Sort::Value);
+    let refused = refuses(names, graph, x, Sort::Value) & refuses(names, graph, x, Sort::Value);
     let label = is_used(names, graph, x, Sort::Label);
-    Some(refused && label && graph.num_live() == 1 && graph.made() == 1)
+    Some(refused & label & (graph.num_live() == 1) & (graph.made() == 1))
 }
 
 /// One place for a block is left: the second label fails, and the first one is still known.
-fn places_end(names: &mut Names, graph: &mut Tested) -> Option<bool>
+pub(crate) fn places_end(names: &mut Names, graph: &mut Tested) -> Option<bool>
     requires { MatchesGraph names.old.values names.old.labels graph.old }
 {
     enter_region(names, graph, true).ok()?;
@@ -147,34 +144,6 @@ fn places_end(names: &mut Names, graph: &mut Tested) -> Option<bool>
     let first = is_used(names, graph, a, Sort::Label);
     let second = refuses(names, graph, b, Sort::Label);
     let again = is_used(names, graph, a, Sort::Label);
-    Some(first && second && again && exit_region(names, graph, true) == Some(a))
-}
-
-/// The result of the first check with an empty graph.
-fn with_memory(alloc: Global) -> Option<bool> {
-    let mut graph = Graph::new(alloc);
-    let mut names = no_names(alloc, &graph);
-    accepts_all(&mut names, &mut graph)
-}
-
-/// The result of the second with a graph that has no number left.
-fn without_numbers(alloc: Global) -> Option<bool> {
-    let mut graph = Graph::with_counters(alloc, u64::MAX, 1);
-    let mut names = no_names(alloc, &graph);
-    numbers_end(&mut names, &mut graph)
-}
-
-/// The result of the third with a graph that has one place left.
-fn without_places(alloc: Global) -> Option<bool> {
-    let mut graph = Graph::with_counters(alloc, 0, u32::MAX - 1);
-    let mut names = no_names(alloc, &graph);
-    places_end(&mut names, &mut graph)
-}
-
-#[test]
-fn memory_numbers_and_places_are_used_up(rt: HostRuntime) -> Result<(), Fail> {
-    assert!(rt; with_memory(rt.alloc()) == Some(true));
-    assert!(rt; without_numbers(rt.alloc()) == Some(true));
-    assert!(rt; without_places(rt.alloc()) == Some(true));
-    Ok(())
+    let left = exit_region(names, graph, true) == Some(a);
+    Some(first & second & again & left)
 }

@@ -5,14 +5,12 @@ ghost use Rattle.irtext_names.specs.Tied.{MatchesGraph};
 use crate::steps::{Names, Tested};
 use irtext_few::Few;
 use irtext_graph::arena::Ptr;
-use irtext_graph::graph::Graph;
 use irtext_graph::object::{BasicBlock, Operation, Value};
 use irtext_names::definitions::process_parsed_ssa_defs;
 use irtext_names::named::Named;
-use irtext_names::regions::{enter_region, no_names};
+use irtext_names::regions::enter_region;
 use irtext_names::uses::use_names;
 use std::alloc::{AllocError, Global};
-use std::test::Fail;
 
 /// A name given by its number alone.
 #[derive(Clone, Copy)]
@@ -73,7 +71,11 @@ fn defined(
 
 /// Whether two names that are used, defined and used again refer to the results of one operation, and a third definition in the row
 /// fails.
-fn goes_in_rows(names: &mut Names, graph: &mut Tested, alloc: Global) -> Result<bool, AllocError>
+pub(crate) fn goes_in_rows(
+    names: &mut Names,
+    graph: &mut Tested,
+    alloc: Global,
+) -> Result<bool, AllocError>
     requires tied { MatchesGraph names.old.values names.old.labels graph.old }
 {
     let first = names.intern("a")?;
@@ -88,15 +90,5 @@ fn goes_in_rows(names: &mut Names, graph: &mut Tested, alloc: Global) -> Result<
     let late = used(names, graph, alloc, first, second)?;
     let twice = defined(names, graph, second, first).is_none();
     let results = [Value::Result(op, 0), Value::Result(op, 1)];
-    Ok(early.len() == 2 && early[..] != results[..] && late[..] == results[..] && twice)
-}
-
-#[test]
-fn two_names_in_a_row(rt: HostRuntime) -> Result<(), Fail> {
-    let alloc = rt.alloc();
-    let mut graph = Graph::new(alloc);
-    let mut names = no_names(alloc, &graph);
-    let done = goes_in_rows(&mut names, &mut graph, alloc)?;
-    assert!(rt; done);
-    Ok(())
+    Ok(twice & (early.len() == 2) & (early[..] != results[..]) & (late[..] == results[..]))
 }

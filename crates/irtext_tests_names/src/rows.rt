@@ -10,7 +10,6 @@ use irtext_graph::object::Defined;
 use irtext_names::regions::no_names;
 use irtext_tests_common::calls::{Call, call_of};
 use std::alloc::{AllocError, Global};
-use std::test::Fail;
 
 // a value is used twice before its definition, and once after it: no placeholder is left
 const EARLY_USES: &str = "[ x x x= x ]";
@@ -121,10 +120,11 @@ fn works(alloc: Global, script: &str, values: &[Held], labels: &[Held], objects:
     let mut graph = Graph::new(alloc);
     let mut names = no_names(alloc, &graph);
     let mut made = Made::new(alloc);
-    answers(&mut names, &mut graph, &mut made, script).ok() == Some(true)
-        && holds_all(&graph, &made.values, values)
-        && holds_all(&graph, &made.labels, labels)
-        && graph.num_live() == objects
+    let answered = answers(&mut names, &mut graph, &mut made, script).unwrap_or(false);
+    answered
+        & holds_all(&graph, &made.values, values)
+        & holds_all(&graph, &made.labels, labels)
+        & (graph.num_live() == objects)
 }
 
 /// The number of the first value that was defined.
@@ -138,23 +138,25 @@ fn first_number(graph: &Tested, made: &Made) -> Option<u64> {
     Some(graph.number_of(*value))
 }
 
-/// The number of the first value that a script defines.
-fn first_number_of(alloc: Global, script: &str) -> Option<u64> {
-    let mut graph = Graph::new(alloc);
-    let mut names = no_names(alloc, &graph);
+/// Whether the first value that a script defines has the number 1 if it is used before: a placeholder takes a number.
+pub(crate) fn placeholder_is_numbered(
+    names: &mut Names,
+    graph: &mut Tested,
+    alloc: Global,
+) -> Result<bool, AllocError>
+    requires { MatchesGraph names.old.values names.old.labels graph.old }
+{
     let mut made = Made::new(alloc);
-    if answers(&mut names, &mut graph, &mut made, script).is_err() {
-        return None;
-    }
-    first_number(&graph, &made)
+    answers(names, graph, &mut made, EARLY_USES)?;
+    Ok(first_number(graph, &made) == Some(1))
 }
 
-#[test]
-fn scripts_have_their_results(rt: HostRuntime) -> Result<(), Fail> {
-    for row in WORKED {
-        assert!(rt; works(rt.alloc(), row.0, row.1, row.2, row.3), "{}", row.0);
+/// The number of the first script without its results.
+pub(crate) fn differing_script(alloc: Global) -> Option<usize> {
+    for (number, row) in WORKED.iter().enumerate() {
+        if !works(alloc, row.0, row.1, row.2, row.3) {
+            return Some(number);
+        }
     }
-    // a placeholder takes a number
-    assert!(rt; first_number_of(rt.alloc(), EARLY_USES) == Some(1));
-    Ok(())
+    None
 }

@@ -2,14 +2,11 @@
 ghost use Rattle.irtext_names.specs.Tied.{MatchesGraph};
 
 use crate::held::holds_all;
-use crate::model::Model;
-use crate::steps::{Made, Names, Tested, step};
-use irtext_graph::graph::Graph;
-use irtext_names::regions::no_names;
+use crate::model::{Model, Referred};
+use crate::steps::{Kind, Made, Names, Tested, step};
 use irtext_tests_common::calls::{Call, NAMES, next_call};
 use irtext_tests_common::random::Random;
 use std::alloc::{AllocError, Global};
-use std::test::Fail;
 
 // the number of calls, and then of regions that are left
 const CALLS: usize = 20000;
@@ -67,32 +64,27 @@ fn differing(
     Ok(None)
 }
 
+/// Whether each use of names of one kind holds what the model has.
+fn kind_alike(graph: &Tested, made: &Kind, model: &Referred) -> Result<bool, AllocError> {
+    let helds = model.helds()?;
+    Ok(holds_all(graph, made, &helds))
+}
+
 /// Whether each use holds what the model has, and there are no other objects.
 fn ends_alike(graph: &Tested, made: &Made, model: &Model) -> Result<bool, AllocError> {
-    let values = model.values.helds()?;
-    let labels = model.labels.helds()?;
-    let count = graph.num_live();
-    Ok(
-        !model.scopes.is_open()
-            && holds_all(graph, &made.values, &values)
-            && holds_all(graph, &made.labels, &labels)
-            && count == model.num_objects(),
-    )
+    let values = kind_alike(graph, &made.values, &model.values)?;
+    let labels = kind_alike(graph, &made.labels, &model.labels)?;
+    let same = graph.num_live() == model.num_objects();
+    Ok(values & labels & same & !model.scopes.is_open())
 }
 
 /// Whether a script has the results of its model up to its end.
-fn goes_alike(alloc: Global) -> bool {
-    let mut graph = Graph::new(alloc);
-    let mut names = no_names(alloc, &graph);
+pub(crate) fn goes_alike(names: &mut Names, graph: &mut Tested, alloc: Global) -> bool
+    requires { MatchesGraph names.old.values names.old.labels graph.old }
+{
     let mut made = Made::new(alloc);
     let mut model = Model::new(alloc);
-    differing(&mut names, &mut graph, &mut made, &mut model).ok() == Some(None)
-        && ends_alike(&graph, &made, &model).ok() == Some(true)
-}
-
-#[test]
-fn twenty_thousand_calls(rt: HostRuntime) -> Result<(), Fail> {
-    let done = goes_alike(rt.alloc());
-    assert!(rt; done);
-    Ok(())
+    let same = differing(names, graph, &mut made, &mut model).ok() == Some(None);
+    let ended = ends_alike(graph, &made, &model).unwrap_or(false);
+    same & ended
 }

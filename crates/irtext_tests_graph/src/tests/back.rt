@@ -7,13 +7,12 @@ ghost use Rattle.irtext_graph.specs.declared.object.Operation.{Operation};
 ghost use Rattle.irtext_graph.specs.declared.object.Region.{Region};
 ghost use Rattle.irtext_graph.specs.declared.object.Object.TheVariants.{TheOperation};
 
-use crate::tests::checks::{Numbers, holds};
+use crate::tests::checks::Numbers;
+use crate::tests::nesting::is_child_at;
 use irtext_few::Few;
 use irtext_graph::arena::Ptr;
-use irtext_graph::graph::Graph;
-use irtext_graph::object::{Object, Operation};
+use irtext_graph::object::{Object, Operation, Region};
 use std::alloc::AllocError;
-use std::test::Fail;
 
 /// The objects of each kind that were made, in that order: an operation, a block and a region.
 #[derive(Clone, Copy)]
@@ -47,17 +46,41 @@ fn one_is_live(graph: &Numbers, three: &Three) -> bool {
     graph.contains(three.operation) || graph.contains(three.block) || graph.contains(three.region)
 }
 
+/// Whether there are six objects, these three among them.
+fn has_six(graph: &Numbers, newer: &Three) -> bool {
+    graph.num_live() == 6 && all_are_live(graph, newer)
+}
+
+/// Whether the older three objects are the only ones.
+fn has_only(graph: &Numbers, older: &Three, newer: &Three) -> bool {
+    graph.num_live() == 3 && all_are_live(graph, older) && !one_is_live(graph, newer)
+}
+
+/// Makes the seventh object, and returns whether it is an operation at the second place, with the next generation there.
+fn goes_on(graph: &mut Numbers) -> Result<bool, AllocError> {
+    let again = graph.make_operation(3, Few::none(), &[], &[])?;
+    Ok(again.place() == 2 && again.generation() == 2 && graph.made() == 7)
+}
+
 /// Whether what was made after a mark is removed, older objects are live, and places are used again with their next generation.
-fn gives_back(graph: &mut Numbers) -> Result<bool, AllocError> {
+pub(crate) fn gives_back(graph: &mut Numbers) -> Result<bool, AllocError> {
     let older = makes_three(graph, 1)?;
     let mark = graph.made();
     let newer = makes_three(graph, 2)?;
-    let before = graph.num_live() == 6 && all_are_live(graph, &newer);
+    let before = has_six(graph, &newer);
     graph.roll_back(mark);
-    let gone = graph.num_live() == 3 && all_are_live(graph, &older) && !one_is_live(graph, &newer);
-    let again = graph.make_operation(3, Few::none(), &[], &[])?;
-    let places = again.place() == 2 && again.generation() == 2;
-    Ok(before && gone && places && graph.made() == 7)
+    let gone = has_only(graph, &older, &newer);
+    Ok(goes_on(graph)? & before & gone)
+}
+
+/// Whether an operation has two regions in this order, and there is no other object.
+fn has_two(graph: &Numbers, op: Ptr<Operation>, first: Ptr<Region>, second: Ptr<Region>) -> bool {
+    let module = Object::TheOperation(op);
+    graph.contains(module)
+        && graph.num_children(module) == 2
+        && is_child_at(graph, module, Object::TheRegion(first), 0)
+        && is_child_at(graph, module, Object::TheRegion(second), 1)
+        && graph.num_live() == 3
 }
 
 /// Adds two regions to the only object, an operation, and returns whether they are in it in the order in which they were added.
@@ -66,15 +89,9 @@ fn adds_two(graph: &mut Numbers, op: Ptr<Operation>) -> Result<bool, AllocError>
     ensures kept { (m : ℕ) → m ≤ graph.old.made → before m graph.old.operations op ≡ None
         → KeepsOlder m graph.old graph.new }
 {
-    let module = Object::TheOperation(op);
     let first = graph.add_region(op)?;
     let second = graph.add_region(op)?;
-    let two = graph.num_children(module) == 2
-        && graph.get_child(module, 0) == Object::TheRegion(first)
-        && graph.get_child(module, 1) == Object::TheRegion(second);
-    let in_it = graph.get_parent(Object::TheRegion(first)) == Some(module)
-        && graph.get_parent(Object::TheRegion(second)) == Some(module);
-    Ok(two && in_it && graph.num_live() == 3)
+    Ok(has_two(graph, op, first, second))
 }
 
 /// Makes an operation with two regions, and returns whether they are in it.
@@ -86,7 +103,7 @@ fn makes_with_two(graph: &mut Numbers) -> Result<bool, AllocError>
 }
 
 /// Whether an operation with two regions is made and rolled back.
-fn gives_regions_back(graph: &mut Numbers) -> Result<bool, AllocError>
+pub(crate) fn gives_regions_back(graph: &mut Numbers) -> Result<bool, AllocError>
     ensures operations { (p : Ptr Operation) → get graph.new.operations p ≡ get graph.old.operations p }
     ensures regions { (p : Ptr Region) → get graph.new.regions p ≡ get graph.old.regions p }
 {
@@ -94,11 +111,4 @@ fn gives_regions_back(graph: &mut Numbers) -> Result<bool, AllocError>
     let made = makes_with_two(graph);
     graph.roll_back(mark);
     made
-}
-
-#[test]
-fn what_is_newer_goes(rt: HostRuntime) -> Result<(), Fail> {
-    assert!(rt; holds(Graph::new(rt.alloc()), gives_back)?);
-    assert!(rt; holds(Graph::new(rt.alloc()), gives_regions_back)?);
-    Ok(())
 }

@@ -5,9 +5,9 @@ ghost use Rattle.irtext_graph.specs.Used.{IsDefined};
 use crate::tests::checks::Numbers;
 use crate::tests::model::{Item, Model};
 use crate::tests::nesting::is_child_at;
-use crate::tests::parts::{has_own, is_value, uses};
-use irtext_graph::object::{Defined, Object, Value};
-use irtext_tests_common::random::Random;
+use crate::tests::parts::{has_own, is_value};
+use crate::tests::random::Random;
+use irtext_graph::object::{Defined, Object, Site, Value};
 use std::alloc::AllocError;
 
 /// The type of the value of a number.
@@ -26,35 +26,68 @@ pub(crate) fn is_defined(graph: &Numbers, d: Defined) -> bool
 }
 
 /// Whether an object and its children are where the model has them.
-fn is_placed(graph: &Numbers, item: &Item) -> bool {
+fn is_placed(graph: &Numbers, model: &Model, item: &Item) -> bool {
     let o = item.object;
     if !graph.contains(o)
         || graph.get_parent(o) != item.parent
-        || graph.num_children(o) != item.children.len()
+        || graph.num_children(o) != model.num_children(o)
     {
         return false;
     }
-    for (i, c) in item.children.iter().enumerate() {
-        if !is_child_at(graph, o, *c, i) {
+    for c in &model.items {
+        if c.parent == Some(o) && !is_child_at(graph, o, c.object, model.index_of(c)) {
             return false;
         }
     }
     true
 }
 
-/// Whether an object has the parts that the model has.
-fn has_parts(graph: &Numbers, item: &Item) -> bool {
-    let parts = &item.parts;
-    let used = match item.object {
-        Object::TheOperation(p) => uses(graph, p, &parts.operands, &parts.successors),
-        Object::TheBlock(_) | Object::TheRegion(_) => true,
+/// What is used at a place, if the operation is live and has the place.
+fn used_at(graph: &Numbers, site: Site) -> Option<Defined> {
+    match site {
+        Site::AtOperand(p, i) => {
+            if !graph.contains(Object::TheOperation(p)) || i >= graph.num_operands(p) {
+                return None;
+            }
+            Some(Defined::OfValue(graph.get_operand(p, i)))
+        }
+        Site::AtSuccessor(p, i) => {
+            if !graph.contains(Object::TheOperation(p)) || i >= graph.num_successors(p) {
+                return None;
+            }
+            Some(Defined::OfBlock(graph.get_successor(p, i)))
+        }
+    }
+}
+
+/// How many operands and successors an object has.
+fn num_used(graph: &Numbers, o: Object) -> usize {
+    let Object::TheOperation(p) = o else {
+        return 0;
     };
-    used && has_own(graph, item.object, parts.value, parts.count)
+    if !graph.contains(Object::TheOperation(p)) {
+        return 0;
+    }
+    graph.num_operands(p).wrapping_add(graph.num_successors(p))
+}
+
+/// Whether an object has the operands and successors that the model has, and no others.
+fn uses_alike(graph: &Numbers, model: &Model, o: Object) -> bool {
+    let mut count: usize = 0;
+    for u in &model.uses {
+        if u.user == o {
+            count = count.wrapping_add(1);
+            if used_at(graph, u.site) != Some(u.used) {
+                return false;
+            }
+        }
+    }
+    num_used(graph, o) == count
 }
 
 /// Whether the results or the arguments of an object have their types and numbers.
 fn has_values(graph: &Numbers, item: &Item) -> bool {
-    for i in 0..item.parts.count {
+    for i in 0..item.count {
         let number = item.first.wrapping_add(i as u64);
         let alive = match item.object {
             Object::TheOperation(p) => is_value(
@@ -78,18 +111,9 @@ pub(crate) fn has_uses(graph: &Numbers, model: &Model, d: Defined) -> Result<boo
     if !is_defined(graph, d) {
         return Ok(false);
     }
-    let found = model.uses(d)?;
     let listed = graph.uses(d)?;
-    for u in &found {
-        if !listed.contains(u) {
-            return Ok(false);
-        }
-    }
-    Ok(
-        listed.len() == found.len()
-            && graph.num_uses(d) == found.len()
-            && graph.has_use(d) == !found.is_empty(),
-    )
+    let counted = graph.num_uses(d) == listed.len() && graph.has_use(d) == !listed.is_empty();
+    Ok(counted && model.has_uses(d, &listed))
 }
 
 /// Whether the graph allows what the model allows: that k is erased, and that c is put into k.
@@ -97,12 +121,18 @@ fn allows(graph: &Numbers, model: &Model, k: Object, c: Object) -> Result<bool, 
     if !graph.contains(k) || !graph.contains(c) {
         return Ok(false);
     }
-    let inside = model.inside(k)?;
-    Ok(
-        graph.is_inside(k, c) == inside.contains(&c)
-            && graph.can_erase(k) == model.can_erase(k)?
-            && graph.can_insert_at_back(k, c) == model.can_insert(k, c)?,
-    )
+    let nested = graph.is_inside(k, c) == model.is_inside(k, c)?;
+    let erased = graph.can_erase(k) == model.can_erase(k)?;
+    let put = graph.can_insert_at_back(k, c) == model.can_insert(k, c)?;
+    Ok(nested & erased & put)
+}
+
+/// Whether an object is the same in both.
+fn is_alike(graph: &Numbers, model: &Model, item: &Item) -> bool {
+    is_placed(graph, model, item)
+        && uses_alike(graph, model, item.object)
+        && has_own(graph, item.object, item.value, item.count)
+        && has_values(graph, item)
 }
 
 /// Whether both have as many objects, and made as many, and an object that was erased stays erased.
@@ -127,13 +157,10 @@ pub(crate) fn agree(
     let (Some(item), Some(other)) = (model.any(random), model.any(random)) else {
         return Ok(true);
     };
-    if !is_placed(graph, item) || !has_parts(graph, item) || !has_values(graph, item) {
-        return Ok(false);
-    }
-    if let Some(d) = model.any_defined(random) {
-        if !has_uses(graph, model, d)? {
-            return Ok(false);
-        }
-    }
-    allows(graph, model, item.object, other.object)
+    let alike = is_alike(graph, model, &item);
+    let used = match model.any_defined(random) {
+        Some(d) => has_uses(graph, model, d)?,
+        None => true,
+    };
+    Ok(allows(graph, model, item.object, other.object)? & alike & used)
 }

@@ -4,6 +4,8 @@ ghost use Rattle.irtext_graph.specs.Graph.{IsLive};
 ghost use Rattle.irtext_graph.specs.declared.object.Object.TheVariants.{TheOperation, TheBlock, TheRegion};
 
 use crate::tests::checks::Numbers;
+use crate::tests::results::uses_of_results;
+use crate::tests::used::uses_and_lists;
 use irtext_few::Few;
 use irtext_graph::arena::Ptr;
 use irtext_graph::graph::Graph;
@@ -41,20 +43,6 @@ impl HasGraph for Holder {
     fn graph_mut(&mut self) -> &mut Numbers {
         &mut self.graph
     }
-}
-
-/// Whether a check of an empty graph beside a number succeeds, and leaves the number.
-pub(crate) fn holds_held<F: FnOnce(&mut Holder) -> Result<bool, AllocError> + Drop>(
-    alloc: Global,
-    check: F,
-) -> Result<bool, AllocError>
-    requires { F.IsAlwaysCallable check }
-{
-    let mut holder = Holder {
-        graph: Graph::new(alloc),
-        number: 7,
-    };
-    Ok(check(&mut holder)? && holder.number == 7)
 }
 
 /// An operation, a region in it, a block in that, and an operation in the block.
@@ -155,8 +143,38 @@ fn goes_round(holder: &mut Holder) -> Result<bool, AllocError> {
     Ok(put && seen && apart)
 }
 
+/// A check of a holder.
+#[derive(Clone, Copy)]
+enum Check {
+    Pointers,
+    UsesAndLists,
+    UsesOfResults,
+}
+
+const CHECKS: &[Check] = &[Check::Pointers, Check::UsesAndLists, Check::UsesOfResults];
+
+/// The result of a check.
+fn result(holder: &mut Holder, check: Check) -> Result<bool, AllocError> {
+    match check {
+        Check::Pointers => goes_round(holder),
+        Check::UsesAndLists => uses_and_lists(holder),
+        Check::UsesOfResults => uses_of_results(holder),
+    }
+}
+
+/// Whether a check of an empty graph beside a number succeeds, and leaves the number.
+fn holds_held(alloc: Global, check: Check) -> bool {
+    let mut holder = Holder {
+        graph: Graph::new(alloc),
+        number: 7,
+    };
+    result(&mut holder, check).unwrap_or(false) & (holder.number == 7)
+}
+
 #[test]
-fn each_call_on_pointers_once(rt: HostRuntime) -> Result<(), Fail> {
-    assert!(rt; holds_held(rt.alloc(), goes_round)?);
+fn each_call_over_a_holder(rt: HostRuntime) -> Result<(), Fail> {
+    for check in CHECKS {
+        assert!(rt; holds_held(rt.alloc(), *check));
+    }
     Ok(())
 }

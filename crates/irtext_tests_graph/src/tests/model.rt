@@ -1,11 +1,11 @@
-//! A plain model of a graph: its objects in one vector, in the order in which they were made. Everything is found by searching
-//! it, and there are no lists of uses.
+//! A plain model of a graph: its objects in one vector, in the order in which they were made, and its uses in another. Everything is
+//! found by searching these two; objects have no lists of their children or of their uses.
+use crate::tests::random::Random;
 use irtext_graph::arena::Ptr;
 use irtext_graph::object::{BasicBlock, Defined, Object, Operation, Site, Value};
-use irtext_tests_common::random::Random;
 use std::alloc::{AllocError, Global};
 
-/// The parts of an object: its data, how many results or arguments it has, and what it uses. Parts that its kind does not have are
+/// What an object is made of: its data, how many results or arguments it has, and what it uses. Parts that its kind does not have are
 /// empty.
 #[derive(Drop)]
 pub(crate) struct Parts {
@@ -16,33 +16,46 @@ pub(crate) struct Parts {
 }
 
 /// An object in the model.
-#[derive(Drop)]
+#[derive(Clone, Copy)]
 pub(crate) struct Item {
     pub(crate) object: Object,
     // how many objects were made before it
     pub(crate) born: u64,
+    pub(crate) value: u32,
+    pub(crate) count: usize,
     // the number of its first result or argument
     pub(crate) first: u64,
     pub(crate) parent: Option<Object>,
-    pub(crate) children: Vec<Object>,
-    pub(crate) parts: Parts,
+    // how many objects were put into others before it was put into its parent
+    pub(crate) seat: u64,
 }
 
-/// The live objects, the erased ones, and how many objects and values were made.
+/// A use in the model.
+#[derive(Clone, Copy)]
+pub(crate) struct Use {
+    pub(crate) user: Object,
+    pub(crate) site: Site,
+    pub(crate) used: Defined,
+}
+
+/// The live objects, their uses, the erased objects, and how many objects and values were made and how many objects were put into others.
 #[derive(Drop)]
 pub(crate) struct Model {
     pub(crate) alloc: Global,
     pub(crate) items: Vec<Item>,
+    pub(crate) uses: Vec<Use>,
     pub(crate) gone: Vec<Object>,
     pub(crate) made: u64,
     pub(crate) values: u64,
+    pub(crate) seats: u64,
 }
 
-/// The operation or the block that defines a value.
-fn owner(v: Value) -> Object {
-    match v {
-        Value::Result(p, _) => Object::TheOperation(p),
-        Value::Argument(b, _) => Object::TheBlock(b),
+/// The operation or the block that defines something, or is it.
+fn owner(d: Defined) -> Object {
+    match d {
+        Defined::OfValue(Value::Result(p, _)) => Object::TheOperation(p),
+        Defined::OfValue(Value::Argument(b, _)) => Object::TheBlock(b),
+        Defined::OfBlock(b) => Object::TheBlock(b),
     }
 }
 
@@ -56,69 +69,17 @@ impl Parts {
             successors: Vec::new(alloc),
         }
     }
-
-    /// Whether an operand or a successor is of one of these objects.
-    fn uses_any(&self, owners: &[Object]) -> bool {
-        for v in &self.operands {
-            if owners.contains(&owner(*v)) {
-                return true;
-            }
-        }
-        for b in &self.successors {
-            if owners.contains(&Object::TheBlock(*b)) {
-                return true;
-            }
-        }
-        false
-    }
-
-    /// Makes each use of d one of e.
-    fn replace(&mut self, d: Defined, e: Defined) {
-        if let (Defined::OfValue(old), Defined::OfValue(new)) = (d, e) {
-            for v in self.operands.iter_mut() {
-                if *v == old {
-                    *v = new;
-                }
-            }
-        }
-        if let (Defined::OfBlock(old), Defined::OfBlock(new)) = (d, e) {
-            for b in self.successors.iter_mut() {
-                if *b == old {
-                    *b = new;
-                }
-            }
-        }
-    }
-
-    /// Appends the places at which an operation of these parts uses d.
-    fn note_uses(
-        &self,
-        p: Ptr<Operation>,
-        d: Defined,
-        uses: &mut Vec<Site>,
-    ) -> Result<(), AllocError> {
-        for (i, v) in self.operands.iter().enumerate() {
-            if Defined::OfValue(*v) == d {
-                uses.push(Site::AtOperand(p, i))?;
-            }
-        }
-        for (i, b) in self.successors.iter().enumerate() {
-            if Defined::OfBlock(*b) == d {
-                uses.push(Site::AtSuccessor(p, i))?;
-            }
-        }
-        Ok(())
-    }
 }
 
 impl Item {
     /// A value that the object defines, or the block that it is, if it defines any.
     fn defined(&self, random: &mut Random) -> Option<Defined> {
-        let count = self.parts.count;
-        let index = random.below(count);
+        let index = random.below(self.count);
         match self.object {
-            Object::TheOperation(p) if count > 0 => Some(Defined::OfValue(Value::Result(p, index))),
-            Object::TheBlock(b) if count > 0 && random.below(2) == 0 => Some(Defined::OfValue(
+            Object::TheOperation(p) if self.count > 0 => Some(Defined::OfValue(Value::Result(
+                p, index,
+            ))),
+            Object::TheBlock(b) if self.count > 0 && random.below(2) == 0 => Some(Defined::OfValue(
                 Value::Argument(b, index),
             )),
             Object::TheBlock(b) => Some(Defined::OfBlock(b)),
@@ -128,19 +89,32 @@ impl Item {
 }
 
 impl Model {
-    /// The index of an object, or the number of objects if it is not live.
-    pub(crate) fn index_of(&self, o: Object) -> usize {
-        for (i, item) in self.items.iter().enumerate() {
+    /// No object was made.
+    pub(crate) fn new(alloc: Global) -> Model {
+        Model {
+            alloc,
+            items: Vec::new(alloc),
+            uses: Vec::new(alloc),
+            gone: Vec::new(alloc),
+            made: 0,
+            values: 0,
+            seats: 0,
+        }
+    }
+
+    /// The object with what the model knows of it, if it is live.
+    pub(crate) fn find(&self, o: Object) -> Option<Item> {
+        for item in &self.items {
             if item.object == o {
-                return i;
+                return Some(*item);
             }
         }
-        self.items.len()
+        None
     }
 
     /// One of the objects.
-    pub(crate) fn any(&self, random: &mut Random) -> Option<&Item> {
-        self.items.get(random.below(self.items.len()))
+    pub(crate) fn any(&self, random: &mut Random) -> Option<Item> {
+        self.items.get(random.below(self.items.len())).copied()
     }
 
     /// A value or a block that one of the objects defines, if it defines any.
@@ -152,19 +126,59 @@ impl Model {
     }
 
     /// Adds an object that was made of these parts.
-    pub(crate) fn add(&mut self, object: Object, parts: Parts) -> Result<(), AllocError> {
+    pub(crate) fn add(&mut self, object: Object, parts: &Parts) -> Result<(), AllocError> {
         let (born, first) = (self.made, self.values);
         self.made = born.wrapping_add(1);
         self.values = first.wrapping_add(parts.count as u64);
         self.items.push(Item {
             object,
             born,
+            value: parts.value,
+            count: parts.count,
             first,
             parent: None,
-            children: Vec::new(self.alloc),
-            parts,
+            seat: 0,
         })?;
+        if let Object::TheOperation(p) = object {
+            self.add_uses(p, parts)?;
+        }
         Ok(())
+    }
+
+    /// Adds the uses by an operation that was made of these parts.
+    fn add_uses(&mut self, p: Ptr<Operation>, parts: &Parts) -> Result<(), AllocError> {
+        let user = Object::TheOperation(p);
+        for (i, v) in parts.operands.iter().enumerate() {
+            let (site, used) = (Site::AtOperand(p, i), Defined::OfValue(*v));
+            self.uses.push(Use { user, site, used })?;
+        }
+        for (i, b) in parts.successors.iter().enumerate() {
+            let (site, used) = (Site::AtSuccessor(p, i), Defined::OfBlock(*b));
+            self.uses.push(Use { user, site, used })?;
+        }
+        Ok(())
+    }
+
+    /// How many objects are in one.
+    pub(crate) fn num_children(&self, o: Object) -> usize {
+        let mut count: usize = 0;
+        for item in &self.items {
+            if item.parent == Some(o) {
+                count = count.wrapping_add(1);
+            }
+        }
+        count
+    }
+
+    /// How many objects were put before this one into its parent, and are still there.
+    pub(crate) fn index_of(&self, child: &Item) -> usize {
+        let mut count: usize = 0;
+        for item in &self.items {
+            if item.parent == child.parent && item.seat < child.seat {
+                count = count.wrapping_add(1);
+            }
+        }
+        count
     }
 
     /// An object and everything nested in it.
@@ -173,117 +187,130 @@ impl Model {
         found.push(o)?;
         for i in 0..self.items.len() {
             let Some(q) = found.get(i).copied() else {
-                return Ok(found);
+                break;
             };
-            let Some(item) = self.items.get(self.index_of(q)) else {
-                continue;
-            };
-            for c in &item.children {
-                found.push(*c)?;
-            }
+            self.add_children(q, &mut found)?;
         }
         Ok(found)
+    }
+
+    /// Adds the objects that are in one to a list.
+    fn add_children(&self, o: Object, found: &mut Vec<Object>) -> Result<(), AllocError> {
+        for item in &self.items {
+            if item.parent == Some(o) {
+                found.push(item.object)?;
+            }
+        }
+        Ok(())
     }
 
     /// Whether nothing outside of an object uses it or anything nested in it.
     pub(crate) fn can_erase(&self, o: Object) -> Result<bool, AllocError> {
         let inside = self.inside(o)?;
-        for item in &self.items {
-            if item.parts.uses_any(&inside) && !inside.contains(&item.object) {
+        for u in &self.uses {
+            if inside.contains(&owner(u.used)) && !inside.contains(&u.user) {
                 return Ok(false);
             }
         }
         Ok(true)
     }
 
-    /// The operands and the successors that are d.
-    pub(crate) fn uses(&self, d: Defined) -> Result<Vec<Site>, AllocError> {
-        let mut uses = Vec::new(self.alloc);
-        for item in &self.items {
-            if let Object::TheOperation(p) = item.object {
-                item.parts.note_uses(p, d, &mut uses)?;
+    /// Whether an object is nested in another, or is it.
+    pub(crate) fn is_inside(&self, o: Object, q: Object) -> Result<bool, AllocError> {
+        Ok(self.inside(o)?.contains(&q))
+    }
+
+    /// Whether the operands and the successors that are d are at these places and nowhere else.
+    pub(crate) fn has_uses(&self, d: Defined, sites: &[Site]) -> bool {
+        let mut count: usize = 0;
+        for u in &self.uses {
+            if u.used == d {
+                count = count.wrapping_add(1);
+                if !sites.contains(&u.site) {
+                    return false;
+                }
             }
         }
-        Ok(uses)
+        count == sites.len()
     }
 
     /// Whether c is detached and k is not nested in it.
     pub(crate) fn can_insert(&self, k: Object, c: Object) -> Result<bool, AllocError> {
-        let Some(item) = self.items.get(self.index_of(c)) else {
-            return Ok(false);
+        let detached = match self.find(c) {
+            Some(item) => item.parent.is_none(),
+            None => false,
         };
-        Ok(item.parent.is_none() && !self.inside(c)?.contains(&k))
+        Ok(detached & !self.is_inside(c, k)?)
     }
 
-    /// Puts c last into k.
-    pub(crate) fn insert(&mut self, k: Object, c: Object) -> Result<(), AllocError> {
-        let at = self.index_of(k);
-        if let Some(holder) = self.items.get_mut(at) {
-            holder.children.push(c)?;
-        }
-        let at = self.index_of(c);
-        if let Some(item) = self.items.get_mut(at) {
-            item.parent = Some(k);
-        }
-        Ok(())
-    }
-
-    /// Detaches an object from its parent.
-    pub(crate) fn unlink(&mut self, c: Object) {
-        let at = self.index_of(c);
-        let Some(item) = self.items.get_mut(at) else {
-            return;
-        };
-        let parent = item.parent;
-        item.parent = None;
-        let Some(k) = parent else {
-            return;
-        };
-        let at = self.index_of(k);
-        if let Some(holder) = self.items.get_mut(at) {
-            holder.children.retain(|q| *q != c);
+    /// Puts an object last into another, or detaches it.
+    pub(crate) fn place(&mut self, c: Object, parent: Option<Object>) {
+        let seat = self.seats;
+        self.seats = seat.wrapping_add(1);
+        for item in self.items.iter_mut() {
+            if item.object == c {
+                item.parent = parent;
+                item.seat = seat;
+            }
         }
     }
 
     /// Makes each use of d one of e.
     pub(crate) fn replace(&mut self, d: Defined, e: Defined) {
-        for item in self.items.iter_mut() {
-            item.parts.replace(d, e);
+        for u in self.uses.iter_mut() {
+            if u.used == d {
+                u.used = e;
+            }
         }
+    }
+
+    /// Drops the uses by these objects.
+    fn drop_uses(&mut self, users: &[Object]) -> Result<(), AllocError> {
+        let mut left = Vec::new(self.alloc);
+        for u in &self.uses {
+            if !users.contains(&u.user) {
+                left.push(*u)?;
+            }
+        }
+        self.uses = left;
+        Ok(())
     }
 
     /// Drops the uses by an object and by the operations nested in it.
-    pub(crate) fn drop_uses(&mut self, o: Object) -> Result<(), AllocError> {
+    pub(crate) fn drop_inside(&mut self, o: Object) -> Result<(), AllocError> {
+        let users = self.inside(o)?;
+        self.drop_uses(&users)
+    }
+
+    /// Removes these objects, and their uses.
+    fn take_out(&mut self, objects: &[Object]) -> Result<(), AllocError> {
+        self.drop_uses(objects)?;
+        let mut left = Vec::new(self.alloc);
+        for item in &self.items {
+            if objects.contains(&item.object) {
+                self.gone.push(item.object)?;
+            } else {
+                left.push(*item)?;
+            }
+        }
+        self.items = left;
+        Ok(())
+    }
+
+    /// Removes an object and everything nested in it.
+    pub(crate) fn erase(&mut self, o: Object) -> Result<(), AllocError> {
         let inside = self.inside(o)?;
-        for item in self.items.iter_mut() {
-            if inside.contains(&item.object) {
-                item.parts.operands.clear();
-                item.parts.successors.clear();
-            }
-        }
-        Ok(())
+        self.take_out(&inside)
     }
 
-    /// Removes these objects.
-    pub(crate) fn take_out(&mut self, objects: &[Object]) -> Result<(), AllocError> {
-        for o in objects {
-            let at = self.index_of(*o);
-            if at < self.items.len() {
-                self.items.remove(at);
-                self.gone.push(*o)?;
-            }
-        }
-        Ok(())
-    }
-
-    /// The objects before which at least this many were made.
-    pub(crate) fn since(&self, mark: u64) -> Result<Vec<Object>, AllocError> {
+    /// Removes the objects before which at least this many were made.
+    pub(crate) fn roll_back(&mut self, mark: u64) -> Result<(), AllocError> {
         let mut newer = Vec::new(self.alloc);
         for item in &self.items {
             if item.born >= mark {
                 newer.push(item.object)?;
             }
         }
-        Ok(newer)
+        self.take_out(&newer)
     }
 }

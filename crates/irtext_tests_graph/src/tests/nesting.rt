@@ -1,12 +1,10 @@
 //! Which objects can be put into which, and what the calls return then.
 ghost use Rattle.irtext_graph.specs.Objects.{Fits};
 
-use crate::tests::checks::{Numbers, holds};
+use crate::tests::checks::Numbers;
 use irtext_few::Few;
-use irtext_graph::graph::Graph;
 use irtext_graph::object::Object;
 use std::alloc::AllocError;
-use std::test::Fail;
 
 /// Puts c last into k if that is allowed, and returns whether it was.
 pub(crate) fn put(graph: &mut Numbers, k: Object, c: Object) -> Result<bool, AllocError>
@@ -39,7 +37,7 @@ pub(crate) fn erased(graph: &mut Numbers, o: Object) -> bool {
         return false;
     }
     graph.drop_all_uses(o);
-    if !graph.can_erase(o) {
+    if !graph.contains(o) || !graph.can_erase(o) {
         return false;
     }
     graph.erase(o);
@@ -47,7 +45,7 @@ pub(crate) fn erased(graph: &mut Numbers, o: Object) -> bool {
 }
 
 /// An operation with a region with a block with two operations, of which the first is erased again.
-fn nests(graph: &mut Numbers) -> Result<bool, AllocError> {
+pub(crate) fn nests(graph: &mut Numbers) -> Result<bool, AllocError> {
     let outer = graph.make_operation(1, Few::none(), &[], &[])?;
     let region = graph.make_region()?;
     let block = graph.make_block(2, Few::none())?;
@@ -77,12 +75,6 @@ fn nests(graph: &mut Numbers) -> Result<bool, AllocError> {
     let gone = erased(graph, body) && !graph.contains(last) && graph.contains(inner);
     let left = graph.num_live() == 3 && graph.made() == 5;
     Ok(all && listed && deep && closed && counted && places && gone && left)
-}
-
-#[test]
-fn each_call_once(rt: HostRuntime) -> Result<(), Fail> {
-    assert!(rt; holds(Graph::new(rt.alloc()), nests)?);
-    Ok(())
 }
 
 /// The outermost operation of a chain, and the innermost one.
@@ -124,7 +116,7 @@ fn is_chained(graph: &Numbers, ends: Ends) -> bool {
 }
 
 /// A chain of a million levels, which is erased with its outermost operation, and another, which is released without being erased.
-fn nests_deep(graph: &mut Numbers) -> Result<bool, AllocError> {
+pub(crate) fn nests_deep(graph: &mut Numbers) -> Result<bool, AllocError> {
     let Some(ends) = chain(graph, 333334)? else {
         return Ok(false);
     };
@@ -134,14 +126,8 @@ fn nests_deep(graph: &mut Numbers) -> Result<bool, AllocError> {
     Ok(chained && gone && left.is_some())
 }
 
-#[test]
-fn a_million_levels(rt: HostRuntime) -> Result<(), Fail> {
-    assert!(rt; holds(Graph::new(rt.alloc()), nests_deep)?);
-    Ok(())
-}
-
 /// A block with a hundred thousand operations, which is erased with them.
-fn holds_many(graph: &mut Numbers) -> Result<bool, AllocError> {
+pub(crate) fn holds_many(graph: &mut Numbers) -> Result<bool, AllocError> {
     let block = Object::TheBlock(graph.make_block(0, Few::none())?);
     let mut all = true;
     for _ in 0..100000 {
@@ -149,10 +135,4 @@ fn holds_many(graph: &mut Numbers) -> Result<bool, AllocError> {
         all = put(graph, block, Object::TheOperation(p))? && all;
     }
     Ok(all && erased(graph, block) && graph.num_live() == 0)
-}
-
-#[test]
-fn a_hundred_thousand_in_one_block(rt: HostRuntime) -> Result<(), Fail> {
-    assert!(rt; holds(Graph::new(rt.alloc()), holds_many)?);
-    Ok(())
 }

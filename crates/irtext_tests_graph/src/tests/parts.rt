@@ -1,12 +1,10 @@
 //! The view of one object: data, operands, successors, results and arguments, each call once, and lists of any length.
-use crate::tests::checks::{Numbers, holds};
+use crate::tests::checks::Numbers;
 use crate::tests::nesting::erased;
 use irtext_few::Few;
 use irtext_graph::arena::Ptr;
-use irtext_graph::graph::Graph;
 use irtext_graph::object::{BasicBlock, Object, Operation, Value};
 use std::alloc::{AllocError, Global};
-use std::test::Fail;
 
 /// Whether the value is live, with this type and this number.
 pub(crate) fn is_value(graph: &Numbers, v: Value, of_type: u8, number: u64) -> bool {
@@ -52,7 +50,7 @@ pub(crate) fn uses(
 }
 
 /// A block with two arguments, an operation with a result, and one that uses all of these, and the block twice.
-fn has_parts(graph: &mut Numbers) -> Result<bool, AllocError> {
+pub(crate) fn has_parts(graph: &mut Numbers) -> Result<bool, AllocError> {
     let block = graph.make_block(7, Few::two(10, 11))?;
     let first = graph.make_operation(8, Few::one(12), &[], &[])?;
     let left = Value::Argument(block, 0);
@@ -112,7 +110,7 @@ fn has_so_many(graph: &mut Numbers, alloc: Global, count: u8) -> Result<bool, Al
 }
 
 /// The same for none and for up to four results.
-fn has_any_number(graph: &mut Numbers, alloc: Global) -> Result<bool, AllocError> {
+pub(crate) fn has_any_number(graph: &mut Numbers, alloc: Global) -> Result<bool, AllocError> {
     let mut all = true;
     for count in 0..5 {
         all = has_so_many(graph, alloc, count)? && all;
@@ -121,7 +119,7 @@ fn has_any_number(graph: &mut Numbers, alloc: Global) -> Result<bool, AllocError
 }
 
 /// Writes the data of an operation and of a block, and returns whether they are there and everything else is unchanged.
-fn writes(graph: &mut Numbers) -> Result<bool, AllocError> {
+pub(crate) fn writes(graph: &mut Numbers) -> Result<bool, AllocError> {
     let block = graph.make_block(1, Few::one(10))?;
     let op = graph.make_operation(2, Few::one(11), &[Value::Argument(block, 0)], &[block])?;
     *graph.operation_mut(op) = 20;
@@ -129,13 +127,4 @@ fn writes(graph: &mut Numbers) -> Result<bool, AllocError> {
     let data = has_own(graph, Object::TheOperation(op), 20, 1)
         && has_own(graph, Object::TheBlock(block), 10, 1);
     Ok(data && uses(graph, op, &[Value::Argument(block, 0)], &[block]))
-}
-
-#[test]
-fn each_part_once_and_lists_of_any_length(rt: HostRuntime) -> Result<(), Fail> {
-    let alloc = rt.alloc();
-    assert!(rt; holds(Graph::new(alloc), writes)?);
-    assert!(rt; holds(Graph::new(alloc), has_parts)?);
-    assert!(rt; holds(Graph::new(alloc), |graph| has_any_number(graph, alloc))?);
-    Ok(())
 }

@@ -1,13 +1,12 @@
 //! The uses of an operation's results, and the types of its operands, over a type that holds a graph: each call once.
-use crate::tests::checks::Numbers;
-use crate::tests::held::{Holder, holds_held};
+use crate::tests::held::Holder;
+use crate::tests::script::make_using;
 use irtext_few::Few;
 use irtext_graph::arena::Ptr;
 use irtext_graph::object::{Object, Operation, Site, Value};
 use irtext_graph_queries::operation::OperationParts;
 use irtext_graph_queries::types::GraphTypes;
 use std::alloc::AllocError;
-use std::test::Fail;
 
 /// Whether the operation is live, and uses values of these types in this order.
 fn has_operand_types(
@@ -40,26 +39,20 @@ fn has_uses(holder: &Holder, op: Ptr<Operation>, places: &[Site]) -> Result<bool
     Ok(all && count == places.len() && op.has_use(holder) == (count > 0))
 }
 
-/// An operation without results that uses these values, if they are live.
-fn make_user(
-    graph: &mut Numbers,
-    operands: &[Value],
-) -> Result<Option<Ptr<Operation>>, AllocError> {
-    if !graph.contains_values(operands) {
-        return Ok(None);
-    }
-    let user = graph.make_operation(0, Few::none(), operands, &[])?;
-    Ok(Some(user))
-}
-
 /// Two results, the first used twice by one operation, and the second once by that and once by another.
-fn is_used(holder: &mut Holder) -> Result<bool, AllocError> {
+pub(crate) fn uses_of_results(holder: &mut Holder) -> Result<bool, AllocError> {
     let maker = holder.graph.make_operation(0, Few::two(7, 8), &[], &[])?;
     let (first, second) = (Value::Result(maker, 0), Value::Result(maker, 1));
     let unused = has_uses(holder, maker, &[])?;
     let (Some(one), Some(two)) = (
-        make_user(&mut holder.graph, &[first, second, first])?,
-        make_user(&mut holder.graph, &[second])?,
+        make_using(
+            &mut holder.graph,
+            0,
+            Few::none(),
+            &[first, second, first],
+            &[],
+        )?,
+        make_using(&mut holder.graph, 0, Few::none(), &[second], &[])?,
     ) else {
         return Ok(false);
     };
@@ -74,10 +67,4 @@ fn is_used(holder: &mut Holder) -> Result<bool, AllocError> {
         && has_operand_types(holder, two, &[8])?
         && has_operand_types(holder, maker, &[])?;
     Ok(unused && used && typed)
-}
-
-#[test]
-fn uses_of_all_results(rt: HostRuntime) -> Result<(), Fail> {
-    assert!(rt; holds_held(rt.alloc(), is_used)?);
-    Ok(())
 }

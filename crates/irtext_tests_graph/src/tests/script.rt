@@ -8,12 +8,11 @@ use crate::tests::checks::Numbers;
 use crate::tests::compared::{agree, is_defined, type_of};
 use crate::tests::model::{Model, Parts};
 use crate::tests::nesting::put;
+use crate::tests::random::Random;
 use irtext_few::Few;
-use irtext_graph::graph::Graph;
-use irtext_graph::object::{Defined, Object};
-use irtext_tests_common::random::Random;
+use irtext_graph::arena::Ptr;
+use irtext_graph::object::{BasicBlock, Defined, Object, Operation, Value};
 use std::alloc::{AllocError, Global};
-use std::test::Fail;
 
 // the number of calls
 const STEPS: usize = 10000;
@@ -52,32 +51,48 @@ fn are_alike(d: Defined, e: Defined) -> bool
 }
 
 /// The types of so many values, by their numbers.
-fn types(alloc: Global, first: u64, count: usize) -> Result<Vec<u8>, AllocError> {
+fn types(alloc: Global, first: u64, count: usize) -> Result<Few<u8>, AllocError> {
     let mut types = Vec::new(alloc);
     for i in 0..count {
         types.push(type_of(first.wrapping_add(i as u64)))?;
     }
-    Ok(types)
+    Ok(Few::from_vec(types))
 }
 
 /// The kinds of objects.
-#[derive(Clone, Copy, PartialEq, Eq)]
+#[derive(Clone, Copy)]
 pub(crate) enum Kind {
     Operation,
     Block,
     Region,
 }
 
-/// The parts of an object of a kind: up to three results or arguments, and for an operation some of the live values and blocks as uses.
-fn parts(model: &Model, random: &mut Random, kind: Kind) -> Result<Parts, AllocError> {
-    let count = if kind == Kind::Region {
-        0
-    } else {
-        random.below(4)
-    };
-    let mut parts = Parts::new(model.alloc, (model.made % 1000) as u32, count);
-    if kind != Kind::Operation {
-        return Ok(parts);
+/// One of the kinds.
+fn any_kind(random: &mut Random) -> Kind {
+    match random.below(5) {
+        0 => Kind::Region,
+        1 => Kind::Block,
+        _ => Kind::Operation,
+    }
+}
+
+/// Up to three results or arguments; a region has none.
+fn any_count(random: &mut Random, kind: Kind) -> usize {
+    match kind {
+        Kind::Region => 0,
+        _ => random.below(4),
+    }
+}
+
+/// Adds some of the live values and blocks as uses to the parts of an operation.
+fn use_some(
+    model: &Model,
+    random: &mut Random,
+    kind: Kind,
+    parts: &mut Parts,
+) -> Result<(), AllocError> {
+    if !matches!(kind, Kind::Operation) {
+        return Ok(());
     }
     for _ in 0..random.below(6) {
         match model.any_defined(random) {
@@ -86,7 +101,24 @@ fn parts(model: &Model, random: &mut Random, kind: Kind) -> Result<Parts, AllocE
             None => {}
         }
     }
-    Ok(parts)
+    Ok(())
+}
+
+/// Makes an operation that uses these values and blocks, if they are live.
+pub(crate) fn make_using(
+    graph: &mut Numbers,
+    value: u32,
+    types: Few<u8>,
+    operands: &[Value],
+    successors: &[Ptr<BasicBlock>],
+) -> Result<Option<Ptr<Operation>>, AllocError>
+    ensures kept { (m : ℕ) → m ≤ graph.old.made → KeepsOlder m graph.old graph.new }
+{
+    if !graph.contains_values(operands) || !graph.contains_blocks(successors) {
+        return Ok(None);
+    }
+    let p = graph.make_operation(value, types, operands, successors)?;
+    Ok(Some(p))
 }
 
 /// Makes an object of these parts, if everything that it uses is live.
@@ -94,68 +126,60 @@ fn make(
     graph: &mut Numbers,
     kind: Kind,
     parts: &Parts,
-    types: Vec<u8>,
+    types: Few<u8>,
 ) -> Result<Option<Object>, AllocError>
     ensures kept { (m : ℕ) → m ≤ graph.old.made → KeepsOlder m graph.old graph.new }
 {
     match kind {
         Kind::Region => Ok(Some(Object::TheRegion(graph.make_region()?))),
-        Kind::Block => Ok(Some(Object::TheBlock(graph.make_block(
-            parts.value,
-            Few::from_vec(types),
-        )?))),
+        Kind::Block => Ok(Some(Object::TheBlock(graph.make_block(parts.value, types)?))),
         Kind::Operation => {
-            let (operands, successors) = (&parts.operands, &parts.successors);
-            if !graph.contains_values(operands) || !graph.contains_blocks(successors) {
-                return Ok(None);
+            match make_using(
+                graph,
+                parts.value,
+                types,
+                &parts.operands,
+                &parts.successors,
+            )? {
+                Some(p) => Ok(Some(Object::TheOperation(p))),
+                None => Ok(None),
             }
-            let p = graph.make_operation(parts.value, Few::from_vec(types), operands, successors)?;
-            Ok(Some(Object::TheOperation(p)))
         }
     }
 }
 
 impl Script {
     /// A graph without objects, and its model.
-    pub(crate) fn new(alloc: Global) -> Script {
+    pub(crate) fn new(alloc: Global, graph: Numbers) -> Script {
         Script {
             alloc,
             random: Random::new(),
-            model: Model {
-                alloc,
-                items: Vec::new(alloc),
-                gone: Vec::new(alloc),
-                made: 0,
-                values: 0,
-            },
-            graph: Graph::new(alloc),
+            model: Model::new(alloc),
+            graph,
         }
     }
 
     /// Makes an object of these parts, if everything that it uses is live.
-    pub(crate) fn make(&mut self, kind: Kind, parts: Parts) -> Result<Option<Object>, AllocError>
+    pub(crate) fn make(&mut self, kind: Kind, parts: &Parts) -> Result<Option<Object>, AllocError>
         ensures kept { (m : ℕ) → m ≤ self.old.graph.made → KeepsOlder m self.old.graph self.new.graph }
     {
         let types = types(self.alloc, self.model.values, parts.count)?;
-        let Some(object) = make(&mut self.graph, kind, &parts, types)? else {
+        let Some(object) = make(&mut self.graph, kind, parts, types)? else {
             return Ok(None);
         };
         self.model.add(object, parts)?;
         Ok(Some(object))
     }
 
-    /// Makes an object, and returns whether the graph had everything that it was to use.
+    /// Makes an object of up to three results or arguments, and returns whether the graph had everything that it was to use.
     fn make_one(&mut self) -> Result<bool, AllocError>
         ensures kept { (m : ℕ) → m ≤ self.old.graph.made → KeepsOlder m self.old.graph self.new.graph }
     {
-        let kind = match self.random.below(5) {
-            0 => Kind::Region,
-            1 => Kind::Block,
-            _ => Kind::Operation,
-        };
-        let parts = parts(&self.model, &mut self.random, kind)?;
-        let made = self.make(kind, parts)?;
-        Ok(made.is_some())
+        let kind = any_kind(&mut self.random);
+        let count = any_count(&mut self.random, kind);
+        let mut parts = Parts::new(self.alloc, (self.model.made % 1000) as u32, count);
+        use_some(&self.model, &mut self.random, kind, &mut parts)?;
+        Ok(self.make(kind, &parts)?.is_some())
     }
 
     /// Makes three objects, and returns whether each could be made.
@@ -184,16 +208,14 @@ impl Script {
         let made = self.make_nine();
         let same = agree(&self.graph, &self.model, &mut self.random)?;
         self.graph.roll_back(mark);
-        let newer = self.model.since(mark)?;
-        self.model.take_out(&newer)?;
-        Ok(made && same)
+        self.model.roll_back(mark)?;
+        Ok(made & same)
     }
 
     /// Rolls all objects back.
     pub(crate) fn clear(&mut self) -> Result<bool, AllocError> {
         self.graph.roll_back(0);
-        let all = self.model.since(0)?;
-        self.model.take_out(&all)?;
+        self.model.roll_back(0)?;
         Ok(self.graph.num_live() == 0)
     }
 
@@ -205,7 +227,7 @@ impl Script {
         let can = self.model.can_insert(k, c)?;
         let done = put(&mut self.graph, k, c)?;
         if done {
-            self.model.insert(k, c)?;
+            self.model.place(c, Some(k));
         }
         Ok(done == can)
     }
@@ -237,9 +259,7 @@ impl Script {
             return Ok(!can);
         }
         self.graph.erase(o);
-        let inside = self.model.inside(o)?;
-        self.model.unlink(o);
-        self.model.take_out(&inside)?;
+        self.model.erase(o)?;
         Ok(can)
     }
 
@@ -250,10 +270,10 @@ impl Script {
         }
         if drops {
             self.graph.drop_all_uses(o);
-            self.model.drop_uses(o)?;
+            self.model.drop_inside(o)?;
         } else {
             self.graph.unlink(o);
-            self.model.unlink(o);
+            self.model.place(o, None);
         }
         Ok(true)
     }
@@ -289,20 +309,12 @@ impl Script {
 }
 
 /// The number of the first call after which the graph and its model differ. To look at the call, let the script end there.
-fn differing(script: &mut Script, steps: usize) -> Result<Option<usize>, AllocError> {
-    for number in 0..steps {
+pub(crate) fn differing_call(script: &mut Script) -> Result<Option<usize>, AllocError> {
+    for number in 0..STEPS {
         let done = script.step()?;
         if !done || !agree(&script.graph, &script.model, &mut script.random)? {
             return Ok(Some(number));
         }
     }
     Ok(None)
-}
-
-#[test]
-fn ten_thousand_calls(rt: HostRuntime) -> Result<(), Fail> {
-    let mut script = Script::new(rt.alloc());
-    let found = differing(&mut script, STEPS)?;
-    assert_eq!(rt; found, None);
-    Ok(())
 }

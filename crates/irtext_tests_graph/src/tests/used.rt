@@ -4,17 +4,18 @@ ghost use Rattle.irtext_graph.specs.Graph.{IsLive};
 ghost use Rattle.irtext_graph.specs.declared.object.Object.TheVariants.{TheOperation, TheBlock, TheRegion};
 
 use crate::tests::checks::Numbers;
-use crate::tests::held::{Holder, holds_held};
+use crate::tests::held::Holder;
+use crate::tests::nesting::put;
+use crate::tests::script::make_using;
 use irtext_few::Few;
 use irtext_graph::arena::Ptr;
-use irtext_graph::object::{BasicBlock, Object, Operation, Region, Value};
+use irtext_graph::object::{BasicBlock, Object, Operation, Region, Site, Value};
 use irtext_graph_queries::block::BlockParts;
 use irtext_graph_queries::operation::OperationParts;
 use irtext_graph_queries::region::RegionParts;
 use irtext_graph_queries::types::GraphTypes;
 use irtext_graph_queries::value::{UseSite, ValueUses};
 use std::alloc::AllocError;
-use std::test::Fail;
 
 /// An operation with a region of two blocks, the first of which has two arguments and two operations: one with two results, and
 /// one that uses the first of these twice, an argument, and the second block.
@@ -28,33 +29,6 @@ struct Scene {
     user: Ptr<Operation>,
 }
 
-/// Puts an object last into another, if that is allowed.
-fn put(graph: &mut Numbers, k: Object, c: Object) -> Result<(), AllocError> {
-    let fits = match (k, c) {
-        (Object::TheOperation(_), Object::TheRegion(_)) => true,
-        (Object::TheRegion(_), Object::TheBlock(_)) => true,
-        (Object::TheBlock(_), Object::TheOperation(_)) => true,
-        _ => false,
-    };
-    if fits && graph.contains(k) && graph.contains(c) && graph.can_insert_at_back(k, c) {
-        return graph.insert_at_back(k, c);
-    }
-    Ok(())
-}
-
-/// An operation that uses these values and blocks, if they are live.
-fn make_using(
-    graph: &mut Numbers,
-    operands: &[Value],
-    successors: &[Ptr<BasicBlock>],
-) -> Result<Option<Ptr<Operation>>, AllocError> {
-    if !graph.contains_values(operands) || !graph.contains_blocks(successors) {
-        return Ok(None);
-    }
-    let p = graph.make_operation(3, Few::none(), operands, successors)?;
-    Ok(Some(p))
-}
-
 /// An operation that uses the first result of another twice, an argument of a block, and a block.
 fn make_user(
     graph: &mut Numbers,
@@ -64,10 +38,14 @@ fn make_user(
 ) -> Result<Ptr<Operation>, AllocError> {
     let result = Value::Result(maker, 0);
     let argument = Value::Argument(first, 1);
-    match make_using(graph, &[result, argument, result], &[second])? {
-        Some(p) => Ok(p),
-        None => Ok(maker),
-    }
+    let user = make_using(
+        graph,
+        3,
+        Few::none(),
+        &[result, argument, result],
+        &[second],
+    )?;
+    Ok(user.unwrap_or(maker))
 }
 
 /// Makes all of a scene and puts it together.
@@ -111,21 +89,21 @@ fn alive(holder: &Holder, s: Scene) -> bool
         && graph.contains(Object::TheOperation(s.user))
 }
 
+/// Whether these are the items of a list.
+fn are<X: PartialEq + Drop>(list: Vec<X>, items: &[X]) -> bool {
+    list.as_slice() == items
+}
+
 /// The children of each object, as lists.
 fn lists_children(holder: &Holder, s: Scene) -> Result<bool, AllocError> {
     if !alive(holder, s) {
         return Ok(false);
     }
-    let regions = s.root.regions(holder)?;
-    let blocks = s.region.blocks(holder)?;
-    let operations = s.first.operations(holder)?;
+    let regions = are(s.root.regions(holder)?, &[s.region]);
+    let blocks = are(s.region.blocks(holder)?, &[s.first, s.second]);
+    let operations = are(s.first.operations(holder)?, &[s.maker, s.user]);
     let entry = s.region.get_entry_block(holder) == Some(s.first);
-    Ok(
-        entry
-            && regions.as_slice() == [s.region].as_slice()
-            && blocks.as_slice() == [s.first, s.second].as_slice()
-            && operations.as_slice() == [s.maker, s.user].as_slice(),
-    )
+    Ok(entry & regions & blocks & operations)
 }
 
 /// The index of a region in its operation, if it is in one.
@@ -181,17 +159,17 @@ fn lists_uses(holder: &Holder, s: Scene) -> Result<bool, AllocError> {
         return Ok(false);
     }
     let result = Value::Result(s.maker, 0);
-    let operands = s.user.operands(holder)?;
-    let successors = s.user.successors(holder)?;
+    let operands = are(
+        s.user.operands(holder)?,
+        &[result, Value::Argument(s.first, 1), result],
+    );
+    let successors = are(s.user.successors(holder)?, &[s.second]);
     if s.user.get_num_operands(holder) != 3 || s.user.get_num_successors(holder) != 1 {
         return Ok(false);
     }
     let each = s.user.get_operand(holder, 2) == result
         && s.user.get_successor(holder, 0) == s.second;
-    Ok(
-        each && operands.as_slice() == [result, Value::Argument(s.first, 1), result].as_slice()
-            && successors.as_slice() == [s.second].as_slice(),
-    )
+    Ok(each & operands & successors)
 }
 
 /// The results with their types, one by one and as lists.
@@ -215,17 +193,26 @@ fn lists_arguments(holder: &Holder, s: Scene) -> Result<bool, AllocError> {
     if !alive(holder, s) || s.first.get_num_arguments(holder) != 2 {
         return Ok(false);
     }
-    let arguments = s.first.arguments(holder)?;
     let one = s.first.get_argument(holder, 0);
-    let preds = s.second.preds(holder)?;
+    let arguments = are(
+        s.first.arguments(holder)?,
+        &[one, Value::Argument(s.first, 1)],
+    );
+    let preds = are(s.second.preds(holder)?, &[s.first]);
     let counted = s.second.has_pred(holder)
-        && s.second.num_preds(holder) == 1
-        && !s.first.has_pred(holder);
-    Ok(
-        counted
-            && preds.as_slice() == [s.first].as_slice()
-            && arguments.as_slice() == [one, Value::Argument(s.first, 1)].as_slice(),
-    )
+        & (s.second.num_preds(holder) == 1)
+        & !s.first.has_pred(holder);
+    Ok(counted & preds & arguments)
+}
+
+/// Whether these uses are by one operation.
+fn are_by(uses: &[Site], user: Ptr<Operation>) -> bool {
+    for u in uses {
+        if u.user() != user {
+            return false;
+        }
+    }
+    true
 }
 
 /// Whether a value is live and has so many uses, all by one operation.
@@ -238,12 +225,20 @@ fn is_used(
     if !holder.graph.contains_value(v) {
         return Ok(false);
     }
+    let counted = v.num_uses(holder) == count && v.has_use(holder) == (count > 0);
     let uses = v.uses(holder)?;
-    let mut all = uses.len() == count;
-    for u in &uses {
-        all = all && u.user() == user;
-    }
-    Ok(all && v.num_uses(holder) == count && v.has_use(holder) == (count > 0))
+    Ok(counted && uses.len() == count && are_by(&uses, user))
+}
+
+/// Whether one value has so many uses, and another so many, all by one operation.
+fn are_used(
+    holder: &Holder,
+    one: (Value, usize),
+    two: (Value, usize),
+    user: Ptr<Operation>,
+) -> Result<bool, AllocError> {
+    let first = is_used(holder, one.0, one.1, user)?;
+    Ok(is_used(holder, two.0, two.1, user)? & first)
 }
 
 /// Replaces one value by another, if both are live.
@@ -258,10 +253,10 @@ fn replace(holder: &mut Holder, v: Value, w: Value) -> bool {
 /// The uses of a result before and after the other replaces it.
 fn changes_hands(holder: &mut Holder, s: Scene) -> Result<bool, AllocError> {
     let (one, two) = (Value::Result(s.maker, 0), Value::Result(s.maker, 1));
-    let before = is_used(holder, one, 2, s.user)? && is_used(holder, two, 0, s.user)?;
+    let before = are_used(holder, (one, 2), (two, 0), s.user)?;
     let done = replace(holder, one, two);
-    let after = is_used(holder, one, 0, s.user)? && is_used(holder, two, 2, s.user)?;
-    Ok(before && done && after)
+    let after = are_used(holder, (one, 0), (two, 2), s.user)?;
+    Ok(before & done & after)
 }
 
 /// Erases an operation if that is allowed, and returns whether it was.
@@ -284,18 +279,16 @@ fn goes(holder: &mut Holder, s: Scene) -> bool {
     !early && late && root && holder.graph.num_live() == 0
 }
 
-/// All of it, over one scene.
-fn goes_round(holder: &mut Holder) -> Result<bool, AllocError> {
-    let s = make_scene(&mut holder.graph)?;
-    let children = lists_children(holder, s)? && finds(holder, s);
-    let lists = lists_uses(holder, s)? && lists_results(holder, s)? && lists_arguments(holder, s)?;
-    let changed = changes_hands(holder, s)?;
-    let gone = goes(holder, s);
-    Ok(children && lists && changed && gone)
+/// All lists.
+fn lists_all(holder: &Holder, s: Scene) -> Result<bool, AllocError> {
+    let parts = lists_uses(holder, s)? & lists_results(holder, s)?;
+    Ok(lists_children(holder, s)? & lists_arguments(holder, s)? & parts)
 }
 
-#[test]
-fn each_use_and_list_once(rt: HostRuntime) -> Result<(), Fail> {
-    assert!(rt; holds_held(rt.alloc(), goes_round)?);
-    Ok(())
+/// All of it, over one scene.
+pub(crate) fn uses_and_lists(holder: &mut Holder) -> Result<bool, AllocError> {
+    let s = make_scene(&mut holder.graph)?;
+    let listed = lists_all(holder, s)? & finds(holder, s);
+    let changed = changes_hands(holder, s)?;
+    Ok(goes(holder, s) & listed & changed)
 }

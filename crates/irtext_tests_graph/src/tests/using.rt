@@ -1,32 +1,15 @@
 //! Uses, and how they are replaced.
-use crate::tests::checks::{Numbers, holds};
+use crate::tests::checks::Numbers;
 use crate::tests::nesting::erased;
+use crate::tests::script::make_using;
 use irtext_few::Few;
 use irtext_graph::arena::Ptr;
-use irtext_graph::graph::Graph;
 use irtext_graph::object::{BasicBlock, Defined, Object, Operation, Site, Value};
 use std::alloc::{AllocError, Global};
-use std::test::Fail;
 
 /// An operation with one operand, if the value is live.
 fn use_value(graph: &mut Numbers, v: Value) -> Result<Option<Ptr<Operation>>, AllocError> {
-    if !graph.contains_value(v) {
-        return Ok(None);
-    }
-    let op = graph.make_operation(0, Few::none(), &[v], &[])?;
-    Ok(Some(op))
-}
-
-/// An operation with one successor, if the block is live.
-fn use_block(
-    graph: &mut Numbers,
-    b: Ptr<BasicBlock>,
-) -> Result<Option<Ptr<Operation>>, AllocError> {
-    if !graph.contains(Object::TheBlock(b)) {
-        return Ok(None);
-    }
-    let op = graph.make_operation(0, Few::none(), &[], &[b])?;
-    Ok(Some(op))
+    make_using(graph, 0, Few::none(), &[v], &[])
 }
 
 /// Whether a value is live and has so many uses, by each of the three calls.
@@ -67,14 +50,14 @@ fn two_results(graph: &mut Numbers) -> Result<Ptr<Operation>, AllocError> {
 }
 
 /// Two uses of a result and one of a block, and then the other result in place of the first.
-fn uses(graph: &mut Numbers) -> Result<bool, AllocError> {
+pub(crate) fn uses(graph: &mut Numbers) -> Result<bool, AllocError> {
     let op = two_results(graph)?;
     let first = Value::Result(op, 0);
     let second = Value::Result(op, 1);
     let block = graph.make_block(0, Few::none())?;
     let one = use_value(graph, first)?;
     let two = use_value(graph, first)?;
-    let jump = use_block(graph, block)?;
+    let jump = make_using(graph, 0, Few::none(), &[], &[block])?;
     let made = one.is_some() && two.is_some() && one != two;
     let before = has_uses(graph, first, 2)? && has_uses(graph, second, 0)?;
     let jumps = match jump {
@@ -86,14 +69,12 @@ fn uses(graph: &mut Numbers) -> Result<bool, AllocError> {
     Ok(made && before && jumps && done && after)
 }
 
-#[test]
-fn uses_once(rt: HostRuntime) -> Result<(), Fail> {
-    assert!(rt; holds(Graph::new(rt.alloc()), uses)?);
-    Ok(())
-}
-
 /// A result that so many operations use, then the other result in its place, and then none, since all of them are erased.
-fn uses_often(graph: &mut Numbers, alloc: Global, count: usize) -> Result<bool, AllocError> {
+pub(crate) fn uses_often(
+    graph: &mut Numbers,
+    alloc: Global,
+    count: usize,
+) -> Result<bool, AllocError> {
     let op = two_results(graph)?;
     let first = Value::Result(op, 0);
     let second = Value::Result(op, 1);
@@ -112,11 +93,4 @@ fn uses_often(graph: &mut Numbers, alloc: Global, count: usize) -> Result<bool, 
     }
     let unused = has_uses(graph, second, 0)? && graph.num_live() == 1;
     Ok(before && done && after && gone && unused)
-}
-
-#[test]
-fn a_hundred_thousand_uses(rt: HostRuntime) -> Result<(), Fail> {
-    let alloc = rt.alloc();
-    assert!(rt; holds(Graph::new(alloc), |graph| uses_often(graph, alloc, 100000))?);
-    Ok(())
 }

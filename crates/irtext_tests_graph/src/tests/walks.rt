@@ -3,21 +3,12 @@
 ghost use Rattle.irtext_graph.specs.Graph.{IsLive};
 ghost use Rattle.irtext_graph.specs.Throughout.{EditsObject, EditsInside};
 
-use crate::tests::checks::{Numbers, holds};
+use crate::tests::checks::Numbers;
 use crate::tests::nesting::{chain, put};
 use irtext_few::Few;
 use irtext_graph::arena::Ptr;
-use irtext_graph::graph::Graph;
 use irtext_graph::object::{BasicBlock, Object, Operation};
 use std::alloc::AllocError;
-use std::test::Fail;
-
-/// The result of a walk: the data of each object as a digit, 0 for a region, and the number of objects.
-#[derive(Clone, Copy, PartialEq, Eq)]
-struct Walked {
-    digits: u64,
-    count: u64,
-}
 
 /// The data of an object, and 0 for a region.
 fn data_of(graph: &Numbers, o: Object) -> u32
@@ -30,8 +21,8 @@ fn data_of(graph: &Numbers, o: Object) -> u32
     }
 }
 
-/// Walks over everything nested in an object.
-fn walk(graph: &Numbers, o: Object) -> Walked
+/// Walks over everything nested in an object, and returns the data of each as a digit, 0 for a region, and how many there are.
+fn walk(graph: &Numbers, o: Object) -> (u64, u64)
     requires { IsLive graph.now o }
 {
     let mut digits: u64 = 0;
@@ -44,7 +35,7 @@ fn walk(graph: &Numbers, o: Object) -> Walked
         count = count.wrapping_add(1);
         at = graph.next_inside(o, q);
     }
-    Walked { digits, count }
+    (digits, count)
 }
 
 /// Writes 7 as the data of an operation or of a block.
@@ -125,7 +116,11 @@ fn make_nest(graph: &mut Numbers) -> Result<Option<(Level, Level)>, AllocError> 
 
 /// Whether the walk from an object visits these data in this order, so many.
 fn meets(graph: &Numbers, o: Object, digits: u64, count: u64) -> bool {
-    graph.contains(o) && walk(graph, o) == Walked { digits, count }
+    if !graph.contains(o) {
+        return false;
+    }
+    let met = walk(graph, o);
+    met.0 == digits && met.1 == count
 }
 
 /// Writes 7 to everything nested in an object if it is live, and returns whether it is.
@@ -138,7 +133,7 @@ fn overwritten(graph: &mut Numbers, o: Object) -> bool {
 }
 
 /// Whether the walks over the nested objects have the expected order, and again after the data of the inner level are written.
-fn goes_through(graph: &mut Numbers) -> Result<bool, AllocError> {
+pub(crate) fn goes_through(graph: &mut Numbers) -> Result<bool, AllocError> {
     let Some((outer, inner)) = make_nest(graph)? else {
         return Ok(false);
     };
@@ -150,24 +145,12 @@ fn goes_through(graph: &mut Numbers) -> Result<bool, AllocError> {
     Ok(all && body && part && wrote && changed)
 }
 
-#[test]
-fn all_inside_is_met(rt: HostRuntime) -> Result<(), Fail> {
-    assert!(rt; holds(Graph::new(rt.alloc()), goes_through)?);
-    Ok(())
-}
-
 /// A chain of a million objects that is walked from its ends, written and walked again.
-fn goes_deep(graph: &mut Numbers) -> Result<bool, AllocError> {
+pub(crate) fn goes_deep(graph: &mut Numbers) -> Result<bool, AllocError> {
     let Some(ends) = chain(graph, 333334)? else {
         return Ok(false);
     };
     let before = meets(graph, ends.outer, 0, 1000003) && meets(graph, ends.inner, 0, 1);
     let wrote = overwritten(graph, ends.outer);
     Ok(before && wrote && meets(graph, ends.inner, 7, 1))
-}
-
-#[test]
-fn a_million_are_met(rt: HostRuntime) -> Result<(), Fail> {
-    assert!(rt; holds(Graph::new(rt.alloc()), goes_deep)?);
-    Ok(())
 }

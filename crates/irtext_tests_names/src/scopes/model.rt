@@ -1,4 +1,4 @@
-//! A plain model of a tracker: the open scopes as vectors of their bindings, which are searched.
+//! A plain model of a tracker: the bindings of the open scopes in one vector, which is searched.
 use crate::steps::Answer;
 use irtext_tests_common::calls::Call;
 use irtext_tests_common::mentioned::Mentioned;
@@ -10,42 +10,54 @@ struct Bound {
     name: usize,
     value: u32,
     is_defined: bool,
+    // how many scopes were open when the name was bound, this one among them
+    depth: usize,
 }
 
-/// The scopes of names of one kind, the innermost last.
+/// The scopes of names of one kind: how many are open, and what is bound in them, the innermost scope last.
 #[derive(Drop)]
 struct Table {
-    alloc: Global,
-    scopes: Vec<Vec<Bound>>,
+    bounds: Vec<Bound>,
+    depth: usize,
 }
 
 impl Table {
     fn new(alloc: Global) -> Table {
         Table {
-            alloc,
-            scopes: Vec::new(alloc),
+            bounds: Vec::new(alloc),
+            depth: 0,
         }
     }
 
-    fn enter(&mut self) -> Result<(), AllocError> {
-        self.scopes.push(Vec::new(self.alloc))?;
-        Ok(())
+    fn enter(&mut self) {
+        self.depth = self.depth.wrapping_add(1);
     }
 
-    /// Closes the innermost scope, and returns the first name in it that waits.
+    /// Closes the innermost scope, if one is open, and returns the first name in it that waits.
     fn leave(&mut self) -> Option<usize> {
-        let scope = self.scopes.pop()?;
-        for bound in &scope {
-            if !bound.is_defined {
-                return Some(bound.name);
-            }
+        if self.depth == 0 {
+            return None;
         }
-        None
+        let mut lacking = None;
+        for _ in 0..self.bounds.len() {
+            let Some(bound) = self.bounds.last().copied() else {
+                break;
+            };
+            if bound.depth != self.depth {
+                break;
+            }
+            if !bound.is_defined {
+                lacking = Some(bound.name);
+            }
+            self.bounds.pop();
+        }
+        self.depth = self.depth.wrapping_sub(1);
+        lacking
     }
 
     fn find(&self, name: usize) -> Option<Bound> {
-        for bound in self.scopes.last()? {
-            if bound.name == name {
+        for bound in &self.bounds {
+            if bound.name == name && bound.depth == self.depth {
                 return Some(*bound);
             }
         }
@@ -53,33 +65,32 @@ impl Table {
     }
 
     /// Binds a name in the innermost scope, in place of its earlier binding there.
-    fn bind(&mut self, new: Bound) -> Result<(), AllocError> {
-        let Some(scope) = self.scopes.last_mut() else {
-            return Ok(());
-        };
-        for bound in scope.iter_mut() {
-            if bound.name == new.name {
-                *bound = new;
+    fn bind(&mut self, name: usize, value: u32, is_defined: bool) -> Result<(), AllocError> {
+        let depth = self.depth;
+        for bound in self.bounds.iter_mut() {
+            if bound.name == name && bound.depth == depth {
+                bound.value = value;
+                bound.is_defined = is_defined;
                 return Ok(());
             }
         }
-        scope.push(new)?;
+        self.bounds.push(Bound {
+            name,
+            value,
+            is_defined,
+            depth,
+        })?;
         Ok(())
     }
 
     fn used(&mut self, name: usize, value: u32) -> Result<Answer, AllocError> {
-        if self.scopes.is_empty() {
+        if self.depth == 0 {
             return Ok(Answer::NoScope);
         }
         if let Some(bound) = self.find(name) {
             return Ok(Answer::Holds(bound.value));
         }
-        let is_defined = false;
-        self.bind(Bound {
-            name,
-            value,
-            is_defined,
-        })?;
+        self.bind(name, value, false)?;
         Ok(Answer::Holds(value))
     }
 
@@ -87,16 +98,11 @@ impl Table {
         let answer = match self.find(name) {
             Some(bound) if bound.is_defined => Answer::Twice,
             Some(bound) => Answer::Holds(bound.value),
-            None if self.scopes.is_empty() => Answer::NoScope,
+            None if self.depth == 0 => Answer::NoScope,
             None => Answer::Done,
         };
         if matches!(answer, Answer::Holds(_) | Answer::Done) {
-            let is_defined = true;
-            self.bind(Bound {
-                name,
-                value,
-                is_defined,
-            })?;
+            self.bind(name, value, true)?;
         }
         Ok(answer)
     }
@@ -122,17 +128,17 @@ impl Model {
 
     /// Whether a region is open.
     pub(crate) fn is_open(&self) -> bool {
-        !self.values.scopes.is_empty() || !self.labels.scopes.is_empty()
+        self.values.depth > 0 || self.labels.depth > 0
     }
 
-    fn enter(&mut self, isolated: bool) -> Result<Answer, AllocError> {
+    fn enter(&mut self, isolated: bool) -> Answer {
         if isolated {
-            self.values.enter()?;
-        } else if self.values.scopes.is_empty() {
-            return Ok(Answer::NotIsolated);
+            self.values.enter();
+        } else if self.values.depth == 0 {
+            return Answer::NotIsolated;
         }
-        self.labels.enter()?;
-        Ok(Answer::Done)
+        self.labels.enter();
+        Answer::Done
     }
 
     /// Leaves a region, and returns the first name that is left without a definition: values come before labels.
@@ -151,7 +157,7 @@ impl Model {
     ) -> Result<(usize, Answer), AllocError> {
         let isolated = call.is_isolated();
         let answer = match call {
-            Call::Enter | Call::EnterIsolated => self.enter(isolated)?,
+            Call::Enter | Call::EnterIsolated => self.enter(isolated),
             Call::Exit | Call::ExitIsolated => {
                 return Ok(match self.leave(isolated) {
                     Some(lacking) => (lacking, Answer::Undefined),

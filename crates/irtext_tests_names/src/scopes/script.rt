@@ -1,11 +1,9 @@
 //! A random script: a tracker and a plain model of it get the same calls.
 use crate::scopes::model::Model;
 use crate::scopes::steps::{Tracker, step};
-use irtext_scopes::tracker::NameTracker;
 use irtext_tests_common::calls::{NAMES, next_call};
 use irtext_tests_common::random::Random;
-use std::alloc::AllocError;
-use std::test::Fail;
+use std::alloc::{AllocError, Global};
 
 // the number of calls
 const CALLS: usize = 20000;
@@ -26,7 +24,10 @@ fn answer_alike(
     }
     let value = (random.state % 1000000) as u32;
     let (asked, answer) = model.answer(call, name, value)?;
-    Ok(asked < tracker.num_names() && step(tracker, call, asked, value)? == answer)
+    if asked >= tracker.num_names() {
+        return Ok(false);
+    }
+    Ok(step(tracker, call, asked, value)? == answer)
 }
 
 /// The number of the first call with different results. To look at the call, let the script end there.
@@ -44,12 +45,8 @@ fn differing(
     Ok(None)
 }
 
-#[test]
-fn twenty_thousand_calls(rt: HostRuntime) -> Result<(), Fail> {
-    let alloc = rt.alloc();
-    let mut tracker: Tracker = NameTracker::new(alloc);
+/// Whether all calls of a script have the same results.
+pub(crate) fn goes_alike(tracker: &mut Tracker, alloc: Global) -> bool {
     let mut model = Model::new(alloc);
-    let found = differing(&mut tracker, &mut model, CALLS)?;
-    assert_eq!(rt; found, None);
-    Ok(())
+    differing(tracker, &mut model, CALLS).ok() == Some(None)
 }

@@ -2,13 +2,14 @@
 use crate::scopes::steps::{Tracker, step};
 use crate::steps::Answer;
 use crate::steps::Answer::{Done, Holds};
-use irtext_scopes::tracker::NameTracker;
 use irtext_tests_common::calls::Call;
 use irtext_tests_common::calls::Call::{
     Define, DefineLabel, EnterIsolated, ExitIsolated, Use, UseLabel,
 };
 use std::alloc::{AllocError, Global};
-use std::test::Fail;
+
+// the calls on each of many names
+const CALLS: &[Call] = &[Define, Use, DefineLabel, UseLabel];
 
 /// Whether a call on a name has this result.
 fn answers(
@@ -22,7 +23,22 @@ fn answers(
     Ok(step(tracker, call, name, value)? == answer)
 }
 
-/// Makes a call on each of so many names, and returns whether each has the expected result: the name's number, or success.
+/// Makes a call on the name of a number, and returns whether it has the expected result: the number, or success.
+fn answers_numbered(
+    alloc: Global,
+    tracker: &mut Tracker,
+    call: Call,
+    number: u32,
+) -> Result<bool, AllocError> {
+    let answer = match call {
+        Use | UseLabel => Holds(number),
+        _ => Done,
+    };
+    let text = format!(in alloc; "name_{number}")?;
+    answers(tracker, call, text.as_str(), number, answer)
+}
+
+/// Makes a call on each of so many names, and returns whether each has the expected result.
 fn answers_each(
     alloc: Global,
     tracker: &mut Tracker,
@@ -30,12 +46,7 @@ fn answers_each(
     count: u32,
 ) -> Result<bool, AllocError> {
     for number in 0..count {
-        let text = format!(in alloc; "name_{number}")?;
-        let answer = match call {
-            Use | UseLabel => Holds(number),
-            _ => Done,
-        };
-        if !answers(tracker, call, text.as_str(), number, answer)? {
+        if !answers_numbered(alloc, tracker, call, number)? {
             return Ok(false);
         }
     }
@@ -45,48 +56,45 @@ fn answers_each(
 /// Defines so many values and labels in one region, and uses each.
 fn holds_many(alloc: Global, tracker: &mut Tracker, count: u32) -> Result<bool, AllocError> {
     let entered = answers(tracker, EnterIsolated, "name_0", 0, Done)?;
-    let values = answers_each(alloc, tracker, Define, count)?
-        && answers_each(alloc, tracker, Use, count)?;
-    let labels = answers_each(alloc, tracker, DefineLabel, count)?
-        && answers_each(alloc, tracker, UseLabel, count)?;
+    let mut all = entered;
+    for call in CALLS {
+        all = answers_each(alloc, tracker, *call, count)? & all;
+    }
     let left = answers(tracker, ExitIsolated, "name_0", 0, Done)?;
-    Ok(entered && values && labels && left && tracker.num_names() == count as usize)
+    Ok(all & left & (tracker.num_names() == count as usize))
 }
 
 /// Uses a name so often before it is defined, and as often after that.
 fn uses_often(tracker: &mut Tracker, count: u32) -> Result<bool, AllocError> {
     let mut all = answers(tracker, EnterIsolated, "x", 0, Done)?;
     for _ in 0..count {
-        all = answers(tracker, Use, "x", 1, Holds(1))? && all;
+        all = answers(tracker, Use, "x", 1, Holds(1))? & all;
     }
-    all = answers(tracker, Define, "x", 2, Holds(1))? && all;
+    all = answers(tracker, Define, "x", 2, Holds(1))? & all;
     for _ in 0..count {
-        all = answers(tracker, Use, "x", 3, Holds(2))? && all;
+        all = answers(tracker, Use, "x", 3, Holds(2))? & all;
     }
-    Ok(answers(tracker, ExitIsolated, "x", 0, Done)? && all)
+    Ok(answers(tracker, ExitIsolated, "x", 0, Done)? & all)
 }
 
 /// Defines one name in so many scopes, each in the one before, and uses it in each as they are left.
 fn nests(tracker: &mut Tracker, depth: u32) -> Result<bool, AllocError> {
     let mut all = true;
     for level in 0..depth {
-        all = answers(tracker, EnterIsolated, "x", 0, Done)? && all;
-        all = answers(tracker, Define, "x", level, Done)? && all;
+        all = answers(tracker, EnterIsolated, "x", 0, Done)? & all;
+        all = answers(tracker, Define, "x", level, Done)? & all;
     }
     for following in 0..depth {
         let level = depth - 1 - following;
-        all = answers(tracker, Use, "x", depth, Holds(level))? && all;
-        all = answers(tracker, ExitIsolated, "x", 0, Done)? && all;
+        all = answers(tracker, Use, "x", depth, Holds(level))? & all;
+        all = answers(tracker, ExitIsolated, "x", 0, Done)? & all;
     }
-    Ok(all && !tracker.has_value_scope())
+    Ok(all & !tracker.has_value_scope())
 }
 
-#[test]
-fn many_names_uses_and_scopes(rt: HostRuntime) -> Result<(), Fail> {
-    let alloc = rt.alloc();
-    let mut tracker: Tracker = NameTracker::new(alloc);
-    assert!(rt; holds_many(alloc, &mut tracker, 100000)?);
-    assert!(rt; uses_often(&mut tracker, 100000)?);
-    assert!(rt; nests(&mut tracker, 10000)?);
-    Ok(())
+/// All of it, in one tracker.
+pub(crate) fn holds_all_sizes(tracker: &mut Tracker, alloc: Global) -> Result<bool, AllocError> {
+    let many = holds_many(alloc, tracker, 100000)?;
+    let often = uses_often(tracker, 100000)?;
+    Ok(nests(tracker, 10000)? & many & often)
 }

@@ -139,17 +139,22 @@ fn called_with(word: &str) -> Option<(Call, &str, u32)> {
     Some((call, name, value))
 }
 
-/// Whether each call of a script on a new tracker has its result.
-pub(crate) fn answers(alloc: Global, script: &str) -> Result<bool, AllocError> {
-    let mut tracker: Tracker = NameTracker::new(alloc);
+/// Whether each call of a script has its result.
+fn answers_on(tracker: &mut Tracker, script: &str) -> Result<bool, AllocError> {
     for word in script.split(' ') {
         let Some((call, text, value, answer)) = row_of(word) else {
             return Ok(false);
         };
         let name = tracker.intern(text)?;
-        if step(&mut tracker, call, name, value)? != answer {
+        if step(tracker, call, name, value)? != answer {
             return Ok(false);
         }
     }
     Ok(true)
+}
+
+/// The same for a script on a new tracker.
+pub(crate) fn answers(alloc: Global, script: &str) -> bool {
+    let mut tracker: Tracker = NameTracker::new(alloc);
+    answers_on(&mut tracker, script).unwrap_or(false)
 }
