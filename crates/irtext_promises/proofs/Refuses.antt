@@ -20,12 +20,12 @@ use Rattle.irtext_grammar.specs.Names.History as history
 use Rattle.irtext_grammar.specs.Names.History.{going, failed, start, run, events}
 use Rattle.irtext_grammar.specs.Names.Scopes.{no_scope}
 use Rattle.irtext_grammar.specs.Names.Script as script
-use Rattle.irtext_grammar.specs.Names.Script.{Cause, Failure, does_all, done}
+use Rattle.irtext_grammar.specs.Names.Script.{Path, Cause, Failure, does_all, done}
 use Rattle.irtext_grammar.specs.Names.TextScopes.{Script, failures}
 use Rattle.irtext_parse_spec.proofs.Joins.Answers.{Splits}
 use Rattle.irtext_parse_spec.specs.Exact.{NeedsWord}
 use Rattle.irtext_parse_spec.specs.Entries.{fault_for}
-use Rattle.irtext_parse_spec.specs.Naming.{naming}
+use Rattle.irtext_parse_spec.specs.Naming.{naming, Names}
 use Rattle.irtext_parse_spec.specs.Promises.Root.{IsCause, IsPlace}
 use Rattle.irtext_parse_spec.specs.Reached.{Reached, Advanced, Stopped, operation_at, do_tree}
 use Rattle.irtext_parse_spec.specs.Resume.{EndsIn}

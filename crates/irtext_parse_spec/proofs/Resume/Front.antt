@@ -59,9 +59,11 @@ module _ {T A : Type 0} (types_at : Reader T) (reading : Reader A) (h : Splits t
       let a = followed_read ((space_at ▷ piece_at types_at (attr_at reading) false step) text) (λ p. front_at types_at (attr_at reading) false ss (found ++ tree.piece p ∷ [])) parts taken rest e in
       let b = followed_read (space_at text) (λ _ t. piece_at types_at (attr_at reading) false step t) a.value a.front a.middle a.first in
       let p = (outside_read types_at (λ t. []) reading (λ a. []) (λ id. None) h k step b.middle a.value b.more a.middle b.second).0 in
-      let more = front_inside ss (found ++ tree.piece a.value ∷ []) parts a.middle a.more rest a.second in
-      (_, followed-read ((space_at ▷ piece_at types_at (attr_at reading) true step) text) (λ p. front_at types_at (attr_at reading) true ss (found ++ tree.piece p ∷ [])) a.value parts (b.front ++ p.0) a.middle more.0 rest
-          (followed-read (space_at text) (λ _ t. piece_at types_at (attr_at reading) true step t) b.value a.value b.front b.middle p.0 a.middle b.first p.1) more.1)
+      let more = front_inside ss (found ++ tree.piece a.value ∷ []) parts a.middle a.more rest a.second in (
+        _,
+        followed-read ((space_at ▷ piece_at types_at (attr_at reading) true step) text) (λ p. front_at types_at (attr_at reading) true ss (found ++ tree.piece p ∷ [])) a.value parts (b.front ++ p.0) a.middle more.0 rest
+            (followed-read (space_at text) (λ _ t. piece_at types_at (attr_at reading) true step t) b.value a.value b.front b.middle p.0 a.middle b.first p.1) more.1,
+      )
 
 module _ {X Y S : Type 0} (s : S) (next : X → Text → Reached Y S) where
   tells_prefixed : (taken rest text : Text) (o : Outcome X) → length text ≡ length taken + length rest → tells (prefixed taken o) text s next ≡ tells o rest s next
