@@ -109,7 +109,7 @@ fn front_read<T: IrText<A>, A: AttrText<A>>(
     ensures alive { IfOk result (λ front. FrontComes T.IrText.reading (attr_at A.IrText.reading)
         ctx.now.dialects inside names.new.names stream.old front.names front.id front.pieces stream.new) }
     ensures unmet { IfErr result (UnlessMemory
-        (MissesFront T.IrText.reading (attr_at A.IrText.reading) ctx.now.dialects inside inside stream.old)) }
+        (MissesFront T.IrText.reading (attr_at A.IrText.reading) ctx.now.dialects inside stream.old)) }
     ensures key { IfOk result (λ front. IfSome front.key (λ key. key ≡ sym_name_key)) }
     ensures counted { IfOk result (λ front. front.steps
         ≡ length (steps_in ctx.now.dialects (id_of front.id))) }
