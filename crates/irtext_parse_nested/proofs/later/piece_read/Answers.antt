@@ -1,4 +1,4 @@
-use Rattle.std.proofs.Common.{◌∙◌, sym, ap, subst, slice_get}
+use Rattle.std.proofs.Common.{◌∙◌, true, sym, ap, subst, slice_get}
 use Rattle.irtext_parse_spec.specs.Heads.{piece_at}
 use Rattle.irtext_parse_spec.specs.Readers.Streams.{itself, replaced}
 use Rattle.irtext_tokens.specs.AttrTexts.{attr_at}
