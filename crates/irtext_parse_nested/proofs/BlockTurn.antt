@@ -90,7 +90,7 @@ module _ {A : Type 0} (attr : Text → Outcome (AttrView A)) (honest : Honest at
   honest_pair = ◌so◌ honest_name_at (λ key. ◌then◌ (honest_spaced (codes ":")) (seen (λ a. (key, a)) (seen _ honest)))
 
   honest_dictionary : Honest (dictionary_at attr)
-  unfolding dictionary_at
+  unfolding dictionary_by
   honest_dictionary = record { of = λ text. (◌then◌ (honest_word (codes "[")) (◌then◌ honest_space (◌kept◌ (honest_separated 44 (pair_at attr) honest_pair) (honest_word (codes "]"))))).of text }
 
   module _ {T : Type 0} (types_at : Text → Outcome T) (honest_types : Honest types_at) where

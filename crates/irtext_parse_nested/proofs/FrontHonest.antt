@@ -1,5 +1,6 @@
 -- The faults of the parsers of an operation's front are in their texts.
 use Rattle.std.proofs.Common.{◌≡◌, ◌∙◌, ℕ, length, Bool, true, false, List, [], ◌∷◌, ◌++◌, codes, refl, ap, subst, append_assoc, cond, is_some, Some, None}
+use Rattle.std.specs.Prelude.{⊤}
 use Rattle.irtext_base.specs.Text.{Text}
 use Rattle.irtext_base.specs.Own.{Sincere, IsFront}
 use Rattle.irtext_base.specs.Format as format
@@ -11,18 +12,21 @@ use Rattle.irtext_base.proofs.Sincere.{Of, of_read, of_missing, of_mapped, of_si
 use Rattle.irtext_context.specs.Dialects.{Table}
 use Rattle.irtext_context.specs.DialectTable.{dialect_of, registered}
 use Rattle.irtext_tokens.specs.AttrTexts.{attr_at}
-use Rattle.irtext_tokens.specs.Infix.{◌▷◌}
+use Rattle.irtext_tokens.specs.Infix.{Reader, ◌▷◌}
 use Rattle.irtext_tokens.specs.Tokens.{identifier_at, id_at, space_at, word}
 use Rattle.irtext_tokens.proofs.Honest.{Honest, ◌then◌, ◌kept◌, ◌so◌, seen, honest_either, honest_word, honest_space, honest_id, honest_name, honest_spaced, honest_separated, honest_attr}
 use Rattle.irtext_parse_spec.specs.Readers.Parts.{after_lead}
 use Rattle.irtext_parse_spec.specs.Readers.Marker.{marker, starts_with}
 use Rattle.irtext_grammar.specs.Spelling.AttrText.{attr_tree}
 use Rattle.irtext_parse_spec.specs.Readers.Operations.{registered_after}
-use Rattle.irtext_parse_spec.proofs.Readers.Honest.{honest_nothing}
+use Rattle.irtext_parse_spec.proofs.Causes.Outcomes as obeys
+use Rattle.irtext_parse_spec.proofs.Causes.Outcomes.{Allowed, Obeys, AllObey, obeys_read, obeys_missing, obeys_bad, obeying_nothing}
+use Rattle.irtext_parse_spec.proofs.Causes.Parts.{piece_obeys}
+use Rattle.irtext_parse_spec.proofs.Causes.Tokens.{obeying_space}
 use Rattle.irtext_grammar.specs.Contexts.Formats.{op_id}
 use Rattle.irtext_grammar.specs.Grammar.Tree as tree
 use Rattle.irtext_grammar.specs.Grammar.Tree.{Name, Part}
-use Rattle.irtext_parse_spec.specs.Heads.{Step, flat, types, one, all, name_at, name_of, used_at, target_at, symbol_at, pair_at, dictionary_at, outlined_or_at, directive_at, piece_at, results_at, named, lead_at, led_by, led_at}
+use Rattle.irtext_parse_spec.specs.Heads.{Step, flat, types, one, all, name_at, name_of, used_at, target_at, symbol_at, pair_at, dictionary_by, dictionary_at, outlined_or_at, directive_at, piece_at, results_at, named, lead_at, led_by, led_at}
 use Rattle.irtext_parse_spec.specs.Resume.{front_at}
 use Rattle.irtext_parse_nested.proofs.Ended.{within_honest}
 use Rattle.irtext_parse_nested.proofs.Faults.{StaysWithin}
@@ -46,7 +50,7 @@ module _ {T A : Type 0} (types_at : Text → Outcome T) (attr : Text → Outcome
   pair_honest = ◌so◌ name_honest (λ key. ◌then◌ (honest_spaced (codes ":")) (seen (λ a. (key, a)) (seen _ honest)))
 
   pub dictionary_honest : Honest (dictionary_at attr)
-  unfolding dictionary_at
+  unfolding dictionary_by
   dictionary_honest = record { of = λ text. (◌then◌ (honest_word (codes "[")) (◌then◌ honest_space (◌kept◌ (honest_separated 44 (pair_at attr) pair_honest) (honest_word (codes "]"))))).of text }
 
   outlined_honest : Honest (outlined_or_at attr)
@@ -71,12 +75,38 @@ module _ {T A : Type 0} (types_at : Text → Outcome T) (attr : Text → Outcome
   piece_honest (one i) = record { of = λ text. of_missing text _ refl }
   piece_honest all = record { of = λ text. of_missing text _ refl }
 
-  pub front_honest : (ss : List Step) (found : List (Part ℕ T A)) → Honest (front_at types_at attr true ss found)
-  front_honest [] found = honest_nothing found
-  front_honest (s ∷ ss) found = ◌so◌ (◌then◌ honest_space (piece_honest s)) (λ p. front_honest ss (found ++ tree.piece p ∷ []))
+-- ---- the front
+-- any cause is allowed at any place
+anything : Allowed
+anything = record {
+  At = λ text cause left. ⊤;
+  token = λ text cause upto left t e. tt;
+  name = λ text cause upto left t e. tt;
+  longer = λ front text cause left a. tt;
+}
 
-pub front_within : {T A : Type 0} (types_at : Text → Outcome T) (reading : Text → Outcome A) → Sincere types_at → Sincere reading → (ss : List Step) (found : List (Part ℕ T A)) → StaysWithin (front_at types_at (attr_at reading) true ss found)
-front_within types_at reading sincere_types sincere ss found = within_honest (front_honest types_at (attr_at reading) (record { of = of_sincere types_at sincere_types }) (honest_attr (record { of = of_sincere reading sincere })) ss found)
+obeys_honest : {X : Type 0} {f : Reader X} → Honest f → AllObey anything f
+unfolding anything
+obeys_honest {X} {f} h = record { at = λ text. go text (f text) (h.of text) }
+  where
+    go : (text : Text) (o : Outcome X) → Of text o → Obeys anything text o
+    go text (Read x taken left) h = obeys_read text x taken left h.says
+    go text (Missing cause) h = obeys_missing text cause tt
+    go text (Bad cause upto) h = obeys_bad text cause upto h.says.1.0 h.says.1.1 tt
+
+-- the place of a fault is in the text
+stays : {X : Type 0} {f : Reader X} → AllObey anything f → StaysWithin f
+stays {X} {f} h = record { within = λ text cause upto e. let o = subst (Obeys anything text) e (h.at text) in (o.says.0, o.says.1) }
+
+module _ {T A : Type 0} (types_at : Text → Outcome T) (attr : Text → Outcome (AttrView A)) (of_types : AllObey anything types_at) (of_attr : AllObey anything attr) where
+  front_obeys : (inside : Bool) (ss : List Step) (found : List (Part ℕ T A)) → AllObey anything (front_at types_at attr inside ss found)
+  front_obeys inside [] found = obeying_nothing found
+  front_obeys inside (s ∷ ss) found = obeys.◌so◌ (obeys.◌then◌ obeying_space (piece_obeys of_types of_attr inside s)) (λ p. front_obeys inside ss (found ++ tree.piece p ∷ []))
+
+-- that of a front's fault is, inside of a region and outside of each
+pub front_within : {T A : Type 0} (types_at : Text → Outcome T) (reading : Text → Outcome A) → Sincere types_at → Sincere reading → (inside : Bool) (ss : List Step) (found : List (Part ℕ T A)) → StaysWithin (front_at types_at (attr_at reading) inside ss found)
+front_within types_at reading sincere_types sincere inside ss found =
+    stays (front_obeys types_at (attr_at reading) (obeys_honest (record { of = of_sincere types_at sincere_types })) (obeys_honest (honest_attr (record { of = of_sincere reading sincere }))) inside ss found)
 
 -- the same for one piece, after white space
 pub spaced_within : {T A : Type 0} (types_at : Text → Outcome T) (reading : Text → Outcome A) → Sincere types_at → Sincere reading → (step : Step) → StaysWithin (space_at ▷ piece_at types_at (attr_at reading) true step)

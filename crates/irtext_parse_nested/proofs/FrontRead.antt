@@ -59,36 +59,36 @@ same_fault : {A : Type 0} (is_required : Bool) (fault last : ParseFault A) (old 
 same_fault true fault last old new d = record { cause = d.cause; pos = d.place; flag = d.committed }
 same_fault false fault last old new d = record { cause = ap (λ f. f.cause) d.0; pos = ap (λ f. f.pos) d.0; flag = ap (λ f. f.committed) d.0 }
 
-module _ {T A : Type 0} (types_at : Text → Outcome T) (reading : Text → Outcome A) (dialects : List (Text × Table)) (old : StreamView) (fine : old.failed ≡ false) where
+module _ {T A : Type 0} (types_at : Text → Outcome T) (reading : Text → Outcome A) (dialects : List (Text × Table)) (inside : Bool) (old : StreamView) (fine : old.failed ≡ false) where
   -- ---- there is no lead
-  module _ {X : Type 0} {names : List Text} (is_required : Bool) {fault : ParseFault A} {mid : StreamView}
+  module _ {X : Type 0} {names : List Text} {fault : ParseFault A} {mid : StreamView}
       (h : MayMean {X = List (Name ℕ) × Id} {Y = List ReadName × OpId × X} itself replaced (IsLed names (whole old)) (led_at dialects) old (Err fault) mid) (last : ParseFault A) (new : StreamView)
-      (c : cond is_required (base.Demands itself replaced fault mid last new) ((last ≡ fault) × (new ≡ mid))) where
-    same : SameFault is_required fault last
-    same = same_fault is_required fault last mid new c
+      (c : cond inside (base.Demands itself replaced fault mid last new) ((last ≡ fault) × (new ≡ mid))) where
+    same : SameFault inside fault last
+    same = same_fault inside fault last mid new c
 
-    pub lead_misses : UnlessMemory (MissesFront types_at (attr_at reading) dialects true is_required old) last
+    pub lead_misses : UnlessMemory (MissesFront types_at (attr_at reading) dialects inside old) last
     lead_misses = elim h.read.answers [
-      | inl ran_out ↦ inl (record { because = ap fault_of same.cause ∙ ran_out.because; flag = same.flag ∙ (ap (λ b. is_required || b) ran_out.committed ∙ or_committed is_required) })
+      | inl ran_out ↦ inl (record { because = ap fault_of same.cause ∙ ran_out.because; flag = same.flag ∙ (ap (λ b. inside || b) ran_out.committed ∙ or_committed inside) })
       | inr refused ↦ inr (go (led_at dialects old.rest) refl (subst (λ b. Refuses itself replaced (unless_failed b (led_at dialects old.rest)) old fault mid) fine refused))
     ]
       where
         placed : (upto : Text) → IsAt fault.pos.line fault.pos.column (old.passed ++ upto) → IsAt last.pos.line last.pos.column (old.passed ++ upto)
         placed upto p = subst (λ p. IsAt p.line p.column (old.passed ++ upto)) (sym same.pos) p
 
-        go : (o : Outcome (List (Name ℕ) × Id)) → led_at dialects old.rest ≡ o → Refuses itself replaced o old fault mid → MissesFront types_at (attr_at reading) dialects true is_required old last
+        go : (o : Outcome (List (Name ℕ) × Id)) → led_at dialects old.rest ≡ o → Refuses itself replaced o old fault mid → MissesFront types_at (attr_at reading) dialects inside old last
         go (Read x taken rest) is r = absurd r
         go (Missing cause) is r = misses_lead
             (record { cause = cause; upto = []; bad = ap demanded is; fault_is = text_fault old cause [] old.rest last refl (ap fault_of same.cause ∙ r.because) (placed [] (subst (IsAt fault.pos.line fault.pos.column) (sym (append-nil old.passed)) r.place)) })
-            (same.flag ∙ ap (λ b. is_required || b) (r.committed ∙ sym (ap is_committed is)))
+            (same.flag ∙ ap (λ b. inside || b) (r.committed ∙ sym (ap is_committed is)))
         go (Bad cause upto) is r =
             let front = (led_within dialects).within old.rest cause upto is in
             misses_lead (record { cause = cause; upto = upto; bad = ap demanded is; fault_is = text_fault old cause upto front.0 last front.1 (ap fault_of same.cause ∙ r.because) (placed upto r.place) })
-            (same.flag ∙ ap (λ b. is_required || b) (r.committed ∙ sym (ap is_committed is)))
+            (same.flag ∙ ap (λ b. inside || b) (r.committed ∙ sym (ap is_committed is)))
 
     -- where the fault is not committed, nothing was parsed
     pub lead_unread : last.committed ≡ false → new ≡ old
-    lead_unread flag = go is_required c
+    lead_unread flag = go inside c
       where
         uncommitted : (o : Outcome (List (Name ℕ) × Id)) → Refuses itself replaced o old fault mid → fault.committed ≡ false → mid ≡ old
         uncommitted (Read x taken rest) r e = absurd r
@@ -133,26 +133,26 @@ module _ {T A : Type 0} (types_at : Text → Outcome T) (reading : Text → Outc
     isolated_is = ap (λ o. elim o [ Some k ↦ k.isolated | None ↦ false ]) known.known
 
     -- a piece is missing
-    pub piece_misses : (is_required : Bool) (more : List Text) {fault : ParseFault A} {new : StreamView} → Sincere types_at → Sincere reading → MustFront {T = T} itself replaced more types_at (attr_at reading) true (steps_of (format_of info.format)) mid (Err fault) new
-        → UnlessMemory (MissesFront types_at (attr_at reading) dialects true is_required old) fault
-    piece_misses is_required more {fault} {new} sincere_types sincere f =
-        let within = front_within types_at reading sincere_types sincere (front_steps (steps_of (format_of info.format))) [] in
+    pub piece_misses : (more : List Text) {fault : ParseFault A} {new : StreamView} → Sincere types_at → Sincere reading → MustFront {T = T} itself replaced more types_at (attr_at reading) inside (steps_of (format_of info.format)) mid (Err fault) new
+        → UnlessMemory (MissesFront types_at (attr_at reading) dialects inside old) fault
+    piece_misses more {fault} {new} sincere_types sincere f =
+        let within = front_within types_at reading sincere_types sincere inside (front_steps (steps_of (format_of info.format))) [] in
         let c = must_commit still_fine f.read in
-        elim (must_demand alone (front_of types_at (attr_at reading) true (steps_of (format_of info.format)) []) within still_fine f.read) [
+        elim (must_demand alone (front_of types_at (attr_at reading) inside (steps_of (format_of info.format)) []) within still_fine f.read) [
           | inl s ↦ inl s
           | inr d ↦ inr (misses_piece (h.meant op).0 (id_of op.1) led_is.taken mid.rest led_here
-              (subst (λ t. Demands t (front_at types_at (attr_at reading) true (front_steps (steps_in dialects (id_of op.1))) [] mid.rest) mid.rest fault) same_text
-              (subst (λ ss. Demands (whole mid) (front_at types_at (attr_at reading) true (front_steps ss) [] mid.rest) mid.rest fault) (sym steps_are) d)) c)
+              (subst (λ t. Demands t (front_at types_at (attr_at reading) inside (front_steps (steps_in dialects (id_of op.1))) [] mid.rest) mid.rest fault) same_text
+              (subst (λ ss. Demands (whole mid) (front_at types_at (attr_at reading) inside (front_steps ss) [] mid.rest) mid.rest fault) (sym steps_are) d)) c)
         ]
 
-    pub piece_commits : (more : List Text) {fault : ParseFault A} {new : StreamView} → MustFront {T = T} itself replaced more types_at (attr_at reading) true (steps_of (format_of info.format)) mid (Err fault) new → fault.committed ≡ true
+    pub piece_commits : (more : List Text) {fault : ParseFault A} {new : StreamView} → MustFront {T = T} itself replaced more types_at (attr_at reading) inside (steps_of (format_of info.format)) mid (Err fault) new → fault.committed ≡ true
     piece_commits more f = must_commit still_fine f.read
 
     -- all of it is in the text
-    pub front_comes : (more : List Text) → KeepsNames names more → (pieces : List (ReadPiece T A)) (new : StreamView) → MustFront {A = A} itself replaced more types_at (attr_at reading) true (steps_of (format_of info.format)) mid (Ok pieces) new
-        → length pieces ≡ length (front_steps (steps_of (format_of info.format))) → FrontComes types_at (attr_at reading) dialects true more old op.0 op.1 pieces new
+    pub front_comes : (more : List Text) → KeepsNames names more → (pieces : List (ReadPiece T A)) (new : StreamView) → MustFront {A = A} itself replaced more types_at (attr_at reading) inside (steps_of (format_of info.format)) mid (Ok pieces) new
+        → length pieces ≡ length (front_steps (steps_of (format_of info.format))) → FrontComes types_at (attr_at reading) dialects inside more old op.0 op.1 pieces new
     front_comes more keeps pieces new f count =
-        let there : Answered (front_of types_at (attr_at reading) true (steps_of (format_of info.format)) [] mid.rest) mid (f.meant pieces) new = answered {A = A} f.read in
+        let there : Answered (front_of types_at (attr_at reading) inside (steps_of (format_of info.format)) [] mid.rest) mid (f.meant pieces) new = answered {A = A} f.read in
         record {
           results = (h.meant op).0;
           lead = led_is.taken;
@@ -160,7 +160,7 @@ module _ {T A : Type 0} (types_at : Text → Outcome T) (reading : Text → Outc
           led = led_here;
           parts = f.meant pieces;
           taken = there.taken;
-          front = ap (λ ss. front_at types_at (attr_at reading) true (front_steps ss) [] mid.rest) steps_are ∙ there.is;
+          front = ap (λ ss. front_at types_at (attr_at reading) inside (front_steps ss) [] mid.rest) steps_are ∙ there.is;
           moves = moves_more (record { taken = led_is.taken; takes = led_is.takes }) (record { taken = there.taken; takes = there.takes });
           named = each_on names more (whole old) keeps op.0 (h.meant op).0 h.means.0;
           are = subst (λ t. Each (IsPart more t) pieces (f.meant pieces)) same_text f.means;

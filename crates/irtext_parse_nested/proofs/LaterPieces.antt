@@ -73,31 +73,11 @@ registered_steps dialects id info known = ap (λ o. elim o [ Some f ↦ steps_of
 
 -- ---- what is parsed
 module _ {T A : Type 0} (types_at : Reader T) (attr : Reader (AttrView A)) where
-  -- a directive without names parses the same inside of some region and outside of each
-  directive_late : (inside : Bool) (d : Directive) → (WritesNamesOrType d → ⊥) → directive_at types_at attr inside d ≡ directive_at types_at attr true d
-  directive_late inside (format.word s) n = refl
-  directive_late inside (format.operand i) n = absurd (n tt)
-  directive_late inside format.operands n = absurd (n tt)
-  directive_late inside (format.successor i) n = absurd (n tt)
-  directive_late inside format.successors n = absurd (n tt)
-  directive_late inside (format.attribute k) n = refl
-  directive_late inside format.dictionary n = refl
-  directive_late inside (format.result_type i) n = refl
-  directive_late inside format.header n = refl
-  directive_late inside (format.region i) n = refl
-  directive_late inside format.regions n = refl
-
-  piece_late : (inside : Bool) (step : Step) → ReadsNeither step → piece_at types_at attr inside step ≡ piece_at types_at attr true step
-  piece_late inside (flat d) n = directive_late inside d n
-  piece_late inside types n = absurd n
-  piece_late inside (one i) n = refl
-  piece_late inside all n = refl
-
   -- what a step parses after white space is a piece of this step
-  pub spaced_of : (inside : Bool) (step : Step) (text : Text) (p : Piece ℕ T A) (taken rest : Text) → (space_at ▷ piece_at types_at attr inside step) text ≡ Read p taken rest → IsOfStep step p
-  spaced_of inside step text p taken rest e =
-      let q = followed_read (space_at text) (λ _. piece_at types_at attr inside step) p taken rest e in
-      piece_of types_at attr inside step q.middle p q.more rest q.second
+  pub spaced_of : (step : Step) (text : Text) (p : Piece ℕ T A) (taken rest : Text) → (space_at ▷ piece_at types_at attr true step) text ≡ Read p taken rest → IsOfStep step p
+  spaced_of step text p taken rest e =
+      let q = followed_read (space_at text) (λ _. piece_at types_at attr true step) p taken rest e in
+      piece_of types_at attr true step q.middle p q.more rest q.second
 
 -- the part is one of the step
 pub part_of : {T A : Type 0} (step : Step) (p : Piece ℕ T A) → IsOfStep step p → IsPartOf step (tree.piece p)
@@ -105,12 +85,6 @@ part_of (flat d) p o = o
 part_of types p o = o
 part_of (one i) p o = o
 part_of all p o = o
-
--- the place of its fault is in its text
-pub late_within : {T A : Type 0} (types_at : Text → Outcome T) (reading : Text → Outcome A) → Sincere types_at → Sincere reading → (inside : Bool) (step : Step) → ReadsNeither step
-    → StaysWithin (space_at ▷ piece_at types_at (attr_at reading) inside step)
-late_within {T} {A} types_at reading sincere_types sincere inside step n =
-    subst (λ (f : Reader (Piece ℕ T A)). StaysWithin (space_at ▷ f)) (sym (piece_late types_at (attr_at reading) inside step n)) (spaced_within types_at reading sincere_types sincere step)
 
 -- ---- what it does
 -- what names values or labels, or gives a result its type, is no piece of a step that parses neither

@@ -67,12 +67,13 @@ use Rattle.irtext_parse_nested.proofs.BegunSteps.{begun_step}
 use Rattle.irtext_parse_nested.proofs.Edited.{edited_lasts, edited_sound, edited_agrees}
 use Rattle.irtext_parse_nested.proofs.Ended.{must_commit}
 use Rattle.irtext_parse_nested.proofs.Faults.{StaysWithin, must_demand, place_is_there}
+use Rattle.irtext_parse_nested.proofs.FrontHonest.{spaced_within}
 use Rattle.irtext_parse_nested.proofs.FrontRead.{each_on}
-use Rattle.irtext_parse_nested.proofs.LaterPieces.{part_of, flat_next, first_left, spaced_of, late_within, late_takes, late_fails, never_outside}
+use Rattle.irtext_parse_nested.proofs.LaterPieces.{part_of, flat_next, first_left, spaced_of, late_takes, late_fails, never_outside}
 
 -- what the parser of a piece promises, given the next step
 abbrev pub ReadsNext : {T A : Type 0} → Reader T → Reader (AttrView A) → List (Text × Table) → BegunOperation → List Text → StreamView → Result (ReadPiece T A) (ParseFault A) → StreamView → Type 0
-ReadsNext types_at attr dialects b names old result new = (step : Step) → slice_get (steps_in dialects (id_of b.id)) b.step ≡ Some step → MustPiece itself replaced names (space_at ▷ piece_at types_at attr b.inside step) old result new
+ReadsNext types_at attr dialects b names old result new = (step : Step) → slice_get (steps_in dialects (id_of b.id)) b.step ≡ Some step → MustPiece itself replaced names (space_at ▷ piece_at types_at attr true step) old result new
 
 -- the names are unchanged, and still match the graph
 tied_on : {T A U : Type 0} (before middle : Names) (s : StateStream T A U) → NamesRead before middle → MatchesGraph before.values before.labels s.state.ctx.now.graph → MatchesGraph middle.values middle.labels s.state.ctx.now.graph
@@ -96,8 +97,8 @@ module _ {T A U : Type 0} (types_at : Reader T) (attr : Reader (AttrView A)) (ol
 
     -- ---- it was parsed
     module _ (read : NamesRead before middle) (distinct : AreDistinct middle.names) (piece : ReadPiece T A) (mid : StreamView)
-        (must : MustPiece {A = A} itself replaced middle.names (space_at ▷ piece_at types_at attr b.inside step) old.stream (Ok piece) mid) where
-      there : Answered ((space_at ▷ piece_at types_at attr b.inside step) old.stream.rest) old.stream (must.meant piece) mid
+        (must : MustPiece {A = A} itself replaced middle.names (space_at ▷ piece_at types_at attr true step) old.stream (Ok piece) mid) where
+      there : Answered ((space_at ▷ piece_at types_at attr true step) old.stream.rest) old.stream (must.meant piece) mid
       there = answered {A = A} must.read
 
       -- the piece of the text
@@ -105,7 +106,7 @@ module _ {T A U : Type 0} (types_at : Reader T) (attr : Reader (AttrView A)) (ol
       meant = must.meant piece
 
       of_step : IsOfStep step meant
-      of_step = spaced_of types_at attr b.inside step old.stream.rest meant there.taken mid.rest there.is
+      of_step = spaced_of types_at attr step old.stream.rest meant there.taken mid.rest there.is
 
       is_piece : IsPiece middle.names (whole old.stream) piece meant
       is_piece = must.means
@@ -140,11 +141,11 @@ module _ {T A U : Type 0} (types_at : Reader T) (attr : Reader (AttrView A)) (ol
 
         reads_piece : ReadsPiece types_at attr o step b before old middle new
         reads_piece =
-            let a = subst (λ w. Answered ((space_at ▷ piece_at types_at attr b.inside step) old.stream.rest) old.stream meant w) (sym same) there in
+            let a = subst (λ w. Answered ((space_at ▷ piece_at types_at attr true step) old.stream.rest) old.stream meant w) (sym same) there in
             record {
               piece = meant;
               taken = a.taken;
-              read = subst (λ i. (space_at ▷ piece_at types_at attr i step) old.stream.rest ≡ Read meant a.taken new.stream.rest) is.inside a.is;
+              read = a.is;
               moves = record { taken = a.taken; takes = a.takes };
               acts = piece_acts_done;
             }
@@ -159,7 +160,6 @@ module _ {T A U : Type 0} (types_at : Reader T) (attr : Reader (AttrView A)) (ol
         is_begun =
             let up : suc b.step ≡ b.step + 1 = omega arith in
             record {
-              inside = is.inside;
               place = is.place;
               names_are = each_on before.names middle.names (whole old.stream) read.kept b.names o.names is.names_are;
               id = is.id;
@@ -190,17 +190,17 @@ module _ {T A U : Type 0} (types_at : Reader T) (attr : Reader (AttrView A)) (ol
     -- ---- it is an error
     -- the text has no such piece there
     pub piece_missing : {names : List Text} {fault : ParseFault A} {mid : StreamView} → old.stream.failed ≡ false → Sincere types_at → (reading : Text → Outcome A) → attr ≡ attr_at reading → Sincere reading
-        → MustPiece {T = T} {A = A} itself replaced names (space_at ▷ piece_at types_at attr b.inside step) old.stream (Err fault) mid → UnlessMemory (RefusesPiece types_at attr o step before old) fault
+        → MustPiece {T = T} {A = A} itself replaced names (space_at ▷ piece_at types_at attr true step) old.stream (Err fault) mid → UnlessMemory (RefusesPiece types_at attr o step before old) fault
     piece_missing {fault = fault} fine sincere_types reading e sincere must =
-        let within = subst (λ (a : Reader (AttrView A)). StaysWithin {X = Piece ℕ T A} (space_at ▷ piece_at types_at a b.inside step)) (sym e) (late_within types_at reading sincere_types sincere b.inside step neither.0) in
-        elim (must_demand alone (space_at ▷ piece_at types_at attr b.inside step) within fine must.read) [
+        let within = subst (λ (a : Reader (AttrView A)). StaysWithin {X = Piece ℕ T A} (space_at ▷ piece_at types_at a true step)) (sym e) (spaced_within types_at reading sincere_types sincere step) in
+        elim (must_demand alone (space_at ▷ piece_at types_at attr true step) within fine must.read) [
           | inl s ↦ inl s
-          | inr d ↦ inr (inl (subst (λ i. Demands (whole old.stream) ((space_at ▷ piece_at types_at attr i step) old.stream.rest) old.stream.rest fault) is.inside d))
+          | inr d ↦ inr (inl d)
         ]
 
     -- it was not stored
     module _ (read : NamesRead before middle) (distinct : AreDistinct middle.names) (piece : ReadPiece T A) (mid : StreamView)
-        (must : MustPiece {A = A} itself replaced middle.names (space_at ▷ piece_at types_at attr b.inside step) old.stream (Ok piece) mid) (fault : ParseFault A) where
+        (must : MustPiece {A = A} itself replaced middle.names (space_at ▷ piece_at types_at attr true step) old.stream (Ok piece) mid) (fault : ParseFault A) where
       why_refused : (why : NotGathered) → RefusesStored piece why → SaysGather middle.names (whole old.stream) why fault → UnlessMemory (RefusesPiece types_at attr o step before old) fault
       why_refused refusal.Memory r s = inl s
       why_refused (refusal.NoActiveScope n) r s = absurd (never_outside piece n r)
@@ -214,7 +214,7 @@ module _ {T A U : Type 0} (types_at : Reader T) (attr : Reader (AttrView A)) (ol
             q,
             a.taken,
             mid.rest,
-            subst (λ i. (space_at ▷ piece_at types_at attr i step) old.stream.rest ≡ Read q a.taken mid.rest) is.inside a.is,
+            a.is,
             record {
               failure = record { cause = ReservedKey f.0.text; at = Some f.0.place };
               is = record { cause = s.0 ∙ ap causes.ReservedKey f.1.named; place = place_is_there f.1.place s.2; committed = s.1 };
@@ -257,7 +257,6 @@ module _ {T A U : Type 0} (types_at : Reader T) (attr : Reader (AttrView A)) (ol
     next_goes_on new next e same marks tied stores = subst (λ n. GoesOn types_at attr before old b n middle new) (sym e) (record {
       op = refl;
       results = refl;
-      inside = refl;
       reads = λ o step ss is left.
           let m = must step (next_there o step ss is left) in (
             reads_piece o step ss is left read distinct piece mid m new stores same marks tied,

@@ -112,30 +112,35 @@ last_pledge w v [] (inr a) P f h = absurd a
 last_pledge w v (u ∷ more) (inl e) P f h = f w (inl e)
 last_pledge w v (u ∷ more) (inr a) P f h = last_pledge w v more a P (λ u b. f u (inr b)) h
 
-module _ {T A U : Type 0} (types_at : Text → Outcome T) (attr : Text → Outcome (AttrView A)) (old : StateStream T A U) where
+-- the same front, where this is known to be inside of a region or not
+pub comes_where : {T A : Type 0} (types_at : Text → Outcome T) (attr : Text → Outcome (AttrView A)) (dialects : List (Text × Table)) (a b : Bool) {names : List Text} {old : StreamView} {rs : List ReadName} {id : OpId} {pieces : List (ReadPiece T A)} {new : StreamView} → a ≡ b
+    → FrontComes types_at attr dialects a names old rs id pieces new → FrontComes types_at attr dialects b names old rs id pieces new
+comes_where types_at attr dialects a b {names} {old} {rs} {id} {pieces} {new} e f = subst (λ w. FrontComes types_at attr dialects w names old rs id pieces new) e f
+
+module _ {T A U : Type 0} (types_at : Text → Outcome T) (attr : Text → Outcome (AttrView A)) (inside : Bool) (old : StateStream T A U) where
   abbrev dialects : List (Text × Table)
   dialects = old.state.ctx.now.dialects
 
   -- ---- the pieces of a front
-  module _ {table : List Text} {rs : List ReadName} {id : OpId} {pieces : List (ReadPiece T A)} {mid : StreamView} (f : FrontComes types_at attr old.state.ctx.now.dialects true table old.stream rs id pieces mid) where
+  module _ {table : List Text} {rs : List ReadName} {id : OpId} {pieces : List (ReadPiece T A)} {mid : StreamView} (f : FrontComes types_at attr old.state.ctx.now.dialects inside table old.stream rs id pieces mid) where
     steps_are : steps_in dialects (id_of id) ≡ steps_of f.format
     steps_are = ap (λ o. elim o [ Some f ↦ steps_of f | None ↦ [] ]) f.known
 
-    parts : FrontParts types_at attr true (front_steps (steps_in dialects (id_of id))) [] f.parts
-    parts = front_parts types_at attr true (front_steps (steps_in dialects (id_of id))) [] f.parts f.middle f.taken mid.rest f.front
+    parts : FrontParts types_at attr inside (front_steps (steps_in dialects (id_of id))) [] f.parts
+    parts = front_parts types_at attr inside (front_steps (steps_in dialects (id_of id))) [] f.parts f.middle f.taken mid.rest f.front
 
-    are_of : AreOfSteps true (front_steps (steps_of f.format)) parts.pieces
-    are_of = subst (λ ss. AreOfSteps true (front_steps ss) parts.pieces) steps_are parts.of_steps
+    are_of : AreOfSteps inside (front_steps (steps_of f.format)) parts.pieces
+    are_of = subst (λ ss. AreOfSteps inside (front_steps ss) parts.pieces) steps_are parts.of_steps
 
     each : Each (IsPiece table (whole old.stream)) pieces parts.pieces
     each = pieces_of table (whole old.stream) pieces parts.pieces (subst (Each (IsPart table (whole old.stream)) pieces) parts.parts_are f.are)
 
     -- they can be gathered
     pub front_can : (names : Names) → names.names ≡ table → CanGather names [] [] pieces
-    front_can names same = can_gather names (whole old.stream) true pieces parts.pieces (subst (λ ns. Each (IsPiece ns (whole old.stream)) pieces parts.pieces) (sym same) each) f.format f.accepted are_of
+    front_can names same = can_gather names (whole old.stream) inside pieces parts.pieces (subst (λ ns. Each (IsPiece ns (whole old.stream)) pieces parts.pieces) (sym same) each) f.format f.accepted are_of
 
     -- they are what the text parses as
-    pub front_reads : (rest : Text) → mid.rest ≡ rest → ReadsFront types_at attr true old rest
+    pub front_reads : (rest : Text) → mid.rest ≡ rest → ReadsFront types_at attr inside old rest
     front_reads rest e = record {
       names = f.results;
       id = id_of id;
@@ -144,11 +149,11 @@ module _ {T A U : Type 0} (types_at : Text → Outcome T) (attr : Text → Outco
       led = f.led;
       parts = f.parts;
       taken = f.taken;
-      front = subst (λ r. front_at types_at attr true (front_steps (steps_in dialects (id_of id))) [] f.middle ≡ Read f.parts f.taken r) e f.front;
+      front = subst (λ r. front_at types_at attr inside (front_steps (steps_in dialects (id_of id))) [] f.middle ≡ Read f.parts f.taken r) e f.front;
     }
 
     -- any parse of this text has this result
-    same_read : (rest : Text) (read : ReadsFront types_at attr true old rest) → (read.id ≡ id_of id) × (read.parts ≡ f.parts)
+    same_read : (rest : Text) (read : ReadsFront types_at attr inside old rest) → (read.id ≡ id_of id) × (read.parts ≡ f.parts)
     same_read rest read =
         let led = sym read.led ∙ f.led in
         let here : List (Name ℕ) × Id = (read.names, read.id) in
@@ -157,7 +162,7 @@ module _ {T A U : Type 0} (types_at : Text → Outcome T) (attr : Text → Outco
         let i : read.id ≡ id_of id = ap (λ p. p.1) pair in
         let m : read.middle ≡ f.middle = cc led in
         let front : Read read.parts read.taken rest ≡ Read f.parts f.taken mid.rest =
-        sym read.front ∙ (ap (λ i. front_at types_at attr true (front_steps (steps_in dialects i)) [] read.middle) i ∙ (ap (front_at types_at attr true (front_steps (steps_in dialects (id_of id))) []) m ∙ f.front)) in
+        sym read.front ∙ (ap (λ i. front_at types_at attr inside (front_steps (steps_in dialects i)) [] read.middle) i ∙ (ap (front_at types_at attr inside (front_steps (steps_in dialects (id_of id))) []) m ∙ f.front)) in
         (i, cc front)
 
     -- the types that its results have
@@ -166,13 +171,13 @@ module _ {T A U : Type 0} (types_at : Text → Outcome T) (attr : Text → Outco
 
     typed_so : (later : List (Part ℕ T A)) → All HasNoType later → result_types (body_of (format_of dialects (id_of id)) (f.parts ++ later)) ≡ front_types
     typed_so later h = ap (λ o. result_types (body_of o (f.parts ++ later))) f.known
-        ∙ (ap (λ ps. result_types (body_of (Some f.format) (ps ++ later))) parts.parts_are ∙ types_are table (whole old.stream) true pieces parts.pieces each f.format are_of later h)
+        ∙ (ap (λ ps. result_types (body_of (Some f.format) (ps ++ later))) parts.parts_are ∙ types_are table (whole old.stream) inside pieces parts.pieces each f.format are_of later h)
 
     stores_so : (later : List (Part ℕ T A)) → ArePartsOf (region_steps (steps_in dialects (id_of id))) later
         → views stored (tree.parts_of (body_of (format_of dialects (id_of id)) (f.parts ++ later))) ≡ views stored (f.parts ++ later)
     stores_so later a = ap (λ o. views stored (tree.parts_of (body_of o (f.parts ++ later)))) f.known
         ∙ (ap (λ ps. views stored (tree.parts_of (body_of (Some f.format) (ps ++ later)))) parts.parts_are
-        ∙ (stores_are table (whole old.stream) true pieces parts.pieces each f.format are_of later (subst (λ ss. ArePartsOf (region_steps ss) later) steps_are a)
+        ∙ (stores_are table (whole old.stream) inside pieces parts.pieces each f.format are_of later (subst (λ ss. ArePartsOf (region_steps ss) later) steps_are a)
         ∙ ap (λ ps. views stored (ps ++ later)) (sym parts.parts_are)))
 
     -- the own of the operation that begins
@@ -194,15 +199,15 @@ module _ {T A U : Type 0} (types_at : Text → Outcome T) (attr : Text → Outco
         → length (operand_names (unmarked (length old.stream.rest) names (id_of id) (body_of (format_of dialects (id_of id)) (f.parts ++ later)))) ≡ length (flat_map operand_place pieces) + length (flat_map operand_list pieces)
     operands_so names later a = ap (λ o. length (operand_names (unmarked (length old.stream.rest) names (id_of id) (body_of o (f.parts ++ later))))) f.known
         ∙ (ap (λ ps. length (operand_names (unmarked (length old.stream.rest) names (id_of id) (body_of (Some f.format) (ps ++ later))))) parts.parts_are
-        ∙ operands_counted table (whole old.stream) true pieces parts.pieces each f.format f.accepted are_of (length old.stream.rest) names (id_of id) later (subst (λ ss. ArePartsOf (region_steps ss) later) steps_are a))
+        ∙ operands_counted table (whole old.stream) inside pieces parts.pieces each f.format f.accepted are_of (length old.stream.rest) names (id_of id) later (subst (λ ss. ArePartsOf (region_steps ss) later) steps_are a))
 
     successors_so : (names : List (Name ℕ)) (later : List (Part ℕ T A)) → ArePartsOf (region_steps (steps_in dialects (id_of id))) later
         → length (successor_labels (unmarked (length old.stream.rest) names (id_of id) (body_of (format_of dialects (id_of id)) (f.parts ++ later)))) ≡ length (flat_map successor_place pieces) + length (flat_map successor_list pieces)
     successors_so names later a = ap (λ o. length (successor_labels (unmarked (length old.stream.rest) names (id_of id) (body_of o (f.parts ++ later))))) f.known
         ∙ (ap (λ ps. length (successor_labels (unmarked (length old.stream.rest) names (id_of id) (body_of (Some f.format) (ps ++ later))))) parts.parts_are
-        ∙ successors_counted table (whole old.stream) true pieces parts.pieces each f.format f.accepted are_of (length old.stream.rest) names (id_of id) later (subst (λ ss. ArePartsOf (region_steps ss) later) steps_are a))
+        ∙ successors_counted table (whole old.stream) inside pieces parts.pieces each f.format f.accepted are_of (length old.stream.rest) names (id_of id) later (subst (λ ss. ArePartsOf (region_steps ss) later) steps_are a))
 
-    begun_so : (names : List (Name ℕ)) → HasBegun (format_of dialects) (begun dialects true (length old.stream.rest) names (id_of id) f.parts) front_own
+    begun_so : (names : List (Name ℕ)) → HasBegun (format_of dialects) (begun dialects (length old.stream.rest) names (id_of id) f.parts) front_own
     begun_so names = record {
       place = refl;
       id = refl;
@@ -214,15 +219,15 @@ module _ {T A U : Type 0} (types_at : Text → Outcome T) (attr : Text → Outco
     }
 
     -- it is that of any parse of this text
-    pub front_begun : (rest : Text) (read : ReadsFront types_at attr true old rest) → HasBegun (format_of dialects) (begun_by types_at attr true old rest read) front_own
+    pub front_begun : (rest : Text) (read : ReadsFront types_at attr inside old rest) → HasBegun (format_of dialects) (begun_by types_at attr inside old rest read) front_own
     front_begun rest read =
         let same = same_read rest read in
-        subst (λ i. HasBegun (format_of dialects) (begun dialects true (length old.stream.rest) read.names i read.parts) front_own) (sym same.0)
-        (subst (λ ps. HasBegun (format_of dialects) (begun dialects true (length old.stream.rest) read.names (id_of id) ps) front_own) (sym same.1) (begun_so read.names))
+        subst (λ i. HasBegun (format_of dialects) (begun dialects (length old.stream.rest) read.names i read.parts) front_own) (sym same.0)
+        (subst (λ ps. HasBegun (format_of dialects) (begun dialects (length old.stream.rest) read.names (id_of id) ps) front_own) (sym same.1) (begun_so read.names))
 
   -- ---- it was made
   module _ {middle names : Names} {block : Option (Ptr BasicBlock)} {front : ReadFront T A} {at : Place} {loc : Location A} {b : BegunOperation} {mid : StreamView}
-      (f : FrontComes types_at attr old.state.ctx.now.dialects true middle.names old.stream front.names front.id front.pieces mid) (new : StateStream T A U) (m : MakesOf block front at loc middle old.state.ctx.now names new.state.ctx.now b)
+      (f : FrontComes types_at attr old.state.ctx.now.dialects inside middle.names old.stream front.names front.id front.pieces mid) (new : StateStream T A U) (m : MakesOf block front at loc middle old.state.ctx.now names new.state.ctx.now b)
       (all_older : AllOlder old.state.ctx.now.graph.made old.state.ctx.now.graph) (place : IfSome block (λ k. IsThere old.state.ctx.now (TheBlock k))) where
     abbrev old_ctx : ContextView T A
     old_ctx = old.state.ctx.now
@@ -238,7 +243,7 @@ module _ {T A U : Type 0} (types_at : Text → Outcome T) (attr : Text → Outco
     entries_same : entries_of m.creates.gathered.attributes ≡ put_all [] (views stored f.parts)
     entries_same = m.creates.gathers.attributes
         ∙ (ap (λ z. put_all (entries_of z) (flat_map stored_of front.pieces)) m.creates.is_none.attributes
-        ∙ ap (put_all []) (stored_is middle.names (whole old.stream) true front.pieces (parts f).pieces (each f) ∙ ap (views stored) (sym (parts f).parts_are)))
+        ∙ ap (put_all []) (stored_is middle.names (whole old.stream) inside front.pieces (parts f).pieces (each f) ∙ ap (views stored) (sym (parts f).parts_are)))
 
     abbrev vs : List Value
     vs = in_order m.creates.gathered.operands.single.items ++ m.creates.gathered.operands.list.items
@@ -253,10 +258,10 @@ module _ {T A U : Type 0} (types_at : Text → Outcome T) (attr : Text → Outco
     successor_firsts = m.creates.gathers.successor_places ∙ ap (λ z. map (λ e. e.0) z ++ flat_map successor_place front.pieces) m.creates.is_none.successors.0
 
     operands_placed : (are_places (flat_map operand_place front.pieces) ≡ true) × (single_operands (Some f.format) ≡ length (flat_map operand_place front.pieces))
-    operands_placed = operand_places_are middle.names (whole old.stream) true front.pieces (parts f).pieces (each f) f.format f.accepted (are_of f)
+    operands_placed = operand_places_are middle.names (whole old.stream) inside front.pieces (parts f).pieces (each f) f.format f.accepted (are_of f)
 
     successors_placed : (are_places (flat_map successor_place front.pieces) ≡ true) × (single_successors (Some f.format) ≡ length (flat_map successor_place front.pieces))
-    successors_placed = successor_places_are middle.names (whole old.stream) true front.pieces (parts f).pieces (each f) f.format f.accepted (are_of f)
+    successors_placed = successor_places_are middle.names (whole old.stream) inside front.pieces (parts f).pieces (each f) f.format f.accepted (are_of f)
 
     count_vs : length vs ≡ length (flat_map operand_place front.pieces) + length (flat_map operand_list front.pieces)
     count_vs = placed_count m.creates.gathered.operands.single.items _ m.creates.gathered.operands.list.items _ _ operand_firsts operands_placed.0 m.creates.is_none.operands.1 m.creates.gathers.operand_count
@@ -274,10 +279,9 @@ module _ {T A U : Type 0} (types_at : Text → Outcome T) (attr : Text → Outco
     same_dialects = (begun_lasts m all_older).dialects
 
     -- what was begun is what was parsed
-    pub front_is_begun : front.steps ≡ length (steps_in dialects (id_of front.id)) → IsStep front.coming (slice_get (steps_in dialects (id_of front.id)) (length front.pieces)) → front.isolated ≡ isolated dialects (id_of front.id) → (rest : Text) (e : mid.rest ≡ rest) → Leaves (whole old.stream) at (length old.stream.rest) → IsBegun names.names (whole old.stream) new_ctx b (begun_by types_at attr true old rest (front_reads f rest e))
+    pub front_is_begun : front.steps ≡ length (steps_in dialects (id_of front.id)) → IsStep front.coming (slice_get (steps_in dialects (id_of front.id)) (length front.pieces)) → front.isolated ≡ isolated dialects (id_of front.id) → (rest : Text) (e : mid.rest ≡ rest) → Leaves (whole old.stream) at (length old.stream.rest) → IsBegun names.names (whole old.stream) new_ctx b (begun_by types_at attr inside old rest (front_reads f rest e))
     unfolding front_reads
     front_is_begun counted comes iso rest e left = record {
-      inside = m.inside_is;
       place = subst (λ p. Leaves (whole old.stream) p (length old.stream.rest)) (sym m.at_is) left;
       names_are = subst (λ ns. Each (Represents ns (whole old.stream)) b.names f.results) (sym m.creates.steady.names) (subst (λ ns. Each (Represents middle.names (whole old.stream)) ns f.results) (sym m.names_are) f.named);
       id = ap id_of m.id_is;
@@ -315,12 +319,12 @@ module _ {T A U : Type 0} (types_at : Text → Outcome T) (attr : Text → Outco
           let x = data_there m.made b.op (subst IsSome (sym (made_is m all_older)) refl) in
           operation_placed k b.op p.0 x.0 x.1 (inside_made m all_older k there) names kn [] st s
 
-      pub front_acts : (rest : Text) (e : mid.rest ≡ rest) → ActsWith ((length old.stream.rest, TheOperation b.op) ∷ []) (uses_of types_at attr true old rest (front_reads f rest e)) before old.state [] names new.state (pledge_of b (length old.stream.rest) ∷ [])
+      pub front_acts : (rest : Text) (e : mid.rest ≡ rest) → ActsWith ((length old.stream.rest, TheOperation b.op) ∷ []) (uses_of types_at attr inside old rest (front_reads f rest e)) before old.state [] names new.state (pledge_of b (length old.stream.rest) ∷ [])
       unfolding front_reads
       front_acts rest e = record { so = so }
         where
           so : (path : ℕ → Path) (items : Made) (more : List Pledge) (o : Machine) → MachineAgrees path items (more ++ []) before old.state o
-              → MachineAgrees path ((length old.stream.rest, TheOperation b.op) ∷ items) (more ++ pledge_of b (length old.stream.rest) ∷ []) names new.state (uses_of types_at attr true old rest (front_reads f rest e) path o)
+              → MachineAgrees path ((length old.stream.rest, TheOperation b.op) ∷ items) (more ++ pledge_of b (length old.stream.rest) ∷ []) names new.state (uses_of types_at attr inside old rest (front_reads f rest e) path o)
           so path items more o h =
               let p = path (length old.stream.rest) in
               let acts = views (piece_acts p singles single_labels) f.parts in
@@ -346,7 +350,7 @@ module _ {T A U : Type 0} (types_at : Text → Outcome T) (attr : Text → Outco
               }
 
       -- the operation was begun
-      pub front_begins : front.steps ≡ length (steps_in dialects (id_of front.id)) → IsStep front.coming (slice_get (steps_in dialects (id_of front.id)) (length front.pieces)) → front.isolated ≡ isolated dialects (id_of front.id) → (rest : Text) → mid.rest ≡ rest → new.stream ≡ mid → Leaves (whole old.stream) at (length old.stream.rest) → BeginsOperation types_at attr true before old b names new
+      pub front_begins : front.steps ≡ length (steps_in dialects (id_of front.id)) → IsStep front.coming (slice_get (steps_in dialects (id_of front.id)) (length front.pieces)) → front.isolated ≡ isolated dialects (id_of front.id) → (rest : Text) → mid.rest ≡ rest → new.stream ≡ mid → Leaves (whole old.stream) at (length old.stream.rest) → BeginsOperation types_at attr inside before old b names new
       front_begins counted comes iso rest e same left =
           let k : mid.rest ≡ new.stream.rest = ap (λ v. v.rest) (sym same) in
           record {
@@ -366,20 +370,20 @@ module _ {T A U : Type 0} (types_at : Text → Outcome T) (attr : Text → Outco
   ungathered_commits pieces names text fault (refused (refusal.NoActiveScope name) r (inr s)) = s.flag
 
   -- nothing was parsed
-  pub front_misses : (before : Names) (is_required : Bool) (fault : ParseFault A) → UnlessMemory (MissesFront types_at attr old.state.ctx.now.dialects true is_required old.stream) fault → UnlessMemory (RefusesOperation types_at attr true is_required before old) fault
-  front_misses before is_required fault (inl s) = inl s
-  front_misses before is_required fault (inr (misses_lead d c)) = inr (no_lead d c)
-  front_misses before is_required fault (inr (misses_piece names id lead middle e d c)) = inr (no_front names id lead middle e d c)
+  pub front_misses : (before : Names) (fault : ParseFault A) → UnlessMemory (MissesFront types_at attr old.state.ctx.now.dialects inside old.stream) fault → UnlessMemory (RefusesOperation types_at attr inside before old) fault
+  front_misses before fault (inl s) = inl s
+  front_misses before fault (inr (misses_lead d c)) = inr (no_lead d c)
+  front_misses before fault (inr (misses_piece names id lead middle e d c)) = inr (no_front names id lead middle e d c)
 
   -- what was parsed fails
-  module _ {before middle : Names} {rs : List ReadName} {id : OpId} {pieces : List (ReadPiece T A)} {mid : StreamView} (f : FrontComes types_at attr old.state.ctx.now.dialects true middle.names old.stream rs id pieces mid)
+  module _ {before middle : Names} {rs : List ReadName} {id : OpId} {pieces : List (ReadPiece T A)} {mid : StreamView} (f : FrontComes types_at attr old.state.ctx.now.dialects inside middle.names old.stream rs id pieces mid)
       (read : NamesRead before middle) (distinct : AreDistinct middle.names) where
     module _ {Is : Text → Name ℕ → Type 0} {cause : Text → script.Cause Text} (fails : FailsAt pieces middle old.state.ctx.now.graph Is cause) where
       failing : (n : Name ℕ) × Is (whole old.stream) n × ((p : Path) (k l : ℕ) → FailsUses (views (piece_acts p k l) f.parts) middle old.state.ctx.now.graph (record { cause = cause n.text; at = Some n.place }))
       failing = fails.so (whole old.stream) f.parts f.are
 
       uses_fail : (fault : ParseFault A) → IsFailure (whole old.stream) (record { cause = cause failing.0.text; at = Some failing.0.place }) fault
-          → ActFails (whole old.stream) (uses_of types_at attr true old mid.rest (front_reads f mid.rest refl)) before old.state [] fault
+          → ActFails (whole old.stream) (uses_of types_at attr inside old mid.rest (front_reads f mid.rest refl)) before old.state [] fault
       unfolding front_reads
       uses_fail fault is = record {
         failure = record { cause = cause failing.0.text; at = Some failing.0.place };
@@ -392,7 +396,7 @@ module _ {T A U : Type 0} (types_at : Text → Outcome T) (attr : Text → Outco
       }
 
     why_fails : (fault : ParseFault A) (why : NotGathered) → RefusesGathering pieces middle old.state.ctx.now.graph why → SaysGather middle.names (whole old.stream) why fault
-        → UnlessMemory (λ z. ActFails (whole old.stream) (uses_of types_at attr true old mid.rest (front_reads f mid.rest refl)) before old.state [] z) fault
+        → UnlessMemory (λ z. ActFails (whole old.stream) (uses_of types_at attr inside old mid.rest (front_reads f mid.rest refl)) before old.state [] z) fault
     why_fails fault refusal.Memory r s = inl s
     why_fails fault (refusal.ReservedKey key) r s =
         let n = failing r in
@@ -400,6 +404,6 @@ module _ {T A U : Type 0} (types_at : Text → Outcome T) (attr : Text → Outco
     why_fails fault (refusal.NoActiveScope name) r (inl s) = inl s
     why_fails fault (refusal.NoActiveScope name) r (inr s) = inr (uses_fail r fault (name_failure causes.NoActiveScope script.NoActiveScope (λ t c e. e) (failing r).1 s))
 
-    pub front_fails : (is_required : Bool) (fault : ParseFault A) → NotGatheredAs pieces middle old.state.ctx.now.graph (whole old.stream) fault → UnlessMemory (RefusesOperation types_at attr true is_required before old) fault
-    front_fails is_required fault (ran_out s) = inl s
-    front_fails is_required fault (refused why r s) = elim (why_fails fault why r s) [ inl z ↦ inl z | inr z ↦ inr (no_uses mid.rest (front_reads f mid.rest refl) z) ]
+    pub front_fails : (fault : ParseFault A) → NotGatheredAs pieces middle old.state.ctx.now.graph (whole old.stream) fault → UnlessMemory (RefusesOperation types_at attr inside before old) fault
+    front_fails fault (ran_out s) = inl s
+    front_fails fault (refused why r s) = elim (why_fails fault why r s) [ inl z ↦ inl z | inr z ↦ inr (no_uses mid.rest (front_reads f mid.rest refl) z) ]

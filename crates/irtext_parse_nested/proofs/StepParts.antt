@@ -15,7 +15,7 @@ use Rattle.irtext_grammar.specs.Grammar.Tree.{Name, Piece, Part, directive_of_pi
 use Rattle.irtext_grammar.proofs.Graphs.FitsFormat.{and_left, and_right}
 use Rattle.irtext_parse_spec.proofs.Joins.Answers.{followed_read, mapped_read}
 use Rattle.irtext_parse_spec.specs.Exact.{IsOfStep, UsesNone}
-use Rattle.irtext_parse_spec.specs.Heads.{Step, flat, types, one, all, step_of, front_steps, used_at, target_at, symbol_at, dictionary_at, outlined_or_at, piece_at}
+use Rattle.irtext_parse_spec.specs.Heads.{Step, flat, types, one, all, step_of, front_steps, used_at, target_at, symbol_at, dictionary_by, outlined_or_at, piece_at}
 use Rattle.irtext_parse_spec.specs.Resume.{front_at}
 use Rattle.irtext_parse_spec.proofs.Exact.Outside.{used_never, target_never}
 
@@ -35,7 +35,7 @@ module _ {T A : Type 0} (types_at : Text → Outcome T) (attr : Text → Outcome
   piece_of inside (flat (format.successor i)) text p taken rest e = subst (IsOfStep (flat (format.successor i))) (mapped_read (tree.successor i) (target_at inside text) p taken rest e).2 refl
   piece_of inside (flat format.successors) text p taken rest e = subst (IsOfStep (flat format.successors)) (mapped_read tree.successors (separated_at 44 (target_at inside) text) p taken rest e).2 refl
   piece_of inside (flat (format.attribute k)) text p taken rest e = subst (IsOfStep (flat (format.attribute k))) (mapped_read (tree.attribute k) (outlined_or_at attr text) p taken rest e).2 refl
-  piece_of inside (flat format.dictionary) text p taken rest e = subst (IsOfStep (flat format.dictionary)) (mapped_read tree.dictionary (dictionary_at attr text) p taken rest e).2 refl
+  piece_of inside (flat format.dictionary) text p taken rest e = subst (IsOfStep (flat format.dictionary)) (mapped_read tree.dictionary (dictionary_by attr inside text) p taken rest e).2 refl
   piece_of inside (flat (format.result_type i)) text p taken rest e = subst (IsOfStep (flat (format.result_type i))) (mapped_read (tree.result_type i) (types_at text) p taken rest e).2 refl
   piece_of inside (flat format.header) text p taken rest e = subst (IsOfStep (flat format.header)) (mapped_read tree.header (symbol_at text) p taken rest e).2 refl
   piece_of inside (flat (format.region i)) text p taken rest e = absurd (cc e)
@@ -66,7 +66,7 @@ module _ {T A : Type 0} (types_at : Text → Outcome T) (attr : Text → Outcome
       let m = mapped_read tree.successors (separated_at 44 (target_at false) text) p taken rest e in
       subst UsesNone m.2 (never_listed (target_at false) target_never text m.0 taken rest m.1)
   unused_of (flat (format.attribute k)) text p taken rest e = subst UsesNone (mapped_read (tree.attribute k) (outlined_or_at attr text) p taken rest e).2 tt
-  unused_of (flat format.dictionary) text p taken rest e = subst UsesNone (mapped_read tree.dictionary (dictionary_at attr text) p taken rest e).2 tt
+  unused_of (flat format.dictionary) text p taken rest e = subst UsesNone (mapped_read tree.dictionary (dictionary_by attr false text) p taken rest e).2 tt
   unused_of (flat (format.result_type i)) text p taken rest e = subst UsesNone (mapped_read (tree.result_type i) (types_at text) p taken rest e).2 tt
   unused_of (flat format.header) text p taken rest e = subst UsesNone (mapped_read tree.header (symbol_at text) p taken rest e).2 tt
   unused_of (flat (format.region i)) text p taken rest e = absurd (cc e)

@@ -52,12 +52,12 @@ use Rattle.irtext_parse_nested.specs.Items.{Names}
 use Rattle.irtext_parse_nested.specs.Read.{Demands}
 
 -- ---- what was parsed
--- why no front was parsed: because of the lead, with a committed fault if a front is required or something of the lead is there; or
--- because of a piece
-pub data MissesFront {T A : Type 0} (types_at : Reader T) (attr : Reader (AttrView A)) (dialects : List (Text × Table)) (inside is_required : Bool) (old : StreamView) (fault : ParseFault A) : Type 0 where
-  misses_lead : Demands (whole old) (led_at dialects old.rest) old.rest fault → fault.committed ≡ (is_required || is_committed (led_at dialects old.rest)) → MissesFront types_at attr dialects inside is_required old fault
+-- why no front was parsed: because of the lead, with a committed fault inside of a region, where a front is required, or if something of
+-- the lead is there; or because of a piece
+pub data MissesFront {T A : Type 0} (types_at : Reader T) (attr : Reader (AttrView A)) (dialects : List (Text × Table)) (inside : Bool) (old : StreamView) (fault : ParseFault A) : Type 0 where
+  misses_lead : Demands (whole old) (led_at dialects old.rest) old.rest fault → fault.committed ≡ (inside || is_committed (led_at dialects old.rest)) → MissesFront types_at attr dialects inside old fault
   misses_piece : (names : List (Name ℕ)) (id : Id) (lead middle : Text) → led_at dialects old.rest ≡ Read (names, id) lead middle
-      → Demands (whole old) (front_at types_at attr inside (front_steps (steps_in dialects id)) [] middle) middle fault → fault.committed ≡ true → MissesFront types_at attr dialects inside is_required old fault
+      → Demands (whole old) (front_at types_at attr inside (front_steps (steps_in dialects id)) [] middle) middle fault → fault.committed ≡ true → MissesFront types_at attr dialects inside old fault
 
 -- The names of results, the id of a registered operation, and the pieces before its first region come next in the text, and were parsed.
 pub record FrontComes {T A : Type 0} (types_at : Reader T) (attr : Reader (AttrView A)) (dialects : List (Text × Table)) (inside : Bool) (names : List Text) (old : StreamView)
@@ -131,7 +131,6 @@ module _ {T A : Type 0} where
     pub id_is : b.id ≡ front.id
     pub names_are : b.names ≡ front.names
     pub at_is : b.at ≡ at
-    pub inside_is : b.inside ≡ true
     pub step_is : b.step ≡ length front.pieces
     pub steps_are : b.steps ≡ front.steps
     pub coming_is : b.coming ≡ Some front.coming

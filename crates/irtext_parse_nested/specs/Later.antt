@@ -72,7 +72,6 @@ module _ {T A U : Type 0} (types_at : Reader T) (attr : Reader (AttrView A)) (be
   pub record GoesOn (b next : BegunOperation) (names : Names) (new : StateStream T A U) : Type 0 where
     pub op : next.op ≡ b.op
     pub results : next.results ≡ b.results
-    pub inside : next.inside ≡ b.inside
     pub reads : (o : OpenOperation T A) (step : Step) (ss : List Step) → IsBegun before.names (whole old.stream) old.state.ctx.now b o → o.steps ≡ step ∷ ss
         → (r : ReadsPiece types_at attr o step b before old names new)
         × IsBegun names.names (whole old.stream) new.state.ctx.now next (with_steps o ss (o.parts ++ tree.piece r.piece ∷ []))

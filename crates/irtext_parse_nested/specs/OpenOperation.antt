@@ -49,7 +49,6 @@ module _ {T A : Type 0} (names : List Text) (text : Text) (ctx : ContextView T A
   -- and no types. Whether it is isolated, and what its next step parses where that is recorded, are as its dialect says. The number of
   -- results is that of the types that its parts give, whatever parts without types follow.
   pub record IsBegun (b : BegunOperation) (o : OpenOperation T A) : Type 0 where
-    pub inside : b.inside ≡ o.inside
     pub place : Leaves text b.at o.place
     pub names_are : Each (Represents names text) b.names o.names
     pub id : id_of b.id ≡ o.id

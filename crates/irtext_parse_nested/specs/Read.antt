@@ -59,7 +59,7 @@ module _ {T A U : Type 0} (types_at : Reader T) (attr : Reader (AttrView A)) whe
 
   -- what is begun when these were parsed
   abbrev pub begun_by : (inside : Bool) (old : StateStream T A U) (rest : Text) → ReadsFront inside old rest → OpenOperation T A
-  begun_by inside old rest r = begun old.state.ctx.now.dialects inside (length old.stream.rest) r.names r.id r.parts
+  begun_by inside old rest r = begun old.state.ctx.now.dialects (length old.stream.rest) r.names r.id r.parts
 
   -- what is done with these
   abbrev pub uses_of : (inside : Bool) (old : StateStream T A U) (rest : Text) → ReadsFront inside old rest → (ℕ → Path) → Machine → Machine
@@ -72,14 +72,14 @@ module _ {T A U : Type 0} (types_at : Reader T) (attr : Reader (AttrView A)) whe
     pub begun : IsBegun names.names (whole old.stream) new.state.ctx.now b (begun_by inside old new.stream.rest read)
     pub acts : ActsWith ((length old.stream.rest, TheOperation b.op) ∷ []) (uses_of inside old new.stream.rest read) before old.state [] names new.state (pledge_of b (length old.stream.rest) ∷ [])
 
-  -- no operation was begun: because of its lead, with a committed fault if an operation is required; because of a piece before its first
-  -- region; or because of what these do
-  pub data RefusesOperation (inside is_required : Bool) (before : Names) (old : StateStream T A U) (fault : ParseFault A) : Type 0 where
+  -- no operation was begun: because of its lead, with a committed fault inside of a region, where an operation is required; because of a
+  -- piece before its first region; or because of what these do
+  pub data RefusesOperation (inside : Bool) (before : Names) (old : StateStream T A U) (fault : ParseFault A) : Type 0 where
     no_lead : Demands (whole old.stream) (led_at old.state.ctx.now.dialects old.stream.rest) old.stream.rest fault
-        → fault.committed ≡ (is_required || is_committed (led_at old.state.ctx.now.dialects old.stream.rest)) → RefusesOperation inside is_required before old fault
+        → fault.committed ≡ (inside || is_committed (led_at old.state.ctx.now.dialects old.stream.rest)) → RefusesOperation inside before old fault
     no_front : (names : List (Name ℕ)) (id : Id) (lead middle : Text) → led_at old.state.ctx.now.dialects old.stream.rest ≡ Read (names, id) lead middle
-        → Demands (whole old.stream) (front_at types_at attr inside (front_steps (steps_in old.state.ctx.now.dialects id)) [] middle) middle fault → fault.committed ≡ true → RefusesOperation inside is_required before old fault
-    no_uses : (rest : Text) (r : ReadsFront inside old rest) → ActFails (whole old.stream) (uses_of inside old rest r) before old.state [] fault → RefusesOperation inside is_required before old fault
+        → Demands (whole old.stream) (front_at types_at attr inside (front_steps (steps_in old.state.ctx.now.dialects id)) [] middle) middle fault → fault.committed ≡ true → RefusesOperation inside before old fault
+    no_uses : (rest : Text) (r : ReadsFront inside old rest) → ActFails (whole old.stream) (uses_of inside old rest r) before old.state [] fault → RefusesOperation inside before old fault
 
   -- ---- a piece after a region
 
@@ -87,14 +87,14 @@ module _ {T A U : Type 0} (types_at : Reader T) (attr : Reader (AttrView A)) whe
   pub record ReadsPiece (o : OpenOperation T A) (step : Step) (b : BegunOperation) (before : Names) (old : StateStream T A U) (names : Names) (new : StateStream T A U) : Type 0 where
     pub piece : Piece ℕ T A
     pub taken : Text
-    pub read : (space_at ▷ piece_at types_at attr o.inside step) old.stream.rest ≡ Read piece taken new.stream.rest
+    pub read : (space_at ▷ piece_at types_at attr true step) old.stream.rest ≡ Read piece taken new.stream.rest
     pub moves : Moves old.stream new.stream
     pub acts : Acts (λ path. (doing old.state.ctx.now.dialects path).late o.place o.id piece) before old.state [] names new.state []
 
   -- no such piece comes next, or what it does fails
   abbrev pub RefusesPiece : OpenOperation T A → Step → Names → StateStream T A U → ParseFault A → Type 0
-  RefusesPiece o step before old fault = Demands (whole old.stream) ((space_at ▷ piece_at types_at attr o.inside step) old.stream.rest) old.stream.rest fault
-      ⊎ ((piece : Piece ℕ T A) × (taken : Text) × (rest : Text) × ((space_at ▷ piece_at types_at attr o.inside step) old.stream.rest ≡ Read piece taken rest)
+  RefusesPiece o step before old fault = Demands (whole old.stream) ((space_at ▷ piece_at types_at attr true step) old.stream.rest) old.stream.rest fault
+      ⊎ ((piece : Piece ℕ T A) × (taken : Text) × (rest : Text) × ((space_at ▷ piece_at types_at attr true step) old.stream.rest ≡ Read piece taken rest)
       × ActFails (whole old.stream) (λ path. (doing {T = T} {A = A} old.state.ctx.now.dialects path).late o.place o.id piece) before old.state [] fault)
 
   -- the same of each operation that is open as this, and of its next step

@@ -94,20 +94,22 @@ pub(crate) fn kept_key(info: &OpInfo) -> Option<Identifier>
     }
 }
 
-/// Parses what precedes an operation's first region. An error is committed, unless no operation comes next and `is_required` is not set.
+/// Parses what precedes an operation's first region. `inside` says whether it is inside of a region, where an operation is required; outside
+/// of every region no name can be used, and an attribute has to be allowed under its key. An error is committed, unless no operation comes
+/// next and none is required.
 #[inline(always)]
 fn front_read<T: IrText<A>, A: AttrText<A>>(
     stream: &mut TextStream,
     ctx: &Context<T, A>,
     names: &mut Names,
     keys: &mut Keys,
-    is_required: bool,
+    inside: bool,
 ) -> ParseResult<ReadFront<T, A>, A>
     requires fine { stream.old.failed ≡ false }
     ensures alive { IfOk result (λ front. FrontComes T.IrText.reading (attr_at A.IrText.reading)
-        ctx.now.dialects true names.new.names stream.old front.names front.id front.pieces stream.new) }
+        ctx.now.dialects inside names.new.names stream.old front.names front.id front.pieces stream.new) }
     ensures unmet { IfErr result (UnlessMemory
-        (MissesFront T.IrText.reading (attr_at A.IrText.reading) ctx.now.dialects true is_required stream.old)) }
+        (MissesFront T.IrText.reading (attr_at A.IrText.reading) ctx.now.dialects inside stream.old)) }
     ensures key { IfOk result (λ front. IfSome front.key (λ key. key ≡ sym_name_key)) }
     ensures counted { IfOk result (λ front. front.steps
         ≡ length (steps_in ctx.now.dialects (id_of front.id))) }
@@ -120,9 +122,9 @@ fn front_read<T: IrText<A>, A: AttrText<A>>(
 {
     let (results, id, info) = match results_and_id_parse(stream, ctx, names) {
         Ok(led) => led,
-        Err(fault) => return Err(commit_if(stream, is_required, fault)),
+        Err(fault) => return Err(commit_if(stream, inside, fault)),
     };
-    let pieces = front_parse(stream, names, &info.format, true, keys)?;
+    let pieces = front_parse(stream, names, &info.format, inside, keys)?;
     names.keeps_names();
     Ok(ReadFront {
         names: results,
@@ -313,7 +315,6 @@ fn begin_read<T: IrText<A>, A: AttrText<A>, U>(
         results,
         names: defined,
         at,
-        inside: true,
         isolated,
         coming: Some(coming),
         step,
@@ -322,10 +323,11 @@ fn begin_read<T: IrText<A>, A: AttrText<A>, U>(
 }
 
 /// Begins an operation: parses the names of its results, its id and the pieces before its first region, uses their names, creates the
-/// operation, and appends it to the block, if one is given; without a block it is outside of every region. Fails with `NoActiveScope` at
-/// the first name for which no scope of its kind is open, or with `ReservedKey` at the first reserved key of a dictionary. Keys of a
-/// dictionary may share their texts with those that are kept at their places. An error is committed, unless no block is given and no
-/// operation comes next.
+/// operation, and appends it to the block, if one is given; without a block it is outside of every region. There it fails with
+/// `NoActiveScope` at the first name that is used, or with `ReservedKey` at the first reserved key of a dictionary, as they are parsed; in
+/// a block it fails with `NoActiveScope` if no scope of the name's kind is open, or with `ReservedKey`, once all these pieces are parsed.
+/// Keys of a dictionary may share their texts with those that are kept at their places. An error is committed, unless no block is given
+/// and no operation comes next.
 pub fn operation_begin<T: IrText<A>, A: AttrText<A>, U>(
     s: &mut StateStream<'_, T, A, U>,
     names: &mut Names,
@@ -338,15 +340,15 @@ pub fn operation_begin<T: IrText<A>, A: AttrText<A>, U>(
     ensures lent { s.new.state.ctx.ghost_name ≡ s.old.state.ctx.ghost_name }
     ensures rest { KeepsRest s.old.state s.new.state }
     ensures marks { marks_of s.new.state ≡ marks_of s.old.state }
-    ensures begins { IfOk result (λ b. BeginsOperation T.IrText.reading (attr_at A.IrText.reading) true
-        names.old s.old b names.new s.new) }
+    ensures begins { IfOk result (λ b. BeginsOperation T.IrText.reading (attr_at A.IrText.reading)
+        (is_some block) names.old s.old b names.new s.new) }
     ensures refused { IfErr result (UnlessMemory
-        (RefusesOperation T.IrText.reading (attr_at A.IrText.reading) true (is_some block) names.old s.old)) }
+        (RefusesOperation T.IrText.reading (attr_at A.IrText.reading) (is_some block) names.old s.old)) }
     ensures unread { IfErr result (λ fault. fault.committed ≡ false → s.new.stream ≡ s.old.stream) }
-    ensures came { IfOk result (λ b. (read : ReadsFront T.IrText.reading (attr_at A.IrText.reading) true s.old
-        s.new.stream.rest) → (own : OwnSoFar T A)
+    ensures came { IfOk result (λ b. (read : ReadsFront T.IrText.reading (attr_at A.IrText.reading) (is_some block)
+        s.old s.new.stream.rest) → (own : OwnSoFar T A)
         × HasBegun (format_of s.old.state.ctx.now.dialects)
-        (begun_by T.IrText.reading (attr_at A.IrText.reading) true s.old s.new.stream.rest read) own
+        (begun_by T.IrText.reading (attr_at A.IrText.reading) (is_some block) s.old s.new.stream.rest read) own
         × ComesInto (IsLocated s.old.state.src (whole s.old.stream)) s.old.state.ctx.now s.new.state.ctx.now
         b.op own block) }
     ensures lasts { OnOk result (KeepsLive s.old.state.ctx.now s.new.state.ctx.now) }

@@ -23,8 +23,6 @@ pub struct BegunOperation {
     pub names: Few<ReadName>,
     /// The position where it begins.
     pub at: Place,
-    /// Whether it is inside of a region.
-    pub inside: bool,
     /// Whether it is isolated from above.
     pub isolated: bool,
     /// What the next step of its format parses, if no step was made since its front was parsed.

@@ -123,7 +123,7 @@ fn piece_read<T: IrText<A>, A: AttrText<A>>(
     requires step { IsFlatNext (slice_get (steps_in ctx.now.dialects (id_of begun.old.id)) begun.old.step) }
     ensures read { (step : Step) → slice_get (steps_in ctx.now.dialects (id_of begun.old.id))
         begun.old.step ≡ Some step → MustPiece itself replaced names.new.names
-        (space_at ▷ piece_at T.IrText.reading (attr_at A.IrText.reading) begun.old.inside step) stream.old
+        (space_at ▷ piece_at T.IrText.reading (attr_at A.IrText.reading) true step) stream.old
         result stream.new }
     ensures names { NamesRead names.old names.new }
     ensures following { begun.new ≡ record begun.old { coming = None; step = begun.old.step + 1 } }
@@ -138,7 +138,7 @@ fn piece_read<T: IrText<A>, A: AttrText<A>>(
     begun.coming = None;
     begun.step = step_after(&info.format, begun.step);
     let mut keys = Keys::none(stream.allocator());
-    step_parse(stream, names, step, begun.inside, &mut keys)
+    step_parse(stream, names, step, true, &mut keys)
 }
 
 /// Stores what a piece gives an operation. On an error, the operation's attributes may have been changed.

@@ -1,5 +1,5 @@
 -- Steps of the parser of dictionaries.
-use Rattle.std.proofs.Common.{◌≡◌, ℕ, true, false, Result, Ok, Err, Option, Some, None, List, [], ◌∷◌, ◌++◌, length, refl, sym, subst, ◌∙◌, codes}
+use Rattle.std.proofs.Common.{◌≡◌, ℕ, Bool, true, false, Result, Ok, Err, Option, Some, None, List, [], ◌∷◌, ◌++◌, length, refl, sym, subst, ◌∙◌, codes}
 use Rattle.std.specs.Char.{is_whitespace}
 use Rattle.std.specs.Prelude.{Vec}
 use Rattle.std.specs.Str.{chars}
@@ -22,7 +22,7 @@ use Rattle.irtext_tokens.proofs.Steps.{Lens, Passed, first, spaced, more, refuse
 use Rattle.irtext_grammar.specs.Contexts.Held.{attribute_of}
 use Rattle.irtext_grammar.specs.Grammar.Tree.{Name, Attribute}
 use Rattle.irtext_grammar.specs.Spelling.AttrText.{attr_tree}
-use Rattle.irtext_parse_spec.specs.Heads.{name_of, name_at, pair_at, dictionary_at}
+use Rattle.irtext_parse_spec.specs.Heads.{name_of, name_at, entry_by, dictionary_by, dictionary_at}
 use Rattle.irtext_parse_pieces.specs.declared.entries.Key.{Key}
 use Rattle.irtext_parse_pieces.specs.Beside.{closed}
 use Rattle.irtext_parse_pieces.specs.Entries.{IsKey, IsEntry, AreEntries, MustEntries, EntriesAfter, dictionary_if}
@@ -41,9 +41,10 @@ unfolding chars
 chars_brackets = refl
 
 -- no entries are between the brackets
-no_entry : {A : Type 0} (attr : Text → Outcome (AttrView A)) (rest : Text) → dictionary_at attr (codes "[]" ++ rest) ≡ Read [] (codes "[]") rest
-unfolding dictionary_at word_at
-no_entry attr rest = refl
+no_entry : {A : Type 0} (attr : Text → Outcome (AttrView A)) (inside : Bool) (rest : Text) → dictionary_by attr inside (codes "[]" ++ rest) ≡ Read [] (codes "[]") rest
+unfolding dictionary_by word_at
+no_entry attr true rest = refl
+no_entry attr false rest = refl
 
 module _ {S A : Type 0} (l : Lens S) where
   -- an attribute that was parsed, as trees hold it
@@ -62,13 +63,13 @@ module _ {S A : Type 0} (l : Lens S) where
   }
 
   -- brackets with nothing between them were consumed
-  pub no_entries : (attr : Text → Outcome (AttrView A)) {old new : S} → (l.view old).failed ≡ false → (none : Vec (Key × AttrObj A) Global) → none.items ≡ [] → Comes (chars (codes "[]")) (l.view old) (λ v. new ≡ l.at old v)
-      → MustEntries {A = A} l.view l.at (dictionary_at attr) old (Ok none) new
-  no_entries attr {old = old} {new = new} fine none e h =
+  pub no_entries : (attr : Text → Outcome (AttrView A)) (inside : Bool) {old new : S} → (l.view old).failed ≡ false → (none : Vec (Key × AttrObj A) Global) → none.items ≡ [] → Comes (chars (codes "[]")) (l.view old) (λ v. new ≡ l.at old v)
+      → MustEntries {A = A} l.view l.at (dictionary_by attr inside) old (Ok none) new
+  no_entries attr inside {old = old} {new = new} fine none e h =
       let k : Comes (codes "[]") (l.view old) (λ v. new ≡ l.at old v) = subst (λ t. Comes t (l.view old) (λ v. new ≡ l.at old v)) chars_brackets h in
-      let g : Gives l.view l.at (demanded (unless_failed false (dictionary_at attr (l.view old).rest))) old [] new =
-      subst (λ t. Gives l.view l.at (demanded (unless_failed false (dictionary_at attr t))) old [] new) (sym k.1)
-      (subst (λ o. Gives l.view l.at (demanded (unless_failed false o)) old [] new) (sym (no_entry attr k.0)) (refl, record { is = k.2; same = sym k.1 })) in
+      let g : Gives l.view l.at (demanded (unless_failed false (dictionary_by attr inside (l.view old).rest))) old [] new =
+      subst (λ t. Gives l.view l.at (demanded (unless_failed false (dictionary_by attr inside t))) old [] new) (sym k.1)
+      (subst (λ o. Gives l.view l.at (demanded (unless_failed false o)) old [] new) (sym (no_entry attr inside k.0)) (refl, record { is = k.2; same = sym k.1 })) in
       record { meant = λ _. []; means = rw e tt; read = record { answers = rw fine g } }
 
   -- there is a first entry, and what follows it
@@ -106,34 +107,34 @@ abbrev after_entries : {A : Type 0} → List (Name ℕ × Attribute A) → Text 
 after_entries es t = mapped (λ _. es) (text_at (codes "]") t)
 
 -- what follows the opening bracket
-abbrev after_bracket : {A : Type 0} → (Text → Outcome (AttrView A)) → Unit {0} → Text → Outcome (List (Name ℕ × Attribute A))
-after_bracket attr u t = followed (space_at t) (λ _ u. followed (separated_at 44 (pair_at attr) u) after_entries)
+abbrev after_bracket : {A : Type 0} → (Text → Outcome (AttrView A)) → Bool → Unit {0} → Text → Outcome (List (Name ℕ × Attribute A))
+after_bracket attr inside u t = followed (space_at t) (λ _ u. followed (separated_at 44 (entry_by attr inside) u) after_entries)
 
-module _ {S A : Type 0} (l : Lens S) (attr : Text → Outcome (AttrView A)) where
+module _ {S A : Type 0} (l : Lens S) (attr : Text → Outcome (AttrView A)) (inside : Bool) where
   -- there is no opening bracket
-  pub no_bracket : {old new : S} {fault : ParseFault A} → MustRead {Y = Unit {0}} l.view l.at (λ u. u) (text_at (codes "[")) old (Err fault) new → MustEntries l.view l.at (dictionary_at attr) old (Err fault) new
-  unfolding dictionary_at
-  no_bracket h = must_refuse l (first_refused l {sees = λ _. []} (after_bracket attr) h)
+  pub no_bracket : {old new : S} {fault : ParseFault A} → MustRead {Y = Unit {0}} l.view l.at (λ u. u) (text_at (codes "[")) old (Err fault) new → MustEntries l.view l.at (dictionary_by attr inside) old (Err fault) new
+  unfolding dictionary_by
+  no_bracket h = must_refuse l (first_refused l {sees = λ _. []} (after_bracket attr inside) h)
 
   module _ {old opened spaced_now : S} (bracket : MustRead {A = A} {Y = Unit {0}} l.view l.at (λ u. u) (text_at (codes "[")) old (Ok tt) opened) (space : TakesFront l.view l.at is_whitespace opened spaced_now) where
-    entries_next : Passed l (dictionary_at attr) (λ u. followed (separated_at 44 (pair_at attr) u) after_entries) old spaced_now
-    unfolding dictionary_at
-    entries_next = spaced l (λ _ u. followed (separated_at 44 (pair_at attr) u) after_entries) (first l (after_bracket attr) bracket) space
+    entries_next : Passed l (dictionary_by attr inside) (λ u. followed (separated_at 44 (entry_by attr inside) u) after_entries) old spaced_now
+    unfolding dictionary_by
+    entries_next = spaced l (λ _ u. followed (separated_at 44 (entry_by attr inside) u) after_entries) (first l (after_bracket attr inside) bracket) space
 
     -- an entry is an error
-    pub no_entry_read : {new : S} {fault : ParseFault A} → MustEntries l.view l.at (separated_at 44 (pair_at attr)) spaced_now (Err fault) new → MustEntries l.view l.at (dictionary_at attr) old (Err fault) new
+    pub no_entry_read : {new : S} {fault : ParseFault A} → MustEntries l.view l.at (separated_at 44 (entry_by attr inside)) spaced_now (Err fault) new → MustEntries l.view l.at (dictionary_by attr inside) old (Err fault) new
     no_entry_read h = must_refuse l (refuses l {sees = λ _. []} after_entries entries_next h.read)
 
-    module _ {listed : S} {entries : Vec (Key × AttrObj A) Global} (list : MustEntries {A = A} l.view l.at (separated_at 44 (pair_at attr)) spaced_now (Ok entries) listed) where
-      end_next : Passed l (dictionary_at attr) (after_entries (list.meant entries)) old listed
+    module _ {listed : S} {entries : Vec (Key × AttrObj A) Global} (list : MustEntries {A = A} l.view l.at (separated_at 44 (entry_by attr inside)) spaced_now (Ok entries) listed) where
+      end_next : Passed l (dictionary_by attr inside) (after_entries (list.meant entries)) old listed
       end_next = more l after_entries entries_next list.read
 
       -- there is no closing bracket
-      pub no_end : {new : S} {fault : ParseFault A} → MustRead {Y = Unit {0}} l.view l.at (λ u. u) (text_at (codes "]")) listed (Err fault) new → MustEntries l.view l.at (dictionary_at attr) old (Err fault) new
+      pub no_end : {new : S} {fault : ParseFault A} → MustRead {Y = Unit {0}} l.view l.at (λ u. u) (text_at (codes "]")) listed (Err fault) new → MustEntries l.view l.at (dictionary_by attr inside) old (Err fault) new
       no_end h = must_refuse l (refuses_seen l {sees = λ _. []} (λ _. list.meant entries) end_next h)
 
       -- all of it was parsed
-      pub bracketed : {new : S} → MustRead {A = A} {Y = Unit {0}} l.view l.at (λ u. u) (text_at (codes "]")) listed (Ok tt) new → MustEntries {A = A} l.view l.at (dictionary_at attr) old (Ok entries) new
+      pub bracketed : {new : S} → MustRead {A = A} {Y = Unit {0}} l.view l.at (λ u. u) (text_at (codes "]")) listed (Ok tt) new → MustEntries {A = A} l.view l.at (dictionary_by attr inside) old (Ok entries) new
       bracketed h = record {
         meant = λ _. list.meant entries;
         means = subst (λ t. AreEntries t entries (list.meant entries)) (passed_whole l entries_next) list.means;

@@ -12,6 +12,7 @@ pub mod Leads
 pub mod Lenses
 pub mod Listings
 pub mod Absences
+pub mod AllowedSteps
 pub mod Looks
 pub mod MarkSteps
 pub mod Meanings

@@ -1,19 +1,23 @@
 -- Between functions: what the parsed dictionaries represent.
-use Rattle.std.specs.Prelude.{◌≡◌, ℕ, true, false, IfSome, List, [], ◌∷◌, length, Option, Some, None, Result, Vec}
+use Rattle.std.specs.Prelude.{◌≡◌, ℕ, true, false, IfSome, List, [], ◌∷◌, length, Option, Some, None, Result, Ok, Err, Vec}
 use Rattle.std.specs.Global.{Global}
 use Rattle.std.specs.List.{list_all}
 use Rattle.irtext_base.specs.Text.{Text, begins, in_word}
 use Rattle.irtext_base.specs.Reading.{the}
+use Rattle.irtext_base.specs.Faults.{ReservedKey}
 use Rattle.irtext_base.specs.Stream.{StreamView}
 use Rattle.irtext_base.specs.Answers.{Outcome, Takes}
 use Rattle.irtext_base.specs.Locations.{AttrView}
 use Rattle.irtext_base.specs.declared.base.attributes.AttrObj.{AttrObj}
 use Rattle.irtext_base.specs.declared.parsable.fault.ParseFault.{ParseFault}
+use Rattle.irtext_stream.specs.declared.position.Place.{Place}
 use Rattle.irtext_tokens.specs.Infix.{Reader, nothing, either, ◌⇒◌}
 use Rattle.irtext_tokens.specs.ListOutcomes.{items_after}
 use Rattle.irtext_grammar.specs.Contexts.Held.{attribute_of}
 use Rattle.irtext_grammar.specs.Grammar.Tree.{Name, Attribute}
+use Rattle.irtext_grammar.specs.Names.Acts.{may_hold}
 use Rattle.irtext_parse_spec.specs.Heads.{dictionary_at}
+use Rattle.irtext_parse_spec.specs.Readers.Operations.{RefusesAt}
 use Rattle.irtext_parse_pieces.specs.declared.entries.Key.{Key}
 use Rattle.irtext_parse_pieces.specs.Named.{whole, Leaves, Each, Optional, MustMean}
 
@@ -42,6 +46,13 @@ abbrev pub dictionary_if : {A : Type 0} → (Text → Outcome (AttrView A)) → 
 dictionary_if attr = either (begins (the 91)) (dictionary_at attr ⇒ Some) (nothing None)
 
 module _ {S A : Type 0} (view : S → StreamView) (at : S → StreamView → S) where
+  -- The result is the same if the attribute is allowed under its key; otherwise the key is reserved, and the fault is at this place.
+  abbrev pub Allows : Place → Result (Key × AttrObj A) (ParseFault A) → S → Result (Key × AttrObj A) (ParseFault A) → S → Type 0
+  Allows place (Ok p) old (Ok q) new = (may_hold p.0.name (attribute_of p.1) ≡ true) × (q ≡ p) × (new ≡ old)
+  Allows place (Ok p) old (Err fault) new = (may_hold p.0.name (attribute_of p.1) ≡ false) × RefusesAt view at (ReservedKey p.0.name) place old fault new
+  Allows place (Err first) old (Ok q) new = ⊥
+  Allows place (Err first) old (Err fault) new = (fault ≡ first) × (new ≡ old)
+
   -- the result is the list of entries that comes next, or its fault
   abbrev pub MustEntries : (Text → Outcome (List (Name ℕ × Attribute A))) → S → Result (Vec (Key × AttrObj A) Global) (ParseFault A) → S → Type 0
   MustEntries outcome old result new = MustMean view at (AreEntries (whole (view old))) outcome old result new

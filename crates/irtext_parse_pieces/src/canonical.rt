@@ -97,7 +97,7 @@ fn entries_parse<S: OwnStream, T: IrText<A>, A: AttrText<A>>(
         dictionary_steps dictionary_pieces stream.old result stream.new }
 {
     skip_white_space(stream);
-    dictionary_parse(stream, keys)
+    dictionary_parse(stream, keys, inside)
 }
 
 /// Parses types, in parentheses.
@@ -142,7 +142,7 @@ fn signature_parse<S: OwnStream, T: IrText<A>, A: AttrText<A>>(
 }
 
 /// Parses the canonical form up to its regions, on a stream that has not failed. `inside` says whether it is inside of a region; outside of
-/// every region no name can be used. Keys of the dictionary may share their texts with those that are kept at their places. Every error
+/// every region no name can be used, and an attribute has to be allowed under its key. Keys of the dictionary may share their texts with those that are kept at their places. Every error
 /// is committed.
 #[inline(always)]
 pub(crate) fn canonical_parse<S: OwnStream, V: Copy, B: Copy, T: IrText<A>, A: AttrText<A>>(

@@ -1,22 +1,26 @@
-//! Parsing of dictionaries: attributes under keys. Reserved and repeated keys are accepted here.
+//! Parsing of dictionaries: attributes under keys. Repeated keys are accepted here, and inside a region also reserved ones.
+ghost use Rattle.std.specs.Prelude.{◌≡◌};
+ghost use Rattle.irtext_base.specs.Format.{same_text, given_names_key};
 ghost use Rattle.irtext_tokens.specs.AttrTexts.{attr_at};
 ghost use Rattle.irtext_tokens.specs.ListOutcomes.{separated_at};
 ghost use Rattle.irtext_tokens.specs.MustRead.{MustRead};
 ghost use Rattle.irtext_parse_spec.specs.Readers.Directives.{attribute_at};
 ghost use Rattle.irtext_grammar.specs.Contexts.Held.{attribute_of};
-ghost use Rattle.irtext_parse_spec.specs.Heads.{name_at, pair_at, dictionary_at};
-ghost use Rattle.irtext_parse_pieces.specs.Entries.{IsKey, IsEntry, TakesWord, MustEntries, EntriesAfter, MustDictionaryIf};
+ghost use Rattle.irtext_grammar.specs.Names.Acts.{is_given, may_hold};
+ghost use Rattle.irtext_parse_spec.specs.Heads.{name_at, pair_at, entry_by, dictionary_by};
+ghost use Rattle.irtext_parse_pieces.specs.Entries.{IsKey, IsEntry, TakesWord, Allows, MustEntries, EntriesAfter, MustDictionaryIf};
 ghost use Rattle.irtext_parse_pieces.specs.Named.{MayMean, whole};
 
-use crate::beside::{beside, closed_by, failed};
 use crate::keys::Keys;
-use crate::lists::{NameKind, comma_taken, ended, none_named, unless_committed};
+use crate::lists::{NameKind, comma_taken, none_named, unless_committed};
 use irtext_base::base::{AttrObj, Identifier};
 use irtext_base::parsable::{CharStream, ParseResult, Place};
 use irtext_base::result::{Cause, Expected};
 use irtext_base::text::AttrText;
 use irtext_tokens::irfmt::demanded::{spaced_text_demanded, text_demanded};
-use irtext_tokens::irfmt::faults::{begins, committed, next_is, out_of_memory, refuse, unexpected};
+use irtext_tokens::irfmt::faults::{
+    begins, committed, next_is, out_of_memory, refuse, refuse_at, unexpected,
+};
 use irtext_tokens::irfmt::parsers::{Class, attr_parse, skip_class, skip_white_space};
 use irtext_tokens::parsable::OwnStream;
 
@@ -93,9 +97,9 @@ pub fn key_parse<S: CharStream, A>(
     }
 }
 
-/// Parses the entry at this place of a dictionary: a key, `:` and an attribute. If no name comes next, the error is uncommitted and the
-/// stream is unchanged; other errors are committed.
-fn entry_parse<S: OwnStream, A: AttrText<A>>(
+/// Parses the entry at this place of a dictionary: a key, `:` and an attribute, whether or not the attribute is allowed under the key. If
+/// no name comes next, the error is uncommitted and the stream is unchanged; other errors are committed.
+fn pair_parse<S: OwnStream, A: AttrText<A>>(
     stream: &mut S,
     keys: &mut Keys,
     index: usize,
@@ -104,36 +108,94 @@ fn entry_parse<S: OwnStream, A: AttrText<A>>(
         (pair_at (attr_at A.IrText.reading)) stream.old result stream.new }
 {
     let key = key_parse(stream, keys, index)?;
-    if let Err(fault) = spaced_text_demanded(stream, ":") {
-        return failed(key, fault);
+    spaced_text_demanded(stream, ":")?;
+    let attr = attr_demanded(stream)?;
+    Ok((key, attr))
+}
+
+/// Whether an attribute gives names.
+fn is_given<A>(attr: &AttrObj<A>) -> bool
+    ensures { result ≡ is_given (attribute_of attr.now) }
+{
+    match attr {
+        AttrObj::GivenNames(_) => true,
+        AttrObj::Ident(_) | AttrObj::Own(_) => false,
     }
-    let answer = attr_demanded(stream);
-    beside(key, answer)
+}
+
+/// Whether a key is that of given names.
+fn is_names_key(key: &Identifier) -> bool
+    ensures { result ≡ same_text key.now given_names_key }
+{
+    key.as_str() == "builtin_given_names"
+}
+
+/// Whether an attribute is allowed under a key in the dictionary of an operation.
+fn may_hold<A>(key: &Identifier, attr: &AttrObj<A>) -> bool
+    ensures { result ≡ may_hold key.now (attribute_of attr.now) }
+{
+    !is_names_key(key) || is_given(attr)
+}
+
+/// Returns the same result, unless it is an entry whose attribute is not allowed under its key: then fails with `ReservedKey` at `at`, the
+/// position of the key.
+#[inline(never)]
+fn allowed<S: CharStream, A: AttrText<A>>(
+    stream: &mut S,
+    at: Place,
+    answer: ParseResult<ReadEntry<A>, A>,
+) -> ParseResult<ReadEntry<A>, A>
+    ensures { Allows S.view S.at at answer stream.old result stream.new }
+{
+    let (key, attr) = match answer {
+        Ok(entry) => entry,
+        Err(fault) => return Err(fault),
+    };
+    if !may_hold(&key.name, &attr) {
+        return Err(refuse_at(stream, at, Cause::ReservedKey(key.name)));
+    }
+    Ok((key, attr))
+}
+
+/// Parses the entry at this place of a dictionary. `inside` says whether it is inside of a region; outside of every region an attribute
+/// that is not allowed under its key is an error at the key. If no name comes next, the error is uncommitted and the stream is unchanged;
+/// other errors are committed.
+fn entry_parse<S: OwnStream, A: AttrText<A>>(
+    stream: &mut S,
+    keys: &mut Keys,
+    index: usize,
+    inside: bool,
+) -> ParseResult<ReadEntry<A>, A>
+    ensures { MayMean S.CharStream.view S.CharStream.at (IsEntry (whole (S.CharStream.view stream.old)))
+        (entry_by (attr_at A.IrText.reading) inside) stream.old result stream.new }
+{
+    if inside {
+        return pair_parse(stream, keys, index);
+    }
+    let at = stream.position();
+    let answer = pair_parse(stream, keys, index);
+    allowed(stream, at, answer)
 }
 
 /// Parses the entries after the first one, as long as `,` comes next.
 fn more_entries<S: OwnStream, A: AttrText<A>>(
     stream: &mut S,
     keys: &mut Keys,
+    inside: bool,
     first: ReadEntry<A>,
 ) -> ParseResult<Vec<ReadEntry<A>>, A>
-    ensures { EntriesAfter S.CharStream.view S.CharStream.at (pair_at (attr_at A.IrText.reading)) first
-        stream.old result stream.new }
+    ensures { EntriesAfter S.CharStream.view S.CharStream.at (entry_by (attr_at A.IrText.reading) inside)
+        first stream.old result stream.new }
 {
     let mut found = Vec::new(stream.allocator());
     let Ok(()) = found.push(first) else {
-        ended(found);
         return Err(out_of_memory(stream));
     };
     while comma_taken(stream) {
-        let answer = entry_parse(stream, keys, found.len());
-        let next = match committed(stream, answer) {
-            Ok(next) => next,
-            Err(fault) => return failed(found, fault),
-        };
+        let answer = entry_parse(stream, keys, found.len(), inside);
+        let next = committed(stream, answer)?;
         skip_white_space(stream);
         let Ok(()) = found.push(next) else {
-            ended(found);
             return Err(out_of_memory(stream));
         };
     }
@@ -145,17 +207,18 @@ fn more_entries<S: OwnStream, A: AttrText<A>>(
 fn entries_parse<S: OwnStream, A: AttrText<A>>(
     stream: &mut S,
     keys: &mut Keys,
+    inside: bool,
 ) -> ParseResult<Vec<ReadEntry<A>>, A>
     ensures { MustEntries S.CharStream.view S.CharStream.at
-        (separated_at 44 (pair_at (attr_at A.IrText.reading))) stream.old result stream.new }
+        (separated_at 44 (entry_by (attr_at A.IrText.reading) inside)) stream.old result stream.new }
 {
     if none_named(stream, NameKind::Value) {
         return Ok(Vec::new(stream.allocator()));
     }
-    match entry_parse(stream, keys, 0) {
+    match entry_parse(stream, keys, 0, inside) {
         Ok(first) => {
             skip_white_space(stream);
-            more_entries(stream, keys, first)
+            more_entries(stream, keys, inside, first)
         }
         Err(fault) => unless_committed(fault, Vec::new(stream.allocator())),
     }
@@ -166,38 +229,41 @@ fn entries_parse<S: OwnStream, A: AttrText<A>>(
 fn bracketed_parse<S: OwnStream, A: AttrText<A>>(
     stream: &mut S,
     keys: &mut Keys,
+    inside: bool,
 ) -> ParseResult<Vec<ReadEntry<A>>, A>
-    ensures { MustEntries S.CharStream.view S.CharStream.at (dictionary_at (attr_at A.IrText.reading))
-        stream.old result stream.new }
+    ensures { MustEntries S.CharStream.view S.CharStream.at
+        (dictionary_by (attr_at A.IrText.reading) inside) stream.old result stream.new }
 {
     text_demanded(stream, "[")?;
     skip_white_space(stream);
-    let entries = entries_parse(stream, keys)?;
-    let answer = text_demanded(stream, "]");
-    closed_by(entries, answer)
+    let entries = entries_parse(stream, keys, inside)?;
+    text_demanded(stream, "]")?;
+    Ok(entries)
 }
 
-/// Parses a dictionary: entries in brackets, separated by `,`, each a key, `:` and an attribute, as `[key: attribute]`. Reserved and
-/// repeated keys are accepted here. Keys may share their texts with those that are kept at their places. An empty dictionary allocates
-/// nothing, and one with entries allocates a vector. Every error is committed.
+/// Parses a dictionary: entries in brackets, separated by `,`, each a key, `:` and an attribute, as `[key: attribute]`. Repeated keys are
+/// accepted here. `inside` says whether it is inside of a region: there reserved keys are accepted too; outside of every region the first
+/// attribute that is not allowed under its key is an error, `ReservedKey` at the key. Keys may share their texts with those that are kept
+/// at their places. An empty dictionary allocates nothing, and one with entries allocates a vector. Every error is committed.
 #[inline(always)]
 pub fn dictionary_parse<S: OwnStream, A: AttrText<A>>(
     stream: &mut S,
     keys: &mut Keys,
+    inside: bool,
 ) -> ParseResult<Vec<ReadEntry<A>>, A>
-    ensures { MustEntries S.CharStream.view S.CharStream.at (dictionary_at (attr_at A.IrText.reading))
-        stream.old result stream.new }
+    ensures { MustEntries S.CharStream.view S.CharStream.at
+        (dictionary_by (attr_at A.IrText.reading) inside) stream.old result stream.new }
 {
     if stream.has_failed() {
-        return bracketed_parse(stream, keys);
+        return bracketed_parse(stream, keys, inside);
     }
     if stream.accept("[]") {
         return Ok(Vec::new(stream.allocator()));
     }
-    bracketed_parse(stream, keys)
+    bracketed_parse(stream, keys, inside)
 }
 
-/// Parses a dictionary as `dictionary_parse` does if `[` comes next; otherwise returns `None`. Every error is committed.
+/// Parses a dictionary as `dictionary_parse` does inside of a region if `[` comes next; otherwise returns `None`. Every error is committed.
 pub fn dictionary_if_parse<S: OwnStream, A: AttrText<A>>(
     stream: &mut S,
     keys: &mut Keys,
@@ -211,6 +277,6 @@ pub fn dictionary_if_parse<S: OwnStream, A: AttrText<A>>(
     if !next_is(stream, '[') {
         return Ok(None);
     }
-    let entries = dictionary_parse(stream, keys)?;
+    let entries = dictionary_parse(stream, keys, true)?;
     Ok(Some(entries))
 }

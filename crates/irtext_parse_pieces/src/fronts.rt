@@ -161,7 +161,8 @@ fn canonical_pieces<S: OwnStream, V: Copy, B: Copy, T: IrText<A>, A: AttrText<A>
 }
 
 /// Parses what the steps of a format describe, up to the first step that parses regions, one piece for each step, with white space before
-/// each. `inside` says whether it is inside of a region; outside of every region no name can be used. The result has as many pieces as
+/// each. `inside` says whether it is inside of a region; outside of every region no name can be used, and an attribute has to be allowed
+/// under its key. The result has as many pieces as
 /// there are such steps. Keys of a dictionary may share their texts with those that are kept at their places. Every error is committed, and
 /// leaves the stream failed.
 pub fn front_parse<S: OwnStream, V: Copy, B: Copy, T: IrText<A>, A: AttrText<A>>(

@@ -9,7 +9,7 @@ ghost use Rattle.irtext_tokens.specs.MustRead.{MustRead};
 ghost use Rattle.irtext_tokens.specs.Tokens.{text_at};
 ghost use Rattle.irtext_grammar.specs.Grammar.Tree.{word, attribute, dictionary, result_type, header, types};
 ghost use Rattle.irtext_base.specs.FormatViews.{directive_of};
-ghost use Rattle.irtext_parse_spec.specs.Heads.{outlined_or_at, symbol_at, dictionary_at, directive_at, piece_at};
+ghost use Rattle.irtext_parse_spec.specs.Heads.{outlined_or_at, symbol_at, dictionary_by, directive_at, piece_at};
 ghost use Rattle.irtext_parse_pieces.specs.Kinds.{named_at, name_tree, names_tree};
 ghost use Rattle.irtext_parse_pieces.specs.Pieces.{seen_attribute, Accepts, AnyPiece, MustPiece};
 ghost use Rattle.irtext_parse_pieces.specs.Named.{NamesRead};
@@ -153,11 +153,12 @@ fn attr_piece<S: OwnStream, T: IrText<A>, A: AttrText<A>>(
 fn dictionary_piece<S: OwnStream, T: IrText<A>, A: AttrText<A>>(
     stream: &mut S,
     keys: &mut Keys,
+    inside: bool,
 ) -> PieceResult<T, A>
     ensures { AnyPiece S.CharStream.view S.CharStream.at
-        (dictionary_at (attr_at A.IrText.reading) ⇒ dictionary) stream.old result stream.new }
+        (dictionary_by (attr_at A.IrText.reading) inside ⇒ dictionary) stream.old result stream.new }
 {
-    let entries = dictionary_parse(stream, keys)?;
+    let entries = dictionary_parse(stream, keys, inside)?;
     Ok(ReadPiece::Dictionary(entries))
 }
 
@@ -224,7 +225,7 @@ fn piece_parse<S: OwnStream, V: Copy, B: Copy, T: IrText<A>, A: AttrText<A>>(
         Directive::Successor(index) => name_piece(stream, names, NameKind::Block, *index, inside),
         Directive::Successors => names_piece(stream, names, NameKind::Block, inside),
         Directive::Attr(key) => attr_piece(stream, key),
-        Directive::AttrDict => dictionary_piece(stream, keys),
+        Directive::AttrDict => dictionary_piece(stream, keys, inside),
         Directive::ResultType(index) => type_piece(stream, *index),
         Directive::SymbolHeader => header_piece(stream),
         Directive::Region(_) => no_piece(stream),
@@ -232,9 +233,9 @@ fn piece_parse<S: OwnStream, V: Copy, B: Copy, T: IrText<A>, A: AttrText<A>>(
     }
 }
 
-/// Parses what a step of a format describes. `inside` says whether it is inside of a region; outside of every region no name can be used.
-/// An attribute may be replaced by the marker `!outlined`; reserved and repeated keys of a dictionary are accepted here, and may share
-/// their texts with those that are kept at their places. If the step describes regions, fails with `Unexpected`: an operation was expected.
+/// Parses what a step of a format describes. `inside` says whether it is inside of a region; outside of every region no name can be used,
+/// and an attribute has to be allowed under its key. An attribute may be replaced by the marker `!outlined`; repeated keys of a dictionary
+/// are accepted here, inside of a region also reserved ones, and keys may share their texts with those that are kept at their places. If the step describes regions, fails with `Unexpected`: an operation was expected.
 /// Every error is committed, and leaves the stream failed.
 #[inline(always)]
 pub fn step_parse<S: OwnStream, V: Copy, B: Copy, T: IrText<A>, A: AttrText<A>>(
@@ -254,7 +255,7 @@ pub fn step_parse<S: OwnStream, V: Copy, B: Copy, T: IrText<A>, A: AttrText<A>>(
         FormatStep::Word(text) => word_piece(stream, text),
         FormatStep::Operands => names_piece(stream, names, NameKind::Value, inside),
         FormatStep::Successors => names_piece(stream, names, NameKind::Block, inside),
-        FormatStep::Dictionary => dictionary_piece(stream, keys),
+        FormatStep::Dictionary => dictionary_piece(stream, keys, inside),
         FormatStep::Types => types_piece(stream),
         FormatStep::Regions => no_piece(stream),
     }

@@ -1,10 +1,10 @@
 -- No fault of a nested text says that the stream had failed, and one of which nothing was parsed has a cause of a text.
-use Rattle.std.proofs.Common.{◌≡◌, ℕ, zero, suc, Bool, true, false, cond, List, [], ◌∷◌, ◌++◌, length, Some, None, codes, is_some, append_assoc, refl, ap, subst}
+use Rattle.std.proofs.Common.{◌≡◌, ◌∙◌, ℕ, zero, suc, Bool, true, false, cond, List, [], ◌∷◌, ◌++◌, length, Some, None, codes, is_some, append_assoc, refl, sym, ap, subst, true≢false}
 use Rattle.irtext_base.specs.Text.{Text, begins, after_space}
 use Rattle.irtext_base.specs.Reading.{the}
 use Rattle.irtext_base.specs.Format.{Id}
 use Rattle.irtext_base.specs.Faults.{Fault, Failed, UnregisteredOp, UnregisteredDialect}
-use Rattle.irtext_base.specs.Own.{Sincere, is_first_fault}
+use Rattle.irtext_base.specs.Own.{Sincere, is_first_fault, is_text_fault}
 use Rattle.irtext_base.specs.Answers.{Outcome, Read, Missing, Bad, mapped}
 use Rattle.irtext_base.specs.Locations.{AttrView}
 use Rattle.irtext_base.proofs.Sincere.{Of, of_read, of_mapped, of_sincere}
@@ -22,6 +22,8 @@ use Rattle.irtext_parse_spec.specs.Readers.Operations.{registered_after}
 use Rattle.irtext_tokens.specs.Demanded.{index_at}
 use Rattle.irtext_parse_spec.specs.Promises.Supported.{is_committed}
 use Rattle.irtext_parse_spec.proofs.Readers.Honest.{honest_nothing}
+use Rattle.irtext_parse_spec.specs.Promises.ErrorCauses.{IsTokenFault, is_name_fault, CauseAt, of_token, of_name, no_dialect, no_operation, of_type, of_attribute}
+use Rattle.irtext_parse_spec.proofs.Causes.Found.{operation_cause}
 use Rattle.irtext_parse_spec.proofs.Readers.NeverFailed.{NotFailed, Fine, fine_honest, fine_missing, fine_bad, fine_either, fine_after_lead, fine_mapped}
 use Rattle.irtext_parse_spec.specs.Heads.{Step, flat, types, one, all, name_of, label_at, argument_at, mark_at, mark_if_at, head_at, piece_at, front_steps, region_steps, lead_at, led_by, led_at}
 use Rattle.irtext_parse_spec.specs.Reached.{Reached, Advanced, Stopped, came, tells, Actions, Reads, begins_operation, begins_region, begins_block, steps_in, regions_by, more_by, operations_by, blocks_by, front_by, steps_by, end_by, body_by, operation_by, block_by, region_by, region_within, region_at, operation_at}
@@ -125,6 +127,15 @@ led_first dialects text cause e = go (lead_at text) (lead_honest.of text) e
     go (Missing c) h e = let same : c ≡ cause = cc e in subst (λ z. is_first_fault z ≡ true) same h.says
     go (Bad c u) h e = absurd (cc)
 
+-- a cause of a text is not that the stream had failed
+never_caused : {T A : Type 0} (dialects : List (Text × Table)) (types_at : Text → Outcome T) (owns_at : Text → Outcome A) (text : Text) (cause : Fault) (left : Text) → CauseAt dialects types_at owns_at text cause left → cause ≡ Failed → ⊥
+never_caused dialects types_at owns_at text cause left (of_token t l) e = subst (λ c. IsTokenFault c left) e t
+never_caused dialects types_at owns_at text cause left (of_name n l) e = true≢false (sym n ∙ ap is_name_fault e)
+never_caused dialects types_at owns_at text cause left (no_dialect d l) e = cc (d.is, e)
+never_caused dialects types_at owns_at text cause left (no_operation d l) e = cc (d.is, e)
+never_caused dialects types_at owns_at text cause left (of_type r) e = true≢false (sym r.allowed ∙ ap is_text_fault e)
+never_caused dialects types_at owns_at text cause left (of_attribute r) e = true≢false (sym r.allowed ∙ ap is_text_fault e)
+
 module _ {T A : Type 0} (types_at : Text → Outcome T) (reading : Text → Outcome A) (sincere_types : Sincere types_at) (sincere : Sincere reading) where
   abbrev attr : Text → Outcome (AttrView A)
   attr = attr_at reading
@@ -153,7 +164,7 @@ module _ {T A : Type 0} (types_at : Text → Outcome T) (reading : Text → Outc
     never_front [] found text s = there found s text
     never_front (step ∷ ss) found text s = never_tells ((space_at ▷ piece_at types_at attr true step) text) text s _ (fine_piece step text) (λ p rest. never_front ss (found ++ tree.piece p ∷ []) rest s)
 
-    never_steps : (inner : Reads S) → ((text : Text) (s : S) → Never (inner text s)) → (place : ℕ) (id : Id) (ss : List Step) (found : List (Part ℕ T A)) (text : Text) (s : S) → Never (steps_by dialects types_at attr does inner true place id ss found text s)
+    never_steps : (inner : Reads S) → ((text : Text) (s : S) → Never (inner text s)) → (place : ℕ) (id : Id) (ss : List Step) (found : List (Part ℕ T A)) (text : Text) (s : S) → Never (steps_by dialects types_at attr does inner place id ss found text s)
     never_steps inner h place id [] found text s = there found s text
     never_steps inner h place id (one i ∷ ss) found text s = never_came (inner (after_space text) s) _ (h (after_space text) s) (λ _ t rest. never_steps inner h place id ss (found ++ tree.region i ∷ []) rest t)
     never_steps inner h place id (all ∷ ss) found text s =
@@ -169,7 +180,7 @@ module _ {T A : Type 0} (types_at : Text → Outcome T) (reading : Text → Outc
     never_body : (inner : Reads S) → ((text : Text) (s : S) → Never (inner text s)) → (place : ℕ) (names : List (Name ℕ)) (id : Id) (text : Text) (s : S) → Never (body_by dialects types_at attr does inner true place names id text s)
     never_body inner h place names id text s =
         never_came (front_by dialects types_at attr does true (front_steps (steps_in dialects id)) [] text s) _ (never_front (front_steps (steps_in dialects id)) [] text s) (λ found t rest.
-        never_came (steps_by dialects types_at attr does inner true place id (region_steps (steps_in dialects id)) found rest (does.uses place id found t)) _
+        never_came (steps_by dialects types_at attr does inner place id (region_steps (steps_in dialects id)) found rest (does.uses place id found t)) _
         (never_steps inner h place id (region_steps (steps_in dialects id)) found rest (does.uses place id found t)) (λ parts u left. never_end place names id parts left u))
 
     never_operation : (inner : Bool → Reads S) → ((iso : Bool) (text : Text) (s : S) → Never (inner iso text s)) → (text : Text) (s : S) → Never (operation_by dialects types_at attr does inner true text s)
@@ -193,16 +204,16 @@ module _ {T A : Type 0} (types_at : Text → Outcome T) (reading : Text → Outc
     pub region_never_failed : (iso : Bool) (text : Text) (s t : S) (cause : Fault) (place : ℕ) → region_at dialects types_at attr does iso text s ≡ Stopped t cause place → cause ≡ Failed → ⊥
     region_never_failed iso text s t cause place e = (subst Never e (never_within (suc (length text)) iso text s)).says
 
-    -- nor is an operation's
-    pub operation_never_failed : (text : Text) (s t : S) (cause : Fault) (place : ℕ) → operation_at dialects types_at attr does true text s ≡ Stopped t cause place → cause ≡ Failed → ⊥
-    operation_never_failed text s t cause place e = (subst Never e (never_operation (region_at dialects types_at attr does) (λ iso rest u. never_within (suc (length rest)) iso rest u) text s)).says
+    -- nor is an operation's, inside of a region and outside of each
+    pub operation_never_failed : (inside : Bool) (text : Text) (s t : S) (cause : Fault) (place : ℕ) → operation_at dialects types_at attr does inside text s ≡ Stopped t cause place → cause ≡ Failed → ⊥
+    operation_never_failed inside text s t cause place e = never_caused dialects types_at reading text cause _ (operation_cause dialects types_at reading sincere_types sincere does inside text s t cause place e).2
 
     -- where no operation begins, it is stuck for a cause of a text
-    pub operation_first : (text : Text) (s t : S) (cause : Fault) (place : ℕ) → operation_at dialects types_at attr does true text s ≡ Stopped t cause place → is_committed (led_at dialects text) ≡ false → is_first_fault cause ≡ true
-    operation_first text s t cause place e flag = go (led_at dialects text) refl flag e
+    pub operation_first : (inside : Bool) (text : Text) (s t : S) (cause : Fault) (place : ℕ) → operation_at dialects types_at attr does inside text s ≡ Stopped t cause place → is_committed (led_at dialects text) ≡ false → is_first_fault cause ≡ true
+    operation_first inside text s t cause place e flag = go (led_at dialects text) refl flag e
       where
         go : (o : Outcome (List (Name ℕ) × Id)) → led_at dialects text ≡ o → is_committed o ≡ false
-            → tells o text s (λ lead rest. body_by dialects types_at attr does (region_at dialects types_at attr does (isolated dialects lead.1)) true (length text) lead.0 lead.1 rest s) ≡ Stopped t cause place → is_first_fault cause ≡ true
+            → tells o text s (λ lead rest. body_by dialects types_at attr does (region_at dialects types_at attr does (isolated dialects lead.1)) inside (length text) lead.0 lead.1 rest s) ≡ Stopped t cause place → is_first_fault cause ≡ true
         go (Read lead taken rest) is flag e = absurd (cc)
         go (Missing c) is flag e = let same : c ≡ cause = cc e in subst (λ z. is_first_fault z ≡ true) same (led_first dialects text c is)
         go (Bad c u) is flag e = absurd (cc)

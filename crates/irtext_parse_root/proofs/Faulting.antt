@@ -79,7 +79,7 @@ module _ {T A U : Type 0} (types_at : Reader T) (attr : Reader (AttrView A)) (be
     abbrev following : List (Open T A)
     following = outward (map open_of in_region) ++ a_block false ∷ []
 
-    pub no_operation_begins : RefusesOperation types_at attr true true before (with_stream old v) fault → Faulted types_at attr dialects (at_block kb ∷ in_region) before old fault
+    pub no_operation_begins : RefusesOperation types_at attr true before (with_stream old v) fault → Faulted types_at attr dialects (at_block kb ∷ in_region) before old fault
     no_operation_begins (read.no_lead d flag) = at_text [] [] before old.state (pledges_of in_region) d.cause (length v.rest - length d.upto)
         (stuck_at (one_comes types_at attr base before old k kb r iso place last more v kb.first follows_on at) (no_lead dialects types_at attr recorder following true [] v.rest d.cause d.upto d.bad))
         (acts_none before old.state (pledges_of in_region)) (subst (λ t. IsTextFault t d.cause (length v.rest - length d.upto) fault) same d.fault_is)

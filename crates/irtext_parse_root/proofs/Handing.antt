@@ -1,5 +1,5 @@
 -- What each turn says is put together for the loop.
-use Rattle.std.proofs.Common.{◌≡◌, ◌≤◌, ℕ, Bool, true, [], ◌∷◌, length, Option, Result, Ok, Err, IfOk, OnOk, OnErr, ◌++◌, sym, ap, subst}
+use Rattle.std.proofs.Common.{◌≡◌, ◌≤◌, ℕ, Bool, true, [], ◌∷◌, length, Option, is_some, Result, Ok, Err, IfOk, OnOk, OnErr, ◌++◌, sym, ap, subst}
 use Rattle.irtext_base.specs.Text.{Text}
 use Rattle.irtext_base.specs.Answers.{Read}
 use Rattle.irtext_base.specs.Locations.{AttrView}
@@ -53,8 +53,8 @@ module _ {T A U : Type 0} (types_at : Reader T) (attr : Reader (AttrView A)) (be
 
   module _ {E : Type 0} where
     pub begins_given : (block : Option (Ptr BasicBlock)) (r : Result BegunOperation E) → KeepsNames before.names names.names → length names.values ≡ length before.values → length names.labels ≡ length before.labels → marks_of new.state ≡ marks_of old.state
-        → IfOk r (λ b. BeginsOperation types_at attr true before old b names new)
-        → IfOk r (λ b. (read : ReadsFront types_at attr true old new.stream.rest) → (own : OwnSoFar T A) × HasBegun (format_of old.state.ctx.now.dialects) (begun_by types_at attr true old new.stream.rest read) own
+        → IfOk r (λ b. BeginsOperation types_at attr (is_some block) before old b names new)
+        → IfOk r (λ b. (read : ReadsFront types_at attr (is_some block) old new.stream.rest) → (own : OwnSoFar T A) × HasBegun (format_of old.state.ctx.now.dialects) (begun_by types_at attr (is_some block) old new.stream.rest read) own
         × ComesInto (IsLocated old.state.src (whole old.stream)) old.state.ctx.now new.state.ctx.now b.op own block)
         → OnOk r Lasting → OnOk r Sounding → IfOk r (λ b. (m : ℕ) → m ≤ old.state.ctx.now.graph.made → IsNew m new.state.ctx.now.graph (TheOperation b.op)) → IfOk r (λ b. Begins types_at attr before old block b names new)
     begins_given block (Ok b) keeps values labels same begins came lasts sound fresh =

@@ -39,7 +39,6 @@ each_on names more text (n ∷ ns) (x ∷ xs) k h = (still_represents names more
 module _ {T A : Type 0} (names more : List Text) (text : Text) (old new : ContextView T A) (keeps : KeepsNames names more) (lasts : KeepsLive old new) where
   pub begun_lasts : (b : BegunOperation) (o : OpenOperation T A) → IsBegun names text old b o → IsBegun more text new b o
   begun_lasts b o h = record {
-    inside = h.inside;
     place = h.place;
     names_are = each_on names more text b.names o.names keeps h.names_are;
     id = h.id;

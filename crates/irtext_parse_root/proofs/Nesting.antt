@@ -1,5 +1,5 @@
 -- An operation with all that nests in it, from its beginning to its end, or to the first fault.
-use Rattle.std.proofs.Common.{◌≡◌, ◌∙◌, ◌-◌, ℕ, true, false, List, [], ◌∷◌, ◌++◌, length, Option, Some, None, refl, sym, ap, subst, append_assoc, append-nil, arith, le_refl, inl, inr}
+use Rattle.std.proofs.Common.{◌≡◌, ◌∙◌, ◌-◌, ℕ, Bool, true, false, List, [], ◌∷◌, ◌++◌, length, Option, Some, None, refl, sym, ap, subst, append_assoc, append-nil, arith, le_refl, inl, inr}
 use Rattle.irtext_base.specs.Text.{Text}
 use Rattle.irtext_base.specs.Locations.{AttrView}
 use Rattle.irtext_base.specs.declared.location.Location.{Location}
@@ -23,12 +23,12 @@ use Rattle.irtext_parse_spec.specs.Promises.Supported.{is_committed}
 use Rattle.irtext_parse_spec.proofs.Joins.Answers.{Splits}
 use Rattle.irtext_parse_spec.proofs.Joins.Attributes.{splits_attr}
 use Rattle.irtext_parse_spec.specs.Heads.{front_steps}
-use Rattle.irtext_parse_spec.specs.Reached.{Advanced, Stopped, Actions, steps_in, operation_at}
+use Rattle.irtext_parse_spec.specs.Reached.{Advanced, Stopped, Actions, steps_in, front_by, operation_at}
 use Rattle.irtext_parse_spec.specs.Resume.{OpenOperation, to_come, an_operation, EndsIn, Goes}
 use Rattle.irtext_parse_spec.proofs.Naming.Keeps.{failed_keeps}
 use Rattle.irtext_parse_spec.proofs.Resume.Failed.{failed_at}
 use Rattle.irtext_parse_spec.proofs.Resume.Frames.{goes_trans, stuck_at}
-use Rattle.irtext_parse_spec.proofs.Resume.Front.{splits_piece, front_reads, front_misses}
+use Rattle.irtext_parse_spec.proofs.Resume.Front.{splits_piece, front_inside, front_reads, front_misses}
 use Rattle.irtext_parse_spec.proofs.Knot.Whole.{leaves_no_more}
 use Rattle.irtext_parse_spec.proofs.Resume.Turns.{operation_begins, no_lead, no_front}
 use Rattle.irtext_parse_spec.specs.Building.{Unfinished, building, nothing_open, finished}
@@ -76,7 +76,7 @@ module _ {T A U : Type 0} (types_at : Reader T) (reading : Reader A) (h : Splits
 
   module _ (b : BegunOperation) (n1 : Names) (s1 : StateStream T A U) (bg : Begins types_at attr before old None b n1 s1) where
     abbrev begun_here : OpenOperation T A
-    begun_here = begun_by types_at attr true old s1.stream.rest bg.begins.read
+    begun_here = begun_by types_at attr false old s1.stream.rest bg.begins.read
 
     abbrev alone : List (Level T A)
     alone = at_operation b begun_here bg.own ∷ []
@@ -107,12 +107,21 @@ module _ {T A U : Type 0} (types_at : Reader T) (reading : Reader A) (h : Splits
     pub root_is_here : AreHere T A (whole s1.stream) s1.state.ctx.now n1 (Some (framed.Operation b)) []
     root_is_here = record { base = outermost b.op; v = length before.values; l = length before.labels; ls = alone; here = root_here }
 
-    -- what was parsed of it so far
-    begun_goes : {S : Type 0} (d : Actions T A S) (s : S) → Goes dialects types_at attr d (Some (to_come true)) [] s old.stream.rest (Some (an_operation begun_here)) [] (d.uses begun_here.place begun_here.id begun_here.parts s) s1.stream.rest
-    begun_goes d s =
+    -- its front, as it is parsed outside of each region, is parsed so inside of one too
+    front_there : (inside : Bool) {S : Type 0} (d : Actions T A S) (s : S) → front_by dialects types_at attr d inside (front_steps (steps_in dialects bg.begins.read.id)) [] bg.begins.read.middle s ≡ Advanced bg.begins.read.parts s s1.stream.rest
+    front_there false d s =
         let q = bg.begins.read in
-        operation_begins dialects types_at attr d [] true s old.stream.rest q.names q.id q.lead q.middle q.led q.parts s1.stream.rest
-        (front_reads dialects types_at attr d true (splits_piece types_at reading h k true) (front_steps (steps_in dialects q.id)) [] q.parts q.middle q.taken s1.stream.rest s q.front)
+        front_reads dialects types_at attr d false (splits_piece types_at reading h k false) (front_steps (steps_in dialects q.id)) [] q.parts q.middle q.taken s1.stream.rest s q.front
+    front_there true d s =
+        let q = bg.begins.read in
+        let m = front_inside types_at reading h k (front_steps (steps_in dialects q.id)) [] q.parts q.middle q.taken s1.stream.rest q.front in
+        front_reads dialects types_at attr d true (splits_piece types_at reading h k true) (front_steps (steps_in dialects q.id)) [] q.parts q.middle m.0 s1.stream.rest s m.1
+
+    -- what was parsed of it so far
+    begun_goes : (inside : Bool) {S : Type 0} (d : Actions T A S) (s : S) → Goes dialects types_at attr d (Some (to_come inside)) [] s old.stream.rest (Some (an_operation begun_here)) [] (d.uses begun_here.place begun_here.id begun_here.parts s) s1.stream.rest
+    begun_goes inside d s =
+        let q = bg.begins.read in
+        operation_begins dialects types_at attr d [] inside s old.stream.rest q.names q.id q.lead q.middle q.led q.parts s1.stream.rest (front_there inside d s)
 
     begun_agrees : (path : ℕ → Path) (items : Made) (o : Machine) → MachineAgrees path items [] before old.state o → MachineAgrees path (item ∷ items) (pledge_of b begun_here.place ∷ []) n1 s1.state ((does path).uses begun_here.place begun_here.id begun_here.parts o)
     begun_agrees path items o st = bg.begins.acts.so path items [] o st
@@ -132,7 +141,7 @@ module _ {T A U : Type 0} (types_at : Reader T) (reading : Reader A) (h : Splits
     begun_falls =
         let q = bg.begins.read in
         let lead = led_fewer dialects old.stream.rest (q.names, q.id) q.lead q.middle (led_some dialects old.stream.rest (q.names, q.id) q.lead q.middle q.led) q.led in
-        let front = front_fewer (leaves_no_more types_at h) (leaves_no_more attr (splits_attr reading k)) true (front_steps (steps_in dialects q.id)) q.middle q.parts q.taken s1.stream.rest q.front in
+        let front = front_fewer (leaves_no_more types_at h) (leaves_no_more attr (splits_attr reading k)) false (front_steps (steps_in dialects q.id)) q.middle q.parts q.taken s1.stream.rest q.front in
         (omega (arith, lead, front), le_refl (length old.stream.rest))
 
     -- ---- all of it was parsed
@@ -144,7 +153,7 @@ module _ {T A U : Type 0} (types_at : Reader T) (reading : Reader A) (h : Splits
       turned = turned_over s1.state.ctx.now.dialects dialects s1.state.src old.state.src (whole s1.stream) (whole old.stream) bg.carries.lasts.dialects bg.carries.rest.src same_text turned_raw
 
       nested_goes : {S : Type 0} (d : Actions T A S) (s : S) → operation_at dialects types_at attr d true old.stream.rest s ≡ Advanced tt (all_done d (turned.did ++ first) s) s2.stream.rest
-      nested_goes d s = (goes_recorded d (goes_trans (begun_goes recorder []) (goes_after turned.goes first)) s).so
+      nested_goes d s = (goes_recorded d (goes_trans (begun_goes true recorder []) (goes_after turned.goes first)) s).so
 
       nested_held : IsHeld (format_of dialects) (IsLocated old.state.src (whole old.stream)) (outermost b.op) old.state.ctx.now s2.state.ctx.now (turned.made ++ item ∷ []) turned.marks [] (Some b.op) (turned.did ++ first)
       nested_held = turned.builds old.state.ctx.now (item ∷ []) [] first begun_held
@@ -181,29 +190,29 @@ module _ {T A U : Type 0} (types_at : Reader T) (reading : Reader A) (h : Splits
       inside_refused (inr (at_text did made names mid still cause place g a f)) = inr (nested.at_text cause place (subst (λ t. IsTextFault t cause place fault) same_text f) (st.committed ∙ sym (ap is_committed bg.begins.read.led))
           (λ path items o agreed.
           let z = a.so path (item ∷ items) [] ((does path).uses begun_here.place begun_here.id begun_here.parts o) (begun_agrees path items o agreed) in
-          (z.state, (stuck_recorded (does path) (stuck_at (begun_goes recorder []) (stuck_after g first)) o).so ∙ ap (λ y. Stopped y cause place) (done_both (does path) did first o ∙ z.going))))
+          (z.state, (stuck_recorded (does path) (stuck_at (begun_goes false recorder []) (stuck_after g first)) o).so ∙ ap (λ y. Stopped y cause place) (done_both (does path) did first o ∙ z.going))))
       inside_refused (inr (by_names failure f ends)) = inr (nested.by_names failure (subst (λ t. IsFailure t failure fault) same_text f)
-          (λ path items o agreed. subst (EndsIn (failed failure)) (sym (begun_goes (does path) o).so)
+          (λ path items o agreed. subst (EndsIn (failed failure)) (sym (begun_goes false (does path) o).so)
           (ends path (item ∷ items) [] ((does path).uses begun_here.place begun_here.id begun_here.parts o) (begun_agrees path items o agreed))))
 
       pub nested_stops : UnlessMemory (RefusesNested types_at attr before old) fault
       nested_stops = inside_refused (faulted_over s1.state.ctx.now.dialects dialects bg.carries.lasts.dialects (st.stops (outermost b.op) (length before.values) (length before.labels) alone root_here))
 
   -- ---- or none begins
-  pub none_begins : (fault : ParseFault A) → UnlessMemory (RefusesOperation types_at attr true false before old) fault → UnlessMemory (RefusesNested types_at attr before old) fault
+  pub none_begins : (fault : ParseFault A) → UnlessMemory (RefusesOperation types_at attr false before old) fault → UnlessMemory (RefusesNested types_at attr before old) fault
   none_begins fault (inl ran_out) = inl ran_out
   none_begins fault (inr (read.no_lead d flag)) = inr (nested.at_text d.cause (length old.stream.rest - length d.upto) d.fault_is flag
-      (λ path items o agreed. (agreed.state, (no_lead dialects types_at attr (does path) [] true o old.stream.rest d.cause d.upto d.bad).so ∙ ap (λ y. Stopped y d.cause (length old.stream.rest - length d.upto)) agreed.going)))
+      (λ path items o agreed. (agreed.state, (no_lead dialects types_at attr (does path) [] false o old.stream.rest d.cause d.upto d.bad).so ∙ ap (λ y. Stopped y d.cause (length old.stream.rest - length d.upto)) agreed.going)))
   none_begins fault (inr (read.no_front names id lead middle e d flag)) = inr (nested.at_text d.cause (length middle - length d.upto) d.fault_is (flag ∙ sym (ap is_committed e))
       (λ path items o agreed. (
         agreed.state,
-        (no_front dialects types_at attr (does path) [] true o old.stream.rest names id lead middle e o d.cause (length middle - length d.upto)
-            (front_misses dialects types_at attr (does path) true (splits_piece types_at reading h k true) (front_steps (steps_in dialects id)) [] middle o d.cause d.upto d.bad)).so
+        (no_front dialects types_at attr (does path) [] false o old.stream.rest names id lead middle e o d.cause (length middle - length d.upto)
+            (front_misses dialects types_at attr (does path) false (splits_piece types_at reading h k false) (front_steps (steps_in dialects id)) [] middle o d.cause d.upto d.bad)).so
             ∙ ap (λ y. Stopped y d.cause (length middle - length d.upto)) agreed.going,
       )))
   none_begins fault (inr (read.no_uses rest q f)) = inr (nested.by_names f.failure f.is (λ path items o agreed.
       let at : (does path).uses (length old.stream.rest) q.id q.parts o ≡ failed f.failure = f.so path items [] o agreed in
       failed_at (failed_keeps {T = T} {A = A} (format_of dialects) path f.failure)
-      (subst (λ z. Goes dialects types_at attr (does path) (Some (to_come true)) [] o old.stream.rest (Some (an_operation (begun_by types_at attr true old rest q))) [] z rest) at
-      (operation_begins dialects types_at attr (does path) [] true o old.stream.rest q.names q.id q.lead q.middle q.led q.parts rest
-      (front_reads dialects types_at attr (does path) true (splits_piece types_at reading h k true) (front_steps (steps_in dialects q.id)) [] q.parts q.middle q.taken rest o q.front)))))
+      (subst (λ z. Goes dialects types_at attr (does path) (Some (to_come false)) [] o old.stream.rest (Some (an_operation (begun_by types_at attr false old rest q))) [] z rest) at
+      (operation_begins dialects types_at attr (does path) [] false o old.stream.rest q.names q.id q.lead q.middle q.led q.parts rest
+      (front_reads dialects types_at attr (does path) false (splits_piece types_at reading h k false) (front_steps (steps_in dialects q.id)) [] q.parts q.middle q.taken rest o q.front)))))

@@ -97,7 +97,6 @@ module _ {T A : Type 0} (names : List Text) (text : Text) (ctx : ContextView T A
   pub begun_region : (step : Step) (ss : List Step) (part : Part ℕ T A) → o.steps ≡ step ∷ ss → next ≡ record b { coming = None; step = b.step + 1 } → HasNoType part → IsBegun names text ctx b o
       → IsBegun names text ctx next (with_steps o ss (o.parts ++ part ∷ []))
   begun_region step ss part e is none h = subst (λ z. IsBegun names text ctx z (with_steps o ss (o.parts ++ part ∷ []))) (sym is) (record {
-    inside = h.inside;
     place = h.place;
     names_are = h.names_are;
     id = h.id;

@@ -41,8 +41,8 @@ module _ {T A U : Type 0} (types_at : Reader T) (reading : Reader A) (sincere_ty
       let path : ℕ → Path = λ n. [] in
       let stuck = so path [] (going (begun before old.state no_names no_values no_labels)) (begun_agrees before old.state no_names no_values no_labels path) in
       record {
-        not_failed = λ e. operation_never_failed types_at reading sincere_types sincere ds (doing {T = T} {A = A} ds path) old.stream.rest (going (begun before old.state no_names no_values no_labels)) (going stuck.0) cause place stuck.1 (sym f.because ∙ e);
+        not_failed = λ e. operation_never_failed types_at reading sincere_types sincere ds (doing {T = T} {A = A} ds path) false old.stream.rest (going (begun before old.state no_names no_values no_labels)) (going stuck.0) cause place stuck.1 (sym f.because ∙ e);
         first = λ e. subst (λ z. is_first_fault z ≡ true) (sym f.because)
-            (operation_first types_at reading sincere_types sincere ds (doing {T = T} {A = A} ds path) old.stream.rest (going (begun before old.state no_names no_values no_labels)) (going stuck.0) cause place stuck.1 (sym flag ∙ e));
+            (operation_first types_at reading sincere_types sincere ds (doing {T = T} {A = A} ds path) false old.stream.rest (going (begun before old.state no_names no_values no_labels)) (going stuck.0) cause place stuck.1 (sym flag ∙ e));
       }
   says_text fault (inr (nested.by_names failure f so)) = record { not_failed = no_cause failure.cause (fault_of fault.cause) f.cause; first = λ e. absurd (cc (f.committed, e)) }

@@ -137,14 +137,14 @@ module _ {T A U : Type 0} (types_at : Reader T) (reading : Reader A) (h : Splits
     }
 
   -- each fault of an operation in a block is committed
-  operation_commits : (v : StreamView) → UnlessMemory (RefusesOperation types_at attr true true before (with_stream old v)) fault → fault.committed ≡ true
+  operation_commits : (v : StreamView) → UnlessMemory (RefusesOperation types_at attr true before (with_stream old v)) fault → fault.committed ≡ true
   operation_commits v (inl ran_out) = ran_out.flag
   operation_commits v (inr (read.no_lead d flag)) = flag
   operation_commits v (inr (read.no_front names id lead middle e d flag)) = flag
   operation_commits v (inr (read.no_uses rest q f)) = f.is.committed
 
   pub begin_stops : (kb : BegunBlock) (v : StreamView) → PassesTo (text_there kb.first old.stream.rest) old.stream v → operation_follows kb.first old.stream.rest ≡ true
-      → UnlessMemory (RefusesOperation types_at attr true true before (with_stream old v)) fault → Stops types_at attr (framed.Block kb) frames before old fault
+      → UnlessMemory (RefusesOperation types_at attr true before (with_stream old v)) fault → Stops types_at attr (framed.Block kb) frames before old fault
   begin_stops kb v passes follows_on refused = record {
     committed = operation_commits v refused;
     stops = λ base u l ls here.

@@ -95,7 +95,7 @@ module _ {T A : Type 0} where
 -- ---- over the code alone
 -- a frame with the steps that it has left
 abbrev pub task_of : {T A : Type 0} → List (Text × Table) → Frame → Open T A
-task_of dialects (Operation b) = an_operation (record { inside = b.inside; place = 0; names = []; id = id_of b.id; steps = drop b.step (steps_in dialects (id_of b.id)); parts = [] })
+task_of dialects (Operation b) = an_operation (record { place = 0; names = []; id = id_of b.id; steps = drop b.step (steps_in dialects (id_of b.id)); parts = [] })
 task_of dialects (Region r) = a_region r.isolated 0
 task_of dialects (Block b) = a_block b.first
 

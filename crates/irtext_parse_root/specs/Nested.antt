@@ -1,6 +1,6 @@
 -- What parsing an operation with everything nested in it promises: the tree that was built, the names, and what the context holds; or the
 -- first fault in the order of the text.
-use Rattle.std.specs.Prelude.{◌≡◌, ℕ, true, List, [], ◌++◌, length, Some}
+use Rattle.std.specs.Prelude.{◌≡◌, ℕ, true, false, List, [], ◌++◌, length, Some}
 use Rattle.irtext_base.specs.Faults.{Fault}
 use Rattle.irtext_base.specs.Locations.{AttrView}
 use Rattle.irtext_base.specs.declared.parsable.fault.ParseFault.{ParseFault}
@@ -46,12 +46,12 @@ module _ {T A U : Type 0} (types_at : Reader T) (attr : Reader (AttrView A)) whe
     pub noted : marks_of new.state ≡ marks_of old.state ++ marks
     pub carried : AreCarried made (marks_in tree) marks
 
-  -- The fault is the first in the order of the text: the text is at fault, and no name had failed before it; or a name fails so. It is
-  -- committed, unless it is a fault of the text and no operation comes next.
+  -- The fault is the first in the order of the text: the text is at fault, as that of an operation outside of every region, and no name
+  -- had failed before it; or a name fails so. It is committed, unless it is a fault of the text and no operation comes next.
   pub data RefusesNested (before : Names) (old : StateStream T A U) (fault : ParseFault A) : Type 0 where
     at_text : (cause : Fault) (place : ℕ) → IsTextFault (whole old.stream) cause place fault → fault.committed ≡ is_committed (led_at old.state.ctx.now.dialects old.stream.rest)
         → ((path : ℕ → Path) (items : Made) (o : Outcome) → MachineAgrees path items [] before old.state o
-        → (st : State) × (operation_at old.state.ctx.now.dialects types_at attr (doing old.state.ctx.now.dialects path) true old.stream.rest o ≡ Stopped (going st) cause place)) → RefusesNested before old fault
+        → (st : State) × (operation_at old.state.ctx.now.dialects types_at attr (doing old.state.ctx.now.dialects path) false old.stream.rest o ≡ Stopped (going st) cause place)) → RefusesNested before old fault
     by_names : (failure : Failure) → IsFailure (whole old.stream) failure fault
         → ((path : ℕ → Path) (items : Made) (o : Outcome) → MachineAgrees path items [] before old.state o
-        → EndsIn (failed failure) (operation_at old.state.ctx.now.dialects types_at attr (doing old.state.ctx.now.dialects path) true old.stream.rest o)) → RefusesNested before old fault
+        → EndsIn (failed failure) (operation_at old.state.ctx.now.dialects types_at attr (doing old.state.ctx.now.dialects path) false old.stream.rest o)) → RefusesNested before old fault

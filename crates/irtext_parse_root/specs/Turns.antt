@@ -1,5 +1,5 @@
 -- Between functions: what each action of the loop promises: what was parsed, the names, and what was added to the context.
-use Rattle.std.specs.Prelude.{◌≡◌, ◌≤◌, ℕ, Bool, true, List, [], ◌∷◌, ◌++◌, length, map, Option, Some, slice_get}
+use Rattle.std.specs.Prelude.{◌≡◌, ◌≤◌, ℕ, Bool, true, List, [], ◌∷◌, ◌++◌, length, map, Option, Some, is_some, slice_get}
 use Rattle.irtext_base.specs.Text.{Text}
 use Rattle.irtext_base.specs.Answers.{Read}
 use Rattle.irtext_base.specs.Faults.{id_of}
@@ -57,9 +57,9 @@ module _ {T A U : Type 0} where
   module _ (types_at : Reader T) (attr : Reader (AttrView A)) (before : Names) (old : StateStream T A U) where
     -- an operation was begun, outside of every region or in a block
     pub record Begins (block : Option (Ptr BasicBlock)) (b : BegunOperation) (names : Names) (new : StateStream T A U) : Type 0 where
-      pub begins : BeginsOperation types_at attr true before old b names new
+      pub begins : BeginsOperation types_at attr (is_some block) before old b names new
       pub own : OwnSoFar T A
-      pub has : HasBegun (format_of old.state.ctx.now.dialects) (begun_by types_at attr true old new.stream.rest begins.read) own
+      pub has : HasBegun (format_of old.state.ctx.now.dialects) (begun_by types_at attr (is_some block) old new.stream.rest begins.read) own
       pub comes : ComesInto (IsLocated old.state.src (whole old.stream)) old.state.ctx.now new.state.ctx.now b.op own block
       pub marks : marks_of new.state ≡ marks_of old.state
       pub carries : Carries before old names new

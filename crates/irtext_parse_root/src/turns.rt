@@ -45,8 +45,7 @@ pub(crate) fn begin<T: IrText<A>, A: AttrText<A>, U>(
     ensures begins { IfOk result (λ b. Begins T.IrText.reading (attr_at A.IrText.reading) names.old s.old
         block b names.new s.new) }
     ensures refused { IfErr result (UnlessMemory (RefusesOperation T.IrText.reading (attr_at A.IrText.reading)
-        true (is_some block)
-        names.old s.old)) }
+        (is_some block) names.old s.old)) }
     ensures unread { IfErr result (λ fault. fault.committed ≡ false → s.new.stream ≡ s.old.stream) }
     ensures spares { Spares (λ m. IfSome block (λ b. IsNew m s.old.state.ctx.now.graph (TheBlock b)))
         names.old s.old.state

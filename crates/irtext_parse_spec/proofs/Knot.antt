@@ -8,4 +8,5 @@ pub mod Loops
 pub mod Found
 pub mod Read
 pub mod Whole
+pub mod Outside
 pub mod Formats

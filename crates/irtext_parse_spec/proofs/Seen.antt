@@ -152,17 +152,17 @@ module _ {T A S U : Type 0} (dialects : List (Text × Table)) (types_at : Text �
 
   module _ (f : Reads S) (g : Reads U) (h : ReadsSeen see f g) where
     -- parts from the first region on
-    pub seen_steps : (inside : Bool) (place : ℕ) (id : Id) (ss : List Step) (found : List (Part ℕ T A)) (text : Text) (s : S)
-        → seen_as see (steps_by dialects types_at attr d f inside place id ss found text s) ≡ steps_by dialects types_at attr e g inside place id ss found text (see s)
-    seen_steps inside place id [] found text s = refl
-    seen_steps inside place id (one i ∷ ss) found text s =
-        seen_came see (f (after_space text) s) (g (after_space text) (see s)) _ _ (h.at (after_space text) s) (λ _ t rest. seen_steps inside place id ss (found ++ tree.region i ∷ []) rest t)
-    seen_steps inside place id (all ∷ ss) found text s =
+    pub seen_steps : (place : ℕ) (id : Id) (ss : List Step) (found : List (Part ℕ T A)) (text : Text) (s : S)
+        → seen_as see (steps_by dialects types_at attr d f place id ss found text s) ≡ steps_by dialects types_at attr e g place id ss found text (see s)
+    seen_steps place id [] found text s = refl
+    seen_steps place id (one i ∷ ss) found text s =
+        seen_came see (f (after_space text) s) (g (after_space text) (see s)) _ _ (h.at (after_space text) s) (λ _ t rest. seen_steps place id ss (found ++ tree.region i ∷ []) rest t)
+    seen_steps place id (all ∷ ss) found text s =
         seen_came see (regions_by f (length text) (after_space text) s) (regions_by g (length text) (after_space text) (see s)) _ _ (seen_regions see f g h (length text) (after_space text) s)
-        (λ _ t rest. seen_steps inside place id ss (found ++ tree.regions ∷ []) rest t)
-    seen_steps inside place id (step ∷ ss) found text s = seen_tells see ((space_at ▷ piece_at types_at attr inside step) text) text s (see s) _ _ refl (λ p rest.
-        seen_steps inside place id ss (found ++ tree.piece p ∷ []) rest (d.late place id p s)
-        ∙ ap (steps_by dialects types_at attr e g inside place id ss (found ++ tree.piece p ∷ []) rest) (shows.late place id p s))
+        (λ _ t rest. seen_steps place id ss (found ++ tree.regions ∷ []) rest t)
+    seen_steps place id (step ∷ ss) found text s = seen_tells see ((space_at ▷ piece_at types_at attr true step) text) text s (see s) _ _ refl (λ p rest.
+        seen_steps place id ss (found ++ tree.piece p ∷ []) rest (d.late place id p s)
+        ∙ ap (steps_by dialects types_at attr e g place id ss (found ++ tree.piece p ∷ []) rest) (shows.late place id p s))
 
     -- the end of an operation
     pub seen_end : (place : ℕ) (names : List (Name ℕ)) (id : Id) (parts : List (Part ℕ T A)) (text : Text) (s : S)
@@ -179,10 +179,10 @@ module _ {T A S U : Type 0} (dialects : List (Text × Table)) (types_at : Text �
         let ss = region_steps (steps_in dialects id) in
         seen_came see (front_by dialects types_at attr d inside (front_steps (steps_in dialects id)) [] text s) (front_by dialects types_at attr e inside (front_steps (steps_in dialects id)) [] text (see s)) _ _
         (seen_front inside (front_steps (steps_in dialects id)) [] text s) (λ found t rest.
-        seen_came see (steps_by dialects types_at attr d f inside place id ss found rest (d.uses place id found t)) (steps_by dialects types_at attr e g inside place id ss found rest (see (d.uses place id found t)))
+        seen_came see (steps_by dialects types_at attr d f place id ss found rest (d.uses place id found t)) (steps_by dialects types_at attr e g place id ss found rest (see (d.uses place id found t)))
         (λ parts u left. end_by dialects types_at attr d place names id parts left u) (λ parts u left. end_by dialects types_at attr e place names id parts left u)
-        (seen_steps inside place id ss found rest (d.uses place id found t)) (λ parts u left. seen_end place names id parts left u)
-        ∙ ap (λ z. came (steps_by dialects types_at attr e g inside place id ss found rest z) (λ parts u left. end_by dialects types_at attr e place names id parts left u)) (shows.uses place id found t))
+        (seen_steps place id ss found rest (d.uses place id found t)) (λ parts u left. seen_end place names id parts left u)
+        ∙ ap (λ z. came (steps_by dialects types_at attr e g place id ss found rest z) (λ parts u left. end_by dialects types_at attr e place names id parts left u)) (shows.uses place id found t))
 
   -- an operation, where its regions are seen so
   pub seen_operation : (f : Bool → Reads S) (g : Bool → Reads U) → ((iso : Bool) → ReadsSeen see (f iso) (g iso)) → (inside : Bool)
@@ -241,9 +241,9 @@ module _ {T A S U : Type 0} (dialects : List (Text × Table)) (types_at : Text �
   pub seen_rest : (o : Open T A) → ReadsSeen see (rest_of dialects types_at attr d o) (rest_of dialects types_at attr e o)
   seen_rest (to_come inside) = seen_operation_at inside
   seen_rest (an_operation o) = record {
-    at = λ text s. seen_came see (steps_by dialects types_at attr d (region_at dialects types_at attr d (isolated dialects o.id)) o.inside o.place o.id o.steps o.parts text s)
-        (steps_by dialects types_at attr e (region_at dialects types_at attr e (isolated dialects o.id)) o.inside o.place o.id o.steps o.parts text (see s)) _ _
-        (seen_steps (region_at dialects types_at attr d (isolated dialects o.id)) (region_at dialects types_at attr e (isolated dialects o.id)) (seen_region_at (isolated dialects o.id)) o.inside o.place o.id o.steps o.parts text s)
+    at = λ text s. seen_came see (steps_by dialects types_at attr d (region_at dialects types_at attr d (isolated dialects o.id)) o.place o.id o.steps o.parts text s)
+        (steps_by dialects types_at attr e (region_at dialects types_at attr e (isolated dialects o.id)) o.place o.id o.steps o.parts text (see s)) _ _
+        (seen_steps (region_at dialects types_at attr d (isolated dialects o.id)) (region_at dialects types_at attr e (isolated dialects o.id)) (seen_region_at (isolated dialects o.id)) o.place o.id o.steps o.parts text s)
         (λ parts u left. seen_end (region_at dialects types_at attr d (isolated dialects o.id)) (region_at dialects types_at attr e (isolated dialects o.id)) (seen_region_at (isolated dialects o.id)) o.place o.names o.id parts left u);
   }
   seen_rest (a_region iso place) = record {

@@ -1,11 +1,11 @@
 -- Between functions: what a text is to the parsers of an operation's own parts and of a block's header, without what is nested in them,
 -- with the cause and place of each fault. A place is the number of characters from it to the end of the text.
-use Rattle.std.specs.Prelude.{ℕ, Bool, true, false, List, [], ◌∷◌, length, map, Option, Some, None, codes}
+use Rattle.std.specs.Prelude.{ℕ, Bool, true, false, cond, List, [], ◌∷◌, length, map, Option, Some, None, codes}
 use Rattle.irtext_base.specs.Text.{Text, begins}
 use Rattle.irtext_base.specs.Reading.{the}
 use Rattle.irtext_base.specs.Format as format
 use Rattle.irtext_base.specs.Format.{Format, Directive, Id}
-use Rattle.irtext_base.specs.Faults.{Unexpected, AnOperation, NoActiveScope}
+use Rattle.irtext_base.specs.Faults.{Unexpected, AnOperation, NoActiveScope, ReservedKey}
 use Rattle.irtext_base.specs.Stream.{first_of}
 use Rattle.irtext_base.specs.Answers.{Outcome, Read, Missing, Bad, mapped}
 use Rattle.irtext_base.specs.Locations.{AttrView}
@@ -16,6 +16,7 @@ use Rattle.irtext_tokens.specs.Tokens.{space_at, word, identifier_at, id_at}
 use Rattle.irtext_tokens.specs.Demanded.{spaced_at, index_at}
 use Rattle.irtext_grammar.specs.Grammar.Tree as tree
 use Rattle.irtext_grammar.specs.Grammar.Tree.{Name, Mark, Attribute, Piece, Head}
+use Rattle.irtext_grammar.specs.Names.Acts.{may_hold}
 use Rattle.irtext_parse_spec.specs.Readers.Directives.{attribute_at}
 use Rattle.irtext_parse_spec.specs.Readers.Marker.{marker, starts_with}
 use Rattle.irtext_parse_spec.specs.Readers.Operations.{registered_after}
@@ -64,14 +65,30 @@ used_at false text = outside (name_at text)
 abbrev pub target_at : Bool → Reader (Name ℕ)
 target_at inside = word (codes "^") ▷ used_at inside
 
+-- an attribute that is not allowed under its key, where dictionaries are tested as they are read: the key is bad at its beginning
+abbrev pub allowed : {A : Type 0} → Outcome (Name ℕ × Attribute A) → Outcome (Name ℕ × Attribute A)
+allowed (Read e taken rest) = cond (may_hold e.0.text e.1) (Read e taken rest) (Bad (ReservedKey e.0.text) [])
+allowed (Missing cause) = Missing cause
+allowed (Bad cause upto) = Bad cause upto
+
 module _ {A : Type 0} (attr : Text → Outcome (AttrView A)) where
   -- a key, `:`, and an attribute
   abbrev pub pair_at : Reader (Name ℕ × Attribute A)
   pair_at = name_at ▶ λ key. spaced_at (codes ":") ▷ attribute_at attr ⇒ λ a. (key, a)
 
-  -- entries in brackets, with `,` between; which keys may have which attributes is not tested
-  unfoldable pub dictionary_at : Reader (List (Name ℕ × Attribute A))
-  dictionary_at text = (word (codes "[") ▷ space_at ▷ separated_at 44 pair_at ◁ word (codes "]")) text
+  -- the same, inside a region, where it is not tested whether the attribute is allowed under the key, or outside of every region, where
+  -- it is
+  abbrev pub entry_by : Bool → Reader (Name ℕ × Attribute A)
+  entry_by true text = pair_at text
+  entry_by false text = allowed (pair_at text)
+
+  -- entries in brackets, with `,` between, inside a region or outside of every region
+  unfoldable pub dictionary_by : Bool → Reader (List (Name ℕ × Attribute A))
+  dictionary_by inside text = (word (codes "[") ▷ space_at ▷ separated_at 44 (entry_by inside) ◁ word (codes "]")) text
+
+  -- entries whose keys are not tested
+  abbrev pub dictionary_at : Reader (List (Name ℕ × Attribute A))
+  dictionary_at = dictionary_by true
 
   -- the marker of an outlined attribute, or an attribute
   abbrev pub outlined_or_at : Reader (Option (Attribute A))
@@ -126,7 +143,7 @@ module _ {T A : Type 0} (types_at : Text → Outcome T) (attr : Text → Outcome
   directive_at inside (format.successor i) = target_at inside ⇒ tree.successor i
   directive_at inside format.successors = separated_at 44 (target_at inside) ⇒ tree.successors
   directive_at inside (format.attribute k) = outlined_or_at attr ⇒ tree.attribute k
-  directive_at inside format.dictionary = dictionary_at attr ⇒ tree.dictionary
+  directive_at inside format.dictionary = dictionary_by attr inside ⇒ tree.dictionary
   directive_at inside (format.result_type i) = types_at ⇒ tree.result_type i
   directive_at inside format.header = symbol_at ⇒ tree.header
   directive_at inside _ = λ text. Missing (Unexpected (first_of text) AnOperation)

@@ -93,15 +93,16 @@ module _ {T A S : Type 0} (dialects : List (Text × Table)) (types_at : Text →
   front_by inside (step ∷ ss) found text s =
       tells ((space_at ▷ piece_at types_at attr inside step) text) text s (λ p rest. front_by inside ss (found ++ tree.piece p ∷ []) rest s)
 
-  -- the parts found, and those that the other steps parse, for the operation with this place and this id
-  abbrev pub steps_by : Reads S → Bool → ℕ → Id → List Step → List (Part ℕ T A) → Text → S → Reached (List (Part ℕ T A)) S
-  steps_by inner inside place id [] found text s = Advanced found s text
-  steps_by inner inside place id (one i ∷ ss) found text s =
-      came (inner (after_space text) s) (λ _ t rest. steps_by inner inside place id ss (found ++ tree.region i ∷ []) rest t)
-  steps_by inner inside place id (all ∷ ss) found text s =
-      came (regions_by inner (length text) (after_space text) s) (λ _ t rest. steps_by inner inside place id ss (found ++ tree.regions ∷ []) rest t)
-  steps_by inner inside place id (step ∷ ss) found text s = tells ((space_at ▷ piece_at types_at attr inside step) text) text s
-      (λ p rest. steps_by inner inside place id ss (found ++ tree.piece p ∷ []) rest (does.late place id p s))
+  -- The parts found, and those that the other steps parse, for the operation with this place and this id. No format that is accepted has
+  -- a name after a region, so it makes no difference whether the operation is inside a region.
+  abbrev pub steps_by : Reads S → ℕ → Id → List Step → List (Part ℕ T A) → Text → S → Reached (List (Part ℕ T A)) S
+  steps_by inner place id [] found text s = Advanced found s text
+  steps_by inner place id (one i ∷ ss) found text s =
+      came (inner (after_space text) s) (λ _ t rest. steps_by inner place id ss (found ++ tree.region i ∷ []) rest t)
+  steps_by inner place id (all ∷ ss) found text s =
+      came (regions_by inner (length text) (after_space text) s) (λ _ t rest. steps_by inner place id ss (found ++ tree.regions ∷ []) rest t)
+  steps_by inner place id (step ∷ ss) found text s = tells ((space_at ▷ piece_at types_at attr true step) text) text s
+      (λ p rest. steps_by inner place id ss (found ++ tree.piece p ∷ []) rest (does.late place id p s))
 
   -- the end of an operation: its action, and its mark, if there is one
   abbrev pub end_by : ℕ → List (Name ℕ) → Id → List (Part ℕ T A) → Reads S
@@ -111,7 +112,7 @@ module _ {T A S : Type 0} (dialects : List (Text × Table)) (types_at : Text →
   -- what follows an operation's id, by its steps
   abbrev pub body_by : Reads S → Bool → ℕ → List (Name ℕ) → Id → Reads S
   body_by inner inside place names id text s = came (front_by inside (front_steps (steps_in dialects id)) [] text s) (λ found t rest.
-      came (steps_by inner inside place id (region_steps (steps_in dialects id)) found rest (does.uses place id found t)) (λ parts u left. end_by place names id parts left u))
+      came (steps_by inner place id (region_steps (steps_in dialects id)) found rest (does.uses place id found t)) (λ parts u left. end_by place names id parts left u))
 
   -- an operation, given the parsers of the regions of isolated operations and of others
   abbrev pub operation_by : (Bool → Reads S) → Bool → Reads S

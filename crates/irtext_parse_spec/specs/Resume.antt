@@ -16,10 +16,9 @@ use Rattle.irtext_grammar.specs.Grammar.Tree.{Name, Part}
 use Rattle.irtext_parse_spec.specs.Heads.{Step, flat, types, steps_of, region_steps, piece_at}
 use Rattle.irtext_parse_spec.specs.Reached.{Reached, Advanced, Stopped, came, tells, Actions, Reads, steps_in, more_by, operations_by, blocks_by, steps_by, end_by, block_by, region_at, operation_at}
 
--- An operation whose head was parsed: whether it is inside a region, its place, the names of its results, its id, the steps that are
+-- An operation whose head was parsed: its place, the names of its results, its id, the steps that are
 -- left, and the parts found so far. While all its regions are parsed, the step of all of them stays the next one.
 pub record OpenOperation (T A : Type 0) : Type 0 where
-  pub inside : Bool
   pub place : ℕ
   pub names : List (Name ℕ)
   pub id : Id
@@ -28,11 +27,11 @@ pub record OpenOperation (T A : Type 0) : Type 0 where
 
 -- the same operation with these steps left, and these parts found
 abbrev pub with_steps : {T A : Type 0} → OpenOperation T A → List Step → List (Part ℕ T A) → OpenOperation T A
-with_steps o ss ps = record { inside = o.inside; place = o.place; names = o.names; id = o.id; steps = ss; parts = ps }
+with_steps o ss ps = record { place = o.place; names = o.names; id = o.id; steps = ss; parts = ps }
 
 -- an operation with a registered id, of which these parts before its first region were parsed
-abbrev pub begun : {T A : Type 0} → List (Text × Table) → Bool → ℕ → List (Name ℕ) → Id → List (Part ℕ T A) → OpenOperation T A
-begun dialects inside place names id found = record { inside = inside; place = place; names = names; id = id; steps = region_steps (steps_in dialects id); parts = found }
+abbrev pub begun : {T A : Type 0} → List (Text × Table) → ℕ → List (Name ℕ) → Id → List (Part ℕ T A) → OpenOperation T A
+begun dialects place names id found = record { place = place; names = names; id = id; steps = region_steps (steps_in dialects id); parts = found }
 
 -- whether a step parses a piece, not a region
 abbrev pub is_flat : Step → Bool
@@ -70,7 +69,7 @@ module _ {T A S : Type 0} (dialects : List (Text × Table)) (types_at : Text →
 
   -- the rest of an operation: its other steps, and its end
   abbrev pub operation_rest : OpenOperation T A → Reads S
-  operation_rest o text s = came (steps_by dialects types_at attr does (region_at dialects types_at attr does (isolated dialects o.id)) o.inside o.place o.id o.steps o.parts text s)
+  operation_rest o text s = came (steps_by dialects types_at attr does (region_at dialects types_at attr does (isolated dialects o.id)) o.place o.id o.steps o.parts text s)
       (λ parts u left. end_by dialects types_at attr does o.place o.names o.id parts left u)
 
   -- the rest of a region: its other blocks, and its brace

@@ -1,5 +1,5 @@
 -- For callers: what parsing an operation with everything nested in it promises, with the section of its marks or without it.
-use Rattle.std.specs.Prelude.{◌≡◌, ℕ, Bool, true, cond, List, [], ◌∷◌, Some}
+use Rattle.std.specs.Prelude.{◌≡◌, ℕ, Bool, true, false, cond, List, [], ◌∷◌, Some}
 use Rattle.irtext_base.specs.Text.{Text}
 use Rattle.irtext_base.specs.Own.{Texts}
 use Rattle.irtext_base.specs.Stream.{StreamView}
@@ -62,14 +62,16 @@ module _ {A : Type 0} where
     pub flag : fault.committed ≡ true
 
 module _ {T A : Type 0} (types_at : Text → Outcome T) (attr : Text → Outcome (AttrView A)) (dialects : List (Text × Table)) (earlier : List ℕ) where
-  -- The fault of a text whose end is `rest`, at which an operation is expected, where the earlier indices are marked. Either it is a fault
-  -- of the text, and no name had failed before it; it is committed unless no operation comes next. Or it is the failure of a name or a
-  -- mark, committed, whatever follows in the text. So the text determines which of the two comes first, even if it parses as no tree.
+  -- The fault of a text whose end is `rest`, at which an operation outside of every region is expected, where the earlier indices are
+  -- marked. Either it is a fault of the text, and no name had failed before it; it is committed unless no operation comes next. Among
+  -- these are the first name that the operation itself uses, since no scope is open, and the first reserved key before its first region.
+  -- Or it is the failure of a name or a mark, committed, whatever follows in the text. So the text determines which of the two comes
+  -- first, even if it parses as no tree.
   pub data HasFault (text rest : Text) (fault : ParseFault A) : Type 0 where
     at_text : (cause : Fault) (place : ℕ) → fault_of fault.cause ≡ cause → IsPosition text place fault.pos → fault.committed ≡ is_committed (led_at dialects rest)
-        → ((path : ℕ → Path) → (st : history.State) × (operation_at dialects types_at attr (naming (format_of dialects) path) true rest (going (start_with earlier)) ≡ Stopped (going st) cause place)) → HasFault text rest fault
+        → ((path : ℕ → Path) → (st : history.State) × (operation_at dialects types_at attr (naming (format_of dialects) path) false rest (going (start_with earlier)) ≡ Stopped (going st) cause place)) → HasFault text rest fault
     by_names : (f : Failure Text ℕ) → IsOf text f fault → fault.committed ≡ true
-        → ((path : ℕ → Path) → EndsIn (failed f) (operation_at dialects types_at attr (naming (format_of dialects) path) true rest (going (start_with earlier)))) → HasFault text rest fault
+        → ((path : ℕ → Path) → EndsIn (failed f) (operation_at dialects types_at attr (naming (format_of dialects) path) false rest (going (start_with earlier)))) → HasFault text rest fault
 
 module _ {T A : Type 0} (types : Texts T) (owns : Texts A) (types_at : Text → Outcome T) (attr : Text → Outcome (AttrView A)) (dialects : List (Text × Table)) where
   -- Whatever the text parses as with these dialects, without a section after it, does not resolve, and the fault is its first failure,

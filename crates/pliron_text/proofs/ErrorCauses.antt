@@ -76,7 +76,7 @@ module _ {T A : Type 0} (dialects : List (Text × Table)) (types_at : Reader T) 
     -- an operation's text
     operation_fails : (earlier : List ℕ) → HasFault {T = T} types_at (attr_at owns_at) dialects earlier (whole old) old.rest fault → Says
     operation_fails earlier (at_text cause place because at flag so) = let k = so (λ _. []) in
-        at_place cause place because at (operation_cause dialects types_at owns_at sincere_types sincere does true old.rest (going (start_with earlier)) (going k.0) cause place k.1)
+        at_place cause place because at (operation_cause dialects types_at owns_at sincere_types sincere does false old.rest (going (start_with earlier)) (going k.0) cause place k.1)
     operation_fails earlier (by_names f is flag so) = by_name (about_name f.cause (fault_of fault.cause) is.0)
 
     -- a region's text

@@ -135,26 +135,26 @@ module _ {K : Allowed} {T A S : Type 0} (dialects : List (Text × Table)) (types
 
   -- ---- given the parsers of regions
   module _ (b : ℕ) (inner : Bool → Reads S) (inner_ends : (iso : Bool) → AllEnd K b (inner iso)) where
-    steps_end : (iso inside : Bool) (place : ℕ) (id : Id) (ss : List Step) (found : List (Part ℕ T A)) (text : Text) (s : S) → length text ≤ b
-        → Ends K text (steps_by dialects types_at attr does (inner iso) inside place id ss found text s)
-    steps_end iso inside place id [] found text s k = ends_came text found s [] text refl
-    steps_end iso inside place id (one i ∷ ss) found text s k =
+    steps_end : (iso : Bool) (place : ℕ) (id : Id) (ss : List Step) (found : List (Part ℕ T A)) (text : Text) (s : S) → length text ≤ b
+        → Ends K text (steps_by dialects types_at attr does (inner iso) place id ss found text s)
+    steps_end iso place id [] found text s k = ends_came text found s [] text refl
+    steps_end iso place id (one i ∷ ss) found text s k =
         ends_next text (inner iso (after_space text) s) _ (ends_spaced text _ ((inner_ends iso).at (after_space text) s (let j = space_shorter text in omega (arith, j, k))))
-        (λ _ t rest e. steps_end iso inside place id ss (found ++ tree.region i ∷ []) rest t (omega (arith, e, k)))
-    steps_end iso inside place id (all ∷ ss) found text s k =
+        (λ _ t rest e. steps_end iso place id ss (found ++ tree.region i ∷ []) rest t (omega (arith, e, k)))
+    steps_end iso place id (all ∷ ss) found text s k =
         ends_next text (regions_by (inner iso) (length text) (after_space text) s) _
         (ends_spaced text _ ((loop_ends b (regions_loop (inner iso)) (inner_ends iso) (length text)).at (after_space text) s (let j = space_shorter text in omega (arith, j, k))))
-        (λ _ t rest e. steps_end iso inside place id ss (found ++ tree.regions ∷ []) rest t (omega (arith, e, k)))
-    steps_end iso inside place id (flat d ∷ ss) found text s k = ends_tells text _ s _ ((spaced_piece inside (flat d)).at text)
-        (λ p rest e. steps_end iso inside place id ss (found ++ tree.piece p ∷ []) rest (does.late place id p s) (omega (arith, e, k)))
-    steps_end iso inside place id (types ∷ ss) found text s k = ends_tells text _ s _ ((spaced_piece inside types).at text)
-        (λ p rest e. steps_end iso inside place id ss (found ++ tree.piece p ∷ []) rest (does.late place id p s) (omega (arith, e, k)))
+        (λ _ t rest e. steps_end iso place id ss (found ++ tree.regions ∷ []) rest t (omega (arith, e, k)))
+    steps_end iso place id (flat d ∷ ss) found text s k = ends_tells text _ s _ ((spaced_piece true (flat d)).at text)
+        (λ p rest e. steps_end iso place id ss (found ++ tree.piece p ∷ []) rest (does.late place id p s) (omega (arith, e, k)))
+    steps_end iso place id (types ∷ ss) found text s k = ends_tells text _ s _ ((spaced_piece true types).at text)
+        (λ p rest e. steps_end iso place id ss (found ++ tree.piece p ∷ []) rest (does.late place id p s) (omega (arith, e, k)))
 
     body_ends : (iso inside : Bool) (place : ℕ) (names : List (Name ℕ)) (id : Id) (text : Text) (s : S) → length text ≤ b
         → Ends K text (body_by dialects types_at attr does (inner iso) inside place names id text s)
     body_ends iso inside place names id text s k =
         ends_next text _ _ (front_ends inside (front_steps (steps_in dialects id)) [] text s) (λ found t rest e.
-        ends_next rest _ _ (steps_end iso inside place id (region_steps (steps_in dialects id)) found rest (does.uses place id found t) (omega (arith, e, k))) (λ parts u left f.
+        ends_next rest _ _ (steps_end iso place id (region_steps (steps_in dialects id)) found rest (does.uses place id found t) (omega (arith, e, k))) (λ parts u left f.
         end_ends place names id parts left u))
 
     operation_ends : (inside : Bool) → AllEnd K b (operation_by dialects types_at attr does inner inside)

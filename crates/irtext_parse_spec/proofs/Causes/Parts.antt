@@ -14,14 +14,15 @@ use Rattle.irtext_tokens.specs.AttrTexts.{leads, given_name_at, given_names_at, 
 use Rattle.irtext_tokens.specs.Infix.{Reader}
 use Rattle.irtext_tokens.specs.Tokens.{id_at}
 use Rattle.irtext_grammar.specs.Contexts.Formats.{op_id}
-use Rattle.irtext_grammar.specs.Grammar.Tree.{Name}
+use Rattle.irtext_grammar.specs.Grammar.Tree.{Name, Attribute}
+use Rattle.irtext_grammar.specs.Names.Acts.{may_hold}
 use Rattle.irtext_parse_spec.specs.Promises.ErrorCauses.{IsLeft, NoDialect, NoOperation}
 use Rattle.irtext_parse_spec.specs.Readers.Directives.{attribute_at}
 use Rattle.irtext_parse_spec.specs.Readers.Marker.{marker, starts_with}
 use Rattle.irtext_parse_spec.specs.Readers.Operations.{registered_after}
 use Rattle.irtext_parse_spec.specs.Readers.Parts.{after_lead}
-use Rattle.irtext_parse_spec.specs.Heads.{name_at, label_at, symbol_at, mark_at, mark_if_at, outside, used_at, target_at, pair_at, dictionary_at, outlined_or_at, Step, flat, types, one, all, directive_at, piece_at, argument_at, dictionary_if_at, head_at, results_at, named, lead_at, led_by, led_at}
-use Rattle.irtext_parse_spec.proofs.Causes.Outcomes.{Allowed, Obeys, AllObey, obeys_read, obeys_missing, obeys_bad, obeys_mapped, ◌then◌, ◌kept◌, ◌so◌, seen, obeying_either, obeying_nothing, misses}
+use Rattle.irtext_parse_spec.specs.Heads.{name_at, label_at, symbol_at, mark_at, mark_if_at, outside, used_at, target_at, allowed, pair_at, entry_by, dictionary_by, outlined_or_at, Step, flat, types, one, all, directive_at, piece_at, argument_at, dictionary_if_at, head_at, results_at, named, lead_at, led_by, led_at}
+use Rattle.irtext_parse_spec.proofs.Causes.Outcomes.{Allowed, Obeys, AllObey, obeys_read, obeys_missing, obeys_bad, obeys_either, obeys_mapped, ◌then◌, ◌kept◌, ◌so◌, seen, obeying_either, obeying_nothing, misses}
 use Rattle.irtext_parse_spec.proofs.Causes.Tokens.{obeying_word, obeying_space, obeying_name, obeying_id, obeying_spaced, obeying_index, obeying_separated}
 
 -- ---- names and marks
@@ -81,10 +82,19 @@ module _ {K : Allowed} {A : Type 0} where
     pair_obeys : AllObey K (pair_at attr)
     pair_obeys = ◌so◌ name_obeys (λ key. ◌then◌ (obeying_spaced (codes ":")) (seen _ attribute_obeys))
 
-    dictionary_obeys : AllObey K (dictionary_at attr)
-    unfolding dictionary_at
-    dictionary_obeys = ◌then◌ (obeying_word (codes "[")) (◌then◌ obeying_space
-        (◌kept◌ (obeying_separated 44 (pair_at attr) pair_obeys) (obeying_word (codes "]"))))
+    allowed_obeys : (text : Text) (o : Outcome (Name ℕ × Attribute A)) → Obeys K text o → Obeys K text (allowed o)
+    allowed_obeys text (Read e taken rest) k = obeys_either text (may_hold e.0.text e.1) _ _ k (obeys_bad text _ [] text refl (K.name text _ [] text refl refl))
+    allowed_obeys text (Missing cause) k = k
+    allowed_obeys text (Bad cause upto) k = k
+
+    entry_obeys : (inside : Bool) → AllObey K (entry_by attr inside)
+    entry_obeys true = record { at = λ text. pair_obeys.at text }
+    entry_obeys false = record { at = λ text. allowed_obeys text (pair_at attr text) (pair_obeys.at text) }
+
+    dictionary_obeys : (inside : Bool) → AllObey K (dictionary_by attr inside)
+    unfolding dictionary_by
+    dictionary_obeys inside = ◌then◌ (obeying_word (codes "[")) (◌then◌ obeying_space
+        (◌kept◌ (obeying_separated 44 (entry_by attr inside) (entry_obeys inside)) (obeying_word (codes "]"))))
 
     outlined_obeys : AllObey K (outlined_or_at attr)
     outlined_obeys = obeying_either (starts_with marker) (seen (λ _. None) (obeying_word marker)) (seen Some attribute_obeys)
@@ -101,7 +111,7 @@ module _ {K : Allowed} {T A : Type 0} {types_at : Reader T} {attr : Reader (Attr
   directive_obeys inside (format.successor i) = seen _ (target_obeys inside)
   directive_obeys inside format.successors = seen _ (obeying_separated 44 (target_at inside) (target_obeys inside))
   directive_obeys inside (format.attribute key) = seen _ (outlined_obeys h)
-  directive_obeys inside format.dictionary = seen _ (dictionary_obeys h)
+  directive_obeys inside format.dictionary = seen _ (dictionary_obeys h inside)
   directive_obeys inside (format.result_type i) = seen _ k
   directive_obeys inside format.header = seen _ symbol_obeys
   directive_obeys inside (format.region i) = no_piece
@@ -118,7 +128,7 @@ module _ {K : Allowed} {T A : Type 0} {types_at : Reader T} {attr : Reader (Attr
   argument_obeys = ◌so◌ name_obeys (λ n. ◌then◌ (obeying_spaced (codes ":")) (seen _ k))
 
   dictionary_if_obeys : AllObey K (dictionary_if_at types_at attr)
-  dictionary_if_obeys = obeying_either (begins (the 91)) (seen Some (dictionary_obeys h)) (obeying_nothing None)
+  dictionary_if_obeys = obeying_either (begins (the 91)) (seen Some (dictionary_obeys h true)) (obeying_nothing None)
 
   -- a block's header
   pub head_obeys : AllObey K (head_at types_at attr)

@@ -19,7 +19,7 @@ use Rattle.irtext_parse_spec.proofs.Joins.Answers.{Splits, mapped_read}
 use Rattle.irtext_parse_spec.proofs.Joins.Dictionary.{tree_read, tree_found, splits_tree}
 use Rattle.irtext_parse_spec.proofs.Joins.Tokens.{text_read, text-literal, splits_text}
 use Rattle.irtext_parse_spec.specs.Exact.{Exact, NeedsWord}
-use Rattle.irtext_parse_spec.specs.Heads.{pair_at, dictionary_at, dictionary_if_at, outlined_or_at}
+use Rattle.irtext_parse_spec.specs.Heads.{pair_at, dictionary_by, dictionary_at, dictionary_if_at, outlined_or_at}
 use Rattle.irtext_parse_spec.proofs.Exact.Combined.{exact_as, exact_word, exact_then, exact_spaced, exact_before, exact_if, exact_keyed}
 use Rattle.irtext_parse_spec.proofs.Exact.Listed.{Starts, starts_so, exact_list, loosened, tightened}
 use Rattle.irtext_parse_spec.proofs.Exact.Names.{exact_name, starts_name}
@@ -74,12 +74,12 @@ module _ {T A : Type 0} (types : Texts T) (reading : Text → Outcome A) (writte
   exact_pair = exact_keyed (codes ":") (exact_name types (texts_of reading written) formats) exact_attribute
 
   -- where an entry is missing no word begins
-  starts_pair : Starts (pair_at attr) reads.no_word
+  pub starts_pair : Starts (pair_at attr) reads.no_word
   starts_pair = starts_so _ starts_name
 
   -- a dictionary
   pub exact_dictionary : Exact (dictionary_at attr) (reads.dictionary l)
-  unfolding dictionary_at
+  unfolding dictionary_by
   exact_dictionary = exact_as
       (exact_then (exact_word (codes "[")) (exact_spaced (exact_before (exact_list 44 exact_pair starts_pair) (exact_word (codes "]")))))
       (λ es text rest (m, a, q). (m, a, loosened 44 exact_pair starts_pair es (literal (codes "]")) m rest q))

@@ -1,27 +1,43 @@
--- Outside of each region no name may be used: there the parsers return what the grammar parses and uses none.
-use Rattle.std.proofs.Common.{◌≡◌, ◌∙◌, ℕ, true, false, List, [], ◌∷◌, ◌++◌, length, Option, Some, refl, sym, ap, subst}
-use Rattle.std.specs.Prelude.{◌↔◌, ⊤}
-use Rattle.irtext_base.specs.Text.{Text}
-use Rattle.irtext_base.specs.Reading.{Reading}
-use Rattle.irtext_base.specs.Faults.{Fault}
+-- Outside of each region no name may be used, and an attribute has to be allowed under its key: there the parsers return what the grammar
+-- parses, up to the first such name or key.
+use Rattle.std.proofs.Common.{◌≡◌, ◌∙◌, inl, inr, ℕ, suc, Bool, true, false, cond, List, [], ◌∷◌, ◌++◌, map, length, Option, Some, codes, refl, sym, ap, subst}
+use Rattle.std.proofs.lemmas.List.{map-id}
+use Rattle.std.specs.Prelude.{flat_map, ⊤}
+use Rattle.std.specs.Char.{is_whitespace}
+use Rattle.std.specs.List.{list_all}
+use Rattle.irtext_base.specs.Text.{Text, front, after_space}
+use Rattle.irtext_base.specs.Reading.{literal, separated}
+use Rattle.irtext_base.specs.Faults.{Fault, ReservedKey}
 use Rattle.irtext_base.specs.Format as format
 use Rattle.irtext_base.specs.Format.{Id, Format}
 use Rattle.irtext_base.specs.Answers.{Outcome, Read, Missing, Bad, mapped, followed}
+use Rattle.irtext_base.specs.Locations.{AttrView}
 use Rattle.irtext_base.specs.Own.{Language, language, texts_of}
+use Rattle.irtext_base.proofs.Along.{front_after}
 use Rattle.irtext_tokens.specs.Infix.{Reader, ◌⇒◌}
 use Rattle.irtext_tokens.specs.AttrTexts.{attr_at}
 use Rattle.irtext_tokens.specs.ListOutcomes.{items_after, or_empty, separated_at}
-use Rattle.irtext_tokens.specs.Tokens.{space_at, word}
+use Rattle.irtext_tokens.specs.Tokens.{space_at, word, text_at}
 use Rattle.irtext_grammar.specs.Grammar.Reads as reads
 use Rattle.irtext_grammar.specs.Grammar.Tree as tree
-use Rattle.irtext_grammar.specs.Grammar.Tree.{Name, Piece, directive_of_piece}
-use Rattle.irtext_parse_spec.proofs.Joins.Answers.{Splits, followed_read, mapped_read}
-use Rattle.irtext_parse_spec.specs.Exact.{Exact, NeedsWord, IsOfStep, UsesNone, step_piece}
-use Rattle.irtext_parse_spec.specs.Heads.{Step, flat, types, one, all, name_at, outside, used_at, target_at, piece_at}
-use Rattle.irtext_parse_spec.proofs.Exact.Combined.{exact_as}
+use Rattle.irtext_grammar.specs.Grammar.Tree.{Name, Attribute, Piece}
+use Rattle.irtext_grammar.specs.Names.Acts.{may_hold, key_act, value_uses, label_uses, piece_acts}
+use Rattle.irtext_grammar.specs.Names.Scopes.{no_scope}
+use Rattle.irtext_grammar.specs.Names.Script as script
+use Rattle.irtext_grammar.specs.Names.Script.{Path}
+use Rattle.irtext_grammar.specs.Names.TextScopes.{Act, Failure, act_failures}
+use Rattle.irtext_grammar.proofs.Graphs.FitsFormat.{and_left, and_right}
+use Rattle.irtext_parse_spec.proofs.Joins.Answers.{Splits, followed_read, followed-read, mapped_read, splits_followed, splits_mapped}
+use Rattle.irtext_parse_spec.proofs.Joins.Lists.{Items, Stop, ListFound, all_fine, one_stops, list_read, list_found, list_tight, splits_separated}
+use Rattle.irtext_parse_spec.proofs.Joins.Tokens.{text_read, text-literal, splits_text, splits_space}
+use Rattle.irtext_parse_spec.specs.Agrees.{StopsAt, ReadOrStops}
+use Rattle.irtext_parse_spec.specs.Exact.{NeedsWord, IsOfStep, step_piece}
+use Rattle.irtext_parse_spec.specs.Heads.{Step, flat, types, one, all, name_at, outside, used_at, target_at, allowed, pair_at, dictionary_by, piece_at}
+use Rattle.irtext_parse_spec.proofs.Exact.Attributes.{exact_pair, starts_pair, exact_dictionary}
 use Rattle.irtext_parse_spec.proofs.Exact.Listed.{Starts, starts_so, starts_word, none_listed}
-use Rattle.irtext_parse_spec.proofs.Exact.Names.{starts_name, starts_target}
+use Rattle.irtext_parse_spec.proofs.Exact.Names.{exact_name, exact_target, starts_name, starts_target}
 use Rattle.irtext_parse_spec.proofs.Exact.Pieces.{Marks, exact_piece, piece_read, is_made, is_types}
+use Rattle.irtext_parse_spec.proofs.Stops.{stops_before, stops_after, stops_first, stops_second, stops_seen}
 
 -- ---- names
 outside_never : (o : Outcome (Name ℕ)) (n : Name ℕ) (taken rest : Text) → outside o ≡ Read n taken rest → ⊥
@@ -67,104 +83,272 @@ module _ {X : Type 0} {item : Reader X} {none : Text → Type 0} (separator : �
       go (Missing cause) f e = (sym (cc e), sym (cc e), starts.misses text cause f, sym (cc e))
       go (Bad cause upto) f e = absurd (cc e)
 
-  -- the empty list alone is parsed
-  pub exact_empty : Exact (λ text. separated_at separator item text) (λ xs text rest. (xs ≡ []) × none text × (rest ≡ text))
-  exact_empty = record {
-    read = λ text xs taken rest e. let k = empty_read text xs taken rest e in ((k.0, k.2, k.3), ap (λ t. t ++ rest) k.1 ∙ k.3);
-    found = λ text xs rest (empty, n, e). ([], none_listed separator starts text n ∙ (ap (λ xs. Read xs [] text) (sym empty) ∙ ap (Read xs []) (sym e)));
-  }
+-- an empty list, of which no item may be used, is read where its items may be used too
+empty_either_way : {P : Type 0} {none : Text → Type 0} {never_used used : Reader (Name ℕ)} (see : List (Name ℕ) → P) → Starts never_used none → Starts used none
+    → ((text : Text) (n : Name ℕ) (taken rest : Text) → never_used text ≡ Read n taken rest → ⊥) → (text : Text) (p : P) (taken rest : Text) → mapped see (separated_at 44 never_used text) ≡ Read p taken rest
+    → ((more : Text) × (mapped see (separated_at 44 used text) ≡ Read p more rest)) × (taken ++ rest ≡ text)
+empty_either_way {never_used = never_used} see starts starts_used never text p taken rest e =
+    let m = mapped_read see (separated_at 44 never_used text) p taken rest e in
+    let k = empty_read 44 starts never text m.0 taken rest m.1 in
+    let is : see [] ≡ p = ap see (sym k.0) ∙ m.2 in
+    (([], ap (mapped see) (none_listed 44 starts_used text k.2) ∙ (ap (λ p. Read p [] text) is ∙ ap (Read p []) (sym k.3))), ap (λ t. t ++ rest) k.1 ∙ k.3)
 
--- ---- pieces
--- a step that uses names
-abbrev Named : Step → Type 0
-Named (flat (format.operand i)) = ⊤
-Named (flat format.operands) = ⊤
-Named (flat (format.successor i)) = ⊤
-Named (flat format.successors) = ⊤
-Named _ = ⊥
+-- ---- keys
+module _ {A : Type 0} where
+  -- the attribute is allowed under its key
+  abbrev holds : Name ℕ × Attribute A → Bool
+  holds e = may_hold e.0.text e.1
 
-module _ {T A : Type 0} where
-  -- no piece of another step uses a name
-  uses_none : (step : Step) → (Named step → ⊥) → (p : Piece ℕ T A) → IsOfStep step p → UsesNone p
-  uses_none (flat (format.word s)) unnamed p i = subst UsesNone (is_made (format.word s) p i).1 tt
-  uses_none (flat (format.operand k)) unnamed p i = absurd (unnamed tt)
-  uses_none (flat format.operands) unnamed p i = absurd (unnamed tt)
-  uses_none (flat (format.successor k)) unnamed p i = absurd (unnamed tt)
-  uses_none (flat format.successors) unnamed p i = absurd (unnamed tt)
-  uses_none (flat (format.attribute k)) unnamed p i = subst UsesNone (is_made (format.attribute k) p i).1 tt
-  uses_none (flat format.dictionary) unnamed p i = subst UsesNone (is_made format.dictionary p i).1 tt
-  uses_none (flat (format.result_type k)) unnamed p i = subst UsesNone (is_made (format.result_type k) p i).1 tt
-  uses_none (flat (format.region k)) unnamed p i = absurd (is_made (format.region k) p i)
-  uses_none (flat format.regions) unnamed p i = absurd (is_made format.regions p i)
-  uses_none (flat format.header) unnamed p i = subst UsesNone (is_made format.header p i).1 tt
-  uses_none types unnamed p i = subst UsesNone (is_types p i).1 tt
-  uses_none (one k) unnamed p i = absurd i
-  uses_none all unnamed p i = absurd i
+  -- an entry that parses is one whose attribute is allowed
+  allowed_read : (o : Outcome (Name ℕ × Attribute A)) (e : Name ℕ × Attribute A) (taken rest : Text) → allowed o ≡ Read e taken rest → (o ≡ Read e taken rest) × (holds e ≡ true)
+  allowed_read (Read q a r) p taken rest e = go (holds q) refl e
+    where
+      go : (b : Bool) → holds q ≡ b → cond b (Read q a r) (Bad (ReservedKey q.0.text) []) ≡ Read p taken rest → (Read q a r ≡ Read p taken rest) × (holds p ≡ true)
+      go true f e = (e, let g : q ≡ p = cc e in ap holds (sym g) ∙ f)
+      go false f e = absurd (cc e)
+  allowed_read (Missing cause) p taken rest e = absurd (cc e)
+  allowed_read (Bad cause upto) p taken rest e = absurd (cc e)
 
-  -- operands that are none
-  no_operands : (p : Piece ℕ T A) → directive_of_piece p ≡ Some format.operands → UsesNone p → tree.operands [] ≡ p
-  no_operands p i n = let b = is_made format.operands p i in ap (λ ns. tree.operands ns) (sym (subst UsesNone (sym b.1) n)) ∙ b.1
+  allowed_missing : (o : Outcome (Name ℕ × Attribute A)) (cause : Fault) → allowed o ≡ Missing cause → o ≡ Missing cause
+  allowed_missing (Read q a r) cause e = go (holds q) e
+    where
+      go : (b : Bool) → cond b (Read q a r) (Bad (ReservedKey q.0.text) []) ≡ Missing cause → Read q a r ≡ Missing cause
+      go true e = e
+      go false e = absurd (cc e)
+  allowed_missing (Missing c) cause e = e
+  allowed_missing (Bad c upto) cause e = absurd (cc e)
 
-  -- successors that are none
-  no_successors : (p : Piece ℕ T A) → directive_of_piece p ≡ Some format.successors → UsesNone p → tree.successors [] ≡ p
-  no_successors p i n = let b = is_made format.successors p i in ap (λ ns. tree.successors ns) (sym (subst UsesNone (sym b.1) n)) ∙ b.1
+-- ---- failures
+-- the failures of acts where no scope is open
+abbrev pub fails_outside : List Act → List Failure
+fails_outside acts = flat_map (act_failures no_scope) acts
 
-  -- an empty list, of which no item may be used here, is read where its items may be used too
-  empty_either_way : {none : Text → Type 0} {never_used used : Reader (Name ℕ)} (see : List (Name ℕ) → Piece ℕ T A) → UsesNone (see []) → Starts never_used none → Starts used none
-      → ((text : Text) (n : Name ℕ) (taken rest : Text) → never_used text ≡ Read n taken rest → ⊥) → (text : Text) (p : Piece ℕ T A) (taken rest : Text) → mapped see (separated_at 44 never_used text) ≡ Read p taken rest
-      → UsesNone p × (mapped see (separated_at 44 used text) ≡ Read p taken rest)
-  empty_either_way {never_used = never_used} see unused starts starts_used never text p taken rest e =
-      let m = mapped_read see (separated_at 44 never_used text) p taken rest e in
-      let k = empty_read 44 starts never text m.0 taken rest m.1 in
-      let is : see [] ≡ p = ap see (sym k.0) ∙ m.2 in
-      (subst UsesNone is unused, ap (mapped see) (none_listed 44 starts_used text k.2) ∙ (ap (λ p. Read p [] text) is ∙ (ap (λ t. Read p t text) (sym k.1) ∙ ap (Read p taken) (sym k.3))))
+module _ {A : Type 0} where
+  -- entries that are all allowed have no failures
+  fine_entries : (es : List (Name ℕ × Attribute A)) → list_all holds es ≡ true → fails_outside (map (key_act may_hold) es) ≡ []
+  fine_entries [] h = refl
+  fine_entries (e ∷ es) h = let f : holds e ≡ true = and_left (holds e) (list_all holds es) h in rw f (fine_entries es (and_right (holds e) (list_all holds es) h))
+
+  -- after entries that are allowed, the first other one is the first failure
+  first_wrong : (before following : List (Name ℕ × Attribute A)) (e : Name ℕ × Attribute A) → list_all holds before ≡ true → holds e ≡ false
+      → fails_outside (map (key_act may_hold) (before ++ e ∷ following)) ≡ record { cause = script.ReservedKey e.0.text; at = Some e.0.place } ∷ fails_outside (map (key_act may_hold) following)
+  first_wrong [] following e h f = rw f refl
+  first_wrong (b ∷ before) following e h f =
+      let g : holds b ≡ true = and_left (holds b) (list_all holds before) h in
+      rw g (first_wrong before following e (and_right (holds b) (list_all holds before) h) f)
+
+-- what is seen of a text that is read or stops
+seen_outside : {X Y : Type 0} (see : X → Y) {text : Text} {o : Outcome X} {x : X} {rest : Text} {fs : List Failure} → ReadOrStops text o x rest fs → ReadOrStops text (mapped see o) (see x) rest fs
+seen_outside see (inl (none, (taken, e))) = inl (none, (taken, ap (mapped see) e))
+seen_outside see (inr s) = inr (stops_seen see s)
 
 module _ {T A : Type 0} (types_at : Text → Outcome T) (types_written : T → Text) (reading : Text → Outcome A) (written : A → Text) (formats : Id → Option Format)
     (types_split : Splits types_at) (splits : Splits reading) where
   abbrev l : Language ℕ T A
   l = language (texts_of types_at types_written) (texts_of reading written) formats
 
-  -- a piece of the step that uses no name
-  abbrev pub unused_piece : Step → Piece ℕ T A → Reading
-  unused_piece step p text rest = UsesNone p × step_piece l step p text rest
+  abbrev attr : Text → Outcome (AttrView A)
+  attr = attr_at reading
 
-  -- each piece of the step uses a name
-  never_read : {X : Type 0} {f : Reader X} (step : Step) (see : X → Piece ℕ T A) → ((text : Text) (x : X) (taken rest : Text) → f text ≡ Read x taken rest → ⊥) → ((p : Piece ℕ T A) → IsOfStep step p → UsesNone p → ⊥)
-      → Exact (f ⇒ see) (unused_piece step)
-  never_read {f = f} step see never uses = record {
-    read = λ text p taken rest e. absurd (let m = mapped_read see (f text) p taken rest e in never text m.0 taken rest m.1);
-    found = λ text p rest r. absurd (uses p r.1.0 r.0);
+  -- ---- dictionaries
+  -- entries, as the joins of lists take them
+  abbrev entries_of : Items (Name ℕ × Attribute A) (Name ℕ × Attribute A)
+  entries_of = record {
+    item = λ t. allowed (pair_at attr t);
+    reading = reads.entry l;
+    missing = reads.no_word;
+    see = λ e. e;
+    allowed = holds;
+    wrong = λ e. ReservedKey e.0.text;
+    splits = λ text p taken rest e. ((exact_pair (texts_of types_at types_written) reading written formats splits).read text p taken rest (allowed_read (pair_at attr text) p taken rest e).0).1;
+    reads = λ text p taken rest e.
+        let k = allowed_read (pair_at attr text) p taken rest e in
+        record { item = p; read = ((exact_pair (texts_of types_at types_written) reading written formats splits).read text p taken rest k.0).0; sees = refl; fine = k.1 };
+    misses = λ text cause e. (starts_pair (texts_of types_at types_written) reading written formats splits).misses text cause (allowed_missing (pair_at attr text) cause e);
+    found = λ p text rest r f. let a = (exact_pair (texts_of types_at types_written) reading written formats splits).found text p rest r in (a.0, ap allowed a.1 ∙ rw f refl);
+    refused = λ p text rest r f. ap allowed ((exact_pair (texts_of types_at types_written) reading written formats splits).found text p rest r).1 ∙ rw f refl;
+    missed = λ text n. let m = (starts_pair (texts_of types_at types_written) reading written formats splits).missed text n in (m.0, ap allowed m.1);
   }
 
-  -- a list of names that are used is empty
-  no_list : {none : Text → Type 0} (item : Reader (Name ℕ)) (step : Step) (see : List (Name ℕ) → Piece ℕ T A) → Exact (λ text. separated_at 44 item text) (λ ns text rest. (ns ≡ []) × none text × (rest ≡ text))
-      → UsesNone (see []) → IsOfStep step (see []) → ((text rest : Text) → reads.piece l (see []) text rest ↔ none text × (rest ≡ text)) → ((p : Piece ℕ T A) → IsOfStep step p → UsesNone p → see [] ≡ p)
-      → Exact (λ text. mapped see (separated_at 44 item text)) (unused_piece step)
-  no_list item step see h unused is same back = record {
-    read = λ text p taken rest e.
-        let m = mapped_read see (separated_at 44 item text) p taken rest e in
-        let k = h.read text m.0 taken rest m.1 in
-        (subst (λ p. unused_piece step p text rest) (ap see (sym k.0.0) ∙ m.2) (unused, (is, (same text rest).1 (k.0.1, k.0.2))), k.1);
-    found = λ text p rest (n, (i, q)).
-        let b = back p i n in
-        let k = (same text rest).0 (subst (λ p. reads.piece l p text rest) (sym b) q) in
-        let a = h.found text [] rest (refl, k.0, k.1) in
-        (a.0, ap (mapped see) a.1 ∙ ap (λ p. Read p a.0 rest) b);
+  abbrev entry_at : Reader (Name ℕ × Attribute A)
+  entry_at t = allowed (pair_at attr t)
+
+  abbrev list_at : Reader (List (Name ℕ × Attribute A))
+  list_at text = separated_at 44 (λ t. allowed (pair_at attr t)) text
+
+  abbrev close_next : List (Name ℕ × Attribute A) → Text → Outcome (List (Name ℕ × Attribute A))
+  close_next es text = mapped (λ _. es) (text_at (codes "]") text)
+
+  abbrev list_next : Unit {0} → Text → Outcome (List (Name ℕ × Attribute A))
+  list_next _ text = followed (list_at text) close_next
+
+  abbrev space_next : Unit {0} → Text → Outcome (List (Name ℕ × Attribute A))
+  space_next _ text = followed (space_at text) list_next
+
+  -- a dictionary that is accepted the grammar parses
+  pub dictionary_read : (text : Text) (es : List (Name ℕ × Attribute A)) (taken rest : Text) → dictionary_by attr false text ≡ Read es taken rest → reads.dictionary l es text rest × (taken ++ rest ≡ text)
+  unfolding dictionary_by
+  dictionary_read text es taken rest e =
+      let a = followed_read (text_at (codes "[") text) space_next es taken rest e in
+      let b = followed_read (space_at a.middle) list_next es a.more rest a.second in
+      let c = followed_read (list_at b.middle) close_next es b.more rest b.second in
+      let d = mapped_read (λ _. c.value) (text_at (codes "]") c.middle) es c.more rest c.second in
+      let k = list_read 44 entries_of b.middle c.value c.front c.middle c.first in
+      let items : k.items ≡ es = sym (map-id k.items) ∙ (k.whole ∙ d.2) in
+      let inside : after_space a.middle ≡ b.middle = cc b.first in
+      let listed : separated 44 reads.no_word (map (reads.entry l) k.items) (after_space a.middle) c.middle = subst (λ t. separated 44 reads.no_word (map (reads.entry l) k.items) t c.middle) (sym inside) k.read in
+      let tight : after_space c.middle ≡ c.middle = list_tight 44 entries_of k.items a.middle c.middle listed in
+      let close : literal (codes "]") (after_space c.middle) rest = subst (λ t. literal (codes "]") t rest) (sym tight) (text_read (codes "]") c.middle c.more rest d.1) in (
+        (
+          a.middle,
+          text_read (codes "[") text a.front a.middle a.first,
+          (c.middle, subst (λ qs. separated 44 reads.no_word (map (reads.entry l) qs) (after_space a.middle) c.middle) items listed, close),
+        ),
+        splits_followed (text_at (codes "[")) space_next (splits_text (codes "[")) (λ _. splits_followed space_at list_next splits_space
+            (λ _. splits_followed list_at close_next (splits_separated 44 entry_at entries_of.splits) (λ qs. splits_mapped (λ _. qs) (text_at (codes "]")) (splits_text (codes "]"))))) text es taken rest e,
+      )
+
+  -- if the list stops at an entry, its key is the first failure
+  list_stops : (es : List (Name ℕ × Attribute A)) (text : Text) (o : Outcome (List (Name ℕ × Attribute A))) → Stop 44 entries_of es text o → StopsAt text o (fails_outside (map (key_act may_hold) es))
+  list_stops es text o k = record {
+    first = record { cause = script.ReservedKey k.first.0.text; at = Some k.first.0.place };
+    others = fails_outside (map (key_act may_hold) k.following);
+    is = ap (λ es. fails_outside (map (key_act may_hold) es)) k.whole ∙ first_wrong k.before k.following k.first k.fine k.refused;
+    upto = k.upto;
+    stop = k.stop;
+    splits = k.splits;
+    at = ap Some k.read.1.0;
+    bad = k.is;
   }
 
-  -- What a step parses outside of each region, the grammar parses as a piece of that step that uses no name, and no other.
-  pub exact_outside : (step : Step) → (Marks step → NeedsWord reading) → Exact (piece_at types_at (attr_at reading) false step) (unused_piece step)
-  exact_outside (flat (format.operand k)) h = never_read (flat (format.operand k)) (tree.operand k) used_never (λ p i n. let b = is_made (format.operand k) p i in subst UsesNone (sym b.1) n)
-  exact_outside (flat format.operands) h = no_list (used_at false) (flat format.operands) tree.operands (exact_empty 44 starts_outside used_never) refl refl (λ text rest. (λ r. r, λ r. r)) no_operands
-  exact_outside (flat (format.successor k)) h = never_read (flat (format.successor k)) (tree.successor k) target_never (λ p i n. let b = is_made (format.successor k) p i in subst UsesNone (sym b.1) n)
-  exact_outside (flat format.successors) h = no_list (target_at false) (flat format.successors) tree.successors (exact_empty 44 starts_no_target target_never) refl refl (λ text rest. (λ r. r, λ r. r)) no_successors
-  exact_outside step h = exact_as (exact_piece types_at types_written reading written formats types_split splits step h) (λ p text rest r. (uses_none step (λ i. i) p r.0, r)) (λ p text rest r. r.1)
+  -- a dictionary that the grammar parses is accepted, up to the first key under which its attribute is not allowed
+  dictionary_found : (text : Text) (es : List (Name ℕ × Attribute A)) (rest : Text) → reads.dictionary l es text rest → ReadOrStops text (dictionary_by attr false text) es rest (fails_outside (map (key_act may_hold) es))
+  unfolding dictionary_by
+  dictionary_found text es rest (m, a, (k, s, c)) = go (list_found 44 entries_of es (after_space m) k s)
+    where
+      go : ListFound 44 entries_of [] es (after_space m) k (list_at (after_space m)) → ReadOrStops text (followed (text_at (codes "[") text) space_next) es rest (fails_outside (map (key_act may_hold) es))
+      go (all_fine f taken e) =
+          let close : literal (codes "]") k rest = subst (λ t. literal (codes "]") t rest) (list_tight 44 entries_of es m k s) c in
+          let is : list_at (after_space m) ≡ Read es taken k = e ∙ ap (λ z. Read z taken k) (map-id es) in
+          inl (
+            fine_entries es f,
+            (
+              codes "[" ++ (front is_whitespace m ++ (taken ++ codes "]")),
+              followed-read (text_at (codes "[") text) space_next tt es (codes "[") m (front is_whitespace m ++ (taken ++ codes "]")) rest (text-literal (codes "[") text m a)
+                  (followed-read (space_at m) list_next tt es (front is_whitespace m) (after_space m) (taken ++ codes "]") rest refl
+                  (followed-read (list_at (after_space m)) close_next es es taken k (codes "]") rest is (ap (mapped (λ _. es)) (text-literal (codes "]") k rest close)))),
+            ),
+          )
+      go (one_stops q) =
+          inr (stops_second space_next (text_at (codes "[") text) tt (codes "[") m text (text-literal (codes "[") text m a) (sym a)
+          (stops_second list_next (space_at m) tt (front is_whitespace m) (after_space m) m refl (front_after is_whitespace m)
+          (stops_first close_next (list_stops es (after_space m) (list_at (after_space m)) q))))
 
-  -- What a step parses outside of each region it parses inside of one too, and no name is used there.
-  pub outside_read : (step : Step) (text : Text) (p : Piece ℕ T A) (taken rest : Text) → piece_at types_at (attr_at reading) false step text ≡ Read p taken rest
-      → UsesNone p × (piece_at types_at (attr_at reading) true step text ≡ Read p taken rest)
-  outside_read (flat (format.operand k)) text p taken rest e = absurd (let m = mapped_read (tree.operand k) (used_at false text) p taken rest e in used_never text m.0 taken rest m.1)
-  outside_read (flat format.operands) text p taken rest e = empty_either_way tree.operands refl starts_outside starts_name used_never text p taken rest e
-  outside_read (flat (format.successor k)) text p taken rest e = absurd (let m = mapped_read (tree.successor k) (target_at false text) p taken rest e in target_never text m.0 taken rest m.1)
-  outside_read (flat format.successors) text p taken rest e = empty_either_way tree.successors refl starts_no_target starts_target target_never text p taken rest e
-  outside_read step text p taken rest e = (uses_none step (λ i. i) p (piece_read types_at types_written reading written formats types_split splits step text p taken rest e).0.0, e)
+  -- ---- names that are used
+  -- a name is bad at its beginning
+  name_stops : (u : script.User) (n : Name ℕ) (text rest : Text) → reads.name l n text rest → StopsAt text (used_at false text) (fails_outside (script.use_value (record { name = n.text; at = n.place }) u ∷ []))
+  name_stops u n text rest r = record {
+    first = record { cause = script.NoActiveScope n.text; at = Some n.place };
+    others = [];
+    is = refl;
+    upto = [];
+    stop = text;
+    splits = refl;
+    at = ap Some r.0;
+    bad = ap outside ((exact_name (texts_of types_at types_written) (texts_of reading written) formats).found text n rest r).1;
+  }
+
+  -- a label is bad after its `^`
+  target_stops : (u : script.User) (n : Name ℕ) (text rest : Text) → reads.target l n text rest → StopsAt text (target_at false text) (fails_outside (script.use_label (record { name = n.text; at = n.place }) u ∷ []))
+  target_stops u n text rest (m, a, r) = stops_second (λ _ t. used_at false t) (word (codes "^") text) tt (codes "^") m text (text-literal (codes "^") text m a) (sym a)
+      (record {
+        first = record { cause = script.NoActiveScope n.text; at = Some n.place };
+        others = [];
+        is = refl;
+        upto = [];
+        stop = m;
+        splits = refl;
+        at = ap Some r.0;
+        bad = ap outside ((exact_name (texts_of types_at types_written) (texts_of reading written) formats).found m n rest r).1;
+      })
+
+  -- a list is bad where its first item is
+  list_is_bad : (item : Reader (Name ℕ)) (text : Text) (fs first others : List Failure) → fs ≡ first ++ others → StopsAt text (item text) first → StopsAt text (separated_at 44 item text) fs
+  list_is_bad item text fs first others e s =
+      stops_after [] text text refl (λ cause upto b. ap (λ o. or_empty (followed (followed o (λ x t. mapped (λ _. x ∷ []) (space_at t))) (λ found t. items_after 44 item (length t) found t)) text) b)
+      (stops_before first others fs e s)
+
+  -- values that are used
+  operands_outside : (path : Path) (j : ℕ) (ns : List (Name ℕ)) (text rest : Text) → reads.piece l (tree.operands ns) text rest → ReadOrStops text (separated_at 44 (used_at false) text) ns rest (fails_outside (value_uses path j ns))
+  operands_outside path j [] text rest (none, same) = inl (refl, ([], none_listed 44 starts_outside text none ∙ ap (Read [] []) (sym same)))
+  operands_outside path j (n ∷ ns) text rest (m, q, z) = inr (list_is_bad (used_at false) text (fails_outside (value_uses path j (n ∷ ns)))
+      (fails_outside (script.use_value (record { name = n.text; at = n.place }) (script.operand path j) ∷ [])) (fails_outside (value_uses path (suc j) ns)) refl (name_stops (script.operand path j) n text m q))
+
+  -- labels that are used
+  successors_outside : (path : Path) (k : ℕ) (ns : List (Name ℕ)) (text rest : Text) → reads.piece l (tree.successors ns) text rest → ReadOrStops text (separated_at 44 (target_at false) text) ns rest (fails_outside (label_uses path k ns))
+  successors_outside path k [] text rest (none, same) = inl (refl, ([], none_listed 44 starts_no_target text none ∙ ap (Read [] []) (sym same)))
+  successors_outside path k (n ∷ ns) text rest (m, q, z) = inr (list_is_bad (target_at false) text (fails_outside (label_uses path k (n ∷ ns)))
+      (fails_outside (script.use_label (record { name = n.text; at = n.place }) (script.successor path k) ∷ [])) (fails_outside (label_uses path (suc k) ns)) refl (target_stops (script.successor path k) n text m q))
+
+  -- ---- pieces
+  -- What the grammar parses as a piece is accepted outside of each region, up to its first failure there.
+  pub piece_outside : NeedsWord reading → (path : Path) (j k : ℕ) (step : Step) (p : Piece ℕ T A) (text rest : Text) → step_piece l step p text rest
+      → ReadOrStops text (piece_at types_at attr false step text) p rest (fails_outside (piece_acts path j k p))
+  piece_outside words path j k (flat (format.operand i)) p text rest (is, r) =
+      let b = is_made (format.operand i) p is in
+      let q : reads.piece l (tree.operand i b.0) text rest = subst (λ p. reads.piece l p text rest) (sym b.1) r in
+      subst (λ p. ReadOrStops text (mapped (tree.operand i) (used_at false text)) p rest (fails_outside (piece_acts path j k p))) b.1
+      (inr (stops_seen (tree.operand i) (name_stops (script.operand path i) b.0 text rest q)))
+  piece_outside words path j k (flat (format.successor i)) p text rest (is, r) =
+      let b = is_made (format.successor i) p is in
+      let q : reads.piece l (tree.successor i b.0) text rest = subst (λ p. reads.piece l p text rest) (sym b.1) r in
+      subst (λ p. ReadOrStops text (mapped (tree.successor i) (target_at false text)) p rest (fails_outside (piece_acts path j k p))) b.1
+      (inr (stops_seen (tree.successor i) (target_stops (script.successor path i) b.0 text rest q)))
+  piece_outside words path j k (flat format.operands) p text rest (is, r) =
+      let b = is_made format.operands p is in
+      let q : reads.piece l (tree.operands b.0) text rest = subst (λ p. reads.piece l p text rest) (sym b.1) r in
+      subst (λ p. ReadOrStops text (mapped tree.operands (separated_at 44 (used_at false) text)) p rest (fails_outside (piece_acts path j k p))) b.1 (seen_outside tree.operands (operands_outside path j b.0 text rest q))
+  piece_outside words path j k (flat format.successors) p text rest (is, r) =
+      let b = is_made format.successors p is in
+      let q : reads.piece l (tree.successors b.0) text rest = subst (λ p. reads.piece l p text rest) (sym b.1) r in
+      subst (λ p. ReadOrStops text (mapped tree.successors (separated_at 44 (target_at false) text)) p rest (fails_outside (piece_acts path j k p))) b.1 (seen_outside tree.successors (successors_outside path k b.0 text rest q))
+  piece_outside words path j k (flat format.dictionary) p text rest (is, r) =
+      let b = is_made format.dictionary p is in
+      let q : reads.piece l (tree.dictionary b.0) text rest = subst (λ p. reads.piece l p text rest) (sym b.1) r in
+      subst (λ p. ReadOrStops text (mapped tree.dictionary (dictionary_by attr false text)) p rest (fails_outside (piece_acts path j k p))) b.1 (seen_outside tree.dictionary (dictionary_found text b.0 rest q))
+  piece_outside words path j k (flat (format.word w)) p text rest r =
+      inl (subst (λ p. fails_outside (piece_acts path j k p) ≡ []) (is_made (format.word w) p r.0).1 refl, (exact_piece types_at types_written reading written formats types_split splits (flat (format.word w)) (λ _. words)).found text p rest r)
+  piece_outside words path j k (flat (format.attribute t)) p text rest r =
+      inl (subst (λ p. fails_outside (piece_acts path j k p) ≡ []) (is_made (format.attribute t) p r.0).1 refl, (exact_piece types_at types_written reading written formats types_split splits (flat (format.attribute t)) (λ _. words)).found text p rest r)
+  piece_outside words path j k (flat (format.result_type i)) p text rest r =
+      inl (subst (λ p. fails_outside (piece_acts path j k p) ≡ []) (is_made (format.result_type i) p r.0).1 refl, (exact_piece types_at types_written reading written formats types_split splits (flat (format.result_type i)) (λ _. words)).found text p rest r)
+  piece_outside words path j k (flat format.header) p text rest r =
+      inl (subst (λ p. fails_outside (piece_acts path j k p) ≡ []) (is_made format.header p r.0).1 refl, (exact_piece types_at types_written reading written formats types_split splits (flat format.header) (λ _. words)).found text p rest r)
+  piece_outside words path j k (flat (format.region i)) p text rest r = absurd (is_made (format.region i) p r.0)
+  piece_outside words path j k (flat format.regions) p text rest r = absurd (is_made format.regions p r.0)
+  piece_outside words path j k types p text rest r =
+      inl (subst (λ p. fails_outside (piece_acts path j k p) ≡ []) (is_types p r.0).1 refl, (exact_piece types_at types_written reading written formats types_split splits types (λ _. words)).found text p rest r)
+  piece_outside words path j k (one i) p text rest r = absurd r.0
+  piece_outside words path j k all p text rest r = absurd r.0
+
+  -- What a step parses outside of each region it parses inside of one too.
+  pub outside_read : (step : Step) (text : Text) (p : Piece ℕ T A) (taken rest : Text) → piece_at types_at attr false step text ≡ Read p taken rest
+      → ((more : Text) × (piece_at types_at attr true step text ≡ Read p more rest)) × (taken ++ rest ≡ text)
+  outside_read (flat (format.operand i)) text p taken rest e = absurd (let m = mapped_read (tree.operand i) (used_at false text) p taken rest e in used_never text m.0 taken rest m.1)
+  outside_read (flat (format.successor i)) text p taken rest e = absurd (let m = mapped_read (tree.successor i) (target_at false text) p taken rest e in target_never text m.0 taken rest m.1)
+  outside_read (flat format.operands) text p taken rest e = empty_either_way tree.operands starts_outside starts_name used_never text p taken rest e
+  outside_read (flat format.successors) text p taken rest e = empty_either_way tree.successors starts_no_target starts_target target_never text p taken rest e
+  outside_read (flat format.dictionary) text p taken rest e =
+      let m = mapped_read tree.dictionary (dictionary_by attr false text) p taken rest e in
+      let r = dictionary_read text m.0 taken rest m.1 in
+      let f = (exact_dictionary (texts_of types_at types_written) reading written formats splits).found text m.0 rest r.0 in
+      ((f.0, ap (mapped tree.dictionary) f.1 ∙ ap (λ p. Read p f.0 rest) m.2), r.1)
+  outside_read (flat (format.word w)) text p taken rest e = ((taken, e), (piece_read types_at types_written reading written formats types_split splits (flat (format.word w)) text p taken rest e).1)
+  outside_read (flat (format.attribute t)) text p taken rest e = ((taken, e), (piece_read types_at types_written reading written formats types_split splits (flat (format.attribute t)) text p taken rest e).1)
+  outside_read (flat (format.result_type i)) text p taken rest e = ((taken, e), (piece_read types_at types_written reading written formats types_split splits (flat (format.result_type i)) text p taken rest e).1)
+  outside_read (flat format.header) text p taken rest e = ((taken, e), (piece_read types_at types_written reading written formats types_split splits (flat format.header) text p taken rest e).1)
+  outside_read (flat (format.region i)) text p taken rest e = absurd (cc e)
+  outside_read (flat format.regions) text p taken rest e = absurd (cc e)
+  outside_read types text p taken rest e = ((taken, e), (piece_read types_at types_written reading written formats types_split splits types text p taken rest e).1)
+  outside_read (one i) text p taken rest e = absurd (cc e)
+  outside_read all text p taken rest e = absurd (cc e)

@@ -69,26 +69,26 @@ module _ {T A S : Type 0} (dialects : List (Text × Table)) (types_at : Reader T
 
     -- ---- over parsers of regions that agree
     module _ (b : ℕ) (f g : Bool → Reads S) (agree : (iso : Bool) → Agree b (f iso) (g iso)) where
-      late_agree : (iso inside : Bool) (place : ℕ) (id : Id) (step : Step) (found : List (Part ℕ T A)) (text : Text) (s : S)
+      late_agree : (iso : Bool) (place : ℕ) (id : Id) (step : Step) (found : List (Part ℕ T A)) (text : Text) (s : S)
           (next other : Piece ℕ T A → Text → Reached (List (Part ℕ T A)) S) → length text ≤ b
           → ((p : Piece ℕ T A) (rest : Text) → length rest ≤ b → Alike b (next p rest) (other p rest))
-          → Alike b (tells ((space_at ▷ piece_at types_at attr inside step) text) text s next) (tells ((space_at ▷ piece_at types_at attr inside step) text) text s other)
-      late_agree iso inside place id step found text s next other k again =
-          alike_tells b b _ text s next other ((◌then◌ (within_honest honest_space) (piece_within no_more none_more inside step)).leaves text k) again
+          → Alike b (tells ((space_at ▷ piece_at types_at attr true step) text) text s next) (tells ((space_at ▷ piece_at types_at attr true step) text) text s other)
+      late_agree iso place id step found text s next other k again =
+          alike_tells b b _ text s next other ((◌then◌ (within_honest honest_space) (piece_within no_more none_more true step)).leaves text k) again
 
-      steps_agree : (iso inside : Bool) (place : ℕ) (id : Id) (ss : List Step) (found : List (Part ℕ T A)) (text : Text) (s : S) → length text ≤ b
-          → Alike b (steps_by dialects types_at attr does (f iso) inside place id ss found text s) (steps_by dialects types_at attr does (g iso) inside place id ss found text s)
-      steps_agree iso inside place id [] found text s k = alike_came b found s text k
-      steps_agree iso inside place id (one i ∷ ss) found text s k =
+      steps_agree : (iso : Bool) (place : ℕ) (id : Id) (ss : List Step) (found : List (Part ℕ T A)) (text : Text) (s : S) → length text ≤ b
+          → Alike b (steps_by dialects types_at attr does (f iso) place id ss found text s) (steps_by dialects types_at attr does (g iso) place id ss found text s)
+      steps_agree iso place id [] found text s k = alike_came b found s text k
+      steps_agree iso place id (one i ∷ ss) found text s k =
           alike_after b b _ _ _ _ ((agree iso).alike (after_space text) s (space_bound b text k))
-          (λ _ t rest e. steps_agree iso inside place id ss (found ++ tree.region i ∷ []) rest t e)
-      steps_agree iso inside place id (all ∷ ss) found text s k =
+          (λ _ t rest e. steps_agree iso place id ss (found ++ tree.region i ∷ []) rest t e)
+      steps_agree iso place id (all ∷ ss) found text s k =
           alike_after b b _ _ _ _ ((loops_agree (regions_loop (f iso)) (regions_loop (g iso)) b (agree iso) (length text)).alike (after_space text) s (space_bound b text k))
-          (λ _ t rest e. steps_agree iso inside place id ss (found ++ tree.regions ∷ []) rest t e)
-      steps_agree iso inside place id (flat d ∷ ss) found text s k =
-          late_agree iso inside place id (flat d) found text s _ _ k (λ p rest e. steps_agree iso inside place id ss (found ++ tree.piece p ∷ []) rest (does.late place id p s) e)
-      steps_agree iso inside place id (types ∷ ss) found text s k =
-          late_agree iso inside place id types found text s _ _ k (λ p rest e. steps_agree iso inside place id ss (found ++ tree.piece p ∷ []) rest (does.late place id p s) e)
+          (λ _ t rest e. steps_agree iso place id ss (found ++ tree.regions ∷ []) rest t e)
+      steps_agree iso place id (flat d ∷ ss) found text s k =
+          late_agree iso place id (flat d) found text s _ _ k (λ p rest e. steps_agree iso place id ss (found ++ tree.piece p ∷ []) rest (does.late place id p s) e)
+      steps_agree iso place id (types ∷ ss) found text s k =
+          late_agree iso place id types found text s _ _ k (λ p rest e. steps_agree iso place id ss (found ++ tree.piece p ∷ []) rest (does.late place id p s) e)
 
       end_agree : (place : ℕ) (names : List (Name ℕ)) (id : Id) (parts : List (Part ℕ T A)) (text : Text) (s : S) → length text ≤ b
           → Alike b (end_by dialects types_at attr does place names id parts text s) (end_by dialects types_at attr does place names id parts text s)
@@ -99,7 +99,7 @@ module _ {T A S : Type 0} (dialects : List (Text × Table)) (types_at : Reader T
           → Alike b (body_by dialects types_at attr does (f iso) inside place names id text s) (body_by dialects types_at attr does (g iso) inside place names id text s)
       body_agree iso inside place names id text s k =
           alike_after b b _ _ _ _ (front_agree b inside (front_steps (steps_in dialects id)) [] text s k) (λ found t rest e.
-          alike_after b b _ _ _ _ (steps_agree iso inside place id (region_steps (steps_in dialects id)) found rest (does.uses place id found t) e) (λ parts u left e.
+          alike_after b b _ _ _ _ (steps_agree iso place id (region_steps (steps_in dialects id)) found rest (does.uses place id found t) e) (λ parts u left e.
           end_agree place names id parts left u e))
 
       pub operation_agree : (inside : Bool) → Shrink b (operation_by dialects types_at attr does f inside) (operation_by dialects types_at attr does g inside)

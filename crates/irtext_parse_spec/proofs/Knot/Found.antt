@@ -26,9 +26,9 @@ use Rattle.irtext_parse_spec.specs.Reached.{Reached, Advanced, came, tells, Acti
 use Rattle.irtext_parse_spec.proofs.Exact.Head.{block_in_parts}
 use Rattle.irtext_parse_spec.proofs.Knot.Alike.{Shrink}
 use Rattle.irtext_parse_spec.proofs.Knot.Bound.{inner_blocks, block_at, regions_loop, more_loop, blocks_loop, semicolon_shrinks, region_is, region_shrinks, operation_shrinks, block_shrinks}
-use Rattle.irtext_parse_spec.proofs.Knot.Heads.{MayUse, MayUseAll, inside_all, l, FoundHeads}
+use Rattle.irtext_parse_spec.proofs.Knot.Heads.{l, FoundHeads}
 use Rattle.irtext_parse_spec.proofs.Knot.Loops.{tells_found, came_found, Finds, AllFind, BeginsWith, loop_found, repeated_tight, separate, more_repeated, after_found}
-use Rattle.irtext_parse_spec.proofs.Knot.Steps.{ArePartsOf, body_steps, region_fit, region_uses, split_parts, steps_known}
+use Rattle.irtext_parse_spec.proofs.Knot.Steps.{ArePartsOf, body_steps, region_fit, split_parts, steps_known}
 
 -- an operation begins with a word or with `=`
 abbrev begins_so : ℕ → Bool
@@ -42,83 +42,83 @@ begins_by_word (c ∷ text) e = rw e refl
 module _ {T A S : Type 0} (texts : Texts T) (owns : Texts A) (dialects : List (Text × Table)) (types_at : Reader T) (attr : Reader (AttrView A)) (does : Actions T A S)
     (heads : FoundHeads texts owns dialects types_at attr) where
   -- a piece is parsed after white space
-  piece_found : (inside : Bool) (step : Step) (p : Piece ℕ T A) (text mid : Text) → IsOfStep step p → reads.piece (l texts owns dialects) p (after_space text) mid → MayUse inside p
-      → (taken : Text) × ((space_at ▷ piece_at types_at attr inside step) text ≡ Read p taken mid)
-  piece_found inside step p text mid is r may =
-      let k = heads.piece inside step (after_space text) p mid (is, r) may in
-      (_, followed-read (space_at text) (λ _ t. piece_at types_at attr inside step t) tt p (front is_whitespace text) (after_space text) k.0 mid refl k.1)
+  piece_found : (step : Step) (p : Piece ℕ T A) (text mid : Text) → IsOfStep step p → reads.piece (l texts owns dialects) p (after_space text) mid
+      → (taken : Text) × ((space_at ▷ piece_at types_at attr true step) text ≡ Read p taken mid)
+  piece_found step p text mid is r =
+      let k = heads.piece step (after_space text) p mid (is, r) in
+      (_, followed-read (space_at text) (λ _ t. piece_at types_at attr true step t) tt p (front is_whitespace text) (after_space text) k.0 mid refl k.1)
 
   -- the parts before the first region are parsed, and the other parts follow them
-  record FrontFound (inside : Bool) (ss : List Step) (found : List (Part ℕ T A)) (ps : List (Part ℕ T A)) (rs : List Reading) (text rest : Text) (s : S) : Type 0 where
+  record FrontFound (ss : List Step) (found : List (Part ℕ T A)) (ps : List (Part ℕ T A)) (rs : List Reading) (text rest : Text) (s : S) : Type 0 where
     pub mid : Text
-    pub is : front_by dialects types_at attr does inside (front_steps ss) found text s ≡ Advanced (found ++ front_parts ps) s mid
+    pub is : front_by dialects types_at attr does true (front_steps ss) found text s ≡ Advanced (found ++ front_parts ps) s mid
     pub following : reads.parts (l texts owns dialects) (region_parts ps) rs mid rest
 
   front_none : (found : List (Part ℕ T A)) (s : S) (text : Text) → Advanced found s text ≡ Advanced (found ++ []) s text
   front_none found s text = ap (λ ps. Advanced ps s text) (sym (append-nil found))
 
-  front_more : (inside : Bool) (step : Step) (ss : List Step) (found : List (Part ℕ T A)) (p : Piece ℕ T A) (ps : List (Part ℕ T A)) (rs : List Reading) (text m rest : Text) (s : S)
-      → IsOfStep step p → reads.piece (l texts owns dialects) p (after_space text) m → MayUse inside p → front_steps (step ∷ ss) ≡ step ∷ front_steps ss
-      → FrontFound inside ss (found ++ tree.piece p ∷ []) ps rs m rest s → FrontFound inside (step ∷ ss) found (tree.piece p ∷ ps) rs text rest s
-  front_more inside step ss found p ps rs text m rest s is r may front k =
-      let first = piece_found inside step p text m is r may in
+  front_more : (step : Step) (ss : List Step) (found : List (Part ℕ T A)) (p : Piece ℕ T A) (ps : List (Part ℕ T A)) (rs : List Reading) (text m rest : Text) (s : S)
+      → IsOfStep step p → reads.piece (l texts owns dialects) p (after_space text) m → front_steps (step ∷ ss) ≡ step ∷ front_steps ss
+      → FrontFound ss (found ++ tree.piece p ∷ []) ps rs m rest s → FrontFound (step ∷ ss) found (tree.piece p ∷ ps) rs text rest s
+  front_more step ss found p ps rs text m rest s is r front k =
+      let first = piece_found step p text m is r in
       record {
         mid = k.mid;
-        is = ap (λ ss. front_by dialects types_at attr does inside ss found text s) front
-            ∙ (tells_found ((space_at ▷ piece_at types_at attr inside step) text) text s (λ p rest. front_by dialects types_at attr does inside (front_steps ss) (found ++ tree.piece p ∷ []) rest s) p first.0 m first.1
+        is = ap (λ ss. front_by dialects types_at attr does true ss found text s) front
+            ∙ (tells_found ((space_at ▷ piece_at types_at attr true step) text) text s (λ p rest. front_by dialects types_at attr does true (front_steps ss) (found ++ tree.piece p ∷ []) rest s) p first.0 m first.1
             ∙ (k.is ∙ ap (λ ps. Advanced ps s k.mid) (append_assoc found (tree.piece p ∷ []) (front_parts ps))));
         following = k.following;
       }
 
-  front_found : (inside : Bool) (ss : List Step) (ps : List (Part ℕ T A)) (rs : List Reading) (found : List (Part ℕ T A)) (text rest : Text) (s : S) → ArePartsOf ps ss → MayUseAll inside ps
-      → reads.parts (l texts owns dialects) ps rs text rest → FrontFound inside ss found ps rs text rest s
-  front_found inside [] [] rs found text rest s h may r = record { mid = text; is = front_none found s text; following = r }
-  front_found inside [] (p ∷ ps) rs found text rest s h may r = absurd h
-  front_found inside (step ∷ ss) [] rs found text rest s h may r = absurd h
-  front_found inside (flat d ∷ ss) (tree.piece p ∷ ps) rs found text rest s h may (m, r, z) =
-      front_more inside (flat d) ss found p ps rs text m rest s h.0 r may.0 refl (front_found inside ss ps rs (found ++ tree.piece p ∷ []) m rest s h.1 may.1 z)
-  front_found inside (types ∷ ss) (tree.piece p ∷ ps) rs found text rest s h may (m, r, z) =
-      front_more inside types ss found p ps rs text m rest s h.0 r may.0 refl (front_found inside ss ps rs (found ++ tree.piece p ∷ []) m rest s h.1 may.1 z)
-  front_found inside (one i ∷ ss) (tree.region j ∷ ps) rs found text rest s h may r = record { mid = text; is = front_none found s text; following = r }
-  front_found inside (all ∷ ss) (tree.regions ∷ ps) rs found text rest s h may r = record { mid = text; is = front_none found s text; following = r }
-  front_found inside (step ∷ ss) (p ∷ ps) rs found text rest s h may r = absurd h.0
+  front_found : (ss : List Step) (ps : List (Part ℕ T A)) (rs : List Reading) (found : List (Part ℕ T A)) (text rest : Text) (s : S) → ArePartsOf ps ss
+      → reads.parts (l texts owns dialects) ps rs text rest → FrontFound ss found ps rs text rest s
+  front_found [] [] rs found text rest s h r = record { mid = text; is = front_none found s text; following = r }
+  front_found [] (p ∷ ps) rs found text rest s h r = absurd h
+  front_found (step ∷ ss) [] rs found text rest s h r = absurd h
+  front_found (flat d ∷ ss) (tree.piece p ∷ ps) rs found text rest s h (m, r, z) =
+      front_more (flat d) ss found p ps rs text m rest s h.0 r refl (front_found ss ps rs (found ++ tree.piece p ∷ []) m rest s h.1 z)
+  front_found (types ∷ ss) (tree.piece p ∷ ps) rs found text rest s h (m, r, z) =
+      front_more types ss found p ps rs text m rest s h.0 r refl (front_found ss ps rs (found ++ tree.piece p ∷ []) m rest s h.1 z)
+  front_found (one i ∷ ss) (tree.region j ∷ ps) rs found text rest s h r = record { mid = text; is = front_none found s text; following = r }
+  front_found (all ∷ ss) (tree.regions ∷ ps) rs found text rest s h r = record { mid = text; is = front_none found s text; following = r }
+  front_found (step ∷ ss) (p ∷ ps) rs found text rest s h r = absurd h.0
 
   module _ (inner : Reads S) (shrink : (b : ℕ) → Shrink b inner inner) where
-    late_found : (inside : Bool) (place : ℕ) (id : Id) (step : Step) (p : Piece ℕ T A) (ps found : List (Part ℕ T A)) (fs : List (S → S)) (text m rest : Text) (s : S)
-        (next : Piece ℕ T A → Text → Reached (List (Part ℕ T A)) S) → IsOfStep step p → reads.piece (l texts owns dialects) p (after_space text) m → MayUse inside p
+    late_found : (place : ℕ) (id : Id) (step : Step) (p : Piece ℕ T A) (ps found : List (Part ℕ T A)) (fs : List (S → S)) (text m rest : Text) (s : S)
+        (next : Piece ℕ T A → Text → Reached (List (Part ℕ T A)) S) → IsOfStep step p → reads.piece (l texts owns dialects) p (after_space text) m
         → next p m ≡ Advanced ((found ++ tree.piece p ∷ []) ++ ps) (do_parts (isolated dialects) does place id ps fs (does.late place id p s)) rest
-        → tells ((space_at ▷ piece_at types_at attr inside step) text) text s next ≡ Advanced (found ++ tree.piece p ∷ ps) (do_parts (isolated dialects) does place id (tree.piece p ∷ ps) fs s) rest
-    late_found inside place id step p ps found fs text m rest s next is r may e =
-        let first = piece_found inside step p text m is r may in
-        tells_found ((space_at ▷ piece_at types_at attr inside step) text) text s next p first.0 m first.1
+        → tells ((space_at ▷ piece_at types_at attr true step) text) text s next ≡ Advanced (found ++ tree.piece p ∷ ps) (do_parts (isolated dialects) does place id (tree.piece p ∷ ps) fs s) rest
+    late_found place id step p ps found fs text m rest s next is r e =
+        let first = piece_found step p text m is r in
+        tells_found ((space_at ▷ piece_at types_at attr true step) text) text s next p first.0 m first.1
         ∙ (e ∙ ap (λ qs. Advanced qs (do_parts (isolated dialects) does place id ps fs (does.late place id p s)) rest) (append_assoc found (tree.piece p ∷ []) ps))
 
     -- The parts from the first region on are parsed, with what the regions do.
-    steps_found : (inside : Bool) (place : ℕ) (id : Id) (ss : List Step) (ps : List (Part ℕ T A)) (rs : List Reading) (fs : List (S → S)) (found : List (Part ℕ T A)) (text rest : Text) (s : S)
-        → ArePartsOf ps ss → MayUseAll inside ps → AllFind (BeginsWith (the 123)) inner rs fs → reads.parts (l texts owns dialects) ps rs text rest
-        → steps_by dialects types_at attr does inner inside place id ss found text s ≡ Advanced (found ++ ps) (do_parts (isolated dialects) does place id ps fs s) rest
-    steps_found inside place id [] [] [] fs found text rest s h may a r = ap (λ ps. Advanced ps s text) (sym (append-nil found)) ∙ ap (Advanced (found ++ []) s) (sym r)
-    steps_found inside place id [] [] (r ∷ rs) fs found text rest s h may a z = absurd z
-    steps_found inside place id [] (p ∷ ps) rs fs found text rest s h may a r = absurd h
-    steps_found inside place id (step ∷ ss) [] rs fs found text rest s h may a r = absurd h
-    steps_found inside place id (flat d ∷ ss) (tree.piece p ∷ ps) rs fs found text rest s h may a (m, r, z) =
-        late_found inside place id (flat d) p ps found fs text m rest s _ h.0 r may.0
-        (steps_found inside place id ss ps rs fs (found ++ tree.piece p ∷ []) m rest (does.late place id p s) h.1 may.1 a z)
-    steps_found inside place id (types ∷ ss) (tree.piece p ∷ ps) rs fs found text rest s h may a (m, r, z) =
-        late_found inside place id types p ps found fs text m rest s _ h.0 r may.0
-        (steps_found inside place id ss ps rs fs (found ++ tree.piece p ∷ []) m rest (does.late place id p s) h.1 may.1 a z)
-    steps_found inside place id (one i ∷ ss) (tree.region j ∷ ps) [] fs found text rest s h may a r = absurd r
-    steps_found inside place id (one i ∷ ss) (tree.region j ∷ ps) (r ∷ rs) [] found text rest s h may a z = absurd a
-    steps_found inside place id (one i ∷ ss) (tree.region j ∷ ps) (r ∷ rs) (f ∷ fs) found text rest s h may a (m, q, z) =
+    steps_found : (place : ℕ) (id : Id) (ss : List Step) (ps : List (Part ℕ T A)) (rs : List Reading) (fs : List (S → S)) (found : List (Part ℕ T A)) (text rest : Text) (s : S)
+        → ArePartsOf ps ss → AllFind (BeginsWith (the 123)) inner rs fs → reads.parts (l texts owns dialects) ps rs text rest
+        → steps_by dialects types_at attr does inner place id ss found text s ≡ Advanced (found ++ ps) (do_parts (isolated dialects) does place id ps fs s) rest
+    steps_found place id [] [] [] fs found text rest s h a r = ap (λ ps. Advanced ps s text) (sym (append-nil found)) ∙ ap (Advanced (found ++ []) s) (sym r)
+    steps_found place id [] [] (r ∷ rs) fs found text rest s h a z = absurd z
+    steps_found place id [] (p ∷ ps) rs fs found text rest s h a r = absurd h
+    steps_found place id (step ∷ ss) [] rs fs found text rest s h a r = absurd h
+    steps_found place id (flat d ∷ ss) (tree.piece p ∷ ps) rs fs found text rest s h a (m, r, z) =
+        late_found place id (flat d) p ps found fs text m rest s _ h.0 r
+        (steps_found place id ss ps rs fs (found ++ tree.piece p ∷ []) m rest (does.late place id p s) h.1 a z)
+    steps_found place id (types ∷ ss) (tree.piece p ∷ ps) rs fs found text rest s h a (m, r, z) =
+        late_found place id types p ps found fs text m rest s _ h.0 r
+        (steps_found place id ss ps rs fs (found ++ tree.piece p ∷ []) m rest (does.late place id p s) h.1 a z)
+    steps_found place id (one i ∷ ss) (tree.region j ∷ ps) [] fs found text rest s h a r = absurd r
+    steps_found place id (one i ∷ ss) (tree.region j ∷ ps) (r ∷ rs) [] found text rest s h a z = absurd a
+    steps_found place id (one i ∷ ss) (tree.region j ∷ ps) (r ∷ rs) (f ∷ fs) found text rest s h a (m, q, z) =
         came_found (inner (after_space text) s) _ tt (f s) m (a.0.found (after_space text) m s q)
-        ∙ (steps_found inside place id ss ps rs fs (found ++ tree.region i ∷ []) m rest (f s) h.1 may a.1 z
+        ∙ (steps_found place id ss ps rs fs (found ++ tree.region i ∷ []) m rest (f s) h.1 a.1 z
         ∙ (ap (λ qs. Advanced qs (do_parts (isolated dialects) does place id ps fs (f s)) rest) (append_assoc found (tree.region i ∷ []) ps) ∙ ap (λ i. Advanced (found ++ tree.region i ∷ ps) (do_parts (isolated dialects) does place id ps fs (f s)) rest) (sym h.0)))
-    steps_found inside place id (all ∷ ss) (tree.regions ∷ ps) rs fs found text rest s h may a (m, q, z) =
+    steps_found place id (all ∷ ss) (tree.regions ∷ ps) rs fs found text rest s h a (m, q, z) =
         came_found (regions_by inner (length text) (after_space text) s) _ tt (each_of fs s) m
         (loop_found (regions_loop inner) shrink (length text) rs fs (after_space text) m s (space_bound (length text) text (omega arith)) a q)
-        ∙ (steps_found inside place id ss ps [] [] (found ++ tree.regions ∷ []) m rest (each_of fs s) h.1 may tt z
+        ∙ (steps_found place id ss ps [] [] (found ++ tree.regions ∷ []) m rest (each_of fs s) h.1 tt z
         ∙ ap (λ qs. Advanced qs (do_parts (isolated dialects) does place id ps [] (each_of fs s)) rest) (append_assoc found (tree.regions ∷ []) ps))
-    steps_found inside place id (step ∷ ss) (p ∷ ps) rs fs found text rest s h may a r = absurd h.0
+    steps_found place id (step ∷ ss) (p ∷ ps) rs fs found text rest s h a r = absurd h.0
 
   -- ---- an operation
   -- its first characters
@@ -144,33 +144,33 @@ module _ {T A S : Type 0} (texts : Texts T) (owns : Texts A) (dialects : List (T
       tells_found ((space_at ▷ mark_if_at) text) text _ _ o.mark _ rest (followed-read (space_at text) (λ _ t. mark_if_at t) tt o.mark (front is_whitespace text) (after_space text) k.0 rest refl k.1)
 
   -- what follows an id, given these steps
-  abbrev body_with : Reads S → Bool → ℕ → List (Name ℕ) → Id → List Step → Reads S
-  body_with inner inside place names id ss text s = came (front_by dialects types_at attr does inside (front_steps ss) [] text s) (λ found t rest.
-      came (steps_by dialects types_at attr does inner inside place id (region_steps ss) found rest (does.uses place id found t)) (λ parts u left. end_by dialects types_at attr does place names id parts left u))
+  abbrev body_with : Reads S → ℕ → List (Name ℕ) → Id → List Step → Reads S
+  body_with inner place names id ss text s = came (front_by dialects types_at attr does true (front_steps ss) [] text s) (λ found t rest.
+      came (steps_by dialects types_at attr does inner place id (region_steps ss) found rest (does.uses place id found t)) (λ parts u left. end_by dialects types_at attr does place names id parts left u))
 
-  body_found : (inner : Reads S) (shrink : (b : ℕ) → Shrink b inner inner) (inside : Bool) (o : Op ℕ T A) (ss : List Step) (rs : List Reading) (fs : List (S → S)) (text mid rest : Text) (s : S)
-      → ArePartsOf (parts_of o.body) ss → MayUseAll inside (parts_of o.body) → AllFind (BeginsWith (the 123)) inner rs fs
+  body_found : (inner : Reads S) (shrink : (b : ℕ) → Shrink b inner inner) (o : Op ℕ T A) (ss : List Step) (rs : List Reading) (fs : List (S → S)) (text mid rest : Text) (s : S)
+      → ArePartsOf (parts_of o.body) ss → AllFind (BeginsWith (the 123)) inner rs fs
       → reads.parts (l texts owns dialects) (parts_of o.body) rs text mid → reads.mark_if (l texts owns dialects) o.mark (after_space mid) rest
-      → body_with inner inside o.place o.names o.id ss text s ≡ Advanced tt (do_operation (isolated dialects) does o fs s) rest
-  body_found inner shrink inside o ss rs fs text mid rest s h may a r mark =
+      → body_with inner o.place o.names o.id ss text s ≡ Advanced tt (do_operation (isolated dialects) does o fs s) rest
+  body_found inner shrink o ss rs fs text mid rest s h a r mark =
       let ps = parts_of o.body in
-      let f = front_found inside ss ps rs [] text mid s h may r in
+      let f = front_found ss ps rs [] text mid s h r in
       let t = does.uses o.place o.id (front_parts ps) s in
       let u = do_parts (isolated dialects) does o.place o.id (region_parts ps) fs t in
-      let g = steps_found inner shrink inside o.place o.id (region_steps ss) (region_parts ps) rs fs (front_parts ps) f.mid mid t (region_fit ps ss h) (region_uses inside ps may) a f.following in
+      let g = steps_found inner shrink o.place o.id (region_steps ss) (region_parts ps) rs fs (front_parts ps) f.mid mid t (region_fit ps ss h) a f.following in
       came_found _ _ (front_parts ps) s f.mid f.is
       ∙ (came_found _ _ ps u mid (g ∙ ap (λ ps. Advanced ps u mid) (split_parts ps)) ∙ end_found o o.place mid rest u mark)
 
   -- An operation is parsed where the grammar parses it, if its regions are.
-  operation_found : (inner : Bool → Reads S) (shrink : (iso : Bool) (b : ℕ) → Shrink b (inner iso) (inner iso)) (inside : Bool) (o : Op ℕ T A) (rs : List Reading) (fs : List (S → S)) (text rest : Text) (s : S)
-      → MayUseAll inside (parts_of o.body) → AllFind (BeginsWith (the 123)) (inner (isolated dialects o.id)) rs fs
-      → reads.operation_read (l texts owns dialects) o rs text rest → operation_by dialects types_at attr does inner inside text s ≡ Advanced tt (do_operation (isolated dialects) does o fs s) rest
-  operation_found inner shrink inside o rs fs text rest s may a (at, ((f, known, is), (m, names, (n, id, (k, parts, mark))))) =
+  operation_found : (inner : Bool → Reads S) (shrink : (iso : Bool) (b : ℕ) → Shrink b (inner iso) (inner iso)) (o : Op ℕ T A) (rs : List Reading) (fs : List (S → S)) (text rest : Text) (s : S)
+      → AllFind (BeginsWith (the 123)) (inner (isolated dialects o.id)) rs fs
+      → reads.operation_read (l texts owns dialects) o rs text rest → operation_by dialects types_at attr does inner true text s ≡ Advanced tt (do_operation (isolated dialects) does o fs s) rest
+  operation_found inner shrink o rs fs text rest s a (at, ((f, known, is), (m, names, (n, id, (k, parts, mark))))) =
       let lead = heads.lead text (o.names, o.id) n ((f, known), (m, names, id)) in
-      let body = body_found (inner (isolated dialects o.id)) (shrink (isolated dialects o.id)) inside o (steps_of f) rs fs n k rest s (body_steps f o.body is) may a parts mark in
-      let whole = subst (λ ss. body_with (inner (isolated dialects o.id)) inside o.place o.names o.id ss n s ≡ Advanced tt (do_operation (isolated dialects) does o fs s) rest) (sym (steps_known dialects o.id f known)) body in
+      let body = body_found (inner (isolated dialects o.id)) (shrink (isolated dialects o.id)) o (steps_of f) rs fs n k rest s (body_steps f o.body is) a parts mark in
+      let whole = subst (λ ss. body_with (inner (isolated dialects o.id)) o.place o.names o.id ss n s ≡ Advanced tt (do_operation (isolated dialects) does o fs s) rest) (sym (steps_known dialects o.id f known)) body in
       tells_found (led_at dialects text) text s _ (o.names, o.id) lead.0 n lead.1
-      ∙ subst (λ place. body_with (inner (isolated dialects o.id)) inside place o.names o.id (steps_in dialects o.id) n s ≡ Advanced tt (do_operation (isolated dialects) does o fs s) rest) at whole
+      ∙ subst (λ place. body_with (inner (isolated dialects o.id)) place o.names o.id (steps_in dialects o.id) n s ≡ Advanced tt (do_operation (isolated dialects) does o fs s) rest) at whole
 
   -- ---- a row of operations
   operations_row : (item : Reads S) (shrink : (b : ℕ) → Shrink b item item) (rs : List Reading) (fs : List (S → S)) (text rest : Text) (s : S)
@@ -258,14 +258,14 @@ module _ {T A S : Type 0} (texts : Texts T) (owns : Texts A) (dialects : List (T
       h (reads.operation_readings (l texts owns dialects) os) (operation_acts os) a in
       record { begins = k.begins; found = λ text rest s r. k.found text rest s r ∙ ap (λ u. Advanced tt u rest) (operations_act os (does.heads h s)) }
 
-  one_operation : (inside : Bool) (o : Op ℕ T A) (rs : TreeRegions) → MayUseAll inside (parts_of o.body)
+  one_operation : (o : Op ℕ T A) (rs : TreeRegions)
       → AllFind (BeginsWith (the 123)) (region_at dialects types_at attr does (isolated dialects o.id)) (reads.region_readings (l texts owns dialects) rs) (do_regions (isolated dialects) does (isolated dialects o.id) rs)
-      → Finds (λ text. begins_operation (after_space text) ≡ true) (operation_at dialects types_at attr does inside) (reads.operation_read (l texts owns dialects) o (reads.region_readings (l texts owns dialects) rs))
+      → Finds (λ text. begins_operation (after_space text) ≡ true) (operation_at dialects types_at attr does true) (reads.operation_read (l texts owns dialects) o (reads.region_readings (l texts owns dialects) rs))
       (do_operation (isolated dialects) does o (do_regions (isolated dialects) does (isolated dialects o.id) rs))
-  one_operation inside o rs may a = record {
+  one_operation o rs a = record {
     begins = operation_begin texts owns dialects types_at attr does heads o (reads.region_readings (l texts owns dialects) rs);
     found = λ text rest s r. operation_found texts owns dialects types_at attr does heads (region_at dialects types_at attr does) (λ iso b. region_shrinks dialects types_at attr does no_more none_more b iso)
-        inside o (reads.region_readings (l texts owns dialects) rs) (do_regions (isolated dialects) does (isolated dialects o.id) rs) text rest s may a r;
+        o (reads.region_readings (l texts owns dialects) rs) (do_regions (isolated dialects) does (isolated dialects o.id) rs) text rest s a r;
   }
 
   mutual
@@ -284,13 +284,12 @@ module _ {T A S : Type 0} (texts : Texts T) (owns : Texts A) (dialects : List (T
     operations_found : (os : Operations (Op ℕ T A) (Head ℕ T A) (Brace ℕ))
         → AllFind (λ text. begins_operation (after_space text) ≡ true) (operation_at dialects types_at attr does true) (reads.operation_readings (l texts owns dialects) os) (operation_acts os)
     operations_found no_operations = tt
-    operations_found (operation o rs os) = (one_operation true o rs (inside_all (parts_of o.body)) (regions_found (isolated dialects o.id) rs), operations_found os)
+    operations_found (operation o rs os) = (one_operation o rs (regions_found (isolated dialects o.id) rs), operations_found os)
 
-  -- What the grammar parses as a tree an operation's parser parses, and does what the tree does; outside of each region, if the operation
-  -- itself uses no name.
-  pub tree_found : (inside : Bool) (x : Tree ℕ T A) (text rest : Text) (s : S) → MayUseAll inside (parts_of x.own.body) → reads.reads (l texts owns dialects) x text rest
-      → operation_at dialects types_at attr does inside text s ≡ Advanced tt (do_tree (isolated dialects) does x s) rest
-  tree_found inside x text rest s may r = (one_operation inside x.own x.regions may (regions_found (isolated dialects x.own.id) x.regions)).found text rest s r
+  -- What the grammar parses as a tree an operation's parser parses, and does what the tree does.
+  pub tree_found : (x : Tree ℕ T A) (text rest : Text) (s : S) → reads.reads (l texts owns dialects) x text rest
+      → operation_at dialects types_at attr does true text s ≡ Advanced tt (do_tree (isolated dialects) does x s) rest
+  tree_found x text rest s r = (one_operation x.own x.regions (regions_found (isolated dialects x.own.id) x.regions)).found text rest s r
 
   -- What the grammar parses as a region its parser parses, and does what the region does.
   pub region_is_found : (iso : Bool) (bs : Blocks (Op ℕ T A) (Head ℕ T A) (Brace ℕ)) (place : ℕ) (text rest : Text) (s : S)

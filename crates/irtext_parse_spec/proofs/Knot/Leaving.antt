@@ -5,7 +5,7 @@ use Rattle.irtext_base.specs.Text.{Text, begins, front, after, begins_word, in_w
 use Rattle.irtext_base.specs.Reading.{the}
 use Rattle.irtext_base.specs.Format as format
 use Rattle.irtext_base.specs.Format.{Directive, Id}
-use Rattle.irtext_base.specs.Faults.{Demand, Unexpected, AnOperation, UnregisteredOp, UnregisteredDialect}
+use Rattle.irtext_base.specs.Faults.{Demand, Unexpected, AnOperation, UnregisteredOp, UnregisteredDialect, ReservedKey}
 use Rattle.irtext_base.specs.Stream.{first_of}
 use Rattle.irtext_base.specs.Answers.{Outcome, Read, Missing, Bad}
 use Rattle.irtext_base.specs.Locations.{AttrView}
@@ -18,14 +18,15 @@ use Rattle.irtext_tokens.specs.ListOutcomes.{item_after, items_after, or_empty, 
 use Rattle.irtext_tokens.specs.Tokens.{space_at, word_at, word, id_with, id_at}
 use Rattle.irtext_tokens.proofs.Honest.{honest_space, honest_word, honest_name, honest_spaced, honest_index}
 use Rattle.irtext_grammar.specs.Contexts.Formats.{op_id}
-use Rattle.irtext_grammar.specs.Grammar.Tree.{Name}
+use Rattle.irtext_grammar.specs.Grammar.Tree.{Name, Attribute}
+use Rattle.irtext_grammar.specs.Names.Acts.{may_hold}
 use Rattle.irtext_parse_spec.specs.Readers.Directives.{attribute_at}
 use Rattle.irtext_parse_spec.specs.Readers.Marker.{marker, starts_with}
 use Rattle.irtext_parse_spec.specs.Readers.Operations.{registered_after}
 use Rattle.irtext_parse_spec.specs.Readers.Parts.{after_lead}
 use Rattle.irtext_parse_spec.specs.Readers.RestLengths.{Leaves, LeavesNoMore}
 use Rattle.irtext_parse_spec.proofs.Locations.RestLengths.{Within, within_honest, within_no_more, within_either, ◌so◌, ◌then◌, seen, leaves_read, leaves_missing, leaves_bad, leaves_prefixed, leaves_word}
-use Rattle.irtext_parse_spec.specs.Heads.{name_at, label_at, symbol_at, mark_if_at, outside, used_at, target_at, pair_at, dictionary_at, outlined_or_at, Step, flat, types, one, all, directive_at, piece_at, argument_at, dictionary_if_at, head_at, results_at, named, lead_at, led_by, led_at}
+use Rattle.irtext_parse_spec.specs.Heads.{name_at, label_at, symbol_at, mark_if_at, outside, used_at, target_at, allowed, pair_at, entry_by, dictionary_by, outlined_or_at, Step, flat, types, one, all, directive_at, piece_at, argument_at, dictionary_if_at, head_at, results_at, named, lead_at, led_by, led_at}
 
 -- ---- parsers put together
 module _ {b : ℕ} where
@@ -141,10 +142,23 @@ module _ {b : ℕ} {A : Type 0} {attr : Reader (AttrView A)} (h : LeavesNoMore a
   pair_within : Within b (pair_at attr)
   pair_within = ◌so◌ name_within (λ key. ◌then◌ (within_honest (honest_spaced (codes ":"))) (seen _ attribute_within))
 
-  dictionary_within : Within b (dictionary_at attr)
-  unfolding dictionary_at
-  dictionary_within = ◌then◌ (within_honest (honest_word (codes "["))) (◌then◌ (within_honest honest_space)
-      (kept_within (separated_within 44 pair_within) (within_honest (honest_word (codes "]")))))
+  allowed_leaves : (o : Outcome (Name ℕ × Attribute A)) → Leaves b o → Leaves b (allowed o)
+  allowed_leaves (Read e taken rest) k = go (may_hold e.0.text e.1)
+    where
+      go : (t : Bool) → Leaves b (cond t (Read e taken rest) (Bad (ReservedKey e.0.text) []))
+      go true = k
+      go false = leaves_bad b _ _
+  allowed_leaves (Missing cause) k = leaves_missing b cause
+  allowed_leaves (Bad cause upto) k = leaves_bad b cause upto
+
+  entry_within : (inside : Bool) → Within b (entry_by attr inside)
+  entry_within true = record { leaves = λ text i. pair_within.leaves text i }
+  entry_within false = record { leaves = λ text i. allowed_leaves (pair_at attr text) (pair_within.leaves text i) }
+
+  dictionary_within : (inside : Bool) → Within b (dictionary_by attr inside)
+  unfolding dictionary_by
+  dictionary_within inside = ◌then◌ (within_honest (honest_word (codes "["))) (◌then◌ (within_honest honest_space)
+      (kept_within (separated_within 44 (entry_within inside)) (within_honest (honest_word (codes "]")))))
 
   outlined_within : Within b (outlined_or_at attr)
   outlined_within = within_either (starts_with marker) (seen (λ _. None) (within_honest (honest_word marker))) (seen Some attribute_within)
@@ -161,7 +175,7 @@ module _ {b : ℕ} {T A : Type 0} {types_at : Reader T} {attr : Reader (AttrView
   directive_within inside (format.successor i) = seen _ (target_within inside)
   directive_within inside format.successors = seen _ (separated_within 44 (target_within inside))
   directive_within inside (format.attribute k) = seen _ (outlined_within h)
-  directive_within inside format.dictionary = seen _ (dictionary_within h)
+  directive_within inside format.dictionary = seen _ (dictionary_within h inside)
   directive_within inside (format.result_type i) = seen _ (within_no_more no_more)
   directive_within inside format.header = seen _ symbol_within
   directive_within inside (format.region i) = no_piece
@@ -178,7 +192,7 @@ module _ {b : ℕ} {T A : Type 0} {types_at : Reader T} {attr : Reader (AttrView
   argument_within = ◌so◌ name_within (λ n. ◌then◌ (within_honest (honest_spaced (codes ":"))) (seen _ (within_no_more no_more)))
 
   dictionary_if_within : Within b (dictionary_if_at types_at attr)
-  dictionary_if_within = within_either (begins (the 91)) (seen Some (dictionary_within h)) (none_within None)
+  dictionary_if_within = within_either (begins (the 91)) (seen Some (dictionary_within h true)) (none_within None)
 
   -- a block's header consumes at least one character
   pub head_leaves : (text : Text) → length text ≤ suc b → Leaves b (head_at types_at attr text)

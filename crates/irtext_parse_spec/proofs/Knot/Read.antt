@@ -28,7 +28,7 @@ use Rattle.irtext_parse_spec.specs.Reached.{Reached, Advanced, came, tells, Acti
 use Rattle.irtext_parse_spec.proofs.Exact.Head.{block_in_parts}
 use Rattle.irtext_parse_spec.proofs.Knot.Alike.{Shrink}
 use Rattle.irtext_parse_spec.proofs.Knot.Bound.{regions_loop, more_loop, blocks_loop, after_semicolon, semicolon_shrinks, shrunk, operations_agree, operation_agree, block_agree, within_shrinks, region_shrinks}
-use Rattle.irtext_parse_spec.proofs.Knot.Heads.{MayUse, MayUseAll, l, ReadHeads}
+use Rattle.irtext_parse_spec.proofs.Knot.Heads.{l, ReadHeads}
 use Rattle.irtext_parse_spec.proofs.Knot.Loops.{tells_read, came_read, Tells, RowRead, loop_read, repeated_tight, separate, repeated_more}
 use Rattle.irtext_parse_spec.proofs.Knot.Steps.{ArePartsOf, ArePieces, EndsRegions, body_of_steps, ends_regions, steps_known}
 
@@ -102,34 +102,33 @@ module _ {T A S : Type 0} (texts : Texts T) (owns : Texts A) (dialects : List (T
 module _ {T A S : Type 0} (texts : Texts T) (owns : Texts A) (dialects : List (Text × Table)) (types_at : Reader T) (attr : Reader (AttrView A)) (does : Actions T A S)
     (heads : ReadHeads texts owns dialects types_at attr) where
   -- a piece that was parsed after white space
-  piece_read : (inside : Bool) (step : Step) (p : Piece ℕ T A) (text taken mid : Text) → (space_at ▷ piece_at types_at attr inside step) text ≡ Read p taken mid
-      → IsOfStep step p × reads.piece (l texts owns dialects) p (after_space text) mid × MayUse inside p
-  piece_read inside step p text taken mid e =
-      let a = followed_read (space_at text) (λ _ t. piece_at types_at attr inside step t) p taken mid e in
+  piece_read : (step : Step) (p : Piece ℕ T A) (text taken mid : Text) → (space_at ▷ piece_at types_at attr true step) text ≡ Read p taken mid
+      → IsOfStep step p × reads.piece (l texts owns dialects) p (after_space text) mid
+  piece_read step p text taken mid e =
+      let a = followed_read (space_at text) (λ _ t. piece_at types_at attr true step t) p taken mid e in
       let spaced : a.middle ≡ after_space text = cc a.first in
-      let k = heads.piece inside step a.middle p a.more mid a.second in
-      (k.0.0, subst (λ t. reads.piece (l texts owns dialects) p t mid) spaced k.0.1, k.1)
+      let k = heads.piece step a.middle p a.more mid a.second in
+      (k.0, subst (λ t. reads.piece (l texts owns dialects) p t mid) spaced k.1)
 
   -- the parts before the first region and those from there on, put together
-  record Joined (inside : Bool) (ss : List Step) (ps qs : List (Part ℕ T A)) (rs : List Reading) (text rest : Text) : Type 0 where
+  record Joined (ss : List Step) (ps qs : List (Part ℕ T A)) (rs : List Reading) (text rest : Text) : Type 0 where
     pub fits : ArePartsOf (ps ++ qs) ss
-    pub may : MayUseAll inside (ps ++ qs)
     pub parts : reads.parts (l texts owns dialects) (ps ++ qs) rs text rest
     pub front : front_parts (ps ++ qs) ≡ ps
     pub following : region_parts (ps ++ qs) ≡ qs
 
   -- the parts that were parsed before the first region
-  record FrontRead (inside : Bool) (ss : List Step) (found parts : List (Part ℕ T A)) (s t : S) (text mid : Text) : Type 1 where
+  record FrontRead (ss : List Step) (found parts : List (Part ℕ T A)) (s t : S) (text mid : Text) : Type 1 where
     pub ps : List (Part ℕ T A)
     pub whole : parts ≡ found ++ ps
     pub same : t ≡ s
-    pub joins : (qs : List (Part ℕ T A)) (rs : List Reading) (rest : Text) → ArePartsOf qs (region_steps ss) → MayUseAll inside qs → reads.parts (l texts owns dialects) qs rs mid rest
-        → Joined inside ss ps qs rs text rest
+    pub joins : (qs : List (Part ℕ T A)) (rs : List Reading) (rest : Text) → ArePartsOf qs (region_steps ss) → reads.parts (l texts owns dialects) qs rs mid rest
+        → Joined ss ps qs rs text rest
 
-  front_end : (inside : Bool) (ss : List Step) (found parts : List (Part ℕ T A)) (s t : S) (text mid : Text)
+  front_end : (ss : List Step) (found parts : List (Part ℕ T A)) (s t : S) (text mid : Text)
       → ((qs : List (Part ℕ T A)) → ArePartsOf qs (region_steps ss) → ArePartsOf qs ss × (front_parts qs ≡ []) × (region_parts qs ≡ qs))
-      → ◌≡◌ {A = Reached (List (Part ℕ T A)) S} (Advanced found s text) (Advanced parts t mid) → FrontRead inside ss found parts s t text mid
-  front_end inside ss found parts s t text mid none e =
+      → ◌≡◌ {A = Reached (List (Part ℕ T A)) S} (Advanced found s text) (Advanced parts t mid) → FrontRead ss found parts s t text mid
+  front_end ss found parts s t text mid none e =
       let f : found ≡ parts = cc e in
       let g : s ≡ t = cc e in
       let h : text ≡ mid = cc e in
@@ -137,8 +136,8 @@ module _ {T A S : Type 0} (texts : Texts T) (owns : Texts A) (dialects : List (T
         ps = [];
         whole = sym f ∙ sym (append-nil found);
         same = sym g;
-        joins = λ qs rs rest fit may r. let k = none qs fit in
-            record { fits = k.0; may = may; parts = subst (λ t. reads.parts (l texts owns dialects) qs rs t rest) (sym h) r; front = k.1; following = k.2 };
+        joins = λ qs rs rest fit r. let k = none qs fit in
+            record { fits = k.0; parts = subst (λ t. reads.parts (l texts owns dialects) qs rs t rest) (sym h) r; front = k.1; following = k.2 };
       }
 
   no_parts : (qs : List (Part ℕ T A)) → ArePartsOf qs [] → ArePartsOf qs [] × (front_parts qs ≡ []) × (region_parts qs ≡ qs)
@@ -157,122 +156,116 @@ module _ {T A S : Type 0} (texts : Texts T) (owns : Texts A) (dialects : List (T
   all_parts ss (tree.region j ∷ qs) h = absurd h.0
   all_parts ss (tree.regions ∷ qs) h = (h, refl, refl)
 
-  front_more : (inside : Bool) (step : Step) (ss : List Step) (found parts : List (Part ℕ T A)) (s t : S) (text mid : Text) → region_steps (step ∷ ss) ≡ region_steps ss
-      → ((p : Piece ℕ T A) (m : Text) → front_by dialects types_at attr does inside (front_steps ss) (found ++ tree.piece p ∷ []) m s ≡ Advanced parts t mid → FrontRead inside ss (found ++ tree.piece p ∷ []) parts s t m mid)
-      → front_by dialects types_at attr does inside (step ∷ front_steps ss) found text s ≡ Advanced parts t mid → FrontRead inside (step ∷ ss) found parts s t text mid
-  front_more inside step ss found parts s t text mid skips again e =
-      let a = tells_read ((space_at ▷ piece_at types_at attr inside step) text) text s (λ p rest. front_by dialects types_at attr does inside (front_steps ss) (found ++ tree.piece p ∷ []) rest s) parts t mid e in
-      let p = piece_read inside step a.0 text a.1 a.2 a.3 in
+  front_more : (step : Step) (ss : List Step) (found parts : List (Part ℕ T A)) (s t : S) (text mid : Text) → region_steps (step ∷ ss) ≡ region_steps ss
+      → ((p : Piece ℕ T A) (m : Text) → front_by dialects types_at attr does true (front_steps ss) (found ++ tree.piece p ∷ []) m s ≡ Advanced parts t mid → FrontRead ss (found ++ tree.piece p ∷ []) parts s t m mid)
+      → front_by dialects types_at attr does true (step ∷ front_steps ss) found text s ≡ Advanced parts t mid → FrontRead (step ∷ ss) found parts s t text mid
+  front_more step ss found parts s t text mid skips again e =
+      let a = tells_read ((space_at ▷ piece_at types_at attr true step) text) text s (λ p rest. front_by dialects types_at attr does true (front_steps ss) (found ++ tree.piece p ∷ []) rest s) parts t mid e in
+      let p = piece_read step a.0 text a.1 a.2 a.3 in
       let k = again a.0 a.2 a.4 in
       record {
         ps = tree.piece a.0 ∷ k.ps;
         whole = k.whole ∙ append_assoc found (tree.piece a.0 ∷ []) k.ps;
         same = k.same;
-        joins = λ qs rs rest fit may r. let j = k.joins qs rs rest (subst (ArePartsOf qs) skips fit) may r in
+        joins = λ qs rs rest fit r. let j = k.joins qs rs rest (subst (ArePartsOf qs) skips fit) r in
             record {
               fits = (p.0, j.fits);
-              may = (p.2, j.may);
               parts = (a.2, p.1, j.parts);
               front = ap (λ ps. tree.piece a.0 ∷ ps) j.front;
               following = j.following;
             };
       }
 
-  front_read : (inside : Bool) (ss : List Step) (found parts : List (Part ℕ T A)) (s t : S) (text mid : Text) → front_by dialects types_at attr does inside (front_steps ss) found text s ≡ Advanced parts t mid
-      → FrontRead inside ss found parts s t text mid
-  front_read inside [] found parts s t text mid e = front_end inside [] found parts s t text mid no_parts e
-  front_read inside (one i ∷ ss) found parts s t text mid e = front_end inside (one i ∷ ss) found parts s t text mid (one_part i ss) e
-  front_read inside (all ∷ ss) found parts s t text mid e = front_end inside (all ∷ ss) found parts s t text mid (all_parts ss) e
-  front_read inside (flat d ∷ ss) found parts s t text mid e =
-      front_more inside (flat d) ss found parts s t text mid refl (λ p m. front_read inside ss (found ++ tree.piece p ∷ []) parts s t m mid) e
-  front_read inside (types ∷ ss) found parts s t text mid e =
-      front_more inside types ss found parts s t text mid refl (λ p m. front_read inside ss (found ++ tree.piece p ∷ []) parts s t m mid) e
+  front_read : (ss : List Step) (found parts : List (Part ℕ T A)) (s t : S) (text mid : Text) → front_by dialects types_at attr does true (front_steps ss) found text s ≡ Advanced parts t mid
+      → FrontRead ss found parts s t text mid
+  front_read [] found parts s t text mid e = front_end [] found parts s t text mid no_parts e
+  front_read (one i ∷ ss) found parts s t text mid e = front_end (one i ∷ ss) found parts s t text mid (one_part i ss) e
+  front_read (all ∷ ss) found parts s t text mid e = front_end (all ∷ ss) found parts s t text mid (all_parts ss) e
+  front_read (flat d ∷ ss) found parts s t text mid e =
+      front_more (flat d) ss found parts s t text mid refl (λ p m. front_read ss (found ++ tree.piece p ∷ []) parts s t m mid) e
+  front_read (types ∷ ss) found parts s t text mid e =
+      front_more types ss found parts s t text mid refl (λ p m. front_read ss (found ++ tree.piece p ∷ []) parts s t m mid) e
 
   module _ (inner : Reads S) (shrink : (b : ℕ) → Shrink b inner inner) (iso : Bool) (tell : Tells inner (region_of texts owns dialects does) (region_act texts owns dialects does iso)) where
     -- the parts that were parsed from the first region on, and their regions
-    record StepsRead (inside : Bool) (place : ℕ) (id : Id) (ss : List Step) (found parts : List (Part ℕ T A)) (s t : S) (text rest : Text) : Type 0 where
+    record StepsRead (place : ℕ) (id : Id) (ss : List Step) (found parts : List (Part ℕ T A)) (s t : S) (text rest : Text) : Type 0 where
       pub ps : List (Part ℕ T A)
       pub regions : List (Shown texts owns dialects does)
       pub whole : parts ≡ found ++ ps
       pub fits : ArePartsOf ps ss
-      pub may : MayUseAll inside ps
       pub reads : reads.parts (l texts owns dialects) ps (map (region_of texts owns dialects does) regions) text rest
       pub acts : t ≡ do_parts (isolated dialects) does place id ps (map (region_act texts owns dialects does iso) regions) s
       pub none : ArePieces ss → regions ≡ []
 
-    late_read : (inside : Bool) (place : ℕ) (id : Id) (step : Step) (ss : List Step) (found parts : List (Part ℕ T A)) (s t : S) (text rest : Text) (next : Piece ℕ T A → Text → Reached (List (Part ℕ T A)) S)
-        → ((p : Piece ℕ T A) (m : Text) → next p m ≡ Advanced parts t rest → StepsRead inside place id ss (found ++ tree.piece p ∷ []) parts (does.late place id p s) t m rest)
+    late_read : (place : ℕ) (id : Id) (step : Step) (ss : List Step) (found parts : List (Part ℕ T A)) (s t : S) (text rest : Text) (next : Piece ℕ T A → Text → Reached (List (Part ℕ T A)) S)
+        → ((p : Piece ℕ T A) (m : Text) → next p m ≡ Advanced parts t rest → StepsRead place id ss (found ++ tree.piece p ∷ []) parts (does.late place id p s) t m rest)
         → (ArePieces (step ∷ ss) → ArePieces ss)
-        → tells ((space_at ▷ piece_at types_at attr inside step) text) text s next ≡ Advanced parts t rest → StepsRead inside place id (step ∷ ss) found parts s t text rest
-    late_read inside place id step ss found parts s t text rest next again pieces e =
-        let a = tells_read ((space_at ▷ piece_at types_at attr inside step) text) text s next parts t rest e in
-        let p = piece_read inside step a.0 text a.1 a.2 a.3 in
+        → tells ((space_at ▷ piece_at types_at attr true step) text) text s next ≡ Advanced parts t rest → StepsRead place id (step ∷ ss) found parts s t text rest
+    late_read place id step ss found parts s t text rest next again pieces e =
+        let a = tells_read ((space_at ▷ piece_at types_at attr true step) text) text s next parts t rest e in
+        let p = piece_read step a.0 text a.1 a.2 a.3 in
         let k = again a.0 a.2 a.4 in
         record {
           ps = tree.piece a.0 ∷ k.ps;
           regions = k.regions;
           whole = k.whole ∙ append_assoc found (tree.piece a.0 ∷ []) k.ps;
           fits = (p.0, k.fits);
-          may = (p.2, k.may);
           reads = (a.2, p.1, k.reads);
           acts = k.acts;
           none = λ h. k.none (pieces h);
         }
 
-    steps_read : (inside : Bool) (place : ℕ) (id : Id) (ss : List Step) (found parts : List (Part ℕ T A)) (s t : S) (text rest : Text) → EndsRegions ss
-        → steps_by dialects types_at attr does inner inside place id ss found text s ≡ Advanced parts t rest → StepsRead inside place id ss found parts s t text rest
-    steps_read inside place id [] found parts s t text rest ends e =
+    steps_read : (place : ℕ) (id : Id) (ss : List Step) (found parts : List (Part ℕ T A)) (s t : S) (text rest : Text) → EndsRegions ss
+        → steps_by dialects types_at attr does inner place id ss found text s ≡ Advanced parts t rest → StepsRead place id ss found parts s t text rest
+    steps_read place id [] found parts s t text rest ends e =
         let f : found ≡ parts = cc e in
         let g : s ≡ t = cc e in
         let h : text ≡ rest = cc e in
-        record { ps = []; regions = []; whole = sym f ∙ sym (append-nil found); fits = tt; may = tt; reads = sym h; acts = sym g; none = λ h. refl }
-    steps_read inside place id (one i ∷ ss) found parts s t text rest ends e =
-        let a = came_read (inner (after_space text) s) (λ _ t rest. steps_by dialects types_at attr does inner inside place id ss (found ++ tree.region i ∷ []) rest t) parts t rest e in
+        record { ps = []; regions = []; whole = sym f ∙ sym (append-nil found); fits = tt; reads = sym h; acts = sym g; none = λ h. refl }
+    steps_read place id (one i ∷ ss) found parts s t text rest ends e =
+        let a = came_read (inner (after_space text) s) (λ _ t rest. steps_by dialects types_at attr does inner place id ss (found ++ tree.region i ∷ []) rest t) parts t rest e in
         let x = tell.read (after_space text) s a.1 a.2 a.3 in
-        let k = steps_read inside place id ss (found ++ tree.region i ∷ []) parts a.1 t a.2 rest ends a.4 in
+        let k = steps_read place id ss (found ++ tree.region i ∷ []) parts a.1 t a.2 rest ends a.4 in
         record {
           ps = tree.region i ∷ k.ps;
           regions = x.0 ∷ k.regions;
           whole = k.whole ∙ append_assoc found (tree.region i ∷ []) k.ps;
           fits = (refl, k.fits);
-          may = k.may;
           reads = (a.2, x.1, k.reads);
           acts = k.acts ∙ ap (do_parts (isolated dialects) does place id k.ps (map (region_act texts owns dialects does iso) k.regions)) x.2;
           none = λ h. absurd h;
         }
-    steps_read inside place id (all ∷ ss) found parts s t text rest ends e =
-        let a = came_read (regions_by inner (length text) (after_space text) s) (λ _ t rest. steps_by dialects types_at attr does inner inside place id ss (found ++ tree.regions ∷ []) rest t) parts t rest e in
+    steps_read place id (all ∷ ss) found parts s t text rest ends e =
+        let a = came_read (regions_by inner (length text) (after_space text) s) (λ _ t rest. steps_by dialects types_at attr does inner place id ss (found ++ tree.regions ∷ []) rest t) parts t rest e in
         let x = loop_read (regions_loop inner) shrink (λ text s t rest b. tell.read text s t rest) (length text) (after_space text) s a.1 a.2 (space_bound (length text) text (omega arith)) a.3 in
-        let k = steps_read inside place id ss (found ++ tree.regions ∷ []) parts a.1 t a.2 rest (pieces_end ss ends) a.4 in
+        let k = steps_read place id ss (found ++ tree.regions ∷ []) parts a.1 t a.2 rest (pieces_end ss ends) a.4 in
         let none = k.none ends in
         record {
           ps = tree.regions ∷ k.ps;
           regions = x.items;
           whole = k.whole ∙ append_assoc found (tree.regions ∷ []) k.ps;
           fits = (tt, k.fits);
-          may = k.may;
           reads = (a.2, x.reads, subst (λ xs. reads.parts (l texts owns dialects) k.ps (map (region_of texts owns dialects does) xs) a.2 rest) none k.reads);
           acts = k.acts ∙ ap₂ (λ xs s. do_parts (isolated dialects) does place id k.ps (map (region_act texts owns dialects does iso) xs) s) none x.does;
           none = λ h. absurd h;
         }
-    steps_read inside place id (flat d ∷ ss) found parts s t text rest ends e =
-        late_read inside place id (flat d) ss found parts s t text rest _ (λ p m. steps_read inside place id ss (found ++ tree.piece p ∷ []) parts (does.late place id p s) t m rest ends) (λ h. h) e
-    steps_read inside place id (types ∷ ss) found parts s t text rest ends e =
-        late_read inside place id types ss found parts s t text rest _ (λ p m. steps_read inside place id ss (found ++ tree.piece p ∷ []) parts (does.late place id p s) t m rest ends) (λ h. h) e
+    steps_read place id (flat d ∷ ss) found parts s t text rest ends e =
+        late_read place id (flat d) ss found parts s t text rest _ (λ p m. steps_read place id ss (found ++ tree.piece p ∷ []) parts (does.late place id p s) t m rest ends) (λ h. h) e
+    steps_read place id (types ∷ ss) found parts s t text rest ends e =
+        late_read place id types ss found parts s t text rest _ (λ p m. steps_read place id ss (found ++ tree.piece p ∷ []) parts (does.late place id p s) t m rest ends) (λ h. h) e
 
     -- what follows an id, given these steps
-    abbrev body_with : Bool → ℕ → List (Name ℕ) → Id → List Step → Reads S
-    body_with inside place names id ss text s = came (front_by dialects types_at attr does inside (front_steps ss) [] text s) (λ found t rest.
-        came (steps_by dialects types_at attr does inner inside place id (region_steps ss) found rest (does.uses place id found t)) (λ parts u left. end_by dialects types_at attr does place names id parts left u))
+    abbrev body_with : ℕ → List (Name ℕ) → Id → List Step → Reads S
+    body_with place names id ss text s = came (front_by dialects types_at attr does true (front_steps ss) [] text s) (λ found t rest.
+        came (steps_by dialects types_at attr does inner place id (region_steps ss) found rest (does.uses place id found t)) (λ parts u left. end_by dialects types_at attr does place names id parts left u))
 
     -- a body that was parsed
-    record BodyRead (inside : Bool) (place : ℕ) (names : List (Name ℕ)) (id : Id) (ss : List Step) (s t : S) (text rest : Text) : Type 0 where
+    record BodyRead (place : ℕ) (names : List (Name ℕ)) (id : Id) (ss : List Step) (s t : S) (text rest : Text) : Type 0 where
       pub ps : List (Part ℕ T A)
       pub regions : List (Shown texts owns dialects does)
       pub mark : Option (Mark ℕ)
       pub mid : Text
       pub fits : ArePartsOf ps ss
-      pub may : MayUseAll inside ps
       pub parts : reads.parts (l texts owns dialects) ps (map (region_of texts owns dialects does) regions) text mid
       pub marks : reads.mark_if (l texts owns dialects) mark (after_space mid) rest
       pub acts : t ≡ does.marks mark (does.closes place names id ps (do_parts (isolated dialects) does place id (region_parts ps) (map (region_act texts owns dialects does iso) regions) (does.uses place id (front_parts ps) s)))
@@ -299,15 +292,15 @@ module _ {T A S : Type 0} (texts : Texts T) (owns : Texts A) (dialects : List (T
         (acts ∙ (ap₂ (λ ps s. do_parts (isolated dialects) does place id qs fs (does.uses place id ps s)) is same
         ∙ ap₂ (λ qs ps. do_parts (isolated dialects) does place id qs fs (does.uses place id ps s)) (sym following) (sym first)))
 
-    body_read : (inside : Bool) (place : ℕ) (names : List (Name ℕ)) (id : Id) (ss : List Step) (s t : S) (text rest : Text) → EndsRegions (region_steps ss)
-        → body_with inside place names id ss text s ≡ Advanced tt t rest → BodyRead inside place names id ss s t text rest
-    body_read inside place names id ss s t text rest ends e =
-        let a = came_read (front_by dialects types_at attr does inside (front_steps ss) [] text s) (λ found t rest.
-        came (steps_by dialects types_at attr does inner inside place id (region_steps ss) found rest (does.uses place id found t)) (λ parts u left. end_by dialects types_at attr does place names id parts left u)) tt t rest e in
-        let f = front_read inside ss [] a.0 s a.1 text a.2 a.3 in
-        let b = came_read (steps_by dialects types_at attr does inner inside place id (region_steps ss) a.0 a.2 (does.uses place id a.0 a.1)) (λ parts u left. end_by dialects types_at attr does place names id parts left u) tt t rest a.4 in
-        let g = steps_read inside place id (region_steps ss) a.0 b.0 (does.uses place id a.0 a.1) b.1 a.2 b.2 ends b.3 in
-        let j = f.joins g.ps (map (region_of texts owns dialects does) g.regions) b.2 g.fits g.may g.reads in
+    body_read : (place : ℕ) (names : List (Name ℕ)) (id : Id) (ss : List Step) (s t : S) (text rest : Text) → EndsRegions (region_steps ss)
+        → body_with place names id ss text s ≡ Advanced tt t rest → BodyRead place names id ss s t text rest
+    body_read place names id ss s t text rest ends e =
+        let a = came_read (front_by dialects types_at attr does true (front_steps ss) [] text s) (λ found t rest.
+        came (steps_by dialects types_at attr does inner place id (region_steps ss) found rest (does.uses place id found t)) (λ parts u left. end_by dialects types_at attr does place names id parts left u)) tt t rest e in
+        let f = front_read ss [] a.0 s a.1 text a.2 a.3 in
+        let b = came_read (steps_by dialects types_at attr does inner place id (region_steps ss) a.0 a.2 (does.uses place id a.0 a.1)) (λ parts u left. end_by dialects types_at attr does place names id parts left u) tt t rest a.4 in
+        let g = steps_read place id (region_steps ss) a.0 b.0 (does.uses place id a.0 a.1) b.1 a.2 b.2 ends b.3 in
+        let j = f.joins g.ps (map (region_of texts owns dialects does) g.regions) b.2 g.fits g.reads in
         let m = end_read place names id b.0 b.1 t b.2 rest b.4 in
         record {
           ps = f.ps ++ g.ps;
@@ -315,7 +308,6 @@ module _ {T A S : Type 0} (texts : Texts T) (owns : Texts A) (dialects : List (T
           mark = m.0;
           mid = b.2;
           fits = j.fits;
-          may = j.may;
           parts = j.parts;
           marks = m.1;
           acts = joined_acts place names id a.0 b.0 f.ps g.ps (map (region_act texts owns dialects does iso) g.regions) m.0 s a.1 b.1 t m.2 g.whole f.whole f.same g.acts j.following j.front;
@@ -325,10 +317,9 @@ module _ {T A S : Type 0} (texts : Texts T) (owns : Texts A) (dialects : List (T
 module _ {T A S : Type 0} (texts : Texts T) (owns : Texts A) (dialects : List (Text × Table)) (types_at : Reader T) (attr : Reader (AttrView A)) (does : Actions T A S)
     (heads : ReadHeads texts owns dialects types_at attr) (no_more : LeavesNoMore types_at) (none_more : LeavesNoMore attr) (accepted : (id : Id) → IsAccepted dialects id) where
   -- what an operation's parser parsed
-  record OperationRead (inside : Bool) (text : Text) (s t : S) (rest : Text) : Type 0 where
+  record OperationRead (text : Text) (s t : S) (rest : Text) : Type 0 where
     pub tree : Tree ℕ T A
     pub reads : reads.reads (l texts owns dialects) tree text rest
-    pub may : MayUseAll inside (parts_of tree.own.body)
     pub acts : t ≡ do_tree (isolated dialects) does tree s
 
   known_ends : (id : Id) (f : Format) → format_of dialects id ≡ Some f → EndsRegions (region_steps (steps_of f))
@@ -336,10 +327,10 @@ module _ {T A S : Type 0} (texts : Texts T) (owns : Texts A) (dialects : List (T
 
   module _ (inner : Bool → Reads S) (shrink : (iso : Bool) (b : ℕ) → Shrink b (inner iso) (inner iso)) (tell : (iso : Bool) → Tells (inner iso) (region_of texts owns dialects does) (region_act texts owns dialects does iso)) where
     -- the tree of a body that was parsed after its lead
-    body_tree : (inside : Bool) (text mid : Text) (s t : S) (rest : Text) (names : List (Name ℕ)) (id : Id) (f : Format) → format_of dialects id ≡ Some f → operation_lead (l texts owns dialects) (names, id) text mid
-        → BodyRead texts owns dialects types_at attr does heads (inner (isolated dialects id)) (shrink (isolated dialects id)) (isolated dialects id) (tell (isolated dialects id)) inside (length text) names id (steps_of f) s t mid rest
-        → OperationRead inside text s t rest
-    body_tree inside text mid s t rest names id f known (m, results, found) b =
+    body_tree : (text mid : Text) (s t : S) (rest : Text) (names : List (Name ℕ)) (id : Id) (f : Format) → format_of dialects id ≡ Some f → operation_lead (l texts owns dialects) (names, id) text mid
+        → BodyRead texts owns dialects types_at attr does heads (inner (isolated dialects id)) (shrink (isolated dialects id)) (isolated dialects id) (tell (isolated dialects id)) (length text) names id (steps_of f) s t mid rest
+        → OperationRead text s t rest
+    body_tree text mid s t rest names id f known (m, results, found) b =
         let z = body_of_steps f b.ps b.fits in
         record {
           tree = record { own = record { place = length text; names = names; id = id; body = z.body; mark = b.mark }; regions = regions_from texts owns dialects does b.regions };
@@ -363,27 +354,26 @@ module _ {T A S : Type 0} (texts : Texts T) (owns : Texts A) (dialects : List (T
               ),
             ),
           );
-          may = subst (MayUseAll inside) (sym z.parts) b.may;
           acts = b.acts ∙ ap₂ (λ ps fs. does.marks b.mark (does.closes (length text) names id ps (do_parts (isolated dialects) does (length text) id (region_parts ps) fs (does.uses (length text) id (front_parts ps) s))))
               (sym z.parts) (regions_do texts owns dialects does (isolated dialects id) b.regions);
         }
 
-    operation_read : (inside : Bool) (text : Text) (s t : S) (rest : Text) → operation_by dialects types_at attr does inner inside text s ≡ Advanced tt t rest → OperationRead inside text s t rest
-    operation_read inside text s t rest e =
-        let a = tells_read (led_at dialects text) text s (λ lead rest. body_by dialects types_at attr does (inner (isolated dialects lead.1)) inside (length text) lead.0 lead.1 rest s) tt t rest e in
+    operation_read : (text : Text) (s t : S) (rest : Text) → operation_by dialects types_at attr does inner true text s ≡ Advanced tt t rest → OperationRead text s t rest
+    operation_read text s t rest e =
+        let a = tells_read (led_at dialects text) text s (λ lead rest. body_by dialects types_at attr does (inner (isolated dialects lead.1)) true (length text) lead.0 lead.1 rest s) tt t rest e in
         let lead = heads.lead text a.0 a.1 a.2 a.3 in
-        known_read inside text s t rest a.0.0 a.0.1 a.2 lead.0.0 lead.0.1 lead.1 a.4
+        known_read text s t rest a.0.0 a.0.1 a.2 lead.0.0 lead.0.1 lead.1 a.4
       where
-        known_read : (inside : Bool) (text : Text) (s t : S) (rest : Text) (names : List (Name ℕ)) (id : Id) (mid : Text) (f : Format) → format_of dialects id ≡ Some f → operation_lead (l texts owns dialects) (names, id) text mid
-            → body_by dialects types_at attr does (inner (isolated dialects id)) inside (length text) names id mid s ≡ Advanced tt t rest → OperationRead inside text s t rest
-        known_read inside text s t rest names id mid f known lead e =
+        known_read : (text : Text) (s t : S) (rest : Text) (names : List (Name ℕ)) (id : Id) (mid : Text) (f : Format) → format_of dialects id ≡ Some f → operation_lead (l texts owns dialects) (names, id) text mid
+            → body_by dialects types_at attr does (inner (isolated dialects id)) true (length text) names id mid s ≡ Advanced tt t rest → OperationRead text s t rest
+        known_read text s t rest names id mid f known lead e =
             let iso = isolated dialects id in
-            body_tree inside text mid s t rest names id f known lead
-            (body_read texts owns dialects types_at attr does heads (inner iso) (shrink iso) iso (tell iso) inside (length text) names id (steps_of f) s t mid rest (known_ends id f known)
-            (subst (λ ss. body_with texts owns dialects types_at attr does heads (inner iso) (shrink iso) iso (tell iso) inside (length text) names id ss mid s ≡ Advanced tt t rest) (steps_known dialects id f known) e))
+            body_tree text mid s t rest names id f known lead
+            (body_read texts owns dialects types_at attr does heads (inner iso) (shrink iso) iso (tell iso) (length text) names id (steps_of f) s t mid rest (known_ends id f known)
+            (subst (λ ss. body_with texts owns dialects types_at attr does heads (inner iso) (shrink iso) iso (tell iso) (length text) names id ss mid s ≡ Advanced tt t rest) (steps_known dialects id f known) e))
 
-    operation_shrinks : (inside : Bool) (b : ℕ) → Shrink b (operation_by dialects types_at attr does inner inside) (operation_by dialects types_at attr does inner inside)
-    operation_shrinks inside b = operation_agree dialects types_at attr does no_more none_more b inner inner (λ iso. shrunk (shrink iso b)) inside
+    operation_shrinks : (b : ℕ) → Shrink b (operation_by dialects types_at attr does inner true) (operation_by dialects types_at attr does inner true)
+    operation_shrinks b = operation_agree dialects types_at attr does no_more none_more b inner inner (λ iso. shrunk (shrink iso b)) true
 
   module _ (item : Reads S) (shrink : (b : ℕ) → Shrink b item item) (tell : Tells item (reads.reads (l texts owns dialects)) (do_tree (isolated dialects) does)) where
     after_read : (text : Text) (s t : S) (rest : Text) → begins (the 59) text ≡ true → after_semicolon item text s ≡ Advanced tt t rest
@@ -469,9 +459,9 @@ module _ {T A S : Type 0} (texts : Texts T) (owns : Texts A) (dialects : List (T
   within_read zero iso = record { read = λ text s t rest e. absurd (cc e) }
   within_read (suc n) iso = record {
     read = λ text s t rest e. region_read (operation_by dialects types_at attr does (region_within dialects types_at attr does n) true)
-        (operation_shrinks (region_within dialects types_at attr does n) (λ iso b. within_shrinks dialects types_at attr does no_more none_more n b iso) (λ iso. within_read n iso) true)
+        (operation_shrinks (region_within dialects types_at attr does n) (λ iso b. within_shrinks dialects types_at attr does no_more none_more n b iso) (λ iso. within_read n iso))
         (record {
-          read = λ text s t rest e. let k = operation_read (region_within dialects types_at attr does n) (λ iso b. within_shrinks dialects types_at attr does no_more none_more n b iso) (λ iso. within_read n iso) true text s t rest e in
+          read = λ text s t rest e. let k = operation_read (region_within dialects types_at attr does n) (λ iso b. within_shrinks dialects types_at attr does no_more none_more n b iso) (λ iso. within_read n iso) text s t rest e in
               (k.tree, k.reads, k.acts);
         })
         iso text s t rest e;
@@ -481,13 +471,12 @@ module _ {T A S : Type 0} (texts : Texts T) (owns : Texts A) (dialects : List (T
   region_tells : (iso : Bool) → Tells (region_at dialects types_at attr does iso) (region_of texts owns dialects does) (region_act texts owns dialects does iso)
   region_tells iso = record { read = λ text s t rest e. (within_read (suc (length text)) iso).read text s t rest e }
 
-  -- What an operation's parser parses is a tree that the grammar parses, and it has done what the tree does; outside of each region the
-  -- operation itself uses no name.
-  pub tree_read : (inside : Bool) (text : Text) (s t : S) (rest : Text) → operation_at dialects types_at attr does inside text s ≡ Advanced tt t rest
-      → (x : Tree ℕ T A) × reads.reads (l texts owns dialects) x text rest × MayUseAll inside (parts_of x.own.body) × (t ≡ do_tree (isolated dialects) does x s)
-  tree_read inside text s t rest e =
-      let k = operation_read (region_at dialects types_at attr does) (λ iso b. region_shrinks dialects types_at attr does no_more none_more b iso) region_tells inside text s t rest e in
-      (k.tree, k.reads, k.may, k.acts)
+  -- What an operation's parser parses is a tree that the grammar parses, and it has done what the tree does.
+  pub tree_read : (text : Text) (s t : S) (rest : Text) → operation_at dialects types_at attr does true text s ≡ Advanced tt t rest
+      → (x : Tree ℕ T A) × reads.reads (l texts owns dialects) x text rest × (t ≡ do_tree (isolated dialects) does x s)
+  tree_read text s t rest e =
+      let k = operation_read (region_at dialects types_at attr does) (λ iso b. region_shrinks dialects types_at attr does no_more none_more b iso) region_tells text s t rest e in
+      (k.tree, k.reads, k.acts)
 
   -- What a region's parser parses is a region that the grammar parses, and it has done what the region does.
   pub region_is_read : (iso : Bool) (text : Text) (s t : S) (rest : Text) → region_at dialects types_at attr does iso text s ≡ Advanced tt t rest

@@ -14,7 +14,6 @@ use Rattle.irtext_parse_spec.proofs.Joins.PartSteps.{Orderly}
 use Rattle.irtext_parse_spec.specs.Heads.{Step, flat, types, one, all, step_of, canonical_steps, steps_of, region_steps}
 use Rattle.irtext_parse_spec.specs.Exact.{IsOfStep}
 use Rattle.irtext_parse_spec.specs.Reached.{steps_in, front_parts, region_parts}
-use Rattle.irtext_parse_spec.proofs.Knot.Heads.{MayUseAll}
 use Rattle.irtext_parse_spec.proofs.Exact.Pieces.{is_made, is_types}
 
 module _ {T A : Type 0} where
@@ -163,13 +162,6 @@ module _ {T A : Type 0} where
   region_fit (tree.region i ∷ ps) (one j ∷ ss) h = h
   region_fit (tree.regions ∷ ps) (all ∷ ss) h = h
   region_fit (p ∷ ps) (step ∷ ss) h = absurd h.0
-
-  -- what holds of all parts holds of those from the first region on
-  pub region_uses : (inside : Bool) (ps : List (Part ℕ T A)) → MayUseAll inside ps → MayUseAll inside (region_parts ps)
-  region_uses inside [] h = tt
-  region_uses inside (tree.piece p ∷ ps) h = region_uses inside ps h.1
-  region_uses inside (tree.region i ∷ ps) h = h
-  region_uses inside (tree.regions ∷ ps) h = h
 
   -- both make up all parts
   pub split_parts : (ps : List (Part ℕ T A)) → front_parts ps ++ region_parts ps ≡ ps

@@ -1,6 +1,6 @@
 -- What the parsers of nested text accept is what the grammar parses. Of a caller's types and attributes it is required that what they take
 -- and leave is the text and, where a marker may be in place of an attribute, that attributes begin as a word does.
-use Rattle.std.proofs.Common.{◌≡◌, ℕ, Bool, true, false, List, length, ap, arith, length-append}
+use Rattle.std.proofs.Common.{◌≡◌, ℕ, Bool, true, List, length, ap, arith, length-append}
 use Rattle.irtext_base.specs.Text.{Text}
 use Rattle.irtext_base.specs.Faults.{Fault}
 use Rattle.irtext_base.specs.Format.{Id}
@@ -12,20 +12,18 @@ use Rattle.irtext_tokens.specs.AttrTexts.{attr_at}
 use Rattle.irtext_grammar.specs.Contexts.Formats.{format_of, isolated, IsAccepted}
 use Rattle.irtext_grammar.specs.Grammar.Forest.{Blocks}
 use Rattle.irtext_grammar.specs.Grammar.Reads as reads
-use Rattle.irtext_grammar.specs.Grammar.Tree.{Op, Head, Brace, shown, Tree, Piece, parts_of}
+use Rattle.irtext_grammar.specs.Grammar.Tree.{Op, Head, Brace, shown, Tree}
 use Rattle.irtext_parse_spec.specs.Readers.RestLengths.{LeavesNoMore}
 use Rattle.irtext_parse_spec.proofs.Joins.Answers.{Splits}
 use Rattle.irtext_parse_spec.proofs.Joins.Attributes.{splits_attr}
-use Rattle.irtext_parse_spec.specs.Exact.{NeedsWord, step_piece}
-use Rattle.irtext_parse_spec.specs.Heads.{Step, piece_at}
+use Rattle.irtext_parse_spec.specs.Exact.{NeedsWord}
 use Rattle.irtext_parse_spec.specs.Reached.{Advanced, Stopped, Actions, region_at, operation_at, do_tree, do_blocks}
 use Rattle.irtext_parse_spec.proofs.Exact.Head.{exact_head}
 use Rattle.irtext_parse_spec.proofs.Exact.Lead.{exact_led}
 use Rattle.irtext_parse_spec.proofs.Exact.Names.{exact_mark_if}
-use Rattle.irtext_parse_spec.proofs.Exact.Outside.{exact_outside, outside_read}
 use Rattle.irtext_parse_spec.proofs.Exact.Pieces.{exact_piece, piece_read}
 use Rattle.irtext_parse_spec.proofs.Knot.Found as found
-use Rattle.irtext_parse_spec.proofs.Knot.Heads.{MayUse, ReadHeads, FoundHeads, inside_all}
+use Rattle.irtext_parse_spec.proofs.Knot.Heads.{ReadHeads, FoundHeads}
 use Rattle.irtext_parse_spec.proofs.Knot.Read as read
 
 -- a parser that takes and leaves the text leaves no more than the text
@@ -40,31 +38,19 @@ module _ {T A : Type 0} (types_at : Text → Outcome T) (types_written : T → T
   L = language (texts_of types_at types_written) (texts_of reading written) (format_of dialects)
 
   module _ (types_split : Splits types_at) (splits : Splits reading) where
-    own_read : (inside : Bool) (step : Step) (text : Text) (p : Piece ℕ T A) (taken rest : Text) → piece_at types_at (attr_at reading) inside step text ≡ Read p taken rest
-        → step_piece L step p text rest × MayUse inside p
-    own_read true step text p taken rest e = ((piece_read types_at types_written reading written (format_of dialects) types_split splits step text p taken rest e).0, tt)
-    own_read false step text p taken rest e =
-        let k = outside_read types_at types_written reading written (format_of dialects) types_split splits step text p taken rest e in
-        ((piece_read types_at types_written reading written (format_of dialects) types_split splits step text p taken rest k.1).0, k.0)
-
     heads_read : ReadHeads (texts_of types_at types_written) (texts_of reading written) dialects types_at (attr_at reading)
     heads_read = record {
       lead = λ text lead taken rest e. ((exact_led dialects (texts_of types_at types_written) (texts_of reading written)).read text lead taken rest e).0;
       head = λ text head taken rest e. ((exact_head types_at types_written reading written (format_of dialects) types_split splits).read text head taken rest e).0;
-      piece = own_read;
+      piece = λ step text p taken rest e. (piece_read types_at types_written reading written (format_of dialects) types_split splits step text p taken rest e).0;
       mark = λ text mark taken rest e. ((exact_mark_if (texts_of types_at types_written) (texts_of reading written) (format_of dialects)).read text mark taken rest e).0;
     }
-
-    own_found : NeedsWord reading → (inside : Bool) (step : Step) (text : Text) (p : Piece ℕ T A) (rest : Text) → step_piece L step p text rest → MayUse inside p
-        → (taken : Text) × (piece_at types_at (attr_at reading) inside step text ≡ Read p taken rest)
-    own_found words true step text p rest r may = (exact_piece types_at types_written reading written (format_of dialects) types_split splits step (λ _. words)).found text p rest r
-    own_found words false step text p rest r may = (exact_outside types_at types_written reading written (format_of dialects) types_split splits step (λ _. words)).found text p rest (may, r)
 
     heads_found : NeedsWord reading → FoundHeads (texts_of types_at types_written) (texts_of reading written) dialects types_at (attr_at reading)
     heads_found words = record {
       lead = λ text lead rest r. (exact_led dialects (texts_of types_at types_written) (texts_of reading written)).found text lead rest r;
       head = λ text head rest r. (exact_head types_at types_written reading written (format_of dialects) types_split splits).found text head rest r;
-      piece = own_found words;
+      piece = λ step text p rest r. (exact_piece types_at types_written reading written (format_of dialects) types_split splits step (λ _. words)).found text p rest r;
       mark = λ text mark rest r. (exact_mark_if (texts_of types_at types_written) (texts_of reading written) (format_of dialects)).found text mark rest r;
     }
 
@@ -75,8 +61,8 @@ module _ {T A : Type 0} (types_at : Text → Outcome T) (types_written : T → T
           → (x : Tree ℕ T A) × reads.reads L x text rest × (t ≡ do_tree (isolated dialects) does x s)
       tree_read accepted text s t rest e =
           let k = read.tree_read (texts_of types_at types_written) (texts_of reading written) dialects types_at (attr_at reading) does heads_read (leaves_no_more types_at types_split)
-          (leaves_no_more (attr_at reading) (splits_attr reading splits)) accepted true text s t rest e in
-          (k.0, k.1, k.3)
+          (leaves_no_more (attr_at reading) (splits_attr reading splits)) accepted text s t rest e in
+          (k.0, k.1, k.2)
 
       -- The same for a region, which begins at its `{`.
       pub region_read : ((id : Id) → IsAccepted dialects id) → (iso : Bool) (text : Text) (s t : S) (rest : Text) → region_at dialects types_at (attr_at reading) does iso text s ≡ Advanced tt t rest
@@ -92,7 +78,7 @@ module _ {T A : Type 0} (types_at : Text → Outcome T) (types_written : T → T
         pub tree_found : (x : Tree ℕ T A) (text rest : Text) (s : S) → reads.reads L x text rest → operation_at dialects types_at (attr_at reading) does true text s ≡ Advanced tt (do_tree (isolated dialects) does x s) rest
         tree_found x text rest s r =
             found.tree_found (texts_of types_at types_written) (texts_of reading written) dialects types_at (attr_at reading) does (heads_found words) (leaves_no_more types_at types_split)
-            (leaves_no_more (attr_at reading) (splits_attr reading splits)) true x text rest s (inside_all (parts_of x.own.body)) r
+            (leaves_no_more (attr_at reading) (splits_attr reading splits)) x text rest s r
 
         -- The same of a region.
         pub region_found : (iso : Bool) (bs : Blocks (Op ℕ T A) (Head ℕ T A) (Brace ℕ)) (text rest : Text) (s : S) → reads.region_read L (shown (length text)) (reads.block_readings L bs) text rest

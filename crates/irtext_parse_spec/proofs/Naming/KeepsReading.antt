@@ -70,16 +70,16 @@ module _ {T A S : Type 0} (dialects : List (Text × Table)) (types_at : Text →
   quiet_front inside (step ∷ ss) found text = quiet_tells s ((space_at ▷ piece_at types_at attr inside step) text) text _ (λ p rest. quiet_front inside ss (found ++ tree.piece p ∷ []) rest)
 
   -- parts from the first region on
-  pub quiet_steps : (inner : Reads S) → Quiet s inner → (inside : Bool) (place : ℕ) (id : Id) (ss : List Step) (found : List (Part ℕ T A)) (text : Text)
-      → done_in (steps_by dialects types_at attr does inner inside place id ss found text s) ≡ s
-  quiet_steps inner q inside place id [] found text = refl
-  quiet_steps inner q inside place id (one i ∷ ss) found text =
-      quiet_came s (inner (after_space text) s) _ (q.at (after_space text)) (λ u rest. quiet_steps inner q inside place id ss (found ++ tree.region i ∷ []) rest)
-  quiet_steps inner q inside place id (all ∷ ss) found text =
-      quiet_came s (regions_by inner (length text) (after_space text) s) _ (quiet_regions s inner q (length text) (after_space text)) (λ u rest. quiet_steps inner q inside place id ss (found ++ tree.regions ∷ []) rest)
-  quiet_steps inner q inside place id (step ∷ ss) found text = quiet_tells s ((space_at ▷ piece_at types_at attr inside step) text) text _ (λ p rest.
-      ap (λ z. done_in (steps_by dialects types_at attr does inner inside place id ss (found ++ tree.piece p ∷ []) rest z)) (keeps.late place id p)
-      ∙ quiet_steps inner q inside place id ss (found ++ tree.piece p ∷ []) rest)
+  pub quiet_steps : (inner : Reads S) → Quiet s inner → (place : ℕ) (id : Id) (ss : List Step) (found : List (Part ℕ T A)) (text : Text)
+      → done_in (steps_by dialects types_at attr does inner place id ss found text s) ≡ s
+  quiet_steps inner q place id [] found text = refl
+  quiet_steps inner q place id (one i ∷ ss) found text =
+      quiet_came s (inner (after_space text) s) _ (q.at (after_space text)) (λ u rest. quiet_steps inner q place id ss (found ++ tree.region i ∷ []) rest)
+  quiet_steps inner q place id (all ∷ ss) found text =
+      quiet_came s (regions_by inner (length text) (after_space text) s) _ (quiet_regions s inner q (length text) (after_space text)) (λ u rest. quiet_steps inner q place id ss (found ++ tree.regions ∷ []) rest)
+  quiet_steps inner q place id (step ∷ ss) found text = quiet_tells s ((space_at ▷ piece_at types_at attr true step) text) text _ (λ p rest.
+      ap (λ z. done_in (steps_by dialects types_at attr does inner place id ss (found ++ tree.piece p ∷ []) rest z)) (keeps.late place id p)
+      ∙ quiet_steps inner q place id ss (found ++ tree.piece p ∷ []) rest)
 
   -- an operation's end
   pub quiet_end : (place : ℕ) (names : List (Name ℕ)) (id : Id) (parts : List (Part ℕ T A)) (text : Text) → done_in (end_by dialects types_at attr does place names id parts text s) ≡ s
@@ -91,10 +91,10 @@ module _ {T A S : Type 0} (dialects : List (Text × Table)) (types_at : Text →
   pub quiet_body : (inner : Reads S) → Quiet s inner → (inside : Bool) (place : ℕ) (names : List (Name ℕ)) (id : Id) (text : Text) → done_in (body_by dialects types_at attr does inner inside place names id text s) ≡ s
   quiet_body inner q inside place names id text =
       quiet_came s (front_by dialects types_at attr does inside (front_steps (steps_in dialects id)) [] text s) _ (quiet_front inside (front_steps (steps_in dialects id)) [] text) (λ found rest.
-      ap (λ z. done_in (came (steps_by dialects types_at attr does inner inside place id (region_steps (steps_in dialects id)) found rest z)
+      ap (λ z. done_in (came (steps_by dialects types_at attr does inner place id (region_steps (steps_in dialects id)) found rest z)
       (λ parts u left. end_by dialects types_at attr does place names id parts left u))) (keeps.uses place id found)
-      ∙ quiet_came s (steps_by dialects types_at attr does inner inside place id (region_steps (steps_in dialects id)) found rest s) _
-      (quiet_steps inner q inside place id (region_steps (steps_in dialects id)) found rest) (λ parts left. quiet_end place names id parts left))
+      ∙ quiet_came s (steps_by dialects types_at attr does inner place id (region_steps (steps_in dialects id)) found rest s) _
+      (quiet_steps inner q place id (region_steps (steps_in dialects id)) found rest) (λ parts left. quiet_end place names id parts left))
 
   -- an operation, where its regions do
   pub quiet_operation : (inner : Bool → Reads S) → ((iso : Bool) → Quiet s (inner iso)) → (inside : Bool) → Quiet s (operation_by dialects types_at attr does inner inside)

@@ -25,9 +25,9 @@ module _ {T A S : Type 0} (dialects : List (Text × Table)) (types_at : Text →
 
     quiet_operation_rest : (o : OpenOperation T A) (text : Text) → done_in (rest_of dialects types_at attr does (an_operation o) text s) ≡ s
     quiet_operation_rest o text =
-        quiet_came s (steps_by dialects types_at attr does (region_at dialects types_at attr does (isolated dialects o.id)) o.inside o.place o.id o.steps o.parts text s)
+        quiet_came s (steps_by dialects types_at attr does (region_at dialects types_at attr does (isolated dialects o.id)) o.place o.id o.steps o.parts text s)
         (λ parts u left. end_by dialects types_at attr does o.place o.names o.id parts left u)
-        (quiet_steps dialects types_at attr does s keeps (region_at dialects types_at attr does (isolated dialects o.id)) (quiet_region_at dialects types_at attr does s keeps (isolated dialects o.id)) o.inside o.place o.id o.steps o.parts text)
+        (quiet_steps dialects types_at attr does s keeps (region_at dialects types_at attr does (isolated dialects o.id)) (quiet_region_at dialects types_at attr does s keeps (isolated dialects o.id)) o.place o.id o.steps o.parts text)
         (λ parts left. quiet_end dialects types_at attr does s keeps o.place o.names o.id parts left)
 
     quiet_region_rest : (iso : Bool) (place : _) (text : Text) → done_in (rest_of dialects types_at attr does (a_region iso place) text s) ≡ s

@@ -12,7 +12,7 @@ use Rattle.irtext_tokens.specs.Infix.{Reader, ◌▷◌}
 use Rattle.irtext_tokens.specs.Tokens.{space_at}
 use Rattle.irtext_grammar.specs.Grammar.Tree as tree
 use Rattle.irtext_grammar.specs.Grammar.Tree.{Part, Piece}
-use Rattle.irtext_parse_spec.proofs.Joins.Answers.{Splits, splits_followed}
+use Rattle.irtext_parse_spec.proofs.Joins.Answers.{Splits, followed_read, followed-read, splits_followed}
 use Rattle.irtext_parse_spec.specs.Heads.{Step, flat, types, one, all, front_steps, region_steps, piece_at}
 use Rattle.irtext_parse_spec.specs.Reached.{Reached, Advanced, Stopped, tells, Actions, front_by}
 use Rattle.irtext_parse_spec.specs.Resume.{is_flat, front_at}
@@ -49,7 +49,21 @@ module _ {T A : Type 0} (types_at : Reader T) (reading : Reader A) (h : Splits t
   -- what a piece takes and leaves is the text, inside of some region and outside of each
   pub splits_piece : (inside : Bool) (step : Step) → Splits (piece_at types_at (attr_at reading) inside step)
   splits_piece true step text p taken rest e = splits_inside step text p taken rest e
-  splits_piece false step text p taken rest e = splits_inside step text p taken rest (outside_read types_at (λ t. []) reading (λ a. []) (λ id. None) h k step text p taken rest e).1
+  splits_piece false step text p taken rest e = (outside_read types_at (λ t. []) reading (λ a. []) (λ id. None) h k step text p taken rest e).1
+
+  -- a front that is parsed outside of each region is parsed inside of one too
+  pub front_inside : (ss : List Step) (found parts : List (Part ℕ T A)) (text taken rest : Text) → front_at types_at (attr_at reading) false ss found text ≡ Read parts taken rest
+      → (more : Text) × (front_at types_at (attr_at reading) true ss found text ≡ Read parts more rest)
+  front_inside [] found parts text taken rest e = (taken, e)
+  front_inside (step ∷ ss) found parts text taken rest e =
+      let a = followed_read ((space_at ▷ piece_at types_at (attr_at reading) false step) text) (λ p. front_at types_at (attr_at reading) false ss (found ++ tree.piece p ∷ [])) parts taken rest e in
+      let b = followed_read (space_at text) (λ _ t. piece_at types_at (attr_at reading) false step t) a.value a.front a.middle a.first in
+      let p = (outside_read types_at (λ t. []) reading (λ a. []) (λ id. None) h k step b.middle a.value b.more a.middle b.second).0 in
+      let more = front_inside ss (found ++ tree.piece a.value ∷ []) parts a.middle a.more rest a.second in (
+        _,
+        followed-read ((space_at ▷ piece_at types_at (attr_at reading) true step) text) (λ p. front_at types_at (attr_at reading) true ss (found ++ tree.piece p ∷ [])) a.value parts (b.front ++ p.0) a.middle more.0 rest
+            (followed-read (space_at text) (λ _ t. piece_at types_at (attr_at reading) true step t) b.value a.value b.front b.middle p.0 a.middle b.first p.1) more.1,
+      )
 
 module _ {X Y S : Type 0} (s : S) (next : X → Text → Reached Y S) where
   tells_prefixed : (taken rest text : Text) (o : Outcome X) → length text ≡ length taken + length rest → tells (prefixed taken o) text s next ≡ tells o rest s next

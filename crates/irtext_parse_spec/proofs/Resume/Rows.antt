@@ -56,7 +56,7 @@ abbrev from : Option (Open (Unit {0}) (Unit {0})) → List (Open (Unit {0}) (Uni
 from = whole known no_types no_attr log
 
 abbrev holder : List Step → List (Part ℕ (Unit {0}) (Unit {0})) → OpenOperation (Unit {0}) (Unit {0})
-holder ss ps = record { inside = false; place = 19; names = []; id = record { dialect = codes "t"; name = codes "h" }; steps = ss; parts = ps }
+holder ss ps = record { place = 19; names = []; id = record { dialect = codes "t"; name = codes "h" }; steps = ss; parts = ps }
 
 -- t.h {^b(): t.n; a = t.n}
 abbrev one_region : Text
@@ -75,7 +75,7 @@ abbrev many_regions : Text
 many_regions = codes "t.a {} {} ."
 
 abbrev holds_all : List Step → List (Part ℕ (Unit {0}) (Unit {0})) → OpenOperation (Unit {0}) (Unit {0})
-holds_all ss ps = record { inside = false; place = 11; names = []; id = record { dialect = codes "t"; name = codes "a" }; steps = ss; parts = ps }
+holds_all ss ps = record { place = 11; names = []; id = record { dialect = codes "t"; name = codes "a" }; steps = ss; parts = ps }
 
 row_all : read_all many_regions ≡ Advanced tt (1 ∷ 11 ∷ 3 ∷ 4 ∷ 7 ∷ 3 ∷ 4 ∷ 4 ∷ 2 ∷ 11 ∷ 5 ∷ 11 ∷ 6 ∷ []) []
 unfolding word_at id_at

@@ -71,7 +71,7 @@ module _ {T A S : Type 0} (dialects : List (Text × Table)) (types_at : Text →
 
   -- what is left of an operation by these steps, and its end
   abbrev go_on : OpenOperation T A → List Step → List (Part ℕ T A) → S → Text → Reached (List (Part ℕ T A)) S
-  go_on o ss ps u rest = steps_by dialects types_at attr does (inner (isolated dialects o.id)) o.inside o.place o.id ss ps rest u
+  go_on o ss ps u rest = steps_by dialects types_at attr does (inner (isolated dialects o.id)) o.place o.id ss ps rest u
 
   abbrev and_end : OpenOperation T A → List (Part ℕ T A) → S → Text → Reached Unit S
   and_end o parts u left = end_by dialects types_at attr does o.place o.names o.id parts left u
@@ -89,13 +89,13 @@ module _ {T A S : Type 0} (dialects : List (Text × Table)) (types_at : Text →
       front = front_by dialects types_at attr does inside (front_steps (steps_in dialects id)) [] r s
 
       abbrev after_front : List (Part ℕ T A) → S → Text → Reached Unit S
-      after_front found u rest = left_of (an_operation (begun dialects inside (length t) names id found)) rest (does.uses (length t) id found u)
+      after_front found u rest = left_of (an_operation (begun dialects (length t) names id found)) rest (does.uses (length t) id found u)
 
       by_front : left_of (to_come inside) t s ≡ came front after_front
       by_front = tells_found (led_at dialects t) t s after_the_lead (names, id) taken r e
 
       pub operation_begins : (found : List (Part ℕ T A)) (r' : Text) → front ≡ Advanced found s r'
-          → Turns (to_come inside) frames s t (Some (an_operation (begun dialects inside (length t) names id found))) frames (does.uses (length t) id found s) r'
+          → Turns (to_come inside) frames s t (Some (an_operation (begun dialects (length t) names id found))) frames (does.uses (length t) id found s) r'
       operation_begins found r' f = goes_as (by_front ∙ ap (λ o. came o after_front) f)
 
       pub no_front : (z : S) (cause : Fault) (place : ℕ) → front ≡ Stopped z cause place → Stops (to_come inside) frames s t z cause place
@@ -110,7 +110,7 @@ module _ {T A S : Type 0} (dialects : List (Text × Table)) (types_at : Text →
     -- a piece
     module _ (step : Step) (ss : List Step) (e : o.steps ≡ step ∷ ss) (f : is_flat step ≡ true) where
       abbrev next_piece : Step → Outcome (Piece ℕ T A)
-      next_piece step = (space_at ▷ piece_at types_at attr o.inside step) t
+      next_piece step = (space_at ▷ piece_at types_at attr true step) t
 
       abbrev after_piece : Piece ℕ T A → Text → Reached (List (Part ℕ T A)) S
       after_piece p rest = go_on o ss (o.parts ++ tree.piece p ∷ []) (does.late o.place o.id p s) rest

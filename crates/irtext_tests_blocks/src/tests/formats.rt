@@ -1,4 +1,6 @@
 //! Unambiguous formats: an operation that fits one is parsed in a root and printed, and the printed text is parsed and printed unchanged.
+//! As a root itself it is an error if it uses a name.
+use crate::tests::live_objects::said;
 use irtext_tests_common::contexts::{Ctx, with_demo};
 use irtext_tests_print::reading::printed;
 use irtext_tests_print::registering::register;
@@ -187,6 +189,60 @@ fn comes_back(alloc: Global, row: &Row) -> Result<bool, Fail> {
 fn accepted_formats_are_read_back(rt: HostRuntime) -> Result<(), Fail> {
     for row in ROWS {
         assert!(rt; comes_back(rt.alloc(), row)?, "{}: {}", row.format, row.op);
+    }
+    Ok(())
+}
+
+/// A format, a root `test.z` in it with names or keys that are errors outside of every region, and the first error.
+const OUTSIDE: &[(&str, &str, &str)] = &[
+    (
+        "d0",
+        "test.z [builtin_given_names: builtin.identifier q] x",
+        "line: 1, column: 9: Reserved attribute key: builtin_given_names!",
+    ),
+    (
+        "d0",
+        "test.z [builtin_given_names: builtin.identifier q] x #",
+        "line: 1, column: 9: Reserved attribute key: builtin_given_names!",
+    ),
+    (
+        "d0",
+        "test.z [a: builtin.identifier q] x #",
+        "line: 1, column: 34: No active scope for identifier x!",
+    ),
+    (
+        "0d",
+        "test.z x [builtin_given_names: builtin.identifier q]",
+        "line: 1, column: 8: No active scope for identifier x!",
+    ),
+    (
+        "0:d",
+        "test.z x # [builtin_given_names: builtin.identifier q]",
+        "line: 1, column: 8: No active scope for identifier x!",
+    ),
+    (
+        "ts",
+        "test.z ^b #",
+        "line: 1, column: 9: No active scope for identifier b!",
+    ),
+    (
+        "ad",
+        "test.z {} [builtin_given_names: builtin.identifier q] #",
+        "line: 1, column: 1: Regions in a top-level operation must be IsolatedFromAbove!",
+    ),
+];
+
+/// The error of a root's text, once `test.z` is registered with the format of these letters.
+fn refused(alloc: Global, ctx: &mut Ctx, letters: &str, text: &str) -> Result<String, Fail> {
+    register(alloc, ctx, ("test", "z"), letters, false)?;
+    said(alloc, ctx, text)
+}
+
+#[test]
+fn names_and_keys_of_a_root_are_tested_in_order(rt: HostRuntime) -> Result<(), Fail> {
+    for row in OUTSIDE {
+        let said = with_demo(rt.alloc(), |alloc, ctx| refused(alloc, ctx, row.0, row.1))?;
+        assert_eq!(rt; said.as_str(), row.2, "{}: {}", row.0, row.1);
     }
     Ok(())
 }

@@ -241,22 +241,38 @@ const SECTIONS: &[(&str, &str)] = &[
     ),
 ];
 
-/// Texts with a syntax error or an unregistered attribute after a name that is used outside of every region,
-/// after a reserved key or after an argument that is defined twice, and the error of each. The parts of an
-/// operation before its first region, and the header of a block, are parsed before their names and reserved keys
-/// are looked at.
+/// Texts in which an error comes after a name that is used outside of every region, after a reserved key or after
+/// an argument that is defined twice, and the error of each. Outside of every region names and keys are tested as
+/// they are parsed. Inside of one the parts of an operation before its first region, and the header of a block,
+/// are parsed before their names and reserved keys are looked at.
 const PARSED_FIRST: &[(&str, &str)] = &[
     (
+        "test.global (x) oops",
+        "line: 1, column: 14: No active scope for identifier x!",
+    ),
+    (
         "test.global (x) [] #",
-        "line: 1, column: 20: Unexpected `#`, expected `[`!",
+        "line: 1, column: 14: No active scope for identifier x!",
     ),
     (
         "test.global (x) []",
-        "line: 1, column: 19: Unexpected end of input, expected `[`!",
+        "line: 1, column: 14: No active scope for identifier x!",
+    ),
+    (
+        "test.global (5) [^y]",
+        "line: 1, column: 14: Unexpected `5`, expected `)`!",
+    ),
+    (
+        "test.global () [^y, #] oops",
+        "line: 1, column: 18: No active scope for identifier y!",
+    ),
+    (
+        "test.br ^a oops",
+        "line: 1, column: 10: No active scope for identifier a!",
     ),
     (
         "test.return x, #",
-        "line: 1, column: 16: Unexpected `#`, expected identifier!",
+        "line: 1, column: 13: No active scope for identifier x!",
     ),
     (
         "test.return x #",
@@ -264,7 +280,23 @@ const PARSED_FIRST: &[(&str, &str)] = &[
     ),
     (
         "test.global (x) [^y] [k: foo.bar]",
-        "line: 1, column: 26: Unregistered attribute foo.bar!",
+        "line: 1, column: 14: No active scope for identifier x!",
+    ),
+    (
+        "test.global () [] [k: foo.bar, builtin_given_names: builtin.identifier x]",
+        "line: 1, column: 23: Unregistered attribute foo.bar!",
+    ),
+    (
+        "test.global () [] [builtin_given_names: builtin.identifier x, #] oops",
+        "line: 1, column: 20: Reserved attribute key: builtin_given_names!",
+    ),
+    (
+        "test.global () [] [builtin_given_names: builtin.identifier x]: oops",
+        "line: 1, column: 20: Reserved attribute key: builtin_given_names!",
+    ),
+    (
+        "test.global () [] [builtin_given_names: builtin.given_names [?]]: oops",
+        "line: 1, column: 67: Unexpected `o`, expected `<`!",
     ),
     (
         "test.global (x) [^y] []: <() -> ()>",
@@ -273,6 +305,10 @@ const PARSED_FIRST: &[(&str, &str)] = &[
     (
         "builtin.module @m { ^a(): test.global () [] [builtin_given_names: builtin.integer <0: si64>] # }",
         "line: 1, column: 94: Unexpected `#`, expected `:`!",
+    ),
+    (
+        "builtin.module @m { ^a(): test.global (x) [] # }",
+        "line: 1, column: 46: Unexpected `#`, expected `[`!",
     ),
     (
         "builtin.module @m { ^a() [builtin_given_names: builtin.integer <0: si64>] # }",

@@ -26,7 +26,6 @@ returns-clause-makes g c = record {
   id_is = refl;
   names_are = refl;
   at_is = refl;
-  inside_is = refl;
   step_is = c.len-step.ensures;
   steps_are = refl;
   coming_is = refl;

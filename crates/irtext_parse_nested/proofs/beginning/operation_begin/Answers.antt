@@ -13,7 +13,7 @@ use Rattle.irtext_parse_nested.specs.Read.{RefusesOperation}
 use Rattle.irtext_parse_nested.proofs.BeginRead.{if_ok_both, on_ok_by}
 use Rattle.irtext_parse_nested.proofs.Depths.{depths_read, depths_on}
 use Rattle.irtext_parse_nested.proofs.Marking.{if_err}
-use Rattle.irtext_parse_nested.proofs.OperationBegun.{located_here, front_can, front_own, front_begun, front_came, front_begins, front_misses, front_fails, ungathered_commits}
+use Rattle.irtext_parse_nested.proofs.OperationBegun.{comes_where, located_here, front_can, front_own, front_begun, front_came, front_begins, front_misses, front_fails, ungathered_commits}
 use Rattle.irtext_parse_nested.proofs.OperationMade.{begun_lasts, begun_new, begun_ties, begun_waits, begun_blanks}
 use Rattle.irtext_parse_nested.proofs.beginning.operation_begin.Goals as goal
 
@@ -21,9 +21,9 @@ pub returns-in_err-front-clause-refused : goal.returns-in_err-front-clause-refus
 returns-in_err-front-clause-refused g c =
     let old = c.args.s.now in
     let names = c.args.names.now in
-    exit_from c.from_residual.result c.from_residual.ensures.1 (UnlessMemory (MissesFront g.T.IrText.reading (attr_at g.A.IrText.reading) old.state.ctx.now.dialects true c.is_some.result old.stream))
-    (UnlessMemory (RefusesOperation g.T.IrText.reading (attr_at g.A.IrText.reading) true (is_some c.args.block) names old))
-    (λ f u. subst (λ w. UnlessMemory (RefusesOperation g.T.IrText.reading (attr_at g.A.IrText.reading) true w names old) f) c.is_some.ensures (front_misses g.T.IrText.reading (attr_at g.A.IrText.reading) old names c.is_some.result f u))
+    exit_from c.from_residual.result c.from_residual.ensures.1 (UnlessMemory (MissesFront g.T.IrText.reading (attr_at g.A.IrText.reading) old.state.ctx.now.dialects c.is_some.result old.stream))
+    (UnlessMemory (RefusesOperation g.T.IrText.reading (attr_at g.A.IrText.reading) (is_some c.args.block) names old))
+    (λ f u. subst (λ w. UnlessMemory (RefusesOperation g.T.IrText.reading (attr_at g.A.IrText.reading) w names old) f) c.is_some.ensures (front_misses g.T.IrText.reading (attr_at g.A.IrText.reading) c.is_some.result old names f u))
     c.in_err-front.ensures.unmet
 
 pub returns-in_err-front-clause-unread : goal.returns-in_err-front-clause-unread
@@ -31,10 +31,10 @@ returns-in_err-front-clause-unread g c = rw (propagated c.from_residual.result c
 
 pub returns-clause-unread : goal.returns-clause-unread
 returns-clause-unread g c =
-    if_err c.begin_read.result (λ fault u e. absurd (true≢false (sym (ungathered_commits g.T.IrText.reading (attr_at g.A.IrText.reading) c.args.s.now c.in_ok-front.front.pieces c.front_read.new.names (whole c.front_read.new.stream) fault u) ∙ e))) c.begin_read.ensures.refused
+    if_err c.begin_read.result (λ fault u e. absurd (true≢false (sym (ungathered_commits g.T.IrText.reading (attr_at g.A.IrText.reading) (is_some c.args.block) c.args.s.now c.in_ok-front.front.pieces c.front_read.new.names (whole c.front_read.new.stream) fault u) ∙ e))) c.begin_read.ensures.refused
 
 pub begin_read-requires-clause-can : goal.begin_read-requires-clause-can
-begin_read-requires-clause-can g c = front_can g.T.IrText.reading (attr_at g.A.IrText.reading) c.args.s.now c.in_ok-front.ensures.alive c.front_read.new.names refl
+begin_read-requires-clause-can g c = front_can g.T.IrText.reading (attr_at g.A.IrText.reading) c.is_some.result c.args.s.now c.in_ok-front.ensures.alive c.front_read.new.names refl
 
 pub begin_read-requires-clause-block : goal.begin_read-requires-clause-block
 begin_read-requires-clause-block g c = c.requires.block
@@ -42,28 +42,27 @@ begin_read-requires-clause-block g c = c.requires.block
 pub returns-clause-begins : goal.returns-clause-begins
 returns-clause-begins g c =
     let old = c.args.s.now in
-    let f = c.in_ok-front.ensures.alive in
-    if_ok_both c.begin_read.result (λ b m s. front_begins g.T.IrText.reading (attr_at g.A.IrText.reading) old f c.begin_read.new.s m (subst (λ n. AllOlder n old.state.ctx.now.graph) c.made.ensures.made c.made.ensures.older) c.requires.block
+    let f = comes_where g.T.IrText.reading (attr_at g.A.IrText.reading) old.state.ctx.now.dialects c.is_some.result (is_some c.args.block) c.is_some.ensures c.in_ok-front.ensures.alive in
+    if_ok_both c.begin_read.result (λ b m s. front_begins g.T.IrText.reading (attr_at g.A.IrText.reading) (is_some c.args.block) old f c.begin_read.new.s m (subst (λ n. AllOlder n old.state.ctx.now.graph) c.made.ensures.made c.made.ensures.older) c.requires.block
     c.front_read.ensures.names c.in_ok-front.ensures.distinct c.begin_read.ensures.marks c.in_ok-front.ensures.counted c.in_ok-front.ensures.coming c.in_ok-front.ensures.isolated c.front_read.new.stream.rest refl s
     (record { passed = old.stream.passed; rest = old.stream.rest; same = refl; positioned = c.position-at.ensures; counts = refl })) c.begin_read.ensures.makes c.begin_read.ensures.stream
 
 pub returns-clause-refused : goal.returns-clause-refused
 returns-clause-refused g c =
     let old = c.args.s.now in
-    let f = c.in_ok-front.ensures.alive in
+    let f = comes_where g.T.IrText.reading (attr_at g.A.IrText.reading) old.state.ctx.now.dialects c.is_some.result (is_some c.args.block) c.is_some.ensures c.in_ok-front.ensures.alive in
     let same = takes_whole alone old.stream c.front_read.new.stream f.moves.taken c.front_read.new.stream.rest f.moves.takes in
-    if_err c.begin_read.result (λ fault u. subst (λ w. UnlessMemory (RefusesOperation g.T.IrText.reading (attr_at g.A.IrText.reading) true w c.args.names.now old) fault) c.is_some.ensures
-    (front_fails g.T.IrText.reading (attr_at g.A.IrText.reading) old f c.front_read.ensures.names c.in_ok-front.ensures.distinct c.is_some.result fault
-    (subst (λ t. NotGatheredAs c.in_ok-front.front.pieces c.front_read.new.names old.state.ctx.now.graph t fault) same u))) c.begin_read.ensures.refused
+    if_err c.begin_read.result (λ fault u. front_fails g.T.IrText.reading (attr_at g.A.IrText.reading) (is_some c.args.block) old f c.front_read.ensures.names c.in_ok-front.ensures.distinct fault
+    (subst (λ t. NotGatheredAs c.in_ok-front.front.pieces c.front_read.new.names old.state.ctx.now.graph t fault) same u)) c.begin_read.ensures.refused
 
 pub returns-clause-came : goal.returns-clause-came
 returns-clause-came g c =
     let old = c.args.s.now in
-    let f = c.in_ok-front.ensures.alive in
+    let f = comes_where g.T.IrText.reading (attr_at g.A.IrText.reading) old.state.ctx.now.dialects c.is_some.result (is_some c.args.block) c.is_some.ensures c.in_ok-front.ensures.alive in
     if_ok_both c.begin_read.result (λ b m s read. (
-      front_own g.T.IrText.reading (attr_at g.A.IrText.reading) old f,
-      front_begun g.T.IrText.reading (attr_at g.A.IrText.reading) old f c.begin_read.new.s.stream.rest read,
-      front_came g.T.IrText.reading (attr_at g.A.IrText.reading) old f c.begin_read.new.s m (subst (λ n. AllOlder n old.state.ctx.now.graph) c.made.ensures.made c.made.ensures.older) c.requires.block (located_here old.stream old.state.src c.loc-loc.result c.loc-loc.ensures),
+      front_own g.T.IrText.reading (attr_at g.A.IrText.reading) (is_some c.args.block) old f,
+      front_begun g.T.IrText.reading (attr_at g.A.IrText.reading) (is_some c.args.block) old f c.begin_read.new.s.stream.rest read,
+      front_came g.T.IrText.reading (attr_at g.A.IrText.reading) (is_some c.args.block) old f c.begin_read.new.s m (subst (λ n. AllOlder n old.state.ctx.now.graph) c.made.ensures.made c.made.ensures.older) c.requires.block (located_here old.stream old.state.src c.loc-loc.result c.loc-loc.ensures),
     )) c.begin_read.ensures.makes c.begin_read.ensures.stream
 
 pub returns-clause-lasts : goal.returns-clause-lasts

@@ -2,7 +2,7 @@ use Rattle.std.proofs.Common.{refl, subst}
 use Rattle.irtext_base.specs.Format as format
 use Rattle.irtext_tokens.specs.AttrTexts.{attr_at}
 use Rattle.irtext_grammar.specs.Grammar.Tree as tree
-use Rattle.irtext_parse_spec.specs.Heads.{flat, dictionary_at}
+use Rattle.irtext_parse_spec.specs.Heads.{flat, dictionary_by}
 use Rattle.irtext_parse_pieces.specs.declared.pieces.ReadPiece.TheVariants as read
 use Rattle.irtext_parse_pieces.proofs.CanonicalSteps.{step_read, spaced_mean}
 use Rattle.irtext_parse_pieces.specs.Entries.{AreEntries}
@@ -14,5 +14,5 @@ pub returns : goal.returns
 returns g c = λ names fine.
     let l = lens_of g.world g.met.S.CharStream in
     let text = whole (l.view c.args.stream.now) in
-    step_read l g.T.IrText.reading (attr_at g.A.IrText.reading) c.args.inside (dictionary_at (attr_at g.A.IrText.reading)) tree.dictionary (flat format.dictionary) (λ u. refl) (λ es ds. AreEntries text es ds) read.Dictionary names (λ y x m. (x, refl, m))
+    step_read l g.T.IrText.reading (attr_at g.A.IrText.reading) c.args.inside (dictionary_by (attr_at g.A.IrText.reading) c.args.inside) tree.dictionary (flat format.dictionary) (λ u. refl) (λ es ds. AreEntries text es ds) read.Dictionary names (λ y x m. (x, refl, m))
     (spaced_mean l fine c.skip_white_space.ensures (λ e y x m. subst (λ t. AreEntries t y x) e m) c.dictionary_parse.ensures)

@@ -1,7 +1,7 @@
 use Rattle.std.proofs.Common.{◌≡◌, ℕ, false, [], ◌∷◌, length}
 use Rattle.irtext_grammar.specs.Grammar.Tree.{Name, Attribute}
 use Rattle.irtext_tokens.specs.AttrTexts.{attr_at}
-use Rattle.irtext_parse_spec.specs.Heads.{pair_at}
+use Rattle.irtext_parse_spec.specs.Heads.{entry_by}
 use Rattle.irtext_parse_pieces.specs.Entries.{IsEntry}
 use Rattle.irtext_parse_pieces.specs.Named.{whole}
 use Rattle.irtext_parse_pieces.proofs.Listings.{Listing}
@@ -12,7 +12,7 @@ use Rattle.irtext_parse_pieces.proofs.entries.more_entries.Given as goal
 abbrev pub invariant-loop-stream : goal.invariant-loop-stream
 invariant-loop-stream g l =
     (entry : Name ℕ × Attribute g.row.A.Denot) → IsEntry (whole (g.S.CharStream.view l.fn.stream)) l.fn.first entry → (g.S.CharStream.view l.fn.stream).failed ≡ false
-    → Listing (lens_of g.world g.met.S.CharStream) (pair_at (attr_at g.A.IrText.reading)) (IsEntry (whole (g.S.CharStream.view l.fn.stream))) (entry ∷ []) l.fn.stream l.stream l.found.items
+    → Listing (lens_of g.world g.met.S.CharStream) (entry_by (attr_at g.A.IrText.reading) l.inside) (IsEntry (whole (g.S.CharStream.view l.fn.stream))) (entry ∷ []) l.fn.stream l.stream l.found.items
 
 abbrev pub decreases-loop-stream : goal.decreases-loop-stream
 decreases-loop-stream g l = length (g.S.CharStream.view l.stream).rest
