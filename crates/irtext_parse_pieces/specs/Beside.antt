@@ -5,3 +5,8 @@ use Rattle.std.specs.Prelude.{Result, Ok, Err}
 abbrev pub paired : {X Y E : Type 0} → X → Result Y E → Result (X × Y) E
 paired x (Ok y) = Ok (x, y)
 paired x (Err fault) = Err fault
+
+-- the first value, or the error
+abbrev pub closed : {X U E : Type 0} → X → Result U E → Result X E
+closed x (Ok u) = Ok x
+closed x (Err fault) = Err fault

@@ -1,6 +1,6 @@
 //! Values beside the results of parsers that come after them. A value that is passed on so has no exit at which its caller ends it.
 ghost use Rattle.std.specs.Prelude.{◌≡◌, Err};
-ghost use Rattle.irtext_parse_pieces.specs.Beside.{paired};
+ghost use Rattle.irtext_parse_pieces.specs.Beside.{paired, closed};
 
 use irtext_base::parsable::{ParseFault, ParseResult};
 
@@ -11,6 +11,17 @@ pub(crate) fn beside<X: Drop, Y, A>(value: X, answer: ParseResult<Y, A>) -> Pars
 {
     match answer {
         Ok(other) => Ok((value, other)),
+        Err(fault) => Err(fault),
+    }
+}
+
+/// Returns a value if what closes it was parsed, or the error.
+#[inline(always)]
+pub(crate) fn closed_by<X: Drop, A>(value: X, answer: ParseResult<(), A>) -> ParseResult<X, A>
+    ensures { result ≡ closed value answer }
+{
+    match answer {
+        Ok(()) => Ok(value),
         Err(fault) => Err(fault),
     }
 }
