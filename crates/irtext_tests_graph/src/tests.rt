@@ -10,7 +10,6 @@ mod nesting;
 mod orders;
 mod parts;
 mod places;
-mod random;
 mod results;
 mod runs;
 mod script;

@@ -6,8 +6,8 @@ use crate::tests::checks::Numbers;
 use crate::tests::model::{Item, Model};
 use crate::tests::nesting::is_child_at;
 use crate::tests::parts::{has_own, is_value};
-use crate::tests::random::Random;
 use irtext_graph::object::{Defined, Object, Site, Value};
+use irtext_tests_common::random::Random;
 use std::alloc::AllocError;
 
 /// The type of the value of a number.

@@ -89,16 +89,16 @@ fn looks_up(holder: &Holder, c: Chain) -> bool {
     if !all_live_in(holder, c) {
         return false;
     }
-    let of_inner = c.inner.get_parent_block(holder) == Some(c.block)
-        && c.inner.get_parent_region(holder) == Some(c.region)
-        && c.inner.get_parent_op(holder) == Some(c.op);
-    let of_block = c.block.get_parent_region(holder) == Some(c.region)
-        && c.block.get_parent_op(holder) == Some(c.op)
-        && c.block.get_parent_block(holder) == None;
-    let of_region = c.region.get_parent_op(holder) == Some(c.op)
-        && c.region.get_parent_block(holder) == None
-        && c.region.get_parent_region(holder) == None;
-    of_inner && of_block && of_region && c.op.get_parent_op(holder) == None
+    let of_inner = (c.inner.get_parent_block(holder) == Some(c.block))
+        & (c.inner.get_parent_region(holder) == Some(c.region))
+        & (c.inner.get_parent_op(holder) == Some(c.op));
+    let of_block = (c.block.get_parent_region(holder) == Some(c.region))
+        & (c.block.get_parent_op(holder) == Some(c.op))
+        & (c.block.get_parent_block(holder) == None);
+    let of_region = (c.region.get_parent_op(holder) == Some(c.op))
+        & (c.region.get_parent_block(holder) == None)
+        & (c.region.get_parent_region(holder) == None);
+    of_inner & of_block & of_region & (c.op.get_parent_op(holder) == None)
 }
 
 /// Whether each object of the chain has the next as its only child.

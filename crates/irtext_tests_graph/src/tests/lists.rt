@@ -29,21 +29,38 @@ fn grows(alloc: Global) -> Result<bool, AllocError> {
     Ok(empty && three && two && digits(&list) == 24)
 }
 
-/// The only item, and one of two, of lists that are made from short ones, and lists that are made from their items.
-fn alone(alloc: Global) -> Result<bool, AllocError> {
-    let mut one = Lone::from_few(alloc, Few::one(5))?;
+/// The only item of a list is changed.
+fn changes_one(alloc: Global) -> Result<bool, AllocError> {
+    let mut one: Lone<u8> = Lone::from_few(alloc, Few::one(5))?;
     one[0] = 6;
-    let mut two = Lone::from_few(alloc, Few::two(7, 8))?;
+    Ok(one.len() == 1 && one[0] == 6)
+}
+
+/// One of two items of a list is changed, and then both are removed.
+fn changes_two(alloc: Global) -> Result<bool, AllocError> {
+    let mut two: Lone<u8> = Lone::from_few(alloc, Few::two(7, 8))?;
     two[1] = 9;
-    let items = one.len() == 1 && one[0] == 6 && two.len() == 2 && two[0] == 7 && two[1] == 9;
+    let items = two.len() == 2 && two[0] == 7 && two[1] == 9;
     two.clear();
-    let none: Lone<u8> = Lone::none();
+    Ok(items & (two.len() == 0))
+}
+
+/// Lists that are made from none, from one and from several items have these.
+fn is_of_items(alloc: Global) -> Result<bool, AllocError> {
     let mut many = Vec::new(alloc);
     many.push(1)?;
     many.push(2)?;
-    let many = Lone::many(many);
-    let made = none.len() == 0 && Lone::one(3)[0] == 3 && many.len() == 2 && many[1] == 2;
-    Ok(items && made && two.len() == 0)
+    let many: Lone<u8> = Lone::many(many);
+    let none: Lone<u8> = Lone::none();
+    let one: Lone<u8> = Lone::one(3);
+    Ok(none.len() == 0 && one[0] == 3 && many.len() == 2 && many[1] == 2)
+}
+
+/// The only item, and one of two, of lists that are made from short ones, and lists that are made from their items.
+fn alone(alloc: Global) -> Result<bool, AllocError> {
+    let one = changes_one(alloc)?;
+    let two = changes_two(alloc)?;
+    Ok(is_of_items(alloc)? & one & two)
 }
 
 #[test]

@@ -3,7 +3,8 @@ ghost use Rattle.irtext_graph.specs.Objects.{Fits};
 
 use crate::tests::checks::Numbers;
 use irtext_few::Few;
-use irtext_graph::object::Object;
+use irtext_graph::arena::Ptr;
+use irtext_graph::object::{BasicBlock, Object, Operation, Region};
 use std::alloc::AllocError;
 
 /// Puts c last into k if that is allowed, and returns whether it was.
@@ -44,37 +45,89 @@ pub(crate) fn erased(graph: &mut Numbers, o: Object) -> bool {
     true
 }
 
-/// An operation with a region with a block with two operations, of which the first is erased again.
-pub(crate) fn nests(graph: &mut Numbers) -> Result<bool, AllocError> {
-    let outer = graph.make_operation(1, Few::none(), &[], &[])?;
-    let region = graph.make_region()?;
-    let block = graph.make_block(2, Few::none())?;
-    let first = graph.make_operation(3, Few::none(), &[], &[])?;
-    let second = graph.make_operation(4, Few::none(), &[], &[])?;
-    let module = Object::TheOperation(outer);
-    let inner = Object::TheOperation(first);
-    let last = Object::TheOperation(second);
-    let body = Object::TheBlock(block);
-    let one = put(graph, Object::TheRegion(region), body)?;
-    let two = put(graph, module, Object::TheRegion(region))?;
-    let three = put(graph, body, inner)?;
-    let four = put(graph, body, last)?;
+/// An operation with a region with a block with two operations.
+#[derive(Clone, Copy)]
+struct Nest {
+    outer: Ptr<Operation>,
+    region: Ptr<Region>,
+    block: Ptr<BasicBlock>,
+    first: Ptr<Operation>,
+    second: Ptr<Operation>,
+}
+
+/// Makes the five objects, not yet put into one another.
+fn make_nest(graph: &mut Numbers) -> Result<Nest, AllocError> {
+    Ok(Nest {
+        outer: graph.make_operation(1, Few::none(), &[], &[])?,
+        region: graph.make_region()?,
+        block: graph.make_block(2, Few::none())?,
+        first: graph.make_operation(3, Few::none(), &[], &[])?,
+        second: graph.make_operation(4, Few::none(), &[], &[])?,
+    })
+}
+
+/// Puts the objects into one another, and returns whether that succeeds, and fails for an object around the block and for one that is in
+/// it already.
+fn puts_in(graph: &mut Numbers, nest: Nest) -> Result<bool, AllocError> {
+    let (module, body) = (
+        Object::TheOperation(nest.outer),
+        Object::TheBlock(nest.block),
+    );
+    let one = put(graph, Object::TheRegion(nest.region), body)?;
+    let two = put(graph, module, Object::TheRegion(nest.region))?;
+    let three = put(graph, body, Object::TheOperation(nest.first))?;
+    let four = put(graph, body, Object::TheOperation(nest.second))?;
     let into_itself = put(graph, body, module)?;
-    let twice = put(graph, body, inner)?;
-    let all = one && two && three && four && !into_itself && !twice;
-    let listed = is_child_at(graph, body, inner, 0) && is_child_at(graph, body, last, 1);
-    let deep = graph.contains(last)
-        && graph.is_inside(module, last)
-        && !graph.is_inside(inner, last);
-    if graph.contains(inner) {
-        graph.unlink(inner);
+    let twice = put(graph, body, Object::TheOperation(nest.first))?;
+    Ok(one & two & three & four & !into_itself & !twice)
+}
+
+/// Whether both operations are in the block, and the second in the outermost one, but not in the first.
+fn holds_both(graph: &Numbers, nest: Nest) -> bool {
+    let (inner, last) = (
+        Object::TheOperation(nest.first),
+        Object::TheOperation(nest.second),
+    );
+    let body = Object::TheBlock(nest.block);
+    let listed = is_child_at(graph, body, inner, 0) & is_child_at(graph, body, last, 1);
+    listed
+        && graph.contains(last)
+        && graph.is_inside(Object::TheOperation(nest.outer), last)
+        && !graph.is_inside(inner, last)
+}
+
+/// Detaches the first operation, and returns whether the second is the only one in the block, and both are live.
+fn lets_go(graph: &mut Numbers, nest: Nest) -> bool {
+    let (inner, last) = (
+        Object::TheOperation(nest.first),
+        Object::TheOperation(nest.second),
+    );
+    if !graph.contains(inner) {
+        return false;
     }
-    let closed = is_child_at(graph, body, last, 0) && !is_child_at(graph, body, inner, 0);
-    let counted = graph.num_live() == 5 && graph.made() == 5;
+    graph.unlink(inner);
+    let body = Object::TheBlock(nest.block);
+    let closed = is_child_at(graph, body, last, 0) & !is_child_at(graph, body, inner, 0);
+    closed && graph.num_live() == 5 && graph.made() == 5
+}
+
+/// Erases the block, and returns whether the second operation is erased with it, and the first is left.
+fn erases_block(graph: &mut Numbers, nest: Nest) -> bool {
+    let gone = erased(graph, Object::TheBlock(nest.block));
+    gone && !graph.contains(Object::TheOperation(nest.second))
+        && graph.contains(Object::TheOperation(nest.first))
+        && graph.num_live() == 3
+        && graph.made() == 5
+}
+
+/// Each call once, on such objects, of which the first operation is left in the end.
+pub(crate) fn nests(graph: &mut Numbers) -> Result<bool, AllocError> {
+    let nest = make_nest(graph)?;
+    let (second, block) = (nest.second, nest.block);
     let places = second.place() == 3 && second.generation() == 1 && block.place() == 1;
-    let gone = erased(graph, body) && !graph.contains(last) && graph.contains(inner);
-    let left = graph.num_live() == 3 && graph.made() == 5;
-    Ok(all && listed && deep && closed && counted && places && gone && left)
+    let all = puts_in(graph, nest)? & holds_both(graph, nest);
+    let loose = lets_go(graph, nest);
+    Ok(erases_block(graph, nest) & places & all & loose)
 }
 
 /// The outermost operation of a chain, and the innermost one.
@@ -84,26 +137,36 @@ pub(crate) struct Ends {
     pub(crate) inner: Object,
 }
 
+/// Makes a block, a region and an operation around an operation, each in the next.
+fn make_around(
+    graph: &mut Numbers,
+    inner: Ptr<Operation>,
+) -> Result<Option<Ptr<Operation>>, AllocError> {
+    let block = Object::TheBlock(graph.make_block(0, Few::none())?);
+    let region = Object::TheRegion(graph.make_region()?);
+    let outer = graph.make_operation(0, Few::none(), &[], &[])?;
+    let one = put(graph, block, Object::TheOperation(inner))?;
+    let two = put(graph, region, block)?;
+    if put(graph, Object::TheOperation(outer), region)? & one & two {
+        return Ok(Some(outer));
+    }
+    Ok(None)
+}
+
 /// A chain of operations, regions and blocks, each in the next; the inner ones are made first.
 pub(crate) fn chain(graph: &mut Numbers, depth: usize) -> Result<Option<Ends>, AllocError> {
-    let inner = Object::TheOperation(graph.make_operation(0, Few::none(), &[], &[])?);
+    let inner = graph.make_operation(0, Few::none(), &[], &[])?;
     let mut last = inner;
     for _ in 0..depth {
-        let block = Object::TheBlock(graph.make_block(0, Few::none())?);
-        let region = Object::TheRegion(graph.make_region()?);
-        let outer = Object::TheOperation(graph.make_operation(0, Few::none(), &[], &[])?);
-        let Object::TheOperation(p) = last else {
+        let Some(outer) = make_around(graph, last)? else {
             return Ok(None);
         };
-        let one = put(graph, block, Object::TheOperation(p))?;
-        let two = put(graph, region, block)?;
-        if !one || !two || !put(graph, outer, region)? {
-            return Ok(None);
-        }
         last = outer;
     }
-    let outer = last;
-    Ok(Some(Ends { outer, inner }))
+    Ok(Some(Ends {
+        outer: Object::TheOperation(last),
+        inner: Object::TheOperation(inner),
+    }))
 }
 
 /// Whether the innermost is nested in the outermost, which can be erased.

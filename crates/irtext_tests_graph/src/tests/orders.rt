@@ -40,6 +40,28 @@ fn make_user(script: &mut Script, both: Both) -> Result<Option<Object>, AllocErr
     script.make(Kind::Operation, &parts)
 }
 
+/// Makes five users.
+fn make_users(script: &mut Script, both: Both) -> Result<Vec<Object>, AllocError> {
+    let mut users = Vec::new(script.alloc);
+    for _ in 0..USERS {
+        if let Some(user) = make_user(script, both)? {
+            users.push(user)?;
+        }
+    }
+    Ok(users)
+}
+
+/// Erases a user, or drops its uses, and returns whether the uses are those of the others after that.
+fn goes(script: &mut Script, both: Both, user: Object, drops: bool) -> Result<bool, AllocError> {
+    let gone = if drops {
+        script.loosen(user, true)?
+    } else {
+        script.erase(user)?
+    };
+    let values = has_uses(&script.graph, &script.model, both.value)?;
+    Ok(has_uses(&script.graph, &script.model, both.block)? & gone & values)
+}
+
 /// Makes five users, which are erased in the order of a number, or drop their uses, and returns whether the uses are those of the others
 /// after each.
 fn go_in_order(
@@ -48,13 +70,7 @@ fn go_in_order(
     order: usize,
     drops: bool,
 ) -> Result<bool, AllocError> {
-    let mut users = Vec::new(script.alloc);
-    for _ in 0..USERS {
-        let Some(user) = make_user(script, both)? else {
-            return Ok(false);
-        };
-        users.push(user)?;
-    }
+    let mut users = make_users(script, both)?;
     let mut code = order;
     let mut all = true;
     for _ in 0..USERS {
@@ -64,14 +80,7 @@ fn go_in_order(
         }
         let user = users.remove(code % left);
         code /= left;
-        let gone = if drops {
-            script.loosen(user, true)?
-        } else {
-            script.erase(user)?
-        };
-        let values = has_uses(&script.graph, &script.model, both.value)?;
-        let blocks = has_uses(&script.graph, &script.model, both.block)?;
-        all = all && gone && values && blocks;
+        all = goes(script, both, user, drops)? & all;
     }
     Ok(all)
 }

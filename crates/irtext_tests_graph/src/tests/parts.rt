@@ -1,6 +1,7 @@
 //! The view of one object: data, operands, successors, results and arguments, each call once, and lists of any length.
 use crate::tests::checks::Numbers;
 use crate::tests::nesting::erased;
+use crate::tests::script::make_using;
 use irtext_few::Few;
 use irtext_graph::arena::Ptr;
 use irtext_graph::object::{BasicBlock, Object, Operation, Value};
@@ -53,24 +54,39 @@ pub(crate) fn uses(
 pub(crate) fn has_parts(graph: &mut Numbers) -> Result<bool, AllocError> {
     let block = graph.make_block(7, Few::two(10, 11))?;
     let first = graph.make_operation(8, Few::one(12), &[], &[])?;
-    let left = Value::Argument(block, 0);
-    let right = Value::Argument(block, 1);
-    let result = Value::Result(first, 0);
-    let operands = [right, result, right];
-    let successors = [block, block];
-    if !graph.contains_values(&operands) || !graph.contains_blocks(&successors) {
+    let operands = used_values(block, first);
+    let Some(second) = make_using(graph, 9, Few::none(), &operands, &[block, block])? else {
         return Ok(false);
-    }
-    let second = graph.make_operation(9, Few::none(), &operands, &successors)?;
-    let values = is_value(graph, left, 10, 0)
-        && is_value(graph, right, 11, 1)
-        && is_value(graph, result, 12, 2);
+    };
+    Ok(shows_own(graph, block, first) & shows_uses(graph, block, first, second))
+}
+
+/// The values that the last of these operations uses.
+fn used_values(block: Ptr<BasicBlock>, first: Ptr<Operation>) -> [Value; 3] {
+    let right = Value::Argument(block, 1);
+    [right, Value::Result(first, 0), right]
+}
+
+/// Whether the block and the first operation have their data and values.
+fn shows_own(graph: &Numbers, block: Ptr<BasicBlock>, first: Ptr<Operation>) -> bool {
+    let values = is_value(graph, Value::Argument(block, 0), 10, 0)
+        & is_value(graph, Value::Argument(block, 1), 11, 1)
+        & is_value(graph, Value::Result(first, 0), 12, 2);
     let data = has_own(graph, Object::TheBlock(block), 7, 2)
-        && has_own(graph, Object::TheOperation(first), 8, 1);
-    let none = !graph.contains_value(Value::Argument(block, 2))
-        && !graph.contains_value(Value::Result(second, 0));
-    let used = uses(graph, first, &[], &[]) && uses(graph, second, &operands, &successors);
-    Ok(values && data && none && used)
+        & has_own(graph, Object::TheOperation(first), 8, 1);
+    values & data & !graph.contains_value(Value::Argument(block, 2))
+}
+
+/// Whether the first operation uses nothing, and the second all that it was made with; the second has no result.
+fn shows_uses(
+    graph: &Numbers,
+    block: Ptr<BasicBlock>,
+    first: Ptr<Operation>,
+    second: Ptr<Operation>,
+) -> bool {
+    let operands = used_values(block, first);
+    let used = uses(graph, first, &[], &[]) & uses(graph, second, &operands, &[block, block]);
+    used & !graph.contains_value(Value::Result(second, 0))
 }
 
 /// Whether the value is live, with this type.
@@ -87,33 +103,54 @@ fn has_results(graph: &Numbers, op: Ptr<Operation>, count: u8) -> bool {
     typed
 }
 
-/// An operation with so many results, from a vector of types, and one that uses them all; the first is erased after the second.
-fn has_so_many(graph: &mut Numbers, alloc: Global, count: u8) -> Result<bool, AllocError> {
+/// The types of so many results: their indices.
+fn types(alloc: Global, count: u8) -> Result<Few<u8>, AllocError> {
     let mut types = Vec::new(alloc);
     for i in 0..count {
         types.push(i)?;
     }
-    let op = graph.make_operation(0, Few::from_vec(types), &[], &[])?;
+    Ok(Few::from_vec(types))
+}
+
+/// So many results of an operation.
+fn results(alloc: Global, op: Ptr<Operation>, count: u8) -> Result<Vec<Value>, AllocError> {
     let mut values = Vec::new(alloc);
     for i in 0..count {
         values.push(Value::Result(op, i as usize))?;
     }
-    if !graph.contains_values(&values) {
+    Ok(values)
+}
+
+/// Makes an operation that uses all results of another, which is erased after it, and not before it if it has results.
+fn is_used_up(
+    graph: &mut Numbers,
+    op: Ptr<Operation>,
+    values: &[Value],
+    count: u8,
+) -> Result<bool, AllocError> {
+    let Some(user) = make_using(graph, 0, Few::none(), values, &[])? else {
         return Ok(false);
-    }
-    let user = graph.make_operation(0, Few::none(), &values, &[])?;
-    let all = has_results(graph, op, count) && uses(graph, user, &values, &[]);
+    };
+    let all = has_results(graph, op, count) & uses(graph, user, values, &[]);
     let too_early = count > 0 && erased(graph, Object::TheOperation(op));
     let gone = erased(graph, Object::TheOperation(user));
     let rest = count == 0 || erased(graph, Object::TheOperation(op));
-    Ok(all && !too_early && gone && rest)
+    Ok(all & !too_early & gone & rest)
+}
+
+/// An operation with so many results, from a vector of types, and one that uses them all; the first is erased after the second.
+fn has_so_many(graph: &mut Numbers, alloc: Global, count: u8) -> Result<bool, AllocError> {
+    let types = types(alloc, count)?;
+    let op = graph.make_operation(0, types, &[], &[])?;
+    let values = results(alloc, op, count)?;
+    is_used_up(graph, op, &values, count)
 }
 
 /// The same for none and for up to four results.
 pub(crate) fn has_any_number(graph: &mut Numbers, alloc: Global) -> Result<bool, AllocError> {
     let mut all = true;
     for count in 0..5 {
-        all = has_so_many(graph, alloc, count)? && all;
+        all = has_so_many(graph, alloc, count)? & all;
     }
     Ok(all)
 }

@@ -39,32 +39,41 @@ fn has_uses(holder: &Holder, op: Ptr<Operation>, places: &[Site]) -> Result<bool
     Ok(all && count == places.len() && op.has_use(holder) == (count > 0))
 }
 
-/// Two results, the first used twice by one operation, and the second once by that and once by another.
-pub(crate) fn uses_of_results(holder: &mut Holder) -> Result<bool, AllocError> {
-    let maker = holder.graph.make_operation(0, Few::two(7, 8), &[], &[])?;
-    let (first, second) = (Value::Result(maker, 0), Value::Result(maker, 1));
-    let unused = has_uses(holder, maker, &[])?;
-    let (Some(one), Some(two)) = (
-        make_using(
-            &mut holder.graph,
-            0,
-            Few::none(),
-            &[first, second, first],
-            &[],
-        )?,
-        make_using(&mut holder.graph, 0, Few::none(), &[second], &[])?,
-    ) else {
-        return Ok(false);
-    };
+/// Whether the results of one operation are used by two others, which have operands of these types.
+fn are_used(
+    holder: &Holder,
+    maker: Ptr<Operation>,
+    one: Ptr<Operation>,
+    two: Ptr<Operation>,
+) -> Result<bool, AllocError> {
     let places = [
         Site::AtOperand(one, 0),
         Site::AtOperand(one, 1),
         Site::AtOperand(one, 2),
         Site::AtOperand(two, 0),
     ];
-    let used = has_uses(holder, maker, &places)? && has_uses(holder, one, &[])?;
+    let used = has_uses(holder, maker, &places)? & has_uses(holder, one, &[])?;
     let typed = has_operand_types(holder, one, &[7, 8, 7])?
-        && has_operand_types(holder, two, &[8])?
-        && has_operand_types(holder, maker, &[])?;
-    Ok(unused && used && typed)
+        & has_operand_types(holder, two, &[8])?
+        & has_operand_types(holder, maker, &[])?;
+    Ok(used & typed)
+}
+
+/// Two results, the first used twice by one operation, and the second once by that and once by another.
+pub(crate) fn uses_of_results(holder: &mut Holder) -> Result<bool, AllocError> {
+    let maker = holder.graph.make_operation(0, Few::two(7, 8), &[], &[])?;
+    let (first, second) = (Value::Result(maker, 0), Value::Result(maker, 1));
+    let unused = has_uses(holder, maker, &[])?;
+    let one = make_using(
+        &mut holder.graph,
+        0,
+        Few::none(),
+        &[first, second, first],
+        &[],
+    )?;
+    let two = make_using(&mut holder.graph, 0, Few::none(), &[second], &[])?;
+    match (one, two) {
+        (Some(one), Some(two)) => Ok(are_used(holder, maker, one, two)? & unused),
+        _ => Ok(false),
+    }
 }

@@ -8,10 +8,10 @@ use crate::tests::checks::Numbers;
 use crate::tests::compared::{agree, is_defined, type_of};
 use crate::tests::model::{Model, Parts};
 use crate::tests::nesting::put;
-use crate::tests::random::Random;
 use irtext_few::Few;
 use irtext_graph::arena::Ptr;
 use irtext_graph::object::{BasicBlock, Defined, Object, Operation, Value};
+use irtext_tests_common::random::Random;
 use std::alloc::{AllocError, Global};
 
 // the number of calls

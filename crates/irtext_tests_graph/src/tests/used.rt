@@ -56,19 +56,31 @@ fn make_scene(graph: &mut Numbers) -> Result<Scene, AllocError> {
     let second = graph.make_block(5, Few::none())?;
     let maker = graph.make_operation(2, Few::two(12, 13), &[], &[])?;
     let user = make_user(graph, maker, first, second)?;
-    put(graph, Object::TheOperation(root), Object::TheRegion(region))?;
-    put(graph, Object::TheRegion(region), Object::TheBlock(first))?;
-    put(graph, Object::TheRegion(region), Object::TheBlock(second))?;
-    put(graph, Object::TheBlock(first), Object::TheOperation(maker))?;
-    put(graph, Object::TheBlock(first), Object::TheOperation(user))?;
-    Ok(Scene {
+    let scene = Scene {
         root,
         region,
         first,
         second,
         maker,
         user,
-    })
+    };
+    put_together(graph, scene)?;
+    Ok(scene)
+}
+
+/// Puts the objects of a scene into one another.
+fn put_together(graph: &mut Numbers, s: Scene) -> Result<(), AllocError> {
+    let (region, first) = (Object::TheRegion(s.region), Object::TheBlock(s.first));
+    put(
+        graph,
+        Object::TheOperation(s.root),
+        Object::TheRegion(s.region),
+    )?;
+    put(graph, region, Object::TheBlock(s.first))?;
+    put(graph, region, Object::TheBlock(s.second))?;
+    put(graph, first, Object::TheOperation(s.maker))?;
+    put(graph, first, Object::TheOperation(s.user))?;
+    Ok(())
 }
 
 /// Whether all of a scene is live.

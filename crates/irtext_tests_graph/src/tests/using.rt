@@ -49,24 +49,63 @@ fn two_results(graph: &mut Numbers) -> Result<Ptr<Operation>, AllocError> {
     graph.make_operation(0, Few::two(7, 8), &[], &[])
 }
 
+/// Whether the two results of an operation are live and have so many uses.
+fn are_used(
+    graph: &Numbers,
+    op: Ptr<Operation>,
+    first: usize,
+    second: usize,
+) -> Result<bool, AllocError> {
+    let one = has_uses(graph, Value::Result(op, 0), first)?;
+    Ok(has_uses(graph, Value::Result(op, 1), second)? & one)
+}
+
+/// Makes an operation with a block as its successor, and returns whether that is the block's only use.
+fn is_branched_to(graph: &mut Numbers, block: Ptr<BasicBlock>) -> Result<bool, AllocError> {
+    match make_using(graph, 0, Few::none(), &[], &[block])? {
+        Some(jump) => is_only_use(graph, block, jump),
+        None => Ok(false),
+    }
+}
+
 /// Two uses of a result and one of a block, and then the other result in place of the first.
 pub(crate) fn uses(graph: &mut Numbers) -> Result<bool, AllocError> {
     let op = two_results(graph)?;
-    let first = Value::Result(op, 0);
-    let second = Value::Result(op, 1);
+    let (first, second) = (Value::Result(op, 0), Value::Result(op, 1));
     let block = graph.make_block(0, Few::none())?;
     let one = use_value(graph, first)?;
     let two = use_value(graph, first)?;
-    let jump = make_using(graph, 0, Few::none(), &[], &[block])?;
     let made = one.is_some() && two.is_some() && one != two;
-    let before = has_uses(graph, first, 2)? && has_uses(graph, second, 0)?;
-    let jumps = match jump {
-        Some(p) => is_only_use(graph, block, p)?,
-        None => false,
-    };
-    let done = replace(graph, first, second) && replace(graph, second, second);
-    let after = has_uses(graph, first, 0)? && has_uses(graph, second, 2)?;
-    Ok(made && before && jumps && done && after)
+    let jumps = is_branched_to(graph, block)?;
+    let before = are_used(graph, op, 2, 0)?;
+    let done = replace(graph, first, second) & replace(graph, second, second);
+    let after = are_used(graph, op, 0, 2)?;
+    Ok(made & before & jumps & done & after)
+}
+
+/// Makes so many operations that use a value.
+fn make_users(
+    graph: &mut Numbers,
+    alloc: Global,
+    v: Value,
+    count: usize,
+) -> Result<Vec<Ptr<Operation>>, AllocError> {
+    let mut users = Vec::new(alloc);
+    for _ in 0..count {
+        if let Some(user) = use_value(graph, v)? {
+            users.push(user)?;
+        }
+    }
+    Ok(users)
+}
+
+/// Erases operations, and returns whether each can be erased.
+fn erases_all(graph: &mut Numbers, users: &[Ptr<Operation>]) -> bool {
+    let mut gone = true;
+    for user in users {
+        gone = erased(graph, Object::TheOperation(*user)) & gone;
+    }
+    gone
 }
 
 /// A result that so many operations use, then the other result in its place, and then none, since all of them are erased.
@@ -76,21 +115,20 @@ pub(crate) fn uses_often(
     count: usize,
 ) -> Result<bool, AllocError> {
     let op = two_results(graph)?;
-    let first = Value::Result(op, 0);
-    let second = Value::Result(op, 1);
-    let mut users = Vec::new(alloc);
-    for _ in 0..count {
-        if let Some(user) = use_value(graph, first)? {
-            users.push(user)?;
-        }
-    }
-    let before = has_uses(graph, first, count)?;
-    let done = replace(graph, first, second);
-    let after = has_uses(graph, first, 0)? && has_uses(graph, second, count)?;
-    let mut gone = users.len() == count;
-    for user in &users {
-        gone = erased(graph, Object::TheOperation(*user)) && gone;
-    }
-    let unused = has_uses(graph, second, 0)? && graph.num_live() == 1;
-    Ok(before && done && after && gone && unused)
+    let users = make_users(graph, alloc, Value::Result(op, 0), count)?;
+    Ok(changes_users(graph, op, &users)? & (users.len() == count))
+}
+
+/// The same for these operations, which use the first result.
+fn changes_users(
+    graph: &mut Numbers,
+    op: Ptr<Operation>,
+    users: &[Ptr<Operation>],
+) -> Result<bool, AllocError> {
+    let before = are_used(graph, op, users.len(), 0)?;
+    let done = replace(graph, Value::Result(op, 0), Value::Result(op, 1));
+    let after = are_used(graph, op, 0, users.len())?;
+    let gone = erases_all(graph, users);
+    let unused = are_used(graph, op, 0, 0)?;
+    Ok(before & done & after & gone & unused & (graph.num_live() == 1))
 }
