@@ -33,7 +33,7 @@ use Rattle.irtext_parse_spec.specs.Promises.Root.{UnlessMemory}
 use Rattle.irtext_parse_spec.specs.Readers.Streams.{itself, replaced}
 use Rattle.irtext_parse_spec.proofs.Readers.Answered.{Answered, answered}
 use Rattle.irtext_parse_spec.proofs.Readers.Honest.{honest_nothing}
-use Rattle.irtext_parse_spec.specs.Heads.{name_at, name_of, label_at, pair_at, dictionary_at, argument_at, head_at}
+use Rattle.irtext_parse_spec.specs.Heads.{name_at, name_of, label_at, pair_at, dictionary_by, dictionary_at, argument_at, head_at}
 use Rattle.irtext_parse_pieces.specs.declared.entries.Key.{Key}
 use Rattle.irtext_parse_pieces.specs.declared.headers.BlockHead.{BlockHead}
 use Rattle.irtext_parse_pieces.specs.Headers.{IsHead, MustHead}
