@@ -23,9 +23,3 @@ pub mod TakenBack
 pub mod AllOrNone
 mod PlainEntries
 pub mod OnlyEntry
--- The loop of the parser of locations
-pub mod FrameOutcomes
-pub mod FrameSteps
-pub mod Places
-pub mod Plain
-pub mod SetBack

@@ -15,8 +15,8 @@ use Rattle.irtext_parse_spec.specs.Readers.Streams.{itself, replaced}
 use Rattle.irtext_grammar.specs.Names.Acts.{Rule}
 use Rattle.irtext_parse_pieces.specs.declared.entries.Key.{Key}
 use Rattle.irtext_parse_spec.specs.Entries.{pairs_at}
-use Rattle.irtext_parse_section.specs.Plain.{TakesDigits, DigitsAfter, SpaceAfter, Gets}
-use Rattle.irtext_parse_section.proofs.Plain.{number_taken, after_label, gets_must, chars_ascii}
+use Rattle.irtext_parse_locations.specs.Plain.{TakesDigits, DigitsAfter, SpaceAfter, Gets}
+use Rattle.irtext_parse_locations.proofs.Plain.{number_taken, after_label, gets_must, chars_ascii}
 use Rattle.irtext_parse_section.specs.Entries.{location_end_at}
 use Rattle.irtext_parse_section.specs.Said.{MustPairs}
 use Rattle.irtext_parse_section.specs.declared.said.GivenAttr.{GivenAttr}

@@ -6,7 +6,3 @@ pub mod Applied
 pub mod Section
 pub mod Items
 pub mod Together
--- The open frames of the parser of locations
-pub mod Frames
-pub mod Plain
-pub mod Sourced

@@ -1,6 +1,5 @@
-//! Parsing of locations, by one loop over a stack of open frames; and of the section after a root: the entries of the items, and the
-//! print-once attributes. An item is an operation or a block that carries a mark. The section is first parsed and checked as a whole; then
-//! each item gets what its entry gives.
+//! Parsing of the section after a root: the entries of the items, and the print-once attributes. An item is an operation or a block that
+//! carries a mark. The section is first parsed and checked as a whole; then each item gets what its entry gives.
 #![tactic(auto)]
 
 mod applied;
@@ -8,7 +7,6 @@ mod checked;
 mod entries;
 mod entry;
 mod given;
-pub mod location;
 mod pairs;
 pub mod rules;
 pub mod said;

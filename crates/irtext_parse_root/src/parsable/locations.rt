@@ -15,8 +15,8 @@ use crate::parsable::{Parsable, ParseResult, StateStream};
 use irtext_base::location::{Location, Source};
 use irtext_base::parsable::SourcePosition;
 use irtext_base::text::{AttrText, IrText};
-use irtext_parse_section::location::nested::location_parse;
-use irtext_parse_section::location::source::{position_parse, source_parse};
+use irtext_parse_locations::location::nested::location_parse;
+use irtext_parse_locations::location::source::{position_parse, source_parse};
 
 impl<T: IrText<A>, A: AttrText<A>, U> Parsable<T, A, U> for SourcePosition {
     type Arg = ();

@@ -1,6 +1,6 @@
 use Rattle.std.proofs.Common.{codes}
 use Rattle.irtext_tokens.specs.Demanded.{spaced_at}
-use Rattle.irtext_parse_section.proofs.Plain.{gets_must}
+use Rattle.irtext_parse_locations.proofs.Plain.{gets_must}
 use Rattle.irtext_parse_section.proofs.PlainEntries.{equals_comes}
 use Rattle.irtext_parse_section.proofs.entry.equals_read.Goals as goal
 

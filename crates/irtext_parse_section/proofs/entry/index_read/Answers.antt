@@ -1,5 +1,5 @@
 use Rattle.irtext_tokens.specs.Demanded.{index_at}
-use Rattle.irtext_parse_section.proofs.Plain.{gets_must}
+use Rattle.irtext_parse_locations.proofs.Plain.{gets_must}
 use Rattle.irtext_parse_section.proofs.entry.index_read.Goals as goal
 
 pub returns-in-Some : goal.returns-in-Some

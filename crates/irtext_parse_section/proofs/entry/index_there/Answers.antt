@@ -1,5 +1,5 @@
 use Rattle.std.proofs.Common.{sym, ◌∙◌}
-use Rattle.irtext_parse_section.proofs.SetBack.{earlier, restored}
+use Rattle.irtext_parse_locations.proofs.SetBack.{earlier, restored}
 use Rattle.irtext_parse_section.proofs.PlainEntries.{index_after}
 use Rattle.irtext_parse_section.proofs.entry.index_there.Goals as goal
 

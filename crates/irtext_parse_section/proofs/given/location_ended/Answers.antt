@@ -1,4 +1,4 @@
-use Rattle.irtext_parse_section.proofs.Plain.{gets_must}
+use Rattle.irtext_parse_locations.proofs.Plain.{gets_must}
 use Rattle.irtext_parse_section.specs.Entries.{location_end_at}
 use Rattle.irtext_parse_section.proofs.PlainEntries.{end_comes}
 use Rattle.irtext_parse_section.proofs.given.location_ended.Goals as goal

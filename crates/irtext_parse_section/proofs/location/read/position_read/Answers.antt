@@ -1,6 +1,0 @@
-use Rattle.irtext_parse_spec.specs.Readers.Positions.{position_at}
-use Rattle.irtext_tokens.proofs.Steps.{alone, first, last}
-use Rattle.irtext_parse_section.proofs.location.read.position_read.Goals as goal
-
-pub returns : goal.returns
-returns g c = last alone (first alone (λ _ t. position_at t) c.in_ok-spaced_text_demanded.ensures) c.position_demanded.ensures
