@@ -1,5 +1,5 @@
 -- A region that is appended to an operation as it is made: all is sound, and nothing else changed.
-use Rattle.std.proofs.Common.{◌≡◌, ◌≢◌, ◌<◌, ◌≤◌, ◌+◌, ◌∙◌, ◌++◌, ◌∷◌, ◌⊎◌, inl, inr, ℕ, zero, suc, refl, ap, arith, Option, Some, None, List, [], map, IsSome}
+use Rattle.std.proofs.Common.{◌≡◌, ◌<◌, ◌≤◌, ◌+◌, ◌∙◌, ◌++◌, ◌∷◌, ◌⊎◌, inl, inr, ℕ, zero, suc, refl, ap, arith, Option, Some, None, List, [], map, IsSome}
 use Rattle.std.specs.Option.{option_map}
 use Rattle.std.proofs.lemmas.List.{map-append}
 use Rattle.irtext_few.specs.Growing.{listed}
@@ -22,7 +22,7 @@ use Rattle.irtext_graph.specs.declared.objects.RegionData.{RegionData}
 use Rattle.irtext_graph.specs.Store.{Edits, before}
 use Rattle.irtext_graph.specs.Content.{Content.{AnOperation}, operation_content, region_content}
 use Rattle.irtext_graph.specs.Graph.{GraphView, graph_of, KeepsOlder}
-use Rattle.irtext_graph.specs.Nest.{up as parent_at, kids as children_at, datum, parent_in, children_in}
+use Rattle.irtext_graph.specs.Nest.{kids as children_at, parent_in, children_in, OnlyLists}
 use Rattle.irtext_graph.specs.Nested.{Within, climb}
 use Rattle.irtext_graph.specs.Objects.{up, kids, what, eq_object, SameData, IsForest}
 use Rattle.irtext_graph.specs.Regions.{with_child, AddsRegion, HasRoom}
@@ -61,19 +61,17 @@ reached up (suc n) None c e = absurd (cc)
 reached up (suc n) (Some x) c e = elim (reached up n (up x) c e) [ inl f ↦ inr (x, f) | inr q ↦ inr q ]
 
 module _ {O B T : Type 0} where
-  -- the same operations, with more room in them
-  pub record Roomier (x : Objects O B T) (room : Arena (Nest BasicBlock Region (OperationData O T))) : Type 0 where
-    pub ups : (q : Ptr Operation) → parent_at room q ≡ parent_at x.operations q
+  -- the same operations, with more room in one
+  pub record Roomier (x : Objects O B T) (room : Arena (Nest BasicBlock Region (OperationData O T))) (op : Ptr Operation) : Type 0 where
     pub lists : (q : Ptr Operation) → children_at room q ≡ children_at x.operations q
-    pub all_data : (q : Ptr Operation) → datum room q ≡ datum x.operations q
-    pub places : KeepsPlaces x.operations room
+    pub only : OnlyLists x.operations room op
 
-  module _ (x : Objects O B T) (room : Arena (Nest BasicBlock Region (OperationData O T))) (r : Roomier x room) where
+  module _ (x : Objects O B T) (room : Arena (Nest BasicBlock Region (OperationData O T))) {op : Ptr Operation} (r : Roomier x room op) where
     abbrev roomy : Objects O B T
     roomy = record x { operations = room }
 
     room_up : (q : Object) → up roomy q ≡ up x q
-    room_up (TheOperation q) = ap (option_map TheBlock) (r.ups q)
+    room_up (TheOperation q) = ap (option_map TheBlock) (r.only.ups q)
     room_up (TheBlock q) = refl
     room_up (TheRegion q) = refl
 
@@ -83,15 +81,15 @@ module _ {O B T : Type 0} where
     room_kids (TheRegion q) = refl
 
     room_what : (q : Object) → what roomy q ≡ what x q
-    room_what (TheOperation q) = ap (option_map (λ d. AnOperation d.0 (operation_content d.1))) (r.all_data q)
+    room_what (TheOperation q) = ap (option_map (λ d. AnOperation d.0 (operation_content d.1))) (r.only.all_data q)
     room_what (TheBlock q) = refl
     room_what (TheRegion q) = refl
 
     -- with more room all is kept
     pub room_kept : (made : ℕ) (v : Counters) (log : List Made) → IsKept made v log x → IsKept made v log roomy
     room_kept made v log i =
-        moved_kept made v log x roomy (record { operation_data = r.all_data; block_data = λ q. refl }) (renested eq_object object_tells i.sound.forest room_kids room_up)
-        (record { operation_places = r.places; block_places = same_places x.blocks; region_places = same_places x.regions }) room_what i
+        moved_kept made v log x roomy (record { operation_data = r.only.all_data; block_data = λ q. refl }) (renested eq_object object_tells i.sound.forest room_kids room_up)
+        (record { operation_places = r.only.places; block_places = same_places x.blocks; region_places = same_places x.regions }) room_what i
 
     -- if inserting the region is an error, all is unchanged too
     pub refused_kept : (made : ℕ) (v : Counters) (log after : List Made) (a : Arena (Nest Operation BasicBlock RegionData)) → after ≡ log → a.slots.items ≡ x.regions.slots.items → IsKept made v log x
@@ -115,18 +113,17 @@ module _ {O B T : Type 0} where
   -- the same operations with one more child of one
   pub record Grown (x : Objects O B T) (grown : Arena (Nest BasicBlock Region (OperationData O T))) (op : Ptr Operation) (p : Ptr Region) : Type 0 where
     pub here : children_at grown op ≡ children_at x.operations op ++ p ∷ []
-    pub others : (q : Ptr Operation) → q ≢ op → children_at grown q ≡ children_at x.operations q
-    pub ups : (q : Ptr Operation) → parent_at grown q ≡ parent_at x.operations q
-    pub all_data : (q : Ptr Operation) → datum grown q ≡ datum x.operations q
-    pub places : KeepsPlaces x.operations grown
+    pub only : OnlyLists x.operations grown op
 
-  pub grown_in : (x : Objects O B T) (room grown : Arena (Nest BasicBlock Region (OperationData O T))) (op : Ptr Operation) (p : Ptr Region) → Roomier x room → Grown (record x { operations = room }) grown op p → Grown x grown op p
+  pub grown_in : (x : Objects O B T) (room grown : Arena (Nest BasicBlock Region (OperationData O T))) (op : Ptr Operation) (p : Ptr Region) → Roomier x room op → Grown (record x { operations = room }) grown op p → Grown x grown op p
   grown_in x room grown op p r g = record {
     here = g.here ∙ ap (λ cs. cs ++ p ∷ []) (r.lists op);
-    others = λ q n. g.others q n ∙ r.lists q;
-    ups = λ q. g.ups q ∙ r.ups q;
-    all_data = λ q. g.all_data q ∙ r.all_data q;
-    places = places_on x.operations room grown r.places g.places;
+    only = record {
+      others = λ q n. g.only.others q n ∙ r.lists q;
+      ups = λ q. g.only.ups q ∙ r.only.ups q;
+      all_data = λ q. g.only.all_data q ∙ r.only.all_data q;
+      places = places_on x.operations room grown r.only.places g.only.places;
+    };
   }
 
   module _ (x : Objects O B T) (made : ℕ) (grown : Arena (Nest BasicBlock Region (OperationData O T))) (after : Arena (Nest Operation BasicBlock RegionData)) (op : Ptr Operation) (p : Ptr Region)
@@ -148,12 +145,12 @@ module _ {O B T : Type 0} where
     ]
 
     kids_others : (q : Object) → (q ≡ TheOperation op → ⊥) → kids added q ≡ kids x q
-    kids_others (TheOperation q) n = ap (map TheRegion) (g.others q (λ s. n (ap TheOperation s)))
+    kids_others (TheOperation q) n = ap (map TheRegion) (g.only.others q (λ s. n (ap TheOperation s)))
     kids_others (TheBlock q) n = refl
     kids_others (TheRegion q) n = new_view (λ s. map TheBlock (children_in s)) x.regions after p e i (ap (map TheBlock) empty) q
 
     up_others : (q : Object) → (q ≡ TheRegion p → ⊥) → up added q ≡ up x q
-    up_others (TheOperation q) n = ap (option_map TheBlock) (g.ups q)
+    up_others (TheOperation q) n = ap (option_map TheBlock) (g.only.ups q)
     up_others (TheBlock q) n = refl
     up_others (TheRegion q) n = ap (λ s. option_map TheOperation (parent_in s)) (i.updates.others q (λ s. n (ap TheRegion s)))
 
@@ -168,23 +165,23 @@ module _ {O B T : Type 0} where
     })
 
     same : SameData x added
-    same = record { operation_data = g.all_data; block_data = λ q. refl }
+    same = record { operation_data = g.only.all_data; block_data = λ q. refl }
 
     sound_added : IsSound made x → e.born < made + 1 → HasFew after → IsSound (made + 1) added
     sound_added s young few = record {
       forest = forest s.forest;
       uses = uses_kept x added same s.uses;
       all_used = λ u l. rw (same_use x added same u) (s.all_used u (rw (same_use x added same u) at l));
-      few_operations = let n = g.places.len in let m = s.few_operations in omega (arith, n, m);
+      few_operations = let n = g.only.places.len in let m = s.few_operations in omega (arith, n, m);
       few_blocks = s.few_blocks;
       few_regions = few;
-      older_operations = older_later made (made + 1) grown (g.places.age made s.older_operations) (omega arith);
+      older_operations = older_later made (made + 1) grown (g.only.places.age made s.older_operations) (omega arith);
       older_blocks = older_later made (made + 1) x.blocks s.older_blocks (omega arith);
       older_regions = older_inserted made (made + 1) x.regions after p e s.older_regions (omega arith) young i.updates;
     }
 
     what_same : (q : Object) → what (record x { operations = grown }) q ≡ what x q
-    what_same (TheOperation q) = ap (option_map (λ d. AnOperation d.0 (operation_content d.1))) (g.all_data q)
+    what_same (TheOperation q) = ap (option_map (λ d. AnOperation d.0 (operation_content d.1))) (g.only.all_data q)
     what_same (TheBlock q) = refl
     what_same (TheRegion q) = refl
 

@@ -15,6 +15,7 @@ pub mod Unlinked
 pub mod Walks
 pub mod Linked
 pub mod Children
+pub mod Relisted
 pub mod Views
 pub mod Sounds
 pub mod Made
@@ -29,7 +30,6 @@ pub mod Fields
 pub mod Puts
 pub mod Slots
 pub mod Appending
-pub mod Lookups
 pub mod Redirected
 pub mod Bare
 pub mod SameSeen

@@ -41,12 +41,16 @@ module _ {X : Type 0} where
         ap (λ s. option_map (λ o. o.content) (found s p.generation)) k
         ∙ ap (option_map (λ o. o.content)) (held_found (Full g o) p.generation (subst (λ s. IsSome (found s p.generation)) k h))
 
-    -- the object of the slot is found under its generation, and under no other
-    pub found_full : (g : ℕ) (o : Entry X) → slice_get a.slots.items p.index ≡ Some (Full g o) → g ≡ p.generation → Some o ≡ get a p
-    found_full g o k e = sym (ap (λ s. found s p.generation) k ∙ ap (λ h. found (Some (Full h o)) p.generation) e ∙ found_here p.generation o)
+    -- the object of the slot that was read is found under its generation, and under no other
+    module _ (g : ℕ) (o : Entry X) (ys : List (Slot X)) (s : Slot X) (e : ys ≡ a.slots.items) (low : p.index < length ys) (same : s ≡ get_or ys p.index s) (full : s ≡ Full g o) where
+      read_full : found (Some (Full g o)) p.generation ≡ get a p
+      read_full = sym (ap (λ z. found z p.generation) (slot_is a.slots.items ys p.index s e low same ∙ ap Some full))
 
-    pub found_other : (g : ℕ) (o : Entry X) → slice_get a.slots.items p.index ≡ Some (Full g o) → g ≢ p.generation → None ≡ get a p
-    found_other g o k ne = sym (ap (λ s. found s p.generation) k ∙ found_elsewhere g p.generation o ne)
+      pub found_full : g ≡ p.generation → Some o ≡ get a p
+      found_full e = sym (ap (λ h. found (Some (Full h o)) p.generation) e ∙ found_here p.generation o) ∙ read_full
+
+      pub found_other : g ≢ p.generation → None ≡ get a p
+      found_other ne = sym (found_elsewhere g p.generation o ne) ∙ read_full
 
   module _ (a : Arena X) where
     -- no freed slot can be used again if its generations are exhausted, or if an object is in it, or if there is none

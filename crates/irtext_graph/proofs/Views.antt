@@ -1,5 +1,6 @@
 -- What the view says of an object is what the arenas hold.
-use Rattle.std.proofs.Common.{◌≡◌, ◌∙◌, ◌++◌, ◌∷◌, ℕ, refl, sym, ap, Option, Some, None, [], map, Result, Ok, Err, OnOk, OnErr}
+use Rattle.std.proofs.Common.{◌≡◌, ◌≢◌, ◌∙◌, ◌++◌, ◌∷◌, ℕ, refl, sym, ap, Option, Some, None, [], map, slice_get, Result, Ok, Err, OnOk, OnErr}
+use Rattle.std.specs.List.{remove}
 use Rattle.std.specs.Option.{option_map}
 use Rattle.irtext_graph.specs.declared.graph.Counters.{Counters}
 use Rattle.irtext_graph.specs.Arena as arena
@@ -18,7 +19,7 @@ use Rattle.irtext_graph.proofs.Nests.{climb-same}
 use Rattle.irtext_graph.specs.Nest.{parent_in, children_in, datum_in}
 use Rattle.irtext_graph.specs.Objects.{up, kids, what, Lives, SameNodes}
 use Rattle.irtext_graph.specs.Objects as objects
-use Rattle.irtext_graph.specs.Graph.{SamePlaces, graph_of, parent_of, children_of, content_of, parent, children, content, IsLive, IsInside, CanInsert, KeepsObjects, KeepsRest, Appends}
+use Rattle.irtext_graph.specs.Graph.{SamePlaces, graph_of, parent_of, children_of, content_of, parent, children, content, IsLive, IsInside, CanInsert, KeepsObjects, KeepsRest, Appends, Unlinks}
 use Rattle.irtext_graph.proofs.Stores.{get_seen, generation_seen, length_seen, mapped_seen, seen_mapped}
 
 module _ {P C D E : Type 0} (see : D → E) where
@@ -103,6 +104,18 @@ module _ {O B T : Type 0} where
     parent_here = up_seen m v y c ∙ a.up_here;
     parents = λ o ne. up_seen m v y o ∙ a.ups o ne ∙ sym (up_seen m v x o);
     objects = keeps_seen m v x y a.whats p;
+  }
+
+  -- an object that was removed from its parent
+  pub unlinks_seen : (m : ℕ) (v : Counters) (x y : Objects O B T) (c : Object) → up y c ≡ None → ((q : Object) → q ≢ c → up y q ≡ up x q)
+      → ((k : Object) (i : ℕ) → up x c ≡ Some k → slice_get (kids x k) i ≡ Some c → kids y k ≡ remove (kids x k) i) → ((q : Object) → up x c ≢ Some q → kids y q ≡ kids x q)
+      → ((q : Object) → what y q ≡ what x q) → objects.SamePlaces x y → Unlinks (graph_of m v x) (graph_of m v y) c
+  unlinks_seen m v x y c free ups left others whats places = record {
+    free = up_seen m v y c ∙ free;
+    parents = λ q ne. up_seen m v y q ∙ ups q ne ∙ sym (up_seen m v x q);
+    left = λ k i e f. kids_seen m v y k ∙ left k i (sym (up_seen m v x c) ∙ e) (sym (ap (λ cs. slice_get cs i) (kids_seen m v x k)) ∙ f) ∙ ap (λ cs. remove cs i) (sym (kids_seen m v x k));
+    others = λ q ne. kids_seen m v y q ∙ others q (λ e. ne (up_seen m v x c ∙ e)) ∙ sym (kids_seen m v x q);
+    objects = keeps_seen m v x y whats places;
   }
 
   pub moved_seen : (m : ℕ) (v : Counters) (x y : Objects O B T) (k c : Object) {E : Type 0} (r : Result (Unit {0}) E) → objects.SamePlaces x y → OnOk r (objects.Appends x y k c) → OnOk r (Appends (graph_of m v x) (graph_of m v y) k c)

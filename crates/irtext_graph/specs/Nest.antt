@@ -1,5 +1,5 @@
 -- The parents, children and data of the objects in an arena, by their pointers.
-use Rattle.std.specs.Prelude.{ℕ, List, [], length, Option, Some, None, sum_by}
+use Rattle.std.specs.Prelude.{◌≡◌, ◌≢◌, ℕ, List, [], length, Option, Some, None, sum_by}
 use Rattle.irtext_few.specs.Growing.{listed}
 use Rattle.irtext_graph.specs.declared.arena.Slot.{Slot}
 use Rattle.irtext_graph.specs.declared.arena.Slot.TheVariants.{Vacant, Full}
@@ -7,7 +7,7 @@ use Rattle.irtext_graph.specs.declared.arena.Entry.{Entry}
 use Rattle.irtext_graph.specs.declared.arena.Arena.{Arena}
 use Rattle.irtext_graph.specs.declared.arena.Ptr.{Ptr}
 use Rattle.irtext_graph.specs.declared.nest.Nest.{Nest}
-use Rattle.irtext_graph.specs.Arena.{get}
+use Rattle.irtext_graph.specs.Arena.{get, KeepsPlaces}
 
 module _ {P C D : Type 0} where
   -- the parent of an object, if there is one
@@ -45,3 +45,10 @@ module _ {P C D : Type 0} where
   -- the number of children of all objects
   abbrev pub links : Arena (Nest P C D) → ℕ
   links a = sum_by size a.slots.items
+
+  -- only the list of one object's children may have changed, and nothing else of the arena
+  pub record OnlyLists {K : Type 0} (old new : Arena (Nest P C D)) (p : Ptr K) : Type 0 where
+    pub others : (q : Ptr K) → q ≢ p → kids new q ≡ kids old q
+    pub ups : (q : Ptr K) → up new q ≡ up old q
+    pub all_data : (q : Ptr K) → datum new q ≡ datum old q
+    pub places : KeepsPlaces old new

@@ -1,5 +1,5 @@
 //! Making objects.
-ghost use Rattle.std.specs.Prelude.{◌≡◌, ◌≢◌, ◌<◌, ◌≤◌, ◌+◌, ◌++◌, ◌∷◌, ℕ, Some, None, [], IsSome, IfOk, OnOk, OnErr, length, slice_get};
+ghost use Rattle.std.specs.Prelude.{◌≡◌, ◌<◌, ◌≤◌, ◌+◌, ◌++◌, ◌∷◌, ℕ, Some, None, [], IsSome, IfOk, OnOk, OnErr, length, slice_get};
 ghost use Rattle.irtext_graph.specs.Graph.{MakesRegion, MakesBlock, MakesOperation, KeepsOlder, IsLive};
 ghost use Rattle.irtext_graph.specs.Parts.{IsDefinedValue};
 ghost use Rattle.irtext_few.specs.Growing.{listed};
@@ -170,18 +170,16 @@ fn new_operation<O: Drop, T: Drop>(
 impl<O: Drop, T: Drop> Arena<Nest<BasicBlock, Region, OperationData<O, T>>> {
     ghost use Rattle.irtext_graph.specs.declared.arena.Ptr.{Ptr};
     ghost use Rattle.irtext_graph.specs.declared.object.Operation.{Operation};
-    ghost use Rattle.irtext_graph.specs.Arena.{get, KeepsPlaces};
-    ghost use Rattle.irtext_graph.specs.Nest.{up, kids, datum};
+    ghost use Rattle.irtext_graph.specs.Arena.{get};
+    ghost use Rattle.irtext_graph.specs.Nest.{kids, OnlyLists};
     ghost use Rattle.irtext_graph.specs.Uses.{operations_seen as seen};
 
     /// Reserves room for one more region of an operation. What contracts see of it is unchanged.
     fn make_region_room(&mut self, p: Ptr<Operation>) -> Result<(), AllocError>
         requires { IsSome (get self.old p) }
         ensures room { OnOk result (HasRoom (get self.new p)) }
-        ensures ups { (q : Ptr Operation) → up self.new q ≡ up self.old q }
         ensures kids { (q : Ptr Operation) → kids self.new q ≡ kids self.old q }
-        ensures data { (q : Ptr Operation) → datum self.new q ≡ datum self.old q }
-        ensures places { KeepsPlaces self.old self.new }
+        ensures only { OnlyLists self.old self.new p }
         ensures seen { seen self.new ≡ seen self.old }
     {
         self.content_mut(p).children.make_room()
@@ -191,10 +189,7 @@ impl<O: Drop, T: Drop> Arena<Nest<BasicBlock, Region, OperationData<O, T>>> {
     fn push_region(&mut self, p: Ptr<Operation>, r: Ptr<Region>)
         requires { HasRoom (get self.old p) }
         ensures here { kids self.new p ≡ kids self.old p ++ r ∷ [] }
-        ensures others { (q : Ptr Operation) → q ≢ p → kids self.new q ≡ kids self.old q }
-        ensures ups { (q : Ptr Operation) → up self.new q ≡ up self.old q }
-        ensures data { (q : Ptr Operation) → datum self.new q ≡ datum self.old q }
-        ensures places { KeepsPlaces self.old self.new }
+        ensures only { OnlyLists self.old self.new p }
         ensures edits { Edits (seen self.old) (seen self.new) p (with_child r) }
     {
         self.content_mut(p).children.push_reserved(r);
@@ -255,6 +250,7 @@ impl<O: Drop, B: Drop, T: Drop> Graph<O, B, T> {
 
     /// Makes a block with this data, without a parent and operations, with arguments of these types. The arguments get the next numbers
     /// of values. If an allocation fails or a counter is at its limit, the graph is unchanged.
+    #[tactic(auto, using(crate::proofs::Made::same_keeps))]
     pub fn make_block(&mut self, value: B, types: Few<T>) -> Result<Ptr<BasicBlock>, AllocError>
         ensures made { IfOk result (λ p. MakesBlock self.old self.new p value types) }
         ensures err { OnErr result (self.new ≡ self.old) }

@@ -1,5 +1,5 @@
 //! Objects with their parents and children.
-ghost use Rattle.std.specs.Prelude.{◌≡◌, ◌≢◌, ◌<◌, ◌≤◌, ◌+◌, ◌++◌, ◌∷◌, ℕ, Some, None, [], IsSome, OnOk, OnErr, length, slice_get};
+ghost use Rattle.std.specs.Prelude.{◌≡◌, ◌≢◌, ◌<◌, ◌≤◌, ◌+◌, ◌++◌, ◌∷◌, Some, None, [], IsSome, OnOk, OnErr, length, slice_get};
 
 use crate::arena::{Arena, Ptr};
 use irtext_few::Growing;
@@ -19,7 +19,7 @@ impl<P, C, D: Drop> Arena<Nest<P, C, D>> {
     ghost use Rattle.std.specs.List.{remove};
     ghost use Rattle.irtext_graph.specs.declared.arena.Ptr.{Ptr};
     ghost use Rattle.irtext_graph.specs.Arena.{get, KeepsPlaces, ShedsPlaces};
-    ghost use Rattle.irtext_graph.specs.Nest.{up, kids, datum, links};
+    ghost use Rattle.irtext_graph.specs.Nest.{up, kids, datum, links, OnlyLists};
     ghost use Rattle.irtext_graph.specs.Content.{nodes};
 
     /// Returns the parent of an object.
@@ -68,10 +68,7 @@ impl<P, C, D: Drop> Arena<Nest<P, C, D>> {
         ensures here { OnOk result (kids self.new p ≡ kids self.old p ++ c ∷ []) }
         ensures err { OnErr result (kids self.new p ≡ kids self.old p) }
         ensures refused { OnErr result (nodes self.new ≡ nodes self.old) }
-        ensures others { (q : Ptr K) → q ≢ p → kids self.new q ≡ kids self.old q }
-        ensures ups { (q : Ptr K) → up self.new q ≡ up self.old q }
-        ensures data { (q : Ptr K) → datum self.new q ≡ datum self.old q }
-        ensures places { KeepsPlaces self.old self.new }
+        ensures only { OnlyLists self.old self.new p }
     {
         self.content_mut(p).children.push(c)
     }
@@ -99,10 +96,7 @@ impl<P, C, D: Drop> Arena<Nest<P, C, D>> {
         requires within { i < length (kids self.old p) }
         ensures here { kids self.new p ≡ remove (kids self.old p) i }
         ensures less { links self.new < links self.old }
-        ensures others { (q : Ptr K) → q ≢ p → kids self.new q ≡ kids self.old q }
-        ensures ups { (q : Ptr K) → up self.new q ≡ up self.old q }
-        ensures data { (q : Ptr K) → datum self.new q ≡ datum self.old q }
-        ensures places { KeepsPlaces self.old self.new }
+        ensures only { OnlyLists self.old self.new p }
     {
         self.content_mut(p).children.remove(i);
     }

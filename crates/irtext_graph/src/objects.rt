@@ -1,5 +1,5 @@
 //! Operations, blocks and regions, each in an arena of its own, as the objects of one forest.
-ghost use Rattle.std.specs.Prelude.{◌≡◌, ◌≢◌, ◌<◌, ◌≤◌, ◌+◌, ◌++◌, ◌∷◌, ℕ, Some, None, [], IsSome, IsTrue, OnOk, OnErr, length, slice_get, ◌↔◌};
+ghost use Rattle.std.specs.Prelude.{◌≡◌, ◌≢◌, ◌<◌, ◌≤◌, Some, None, [], IsTrue, OnOk, OnErr, length, slice_get, ◌↔◌};
 
 use crate::arena::{Arena, Ptr};
 use crate::nest::Nest;
@@ -61,7 +61,7 @@ pub(crate) struct Objects<O, B, T> {
 
 impl<O: Drop, B: Drop, T: Drop> Objects<O, B, T> {
     ghost use Rattle.std.specs.List.{remove};
-    ghost use Rattle.irtext_graph.specs.Objects.{up, kids, what, Lives, links, SameAt, SameNodes, SamePlaces, SameData, stays, IsGone, Appends, Fits, Renumbers, SameDatum, Sheds};
+    ghost use Rattle.irtext_graph.specs.Objects.{up, kids, what, Lives, links, SameAt, SameNodes, SamePlaces, SameData, Appends, Fits, Renumbers, SameDatum, Sheds};
 
     /// Whether an object is live.
     pub(crate) fn contains(&self, o: Object) -> bool
@@ -205,6 +205,7 @@ impl<O: Drop, B: Drop, T: Drop> Objects<O, B, T> {
     }
 
     /// Returns the child of an object at an index.
+    #[tactic(auto, using(crate::proofs::Relisted::operation_within, crate::proofs::Relisted::block_within, crate::proofs::Relisted::region_within))]
     pub(crate) fn child_at(&self, o: Object, i: usize) -> Object
         requires lives { Lives self.now o }
         requires within { i < length (kids self.now o) }
@@ -218,6 +219,7 @@ impl<O: Drop, B: Drop, T: Drop> Objects<O, B, T> {
     }
 
     /// Removes the child at an index from an object.
+    #[tactic(auto, using(crate::proofs::Relisted::operation_within, crate::proofs::Relisted::block_within, crate::proofs::Relisted::region_within))]
     pub(crate) fn remove_child(&mut self, k: Object, i: usize)
         requires live { Lives self.old k }
         requires within { i < length (kids self.old k) }

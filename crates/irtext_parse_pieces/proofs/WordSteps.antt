@@ -5,13 +5,15 @@ use Rattle.std.specs.List.{list_all}
 use Rattle.std.specs.Prelude.{IfSome}
 use Rattle.std.specs.Str.{chars, encode_utf8_all, IsUtf8}
 use Rattle.irtext_base.specs.Answers.{Takes}
+use Rattle.irtext_base.specs.Places.{IsPlaceAfter}
 use Rattle.irtext_base.specs.Stream.{after_taken}
 use Rattle.irtext_base.specs.Text.{Text, begins, front, after, in_word, is_identifier}
 use Rattle.irtext_base.proofs.Characters.{and_left, and_right, front_all, after_all, identifier_every}
 use Rattle.irtext_base.proofs.Compose.{takes_none, takes_more}
 use Rattle.irtext_stream.specs.Stream.{Comes}
+use Rattle.irtext_stream.specs.declared.position.Place.{Place}
 use Rattle.irtext_tokens.proofs.Steps.{Lens}
-use Rattle.irtext_tokens.proofs.Words.{encodes-front_word}
+use Rattle.irtext_tokens.proofs.Words.{encodes-front_word, taken_since}
 use Rattle.irtext_parse_pieces.specs.Entries.{TakesWord}
 
 -- the longest front continues what passes
@@ -54,6 +56,13 @@ module _ {S : Type 0} (l : Lens S) where
       let a : after in_word (l.view old).rest ≡ after in_word rest = ap (after in_word) (sym w.takes.same) ∙ after_more in_word w.word rest w.in_words in
       subst (λ t. Takes l.view l.at t (after in_word (l.view old).rest) old new) (sym f)
       (subst (λ r. Takes l.view l.at (w.word ++ front in_word rest) r old new) (sym a) (takes_more l.view l.at l.view_at l.at_at old mid new w.word rest (front in_word rest) (after in_word rest) w.takes k))
+
+  -- the bytes since the place of a word that was consumed are the word
+  pub word_since : {old new : S} (place : Place) (bytes : List ℕ) → Takes l.view l.at (front in_word (l.view old).rest) (after in_word (l.view old).rest) old new → IsPlaceAfter place (l.view old).passed
+      → ((passed taken : Text) → passed ++ taken ≡ (l.view new).passed → IsPlaceAfter place passed → bytes ≡ encode_utf8_all taken) → bytes ≡ front in_word (l.view old).rest
+  word_since {old = old} {new = new} place bytes t at since =
+      let rest = (l.view old).rest in
+      taken_since l.view l.at l.view_at l.at_at old new place bytes (front in_word rest) (after in_word rest) t at since ∙ encodes-front_word rest
 
   module _ {old new : S} {key : Text} (w : TakesWord l.view l.at old (Some key) new) where
     whole_front : front in_word (l.view old).rest ≡ w.word

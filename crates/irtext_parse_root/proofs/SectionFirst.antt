@@ -1,5 +1,5 @@
 -- A fault of the section after an operation is the first failure of every section that the text parses as.
-use Rattle.std.proofs.Common.{◌≡◌, ◌∙◌, ◌-◌, ℕ, List, ◌++◌, length, take, refl, sym, ap, subst, append_assoc, length-append, arith, inl, inr}
+use Rattle.std.proofs.Common.{◌≡◌, ◌∙◌, ◌-◌, ℕ, List, ◌++◌, length, take, sym, ap, subst, append_assoc, length-append, arith, inl, inr}
 use Rattle.std.proofs.Math.Seq.{take-append_seam}
 use Rattle.irtext_base.specs.Text.{Text}
 use Rattle.irtext_base.specs.Faults.{Fault, fault_of}
@@ -7,25 +7,13 @@ use Rattle.irtext_base.specs.Answers.{Outcome}
 use Rattle.irtext_base.specs.Stream.{IsAt}
 use Rattle.irtext_base.specs.declared.parsable.fault.ParseFault.{ParseFault}
 use Rattle.irtext_grammar.specs.Contexts.Held.{IsPosition}
-use Rattle.irtext_grammar.specs.Names.Script as script
-use Rattle.irtext_grammar.specs.Names.Script.{Cause, Failure}
+use Rattle.irtext_grammar.specs.Names.Script.{Failure}
 use Rattle.irtext_parse_spec.specs.Promises.Root.{IsCause, IsPlace}
 use Rattle.irtext_parse_spec.specs.Promises.Supported.{RefusedAs}
 use Rattle.irtext_promises.specs.Promises.{IsFirst}
 use Rattle.irtext_parse_spec.specs.Agrees.{StopsAt, ReadOrStops}
 use Rattle.irtext_parse_spec.specs.Entries.{fault_for}
-
--- a failure's own fault
-is_own : (c : Cause Text) → IsCause c (fault_for c)
-is_own (script.ResultCount types names) = refl
-is_own (script.NoActiveScope n) = refl
-is_own (script.UnresolvedReference n) = refl
-is_own (script.MultipleDefinitions n) = refl
-is_own script.NotIsolated = refl
-is_own (script.DuplicateIndex i) = refl
-is_own (script.UnknownIndex i) = refl
-is_own (script.UnknownPrintOnce i) = refl
-is_own (script.ReservedKey k) = refl
+use Rattle.irtext_promises.proofs.Refuses.{own_cause}
 
 -- the characters before the rest
 pub front_is : (a b : Text) → take (length (a ++ b) - length b) (a ++ b) ≡ a
@@ -39,7 +27,7 @@ module _ {A X : Type 0} (all passed rest : Text) (whole : passed ++ rest ≡ all
       let front : take (length all - length s.stop) all ≡ passed ++ upto = ap (λ z. take (length z - length s.stop) z) text ∙ front_is (passed ++ upto) s.stop in
       let place : IsPosition all (length s.stop) fault.pos = subst (λ z. IsAt fault.pos.line fault.pos.column z) (sym front) at in
       subst (λ z. IsFirst all z fault) (sym s.is)
-      (subst (IsCause s.first.cause) (k.0 ∙ sym because) (is_own s.first.cause), subst (λ z. IsPlace all z fault.pos) (sym s.at) place)
+      (subst (IsCause s.first.cause) (k.0 ∙ sym because) (own_cause s.first.cause), subst (λ z. IsPlace all z fault.pos) (sym s.at) place)
 
   -- whatever is parsed there, the fault is the first of what is wrong with it
   pub first_wrong : (o : Outcome X) (x : X) (left : Text) (fs : List (Failure Text ℕ)) → ReadOrStops rest o x left fs → RefusedAs o cause upto → IsFirst all fs fault

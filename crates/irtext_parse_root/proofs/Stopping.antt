@@ -71,46 +71,43 @@ module _ {T A U : Type 0} (types_at : Reader T) (reading : Reader A) (h : Splits
   abbrev ctx : ContextView T A
   ctx = old.state.ctx.now
 
-  abbrev text : Text
-  text = whole old.stream
-
   -- there is no turn
   abbrev NoTurn : List (Level T A) → Type 0
   NoTurn ls = UnlessMemory (Faulted types_at attr ctx.dialects ls before old) fault
 
   module _ (b : BegunOperation) (committed : fault.committed ≡ true) where
     -- wherever the operation is open
-    operation_stops : ((base : Base) (v l : ℕ) (o : OpenOperation T A) (own : OwnSoFar T A) (more : List (Level T A)) → IsHere base v l (at_operation b o own ∷ more) before text ctx (Some (framed.Operation b)) frames → NoTurn (at_operation b o own ∷ more))
+    operation_stops : ((base : Base) (v l : ℕ) (o : OpenOperation T A) (own : OwnSoFar T A) (more : List (Level T A)) → IsHere base v l (at_operation b o own ∷ more) before (whole old.stream) ctx (Some (framed.Operation b)) frames → NoTurn (at_operation b o own ∷ more))
         → Stops types_at attr (framed.Operation b) frames before old fault
     operation_stops stops = record {
       committed = committed;
       stops = λ base v l ls here.
           let q = operation_first b ls here.next_is in
-          subst NoTurn (sym q.3) (stops base v l q.0 q.1 q.2 (subst (λ z. IsHere base v l z before text ctx (Some (framed.Operation b)) frames) q.3 here));
+          subst NoTurn (sym q.3) (stops base v l q.0 q.1 q.2 (subst (λ z. IsHere base v l z before (whole old.stream) ctx (Some (framed.Operation b)) frames) q.3 here));
     }
 
-    pub piece_stops : IsNext ctx.dialects b comes.Piece → ((o : OpenOperation T A) (step : Step) (ss : List Step) → IsBegun before.names text ctx b o → o.steps ≡ step ∷ ss → UnlessMemory (RefusesPiece types_at attr o step before old) fault)
+    pub piece_stops : IsNext ctx.dialects b comes.Piece → ((o : OpenOperation T A) (step : Step) (ss : List Step) → IsBegun before.names (whole old.stream) ctx b o → o.steps ≡ step ∷ ss → UnlessMemory (RefusesPiece types_at attr o step before old) fault)
         → Stops types_at attr (framed.Operation b) frames before old fault
     piece_stops is refused = operation_stops (λ base v l o own more here.
         let s = piece_comes (slice_get (steps_in ctx.dialects (id_of b.id)) b.step) is in
-        let e = steps_here before.names text ctx b o here.levels.0.0 s.0 s.1 in
+        let e = steps_here before.names (whole old.stream) ctx b o here.levels.0.0 s.0 s.1 in
         no_piece_comes types_at attr before old fault b o own more s.0 (drop (b.step + 1) (steps_in ctx.dialects (id_of b.id))) e s.2 (refused o s.0 (drop (b.step + 1) (steps_in ctx.dialects (id_of b.id))) here.levels.0.0 e))
 
-    pub end_stops : IsNext ctx.dialects b comes.End → ((o : OpenOperation T A) → IsBegun before.names text ctx b o → UnlessMemory (RefusesEnd types_at attr o b before old) fault) → Stops types_at attr (framed.Operation b) frames before old fault
+    pub end_stops : IsNext ctx.dialects b comes.End → ((o : OpenOperation T A) → IsBegun before.names (whole old.stream) ctx b o → UnlessMemory (RefusesEnd types_at attr o b before old) fault) → Stops types_at attr (framed.Operation b) frames before old fault
     end_stops is refused = operation_stops (λ base v l o own more here.
-        no_end_comes types_at attr before old fault b o own more (no_steps_here before.names text ctx b o here.levels.0.0 (end_comes (slice_get (steps_in ctx.dialects (id_of b.id)) b.step) is)) (refused o here.levels.0.0))
+        no_end_comes types_at attr before old fault b o own more (no_steps_here before.names (whole old.stream) ctx b o here.levels.0.0 (end_comes (slice_get (steps_in ctx.dialects (id_of b.id)) b.step) is)) (refused o here.levels.0.0))
 
     module _ (v : StreamView) (passes : PassesTo (after_space old.stream.rest) old.stream v) (iso : Bool) (iso_is : iso ≡ isolated ctx.dialects (id_of b.id)) (refused : UnlessMemory (RefusesRegion types_at attr iso before (with_stream old v)) fault) where
       pub region_stops : IsNext ctx.dialects b comes.Region → Stops types_at attr (framed.Operation b) frames before old fault
       region_stops is = operation_stops (λ base u l o own more here.
           let s = region_comes (slice_get (steps_in ctx.dialects (id_of b.id)) b.step) is in
-          let e = steps_here before.names text ctx b o here.levels.0.0 (one s.0) s.1 in
+          let e = steps_here before.names (whole old.stream) ctx b o here.levels.0.0 (one s.0) s.1 in
           no_region_begins types_at attr before old fault b o own more v passes.rest (moved_whole old.stream v passes.moves) iso (iso_is ∙ ap (isolated ctx.dialects) here.levels.0.0.id) s.0 (drop (b.step + 1) (steps_in ctx.dialects (id_of b.id)))
           (loops types_at reading h k before old recorder) (λ path. loops types_at reading h k before old (doing ctx.dialects path)) e refused)
 
       pub another_stops : IsNext ctx.dialects b comes.Regions → begins_region (after_space old.stream.rest) ≡ true → Stops types_at attr (framed.Operation b) frames before old fault
       another_stops is follows_on = operation_stops (λ base u l o own more here.
-          let e = steps_here before.names text ctx b o here.levels.0.0 all (regions_come (slice_get (steps_in ctx.dialects (id_of b.id)) b.step) is) in
+          let e = steps_here before.names (whole old.stream) ctx b o here.levels.0.0 all (regions_come (slice_get (steps_in ctx.dialects (id_of b.id)) b.step) is) in
           no_other_begins types_at attr before old fault b o own more v passes.rest (moved_whole old.stream v passes.moves) iso (iso_is ∙ ap (isolated ctx.dialects) here.levels.0.0.id) (drop (b.step + 1) (steps_in ctx.dialects (id_of b.id)))
           (λ path. loops types_at reading h k before old (doing ctx.dialects path)) e follows_on refused)
 
@@ -129,7 +126,7 @@ module _ {T A U : Type 0} (types_at : Reader T) (reading : Reader A) (h : Splits
       committed = committed;
       stops = λ base u l ls here.
           let q = region_first r ls here.next_is in
-          let there = subst (λ z. IsHere base u l z before text ctx (Some (framed.Region r)) frames) q.4 here in
+          let there = subst (λ z. IsHere base u l z before (whole old.stream) ctx (Some (framed.Region r)) frames) q.4 here in
           let same = moved_whole old.stream v passes.moves in
           subst NoTurn (sym q.4) (no_brace_comes types_at attr before old fault (loops types_at reading h k before old recorder) r q.0 q.1 q.2 q.3 v passes.rest same none
           (subst (λ i. UnlessMemory (RefusesRegionEnd types_at attr i q.1 before (with_stream old v)) fault) there.levels.0.is_isolated

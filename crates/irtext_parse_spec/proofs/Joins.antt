@@ -5,6 +5,7 @@ pub mod Section
 pub mod Lead
 pub mod Attributes
 pub mod Lists
+pub mod Brackets
 pub mod Dictionary
 pub mod PartSteps
 pub mod Body

@@ -24,6 +24,7 @@ pub mod Limited
 pub mod Locations
 pub mod Naming
 pub mod Noted
+pub mod OwnCauses
 pub mod Pairs
 pub mod Places
 pub mod ReadRoot

@@ -1,24 +1,19 @@
 -- The parsers of the keyed attributes of entries return what the grammar parses, up to the first key whose attribute is not allowed.
-use Rattle.std.proofs.Common.{◌≡◌, ◌∙◌, inl, inr, ℕ, Bool, true, false, cond, Option, Some, List, [], ◌∷◌, ◌++◌, map, refl, sym, ap, subst, true≢false}
+use Rattle.std.proofs.Common.{◌≡◌, ◌∙◌, ℕ, Bool, true, false, cond, Option, Some, List, [], ◌∷◌, ◌++◌, map, refl, sym, ap, subst, true≢false}
 use Rattle.std.proofs.lemmas.List.{map-id}
 use Rattle.std.specs.Prelude.{codes}
 use Rattle.std.specs.List.{list_all}
-use Rattle.std.specs.Char.{is_whitespace}
-use Rattle.irtext_base.specs.Text.{Text, begins, front, after_space, begins_word}
+use Rattle.irtext_base.specs.Text.{Text, begins, begins_word}
 use Rattle.irtext_base.specs.Reading.{Reading, ◌▹◌, the, literal, separated}
 use Rattle.irtext_base.specs.Format.{Id, Format}
 use Rattle.irtext_base.specs.Faults.{Fault}
 use Rattle.irtext_base.specs.Faults as fault
-use Rattle.irtext_base.specs.Answers.{Outcome, Read, Missing, Bad, mapped, followed}
+use Rattle.irtext_base.specs.Answers.{Outcome, Read, Missing, Bad, mapped}
 use Rattle.irtext_base.specs.Locations.{AttrView}
 use Rattle.irtext_base.specs.Own.{Texts, Language, Verdict, language, texts_of, found, missing}
 use Rattle.irtext_base.specs.Paths.{Written}
-use Rattle.irtext_base.proofs.Along.{front_after}
 use Rattle.irtext_base.proofs.Characters.{and_left, and_right}
 use Rattle.irtext_tokens.specs.AttrTexts.{attr_at}
-use Rattle.irtext_tokens.specs.Infix.{Reader}
-use Rattle.irtext_tokens.specs.ListOutcomes.{separated_at}
-use Rattle.irtext_tokens.specs.Tokens.{space_at, text_at}
 use Rattle.irtext_grammar.specs.Grammar.Reads as reads
 use Rattle.irtext_grammar.specs.Grammar.Section as section
 use Rattle.irtext_grammar.specs.Grammar.Section.{Item, direct, reference}
@@ -28,9 +23,9 @@ use Rattle.irtext_grammar.specs.Names.Acts.{Rule}
 use Rattle.irtext_grammar.specs.Names.Script.{ReservedKey}
 use Rattle.irtext_parse_spec.specs.Promises.Supported.{location_verdict}
 use Rattle.irtext_parse_spec.specs.Readers.Directives.{attribute_at}
-use Rattle.irtext_parse_spec.proofs.Joins.Answers.{Splits, followed_read, followed-read, mapped_read, splits_followed, splits_mapped}
-use Rattle.irtext_parse_spec.proofs.Joins.Lists.{Items, list_read, list_tight, list_found, ListFound, all_fine, one_stops, Stop, splits_separated}
-use Rattle.irtext_parse_spec.proofs.Joins.Tokens.{text_read, text-literal, splits_text, splits_space}
+use Rattle.irtext_parse_spec.proofs.Joins.Answers.{Splits, mapped_read}
+use Rattle.irtext_parse_spec.proofs.Joins.Brackets.{bracketed_read, bracketed_found, stop_fails}
+use Rattle.irtext_parse_spec.proofs.Joins.Lists.{Items, Stop}
 use Rattle.irtext_parse_spec.specs.Exact.{Exact, NeedsWord}
 use Rattle.irtext_parse_spec.specs.Heads.{mark_at}
 use Rattle.irtext_parse_spec.proofs.Exact.Attributes.{exact_attribute, no_word_there}
@@ -40,7 +35,6 @@ use Rattle.irtext_parse_spec.proofs.Exact.Names.{exact_name, exact_mark, starts_
 use Rattle.irtext_parse_spec.specs.Entries.{item_at, pair_at, is_allowed, kept, pairs_at}
 use Rattle.irtext_parse_spec.specs.Agrees.{StopsAt, ReadOrStops}
 use Rattle.irtext_parse_spec.proofs.Claims.{wrong_pairs}
-use Rattle.irtext_parse_spec.proofs.Stops.{stops_first, stops_second}
 
 -- ---- a key that is kept
 module _ {A : Type 0} (rule : Rule A) where
@@ -170,77 +164,17 @@ module _ {T A : Type 0} (types : Texts T) (reading : Text → Outcome A) (writte
       missed = λ text n. let m = starts_pair.missed text n in (m.0, ap (kept rule) m.1);
     }
 
-    abbrev kept_pair : Text → Outcome (Name ℕ × Item ℕ A)
-    kept_pair t = kept rule (pair_at attr t)
-
-    abbrev list_at : Reader (List (Name ℕ × Item ℕ A))
-    list_at text = separated_at 44 (λ t. kept rule (pair_at attr t)) text
-
-    abbrev close_next : List (Name ℕ × Item ℕ A) → Text → Outcome (List (Name ℕ × Item ℕ A))
-    close_next ps text = mapped (λ _. ps) (text_at (codes "]") text)
-
-    abbrev list_next : Unit {0} → Text → Outcome (List (Name ℕ × Item ℕ A))
-    list_next _ text = followed (list_at text) close_next
-
-    abbrev space_next : Unit {0} → Text → Outcome (List (Name ℕ × Item ℕ A))
-    space_next _ text = followed (space_at text) list_next
-
     -- pairs that are accepted the grammar parses, and without a failure
     pub pairs_read : (text : Text) (ps : List (Name ℕ × Item ℕ A)) (taken rest : Text) → pairs_at attr rule text ≡ Read ps taken rest → bracketed l loc ps text rest × (taken ++ rest ≡ text) × (wrong_pairs rule ps ≡ [])
     unfolding pairs_at
-    pairs_read text ps taken rest e =
-        let a = followed_read (text_at (codes "[") text) space_next ps taken rest e in
-        let b = followed_read (space_at a.middle) list_next ps a.more rest a.second in
-        let c = followed_read (list_at b.middle) close_next ps b.more rest b.second in
-        let d = mapped_read (λ _. c.value) (text_at (codes "]") c.middle) ps c.more rest c.second in
-        let k = list_read 44 pairs_of b.middle c.value c.front c.middle c.first in
-        let items : k.items ≡ ps = sym (map-id k.items) ∙ (k.whole ∙ d.2) in
-        let inside : after_space a.middle ≡ b.middle = cc b.first in
-        let listed : separated 44 reads.no_word (map (section.pair l loc) k.items) (after_space a.middle) c.middle = subst (λ t. separated 44 reads.no_word (map (section.pair l loc) k.items) t c.middle) (sym inside) k.read in
-        let tight : after_space c.middle ≡ c.middle = list_tight 44 pairs_of k.items a.middle c.middle listed in
-        let close : literal (codes "]") (after_space c.middle) rest = subst (λ t. literal (codes "]") t rest) (sym tight) (text_read (codes "]") c.middle c.more rest d.1) in (
-          (
-            a.middle,
-            text_read (codes "[") text a.front a.middle a.first,
-            (c.middle, subst (λ qs. separated 44 reads.no_word (map (section.pair l loc) qs) (after_space a.middle) c.middle) items listed, close),
-          ),
-          splits_followed (text_at (codes "[")) space_next (splits_text (codes "[")) (λ _. splits_followed space_at list_next splits_space
-              (λ _. splits_followed list_at close_next (splits_separated 44 (kept_pair) pairs_of.splits) (λ qs. splits_mapped (λ _. qs) (text_at (codes "]")) (splits_text (codes "]"))))) text ps taken rest e,
-          ap (wrong_pairs rule) (sym items) ∙ fine_pairs rule k.items k.fine,
-        )
+    pairs_read text ps taken rest e = let b = bracketed_read pairs_of map-id text ps taken rest e in (b.0, b.1, fine_pairs rule ps b.2)
 
     -- if the list stops at a pair, the key of that pair is the first failure
     list_stops : (ps : List (Name ℕ × Item ℕ A)) (text : Text) (o : Outcome (List (Name ℕ × Item ℕ A))) → Stop 44 pairs_of ps text o → StopsAt text o (wrong_pairs rule ps)
-    list_stops ps text o k = record {
-      first = record { cause = ReservedKey k.first.0.text; at = Some k.first.0.place };
-      others = wrong_pairs rule k.following;
-      is = ap (wrong_pairs rule) k.whole ∙ first_wrong rule k.before k.following k.first k.fine k.refused;
-      upto = k.upto;
-      stop = k.stop;
-      splits = k.splits;
-      at = ap Some k.read.1.0;
-      bad = k.is;
-    }
+    list_stops ps text o k = stop_fails pairs_of ps text o k (record { cause = ReservedKey k.first.0.text; at = Some k.first.0.place }) (wrong_pairs rule k.following) (wrong_pairs rule ps)
+        (ap (wrong_pairs rule) k.whole ∙ first_wrong rule k.before k.following k.first k.fine k.refused) (ap Some k.read.1.0) refl
 
     -- pairs that the grammar parses are accepted, up to the first key whose attribute is not allowed
     pub pairs_found : (text : Text) (ps : List (Name ℕ × Item ℕ A)) (rest : Text) → bracketed l loc ps text rest → ReadOrStops text (pairs_at attr rule text) ps rest (wrong_pairs rule ps)
     unfolding pairs_at
-    pairs_found text ps rest (m, a, (k, s, c)) = go (list_found 44 pairs_of ps (after_space m) k s)
-      where
-        go : ListFound 44 pairs_of [] ps (after_space m) k (list_at (after_space m)) → ReadOrStops text (followed (text_at (codes "[") text) space_next) ps rest (wrong_pairs rule ps)
-        go (all_fine f taken e) =
-            let close : literal (codes "]") k rest = subst (λ t. literal (codes "]") t rest) (list_tight 44 pairs_of ps m k s) c in
-            let is : list_at (after_space m) ≡ Read ps taken k = e ∙ ap (λ z. Read z taken k) (map-id ps) in
-            inl (
-              fine_pairs rule ps f,
-              (
-                codes "[" ++ (front is_whitespace m ++ (taken ++ codes "]")),
-                followed-read (text_at (codes "[") text) space_next tt ps (codes "[") m (front is_whitespace m ++ (taken ++ codes "]")) rest (text-literal (codes "[") text m a)
-                    (followed-read (space_at m) list_next tt ps (front is_whitespace m) (after_space m) (taken ++ codes "]") rest refl
-                    (followed-read (list_at (after_space m)) close_next ps ps taken k (codes "]") rest is (ap (mapped (λ _. ps)) (text-literal (codes "]") k rest close)))),
-              ),
-            )
-        go (one_stops q) =
-            inr (stops_second space_next (text_at (codes "[") text) tt (codes "[") m text (text-literal (codes "[") text m a) (sym a)
-            (stops_second list_next (space_at m) tt (front is_whitespace m) (after_space m) m refl (front_after is_whitespace m)
-            (stops_first close_next (list_stops ps (after_space m) (list_at (after_space m)) q))))
+    pairs_found text ps rest h = bracketed_found pairs_of map-id text ps rest h (wrong_pairs rule ps) (fine_pairs rule ps) (list_stops ps)

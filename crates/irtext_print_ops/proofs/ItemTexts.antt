@@ -1,5 +1,7 @@
 -- The texts of single items: of values with their types, and of what a list has at an index.
-use Rattle.std.proofs.Common.{◌≡◌, ◌≤◌, ◌<◌, ◌∙◌, ◌+◌, ◌++◌, ◌∷◌, ℕ, zero, suc, arith, drop, refl, sym, ap, subst, List, [], Option, Some, None, IsSome, IfSome, Bool, true, false, not, ◌&&◌, is_some, map, length, slice_get, codes}
+use Rattle.std.proofs.Common.{◌≡◌, ◌≤◌, ◌<◌, ◌∙◌, ◌+◌, ◌++◌, ◌∷◌, ℕ, zero, suc, arith, drop, refl, sym, ap, subst, List, [], Option, Some, None, IsSome, IfSome, Bool, true, false, not, ◌&&◌, is_some, map, length, slice_get, codes, Result, OnOk, IfOk}
+use Rattle.std.specs.declared.alloc.Global.{Global}
+use Rattle.std.specs.declared.string.String.{String}
 use Rattle.std.specs.Option.{option_map, option_and_then}
 use Rattle.std.specs.Str.{encode_utf8_all}
 use Rattle.std.proofs.lemmas.Option.{slice_get-map}
@@ -14,12 +16,14 @@ use Rattle.irtext_graph.specs.declared.object.Operation.{Operation}
 use Rattle.irtext_graph.specs.declared.object.Value.{Value}
 use Rattle.irtext_grammar.specs.Contexts.Nested.{number_of}
 use Rattle.irtext_grammar.specs.Contexts.Held.{known_types}
+use Rattle.irtext_print.specs.Printers.Appended.{AppendsText}
 use Rattle.irtext_print.specs.Printers.PieceText.{spaced_if}
 use Rattle.irtext_print.proofs.Printers.Locations.{more, worded}
 use Rattle.irtext_print_ops.specs.Listed.{facet_text, next_text, operand_type_text, text_at}
 use Rattle.irtext_print_ops.specs.Names.{name_of, operand_text, label_text, or_nothing}
 use Rattle.irtext_print_ops.specs.declared.lists.Facet.{Facet}
 use Rattle.irtext_print_ops.specs.declared.lists.Facet.TheVariants as facet
+use Rattle.irtext_print_ops.specs.declared.lists.Listed.{Listed}
 use Rattle.irtext_print_ops.specs.declared.lists.Listed.TheVariants as listed
 
 module _ {T A : Type 0} (written : T → Text) (ctx : ContextView T A) (v : Value) where
@@ -138,13 +142,31 @@ module _ {T A : Type 0} (written : T → Text) (ctx : ContextView T A) where
   operand_type_at p i v e = sym (ap (option_and_then (operand_type_text written ctx)) e) ∙ found_at (operand_type_text written ctx) (operands ctx.graph p) i
 
 -- an item that has a text is not the first of those that come after it
-pub not_first : (first : Bool) (o u : Option Text) → IsSome o → o ≡ u → false ≡ (first && not (is_some u))
+not_first : (first : Bool) (o u : Option Text) → IsSome o → o ≡ u → false ≡ (first && not (is_some u))
 not_first first o u h e = subst (λ x. false ≡ (first && not (is_some x))) e (go first o h)
   where
     go : (first : Bool) (o : Option Text) → IsSome o → false ≡ (first && not (is_some o))
     go first None h = absurd (cc)
     go true (Some t) h = refl
     go false (Some t) h = refl
+
+-- what was printed of an item is the text at its index, and says whether it was the first
+module _ {T A : Type 0} (written : T → Text) (ctx : ContextView T A) {l m : Listed} (i : ℕ) (is : l ≡ m) {o : Option Text} (e : o ≡ text_at written ctx m i) (first : Bool) where
+  same_text : o ≡ text_at written ctx l i
+  same_text = e ∙ ap (λ z. text_at written ctx z i) (sym is)
+
+  pub item_shown : (old new : String Global) → AppendsText old (next_text first o) new → AppendsText old (next_text first (text_at written ctx l i)) new
+  item_shown old new h = subst (λ t. AppendsText old (next_text first t) new) same_text h
+
+  pub item_followed : IsSome o → false ≡ (first && not (is_some (text_at written ctx l i)))
+  item_followed h = not_first first o (text_at written ctx l i) h same_text
+
+  module _ {E : Type 0} (r : Result Bool E) where
+    pub item_text : (old new : String Global) → OnOk r (AppendsText old (next_text first o) new) → OnOk r (AppendsText old (next_text first (text_at written ctx l i)) new)
+    item_text old new h = subst (λ t. OnOk r (AppendsText old (next_text first t) new)) same_text h
+
+    pub item_left : IfOk r (λ left. left ≡ (first && not (is_some o))) → IfOk r (λ left. left ≡ (first && not (is_some (text_at written ctx l i))))
+    item_left h = subst (λ t. IfOk r (λ left. left ≡ (first && not (is_some t)))) same_text h
 
 -- an index of a list's texts is one of the list
 pub index_in : {X Y : Type 0} (f : X → Y) (xs : List X) (i : ℕ) → i < length (map f xs) → i < length xs

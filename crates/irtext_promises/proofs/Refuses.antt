@@ -1,6 +1,6 @@
 -- If the parsers reject a text, for a failure of names or for one among the parts of the operation before its first region, it is the first
 -- failure of every tree that the text parses as, whatever section follows; and if they are stuck elsewhere, it parses as no tree.
-use Rattle.std.proofs.Common.{◌≡◌, ◌∙◌, ℕ, false, List, [], ◌∷◌, Option, Some, refl, sym, ap, subst}
+use Rattle.std.proofs.Common.{◌≡◌, ◌∙◌, ℕ, false, List, [], ◌∷◌, Some, refl, sym, ap, subst}
 use Rattle.irtext_base.specs.Text.{Text}
 use Rattle.irtext_base.specs.Answers.{Outcome}
 use Rattle.irtext_base.specs.Faults.{Fault, fault_of}
@@ -19,7 +19,6 @@ use Rattle.irtext_grammar.specs.Names.Acts.{tree_script, section_acts, rule_of, 
 use Rattle.irtext_grammar.specs.Names.History as history
 use Rattle.irtext_grammar.specs.Names.History.{going, failed, start, run, events}
 use Rattle.irtext_grammar.specs.Names.Scopes.{no_scope}
-use Rattle.irtext_grammar.specs.Names.Script as script
 use Rattle.irtext_grammar.specs.Names.Script.{Path, Cause, Failure, does_all, done}
 use Rattle.irtext_grammar.specs.Names.TextScopes.{Script, failures}
 use Rattle.irtext_parse_spec.proofs.Joins.Answers.{Splits}
@@ -27,8 +26,9 @@ use Rattle.irtext_parse_spec.specs.Exact.{NeedsWord}
 use Rattle.irtext_parse_spec.specs.Entries.{fault_for}
 use Rattle.irtext_parse_spec.specs.Naming.{naming, Names}
 use Rattle.irtext_parse_spec.specs.Promises.Root.{IsCause, IsPlace}
-use Rattle.irtext_parse_spec.specs.Reached.{Reached, Advanced, Stopped, operation_at, do_tree}
+use Rattle.irtext_parse_spec.specs.Reached.{Reached, Stopped, operation_at, do_tree}
 use Rattle.irtext_parse_spec.specs.Resume.{EndsIn}
+use Rattle.irtext_parse_spec.proofs.OwnCauses.{own_and_named}
 use Rattle.irtext_parse_spec.proofs.Knot.Whole as knot
 use Rattle.irtext_parse_spec.proofs.Knot.Outside.{TreeOutside, as_inside, at_front, tree_outside, tree_led}
 use Rattle.irtext_parse_spec.proofs.Naming.Places.{names_exist}
@@ -48,16 +48,8 @@ pub first_is : {A : Type 0} (text : Text) (f : Failure Text ℕ) (fs gs : List (
 first_is text f fs gs fault e h = subst (λ z. IsFirst text z fault) (sym e) h
 
 -- the cause that parsers return for a failure is the cause of the failure
-own_cause : (c : Cause Text) → IsCause c (fault_for c)
-own_cause (script.ResultCount types names) = refl
-own_cause (script.NoActiveScope n) = refl
-own_cause (script.UnresolvedReference n) = refl
-own_cause (script.MultipleDefinitions n) = refl
-own_cause script.NotIsolated = refl
-own_cause (script.DuplicateIndex i) = refl
-own_cause (script.UnknownIndex i) = refl
-own_cause (script.UnknownPrintOnce i) = refl
-own_cause (script.ReservedKey k) = refl
+pub own_cause : (c : Cause Text) → IsCause c (fault_for c)
+own_cause c = (own_and_named c).0
 
 -- a fault of the text at which a parse is stuck for a failure is this failure
 stuck_of : {A X S : Type 0} (text : Text) (f : Failure Text ℕ) (place at : ℕ) (cause : Fault) (s t : S) (fault : ParseFault A) → ◌≡◌ {A = Reached X S} (Stopped s (fault_for f.cause) at) (Stopped t cause place) → f.at ≡ Some at

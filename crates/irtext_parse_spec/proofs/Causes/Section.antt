@@ -1,5 +1,5 @@
 -- The causes that the parsers of locations and of the section return, and their places.
-use Rattle.std.proofs.Common.{◌≡◌, ℕ, zero, suc, Bool, true, not, ◌&&◌, Some, None, List, [], ◌∷◌, ◌++◌, length, codes, refl, subst}
+use Rattle.std.proofs.Common.{ℕ, zero, suc, Bool, not, ◌&&◌, Some, None, List, [], ◌∷◌, ◌++◌, length, codes, refl, subst}
 use Rattle.std.proofs.lemmas.List.{take-append-drop}
 use Rattle.std.specs.Prelude.{◌-◌, Option, take, drop}
 use Rattle.irtext_base.specs.Text.{Text, begins}
@@ -13,13 +13,12 @@ use Rattle.irtext_tokens.specs.Infix.{Reader}
 use Rattle.irtext_grammar.specs.Grammar.Section.{Item, Entry}
 use Rattle.irtext_grammar.specs.Grammar.Tree.{Name, Mark}
 use Rattle.irtext_grammar.specs.Names.Acts.{Rule}
-use Rattle.irtext_grammar.specs.Names.Script as script
 use Rattle.irtext_grammar.specs.Names.Script.{Cause, Failure}
-use Rattle.irtext_parse_spec.specs.Promises.ErrorCauses.{is_name_fault}
 use Rattle.irtext_parse_spec.specs.Readers.Positions.{labelled_at, position_at}
 use Rattle.irtext_parse_spec.specs.Readers.Locations.{WrittenRow, bytes_at, source_at, name_at, place_at, metadata_at, after_location, row_of, row_at, more_at, fused_at, named_at, call_site_at, kind_at, location_within, more_within, location_at}
 use Rattle.irtext_parse_spec.specs.Readers.Section.{entry_location_at}
 use Rattle.irtext_parse_spec.specs.Entries.{item_at, pair_at, is_allowed, kept, begins_given, tested, entry_head_at, pairs_at, given_at, entry_at, may_have, fault_for, upto, wrong_references, unless_wrong, referred, entries_after, entries_at, section_at}
+use Rattle.irtext_parse_spec.proofs.OwnCauses.{own_and_named}
 use Rattle.irtext_parse_spec.proofs.Causes.Outcomes.{Allowed, Obeys, AllObey, obeys_read, obeys_bad, obeys_either, obeys_prefixed, obeys_followed, ◌then◌, ◌kept◌, ◌so◌, seen, obeying_either, obeying_nothing, misses}
 use Rattle.irtext_parse_spec.proofs.Causes.Tokens.{obeying_word, obeying_space, obeying_integer, obeying_quoted, obeying_spaced, obeying_separated}
 use Rattle.irtext_parse_spec.proofs.Causes.Parts.{name_obeys, mark_obeys, attribute_obeys}
@@ -133,22 +132,10 @@ module _ {K : Allowed} where
         obeying_either begins_given (seen _ (given_obeys (rules m.index))) (seen _ (attribute_obeys h)))
 
     -- ---- the section
-    -- each failure's cause is about a name
-    cause_of_name : (c : Cause Text) → is_name_fault (fault_for c) ≡ true
-    cause_of_name (script.ResultCount types names) = refl
-    cause_of_name (script.NoActiveScope n) = refl
-    cause_of_name (script.UnresolvedReference n) = refl
-    cause_of_name (script.MultipleDefinitions n) = refl
-    cause_of_name script.NotIsolated = refl
-    cause_of_name (script.DuplicateIndex i) = refl
-    cause_of_name (script.UnknownIndex i) = refl
-    cause_of_name (script.UnknownPrintOnce i) = refl
-    cause_of_name (script.ReservedKey k) = refl
-
     stop_obeys : {X : Type 0} (text : Text) (cause : Cause Text) (place : Option ℕ) → Obeys {X = X} K text (Bad (fault_for cause) (upto text place))
-    stop_obeys text cause None = obeys_bad text _ [] text refl (K.name text _ [] text (cause_of_name cause) refl)
+    stop_obeys text cause None = obeys_bad text _ [] text refl (K.name text _ [] text (own_and_named cause).1 refl)
     stop_obeys text cause (Some place) = let e = take-append-drop (length text - place) text in
-        obeys_bad text _ (take (length text - place) text) (drop (length text - place) text) e (K.name text _ (take (length text - place) text) (drop (length text - place) text) (cause_of_name cause) e)
+        obeys_bad text _ (take (length text - place) text) (drop (length text - place) text) e (K.name text _ (take (length text - place) text) (drop (length text - place) text) (own_and_named cause).1 e)
 
     module _ (marks : List ℕ) (rules : ℕ → Rule A) where
       entries_obey : (n : ℕ) (earlier : List (Entry ℕ A (Written A))) → AllObey K (entries_after attr marks rules n earlier)

@@ -59,29 +59,29 @@ module _ {K : Allowed} where
   }
 
   -- ---- numbers
+  -- no digit after a sign, or after none
+  undigited_obeys : {X : Type 0} (none : Text → Text → Outcome X) → ((rest : Text) → Obeys K rest (none [] rest)) → ((c : ℕ) (sign rest text : Text) → (c ∷ sign) ++ rest ≡ text → Obeys K text (none (c ∷ sign) rest)) → (text : Text) → Obeys K text (none (sign_of text) (after_sign text))
+  undigited_obeys none empty signed text = go (sign_of text) (after_sign text) (sign_after text)
+    where
+      go : (sign rest : Text) → sign ++ rest ≡ text → Obeys K text (none sign rest)
+      go [] rest e = subst (λ z. Obeys K z (none [] rest)) e (empty rest)
+      go (c ∷ sign) rest e = signed c sign rest text e
+
   numbered_obeys : (sign digits rest text : Text) (n : Option ℕ) → (sign ++ digits) ++ rest ≡ text → Obeys K text (numbered sign digits rest n)
   numbered_obeys sign digits rest text None e = stops text _ [] text (rest, e) refl
   numbered_obeys sign digits rest text (Some n) e = obeys_either text (begins (the 45) sign) _ _ (stops text _ [] text (rest, e) refl) (obeys_read text n (sign ++ digits) rest e)
-
-  no_digit_obeys : (sign rest text : Text) → sign ++ rest ≡ text → Obeys K text (no_digit sign rest)
-  no_digit_obeys [] rest text e = subst (λ z. Obeys K z (no_digit [] rest)) e (misses rest _ refl)
-  no_digit_obeys (c ∷ sign) rest text e = stops text _ (c ∷ sign) rest refl e
 
   pub obeying_number : AllObey K number_at
   unfolding number_at
   obeying_number = record {
     at = λ text. obeys_either text (begins is_ascii_digit (after_sign text)) _ _
         (numbered_obeys (sign_of text) (front is_ascii_digit (after_sign text)) (after is_ascii_digit (after_sign text)) text (value_of (front is_ascii_digit (after_sign text))) (digits_after text))
-        (no_digit_obeys (sign_of text) (after_sign text) text (sign_after text));
+        (undigited_obeys no_digit (λ rest. misses rest _ refl) (λ c sign rest text e. stops text _ (c ∷ sign) rest refl e) text);
   }
 
   integered_obeys : (sign digits rest text : Text) (z : Option ℤ) → (sign ++ digits) ++ rest ≡ text → Obeys K text (integered sign digits rest z)
   integered_obeys sign digits rest text None e = stops text _ [] text (rest, e) refl
   integered_obeys sign digits rest text (Some z) e = obeys_read text z (sign ++ digits) rest e
-
-  no_integer_obeys : (sign rest text : Text) → sign ++ rest ≡ text → Obeys K text (no_integer sign rest)
-  no_integer_obeys [] rest text e = subst (λ z. Obeys K z (no_integer [] rest)) e (misses rest _ refl)
-  no_integer_obeys (c ∷ sign) rest text e = stops text _ (c ∷ sign) rest refl e
 
   pub obeying_integer : AllObey K integer_at
   unfolding integer_at
@@ -89,7 +89,7 @@ module _ {K : Allowed} where
     at = λ text. obeys_either text (begins is_ascii_digit (after_sign text)) _ _
         (integered_obeys (sign_of text) (front is_ascii_digit (after_sign text)) (after is_ascii_digit (after_sign text)) text
         (integer_of (sign_of text) (value_of (front is_ascii_digit (after_sign text)))) (digits_after text))
-        (no_integer_obeys (sign_of text) (after_sign text) text (sign_after text));
+        (undigited_obeys no_integer (λ rest. misses rest _ refl) (λ c sign rest text e. stops text _ (c ∷ sign) rest refl e) text);
   }
 
   -- ---- quoted texts

@@ -2,22 +2,20 @@
 -- parses, up to the first such name or key.
 use Rattle.std.proofs.Common.{◌≡◌, ◌∙◌, inl, inr, ℕ, suc, Bool, true, false, cond, List, [], ◌∷◌, ◌++◌, map, length, Option, Some, codes, refl, sym, ap, subst}
 use Rattle.std.proofs.lemmas.List.{map-id}
-use Rattle.std.specs.Prelude.{flat_map, ⊤}
-use Rattle.std.specs.Char.{is_whitespace}
+use Rattle.std.specs.Prelude.{flat_map}
 use Rattle.std.specs.List.{list_all}
-use Rattle.irtext_base.specs.Text.{Text, front, after_space}
-use Rattle.irtext_base.specs.Reading.{literal, separated}
+use Rattle.irtext_base.specs.Text.{Text}
+use Rattle.irtext_base.specs.Reading.{literal}
 use Rattle.irtext_base.specs.Faults.{Fault, ReservedKey}
 use Rattle.irtext_base.specs.Format as format
 use Rattle.irtext_base.specs.Format.{Id, Format}
 use Rattle.irtext_base.specs.Answers.{Outcome, Read, Missing, Bad, mapped, followed}
 use Rattle.irtext_base.specs.Locations.{AttrView}
 use Rattle.irtext_base.specs.Own.{Language, language, texts_of}
-use Rattle.irtext_base.proofs.Along.{front_after}
-use Rattle.irtext_tokens.specs.Infix.{Reader, ◌⇒◌}
+use Rattle.irtext_tokens.specs.Infix.{Reader}
 use Rattle.irtext_tokens.specs.AttrTexts.{attr_at}
 use Rattle.irtext_tokens.specs.ListOutcomes.{items_after, or_empty, separated_at}
-use Rattle.irtext_tokens.specs.Tokens.{space_at, word, text_at}
+use Rattle.irtext_tokens.specs.Tokens.{space_at, word}
 use Rattle.irtext_grammar.specs.Grammar.Reads as reads
 use Rattle.irtext_grammar.specs.Grammar.Tree as tree
 use Rattle.irtext_grammar.specs.Grammar.Tree.{Name, Attribute, Piece}
@@ -27,17 +25,18 @@ use Rattle.irtext_grammar.specs.Names.Script as script
 use Rattle.irtext_grammar.specs.Names.Script.{Path}
 use Rattle.irtext_grammar.specs.Names.TextScopes.{Act, Failure, act_failures}
 use Rattle.irtext_grammar.proofs.Graphs.FitsFormat.{and_left, and_right}
-use Rattle.irtext_parse_spec.proofs.Joins.Answers.{Splits, followed_read, followed-read, mapped_read, splits_followed, splits_mapped}
-use Rattle.irtext_parse_spec.proofs.Joins.Lists.{Items, Stop, ListFound, all_fine, one_stops, list_read, list_found, list_tight, splits_separated}
-use Rattle.irtext_parse_spec.proofs.Joins.Tokens.{text_read, text-literal, splits_text, splits_space}
+use Rattle.irtext_parse_spec.proofs.Joins.Answers.{Splits, followed_read, mapped_read}
+use Rattle.irtext_parse_spec.proofs.Joins.Brackets.{bracketed_read, bracketed_found, stop_fails}
+use Rattle.irtext_parse_spec.proofs.Joins.Lists.{Items, Stop}
+use Rattle.irtext_parse_spec.proofs.Joins.Tokens.{text-literal}
 use Rattle.irtext_parse_spec.specs.Agrees.{StopsAt, ReadOrStops}
-use Rattle.irtext_parse_spec.specs.Exact.{NeedsWord, IsOfStep, step_piece}
+use Rattle.irtext_parse_spec.specs.Exact.{NeedsWord, step_piece}
 use Rattle.irtext_parse_spec.specs.Heads.{Step, flat, types, one, all, name_at, outside, used_at, target_at, allowed, pair_at, dictionary_by, piece_at}
 use Rattle.irtext_parse_spec.proofs.Exact.Attributes.{exact_pair, starts_pair, exact_dictionary}
 use Rattle.irtext_parse_spec.proofs.Exact.Listed.{Starts, starts_so, starts_word, none_listed}
-use Rattle.irtext_parse_spec.proofs.Exact.Names.{exact_name, exact_target, starts_name, starts_target}
-use Rattle.irtext_parse_spec.proofs.Exact.Pieces.{Marks, exact_piece, piece_read, is_made, is_types}
-use Rattle.irtext_parse_spec.proofs.Stops.{stops_before, stops_after, stops_first, stops_second, stops_seen}
+use Rattle.irtext_parse_spec.proofs.Exact.Names.{exact_name, starts_name, starts_target}
+use Rattle.irtext_parse_spec.proofs.Exact.Pieces.{exact_piece, piece_read, is_made, is_types}
+use Rattle.irtext_parse_spec.proofs.Stops.{stops_before, stops_after, stops_second, stops_seen}
 
 -- ---- names
 outside_never : (o : Outcome (Name ℕ)) (n : Name ℕ) (taken rest : Text) → outside o ≡ Read n taken rest → ⊥
@@ -170,87 +169,28 @@ module _ {T A : Type 0} (types_at : Text → Outcome T) (types_written : T → T
     missed = λ text n. let m = (starts_pair (texts_of types_at types_written) reading written formats splits).missed text n in (m.0, ap allowed m.1);
   }
 
-  abbrev entry_at : Reader (Name ℕ × Attribute A)
-  entry_at t = allowed (pair_at attr t)
-
-  abbrev list_at : Reader (List (Name ℕ × Attribute A))
-  list_at text = separated_at 44 (λ t. allowed (pair_at attr t)) text
-
-  abbrev close_next : List (Name ℕ × Attribute A) → Text → Outcome (List (Name ℕ × Attribute A))
-  close_next es text = mapped (λ _. es) (text_at (codes "]") text)
-
-  abbrev list_next : Unit {0} → Text → Outcome (List (Name ℕ × Attribute A))
-  list_next _ text = followed (list_at text) close_next
-
-  abbrev space_next : Unit {0} → Text → Outcome (List (Name ℕ × Attribute A))
-  space_next _ text = followed (space_at text) list_next
-
   -- a dictionary that is accepted the grammar parses
   pub dictionary_read : (text : Text) (es : List (Name ℕ × Attribute A)) (taken rest : Text) → dictionary_by attr false text ≡ Read es taken rest → reads.dictionary l es text rest × (taken ++ rest ≡ text)
   unfolding dictionary_by
-  dictionary_read text es taken rest e =
-      let a = followed_read (text_at (codes "[") text) space_next es taken rest e in
-      let b = followed_read (space_at a.middle) list_next es a.more rest a.second in
-      let c = followed_read (list_at b.middle) close_next es b.more rest b.second in
-      let d = mapped_read (λ _. c.value) (text_at (codes "]") c.middle) es c.more rest c.second in
-      let k = list_read 44 entries_of b.middle c.value c.front c.middle c.first in
-      let items : k.items ≡ es = sym (map-id k.items) ∙ (k.whole ∙ d.2) in
-      let inside : after_space a.middle ≡ b.middle = cc b.first in
-      let listed : separated 44 reads.no_word (map (reads.entry l) k.items) (after_space a.middle) c.middle = subst (λ t. separated 44 reads.no_word (map (reads.entry l) k.items) t c.middle) (sym inside) k.read in
-      let tight : after_space c.middle ≡ c.middle = list_tight 44 entries_of k.items a.middle c.middle listed in
-      let close : literal (codes "]") (after_space c.middle) rest = subst (λ t. literal (codes "]") t rest) (sym tight) (text_read (codes "]") c.middle c.more rest d.1) in (
-        (
-          a.middle,
-          text_read (codes "[") text a.front a.middle a.first,
-          (c.middle, subst (λ qs. separated 44 reads.no_word (map (reads.entry l) qs) (after_space a.middle) c.middle) items listed, close),
-        ),
-        splits_followed (text_at (codes "[")) space_next (splits_text (codes "[")) (λ _. splits_followed space_at list_next splits_space
-            (λ _. splits_followed list_at close_next (splits_separated 44 entry_at entries_of.splits) (λ qs. splits_mapped (λ _. qs) (text_at (codes "]")) (splits_text (codes "]"))))) text es taken rest e,
-      )
+  dictionary_read text es taken rest e = let b = bracketed_read entries_of map-id text es taken rest e in (b.0, b.1)
 
   -- if the list stops at an entry, its key is the first failure
   list_stops : (es : List (Name ℕ × Attribute A)) (text : Text) (o : Outcome (List (Name ℕ × Attribute A))) → Stop 44 entries_of es text o → StopsAt text o (fails_outside (map (key_act may_hold) es))
-  list_stops es text o k = record {
-    first = record { cause = script.ReservedKey k.first.0.text; at = Some k.first.0.place };
-    others = fails_outside (map (key_act may_hold) k.following);
-    is = ap (λ es. fails_outside (map (key_act may_hold) es)) k.whole ∙ first_wrong k.before k.following k.first k.fine k.refused;
-    upto = k.upto;
-    stop = k.stop;
-    splits = k.splits;
-    at = ap Some k.read.1.0;
-    bad = k.is;
-  }
+  list_stops es text o k = stop_fails entries_of es text o k (record { cause = script.ReservedKey k.first.0.text; at = Some k.first.0.place }) (fails_outside (map (key_act may_hold) k.following)) (fails_outside (map (key_act may_hold) es))
+      (ap (λ es. fails_outside (map (key_act may_hold) es)) k.whole ∙ first_wrong k.before k.following k.first k.fine k.refused) (ap Some k.read.1.0) refl
 
   -- a dictionary that the grammar parses is accepted, up to the first key under which its attribute is not allowed
   dictionary_found : (text : Text) (es : List (Name ℕ × Attribute A)) (rest : Text) → reads.dictionary l es text rest → ReadOrStops text (dictionary_by attr false text) es rest (fails_outside (map (key_act may_hold) es))
   unfolding dictionary_by
-  dictionary_found text es rest (m, a, (k, s, c)) = go (list_found 44 entries_of es (after_space m) k s)
-    where
-      go : ListFound 44 entries_of [] es (after_space m) k (list_at (after_space m)) → ReadOrStops text (followed (text_at (codes "[") text) space_next) es rest (fails_outside (map (key_act may_hold) es))
-      go (all_fine f taken e) =
-          let close : literal (codes "]") k rest = subst (λ t. literal (codes "]") t rest) (list_tight 44 entries_of es m k s) c in
-          let is : list_at (after_space m) ≡ Read es taken k = e ∙ ap (λ z. Read z taken k) (map-id es) in
-          inl (
-            fine_entries es f,
-            (
-              codes "[" ++ (front is_whitespace m ++ (taken ++ codes "]")),
-              followed-read (text_at (codes "[") text) space_next tt es (codes "[") m (front is_whitespace m ++ (taken ++ codes "]")) rest (text-literal (codes "[") text m a)
-                  (followed-read (space_at m) list_next tt es (front is_whitespace m) (after_space m) (taken ++ codes "]") rest refl
-                  (followed-read (list_at (after_space m)) close_next es es taken k (codes "]") rest is (ap (mapped (λ _. es)) (text-literal (codes "]") k rest close)))),
-            ),
-          )
-      go (one_stops q) =
-          inr (stops_second space_next (text_at (codes "[") text) tt (codes "[") m text (text-literal (codes "[") text m a) (sym a)
-          (stops_second list_next (space_at m) tt (front is_whitespace m) (after_space m) m refl (front_after is_whitespace m)
-          (stops_first close_next (list_stops es (after_space m) (list_at (after_space m)) q))))
+  dictionary_found text es rest h = bracketed_found entries_of map-id text es rest h (fails_outside (map (key_act may_hold) es)) (fine_entries es) (list_stops es)
 
   -- ---- names that are used
-  -- a name is bad at its beginning
-  name_stops : (u : script.User) (n : Name ℕ) (text rest : Text) → reads.name l n text rest → StopsAt text (used_at false text) (fails_outside (script.use_value (record { name = n.text; at = n.place }) u ∷ []))
-  name_stops u n text rest r = record {
+  -- a name is bad at its beginning, since no scope is open
+  stops_at_name : (fs : List Failure) (n : Name ℕ) (text rest : Text) → fs ≡ record { cause = script.NoActiveScope n.text; at = Some n.place } ∷ [] → reads.name l n text rest → StopsAt text (used_at false text) fs
+  stops_at_name fs n text rest is r = record {
     first = record { cause = script.NoActiveScope n.text; at = Some n.place };
     others = [];
-    is = refl;
+    is = is;
     upto = [];
     stop = text;
     splits = refl;
@@ -258,19 +198,13 @@ module _ {T A : Type 0} (types_at : Text → Outcome T) (types_written : T → T
     bad = ap outside ((exact_name (texts_of types_at types_written) (texts_of reading written) formats).found text n rest r).1;
   }
 
+  name_stops : (u : script.User) (n : Name ℕ) (text rest : Text) → reads.name l n text rest → StopsAt text (used_at false text) (fails_outside (script.use_value (record { name = n.text; at = n.place }) u ∷ []))
+  name_stops u n text rest r = stops_at_name (fails_outside (script.use_value (record { name = n.text; at = n.place }) u ∷ [])) n text rest refl r
+
   -- a label is bad after its `^`
   target_stops : (u : script.User) (n : Name ℕ) (text rest : Text) → reads.target l n text rest → StopsAt text (target_at false text) (fails_outside (script.use_label (record { name = n.text; at = n.place }) u ∷ []))
   target_stops u n text rest (m, a, r) = stops_second (λ _ t. used_at false t) (word (codes "^") text) tt (codes "^") m text (text-literal (codes "^") text m a) (sym a)
-      (record {
-        first = record { cause = script.NoActiveScope n.text; at = Some n.place };
-        others = [];
-        is = refl;
-        upto = [];
-        stop = m;
-        splits = refl;
-        at = ap Some r.0;
-        bad = ap outside ((exact_name (texts_of types_at types_written) (texts_of reading written) formats).found m n rest r).1;
-      })
+      (stops_at_name (fails_outside (script.use_label (record { name = n.text; at = n.place }) u ∷ [])) n m rest refl r)
 
   -- a list is bad where its first item is
   list_is_bad : (item : Reader (Name ℕ)) (text : Text) (fs first others : List Failure) → fs ≡ first ++ others → StopsAt text (item text) first → StopsAt text (separated_at 44 item text) fs

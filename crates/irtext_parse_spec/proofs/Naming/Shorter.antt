@@ -1,9 +1,10 @@
 -- No reading of an item's own parts leaves more than the text that it was parsed from, if no reading of a type or of an attribute does.
-use Rattle.std.proofs.Common.{◌≡◌, ℕ, ◌+◌, Bool, true, false, cond, ◌≤◌, List, [], ◌∷◌, length, map, Option, Some, None, codes, ap, length-append, arith, inl, inr}
+use Rattle.std.proofs.Common.{◌≡◌, ℕ, ◌+◌, Bool, ◌≤◌, List, [], ◌∷◌, length, map, Option, Some, None, codes, ap, length-append, arith, inl, inr}
 use Rattle.std.specs.Char.{is_whitespace, is_ascii_digit}
-use Rattle.irtext_base.specs.Text.{Text, after, after_space, in_word}
+use Rattle.irtext_base.specs.Text.{Text, front, after, after_space, in_word}
 use Rattle.irtext_base.specs.Reading.{Reading, ◌▹◌, ends, the, literal, keyword, identifier, number, more, separated}
 use Rattle.irtext_base.specs.Format.{Format, Id}
+use Rattle.irtext_base.proofs.Along.{front_after}
 use Rattle.irtext_base.specs.Own.{Texts, Language, language, found}
 use Rattle.irtext_grammar.specs.Grammar.Tree as tree
 use Rattle.irtext_grammar.specs.Grammar.Tree.{Name, Mark, Attribute, Piece}
@@ -14,12 +15,7 @@ pub record Leaves (R : Reading) : Type 0 where
   pub by : (t u : Text) → R t u → length u ≤ length t
 
 after_shorter : (test : ℕ → Bool) (t : Text) → length (after test t) ≤ length t
-after_shorter test [] = omega arith
-after_shorter test (c ∷ t) = go (test c) (after_shorter test t)
-  where
-    go : (b : Bool) → length (after test t) ≤ length t → length (cond b (after test t) (c ∷ t)) ≤ length (c ∷ t)
-    go true h = omega (arith, h)
-    go false h = omega arith
+after_shorter test t = omega (arith, ap length (front_after test t), length-append (front test t) (after test t))
 
 -- white space that is passed leaves no more than the text
 pub space_shorter : (t : Text) → length (after_space t) ≤ length t

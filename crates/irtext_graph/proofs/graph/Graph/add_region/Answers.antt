@@ -22,24 +22,24 @@ pub invariant_of-self-in_err-make_region_room : goal.invariant_of-self-in_err-ma
 invariant_of-self-in_err-make_region_room g c =
     let s = c.make_region_room.ensures in
     let x = c.self.inside.objects in
-    let k = room_kept x c.make_region_room.new.self (record { ups = s.ups; lists = s.kids; all_data = s.«data»; places = s.places }) c.self.inside.made c.self.inside.counters c.self.inside.log.items c.self.invariant in
+    let k = room_kept x c.make_region_room.new.self (record { lists = s.kids; only = s.only }) c.self.inside.made c.self.inside.counters c.self.inside.log.items c.self.invariant in
     record { sound = k.sound; logged = logged_list c.self.inside.made c.self.inside.log.items c.make_place.new.log.items _ c.make_place.ensures.same k.logged; numbered = k.numbered }
 
 pub returns-in_err-make_region_room-clause-kept : goal.returns-in_err-make_region_room-clause-kept
 returns-in_err-make_region_room-clause-kept g c = λ m up none.
     let s = c.make_region_room.ensures in
-    same_keeps m _ _ (room_seen c.self.inside.objects c.make_region_room.new.self (record { ups = s.ups; lists = s.kids; all_data = s.«data»; places = s.places }) c.self.inside.made c.self.inside.counters s.seen ∙ c.self.view_is)
+    same_keeps m _ _ (room_seen c.self.inside.objects c.make_region_room.new.self (record { lists = s.kids; only = s.only }) c.self.inside.made c.self.inside.counters s.seen ∙ c.self.view_is)
 
 pub invariant_of-self-in_err-p : goal.invariant_of-self-in_err-p
 invariant_of-self-in_err-p g c =
     let s = c.make_region_room.ensures in
-    refused_kept c.self.inside.objects c.make_region_room.new.self (record { ups = s.ups; lists = s.kids; all_data = s.«data»; places = s.places }) c.self.inside.made c.self.inside.counters c.self.inside.log.items c.make_place.new.log.items
+    refused_kept c.self.inside.objects c.make_region_room.new.self (record { lists = s.kids; only = s.only }) c.self.inside.made c.self.inside.counters c.self.inside.log.items c.make_place.new.log.items
     c.insert.new.self c.make_place.ensures.same c.in_err-p.ensures.err c.self.invariant
 
 pub returns-in_err-p-clause-kept : goal.returns-in_err-p-clause-kept
 returns-in_err-p-clause-kept g c = λ m up none.
     let s = c.make_region_room.ensures in
-    same_keeps m _ _ (refused_seen c.self.inside.objects c.make_region_room.new.self (record { ups = s.ups; lists = s.kids; all_data = s.«data»; places = s.places }) c.self.inside.made c.self.inside.counters
+    same_keeps m _ _ (refused_seen c.self.inside.objects c.make_region_room.new.self (record { lists = s.kids; only = s.only }) c.self.inside.made c.self.inside.counters
     c.insert.new.self s.seen c.in_err-p.ensures.err c.in_err-p.ensures.err_free ∙ c.self.view_is)
 
 pub invariant_of-self-2 : goal.invariant_of-self-2
@@ -48,8 +48,8 @@ invariant_of-self-2 g c =
     let t = c.push_region.ensures in
     let x = c.self.inside.objects in
     let e = c.in_ok-p.ensures in
-    let r : Roomier x c.make_region_room.new.self = record { ups = s.ups; lists = s.kids; all_data = s.«data»; places = s.places } in
-    let grown = grown_in x c.make_region_room.new.self c.push_region.new.self c.args.op c.in_ok-p.p r (record { here = t.here; others = t.others; ups = t.ups; all_data = t.«data»; places = t.places }) in
+    let r : Roomier x c.make_region_room.new.self c.args.op = record { lists = s.kids; only = s.only } in
+    let grown = grown_in x c.make_region_room.new.self c.push_region.new.self c.args.op c.in_ok-p.p r (record { here = t.here; only = t.only }) in
     added_kept x c.self.inside.made c.push_region.new.self c.insert.new.self c.args.op c.in_ok-p.p _ grown e.inserts refl c.new.ensures c.self.inside.counters c.self.inside.log.items c.note.new.log.items
     (noted_list c.self.inside.log.items c.make_place.new.log.items c.note.new.log.items _ c.make_place.ensures.same c.note.ensures) refl (e.few c.self.invariant.sound.few_regions) c.self.invariant
 
@@ -58,8 +58,8 @@ returns-clause-added g c =
     let s = c.make_region_room.ensures in
     let t = c.push_region.ensures in
     let x = c.self.inside.objects in
-    let r : Roomier x c.make_region_room.new.self = record { ups = s.ups; lists = s.kids; all_data = s.«data»; places = s.places } in
-    let grown = grown_in x c.make_region_room.new.self c.push_region.new.self c.args.op c.in_ok-p.p r (record { here = t.here; others = t.others; ups = t.ups; all_data = t.«data»; places = t.places }) in
+    let r : Roomier x c.make_region_room.new.self c.args.op = record { lists = s.kids; only = s.only } in
+    let grown = grown_in x c.make_region_room.new.self c.push_region.new.self c.args.op c.in_ok-p.p r (record { here = t.here; only = t.only }) in
     rw (← c.self.view_is)
     (adds_seen x c.self.inside.made c.push_region.new.self c.insert.new.self c.args.op c.in_ok-p.p _ grown c.in_ok-p.ensures.inserts refl c.new.ensures c.self.inside.counters refl
     (subst (λ z. Edits z (operations_seen c.push_region.new.self) c.args.op (with_child c.in_ok-p.p)) s.seen t.edits))

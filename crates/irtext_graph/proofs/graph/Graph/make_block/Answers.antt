@@ -5,15 +5,11 @@ use Rattle.irtext_graph.proofs.Made.{on_err, same_keeps, same_slots, slots_kept,
 use Rattle.irtext_graph.proofs.Numbers.{block_numbers}
 use Rattle.irtext_graph.proofs.graph.Graph.make_block.Goals as goal
 
-pub returns-in_err-arguments-clause-kept : goal.returns-in_err-arguments-clause-kept
-returns-in_err-arguments-clause-kept g c = λ m up. same_keeps m _ _ refl
-
 pub invariant_of-self : goal.invariant_of-self
 invariant_of-self g c = slots_kept c.self.inside.made c.self.inside.counters c.self.inside.log.items c.make_place.new.log.items c.self.inside.objects c.self.inside.objects c.make_place.ensures.same same_slots same_slots same_slots c.self.invariant
 
 pub invariant_of-self-in_err-p : goal.invariant_of-self-in_err-p
-invariant_of-self-in_err-p g c =
-    slots_kept c.self.inside.made c.self.inside.counters c.self.inside.log.items c.make_place.new.log.items c.self.inside.objects _ c.make_place.ensures.same same_slots (record { items = c.in_err-p.ensures.err; free = c.in_err-p.ensures.err_free }) same_slots c.self.invariant
+invariant_of-self-in_err-p g c = slots_kept c.self.inside.made c.self.inside.counters c.self.inside.log.items c.make_place.new.log.items c.self.inside.objects _ c.make_place.ensures.same same_slots (record { items = c.in_err-p.ensures.err; free = c.in_err-p.ensures.err_free }) same_slots c.self.invariant
 
 pub returns-in_err-make_place-clause-kept : goal.returns-in_err-make_place-clause-kept
 returns-in_err-make_place-clause-kept g c = λ m up. same_keeps m _ _ c.self.view_is

@@ -1,7 +1,8 @@
-use Rattle.std.proofs.Common.{refl, ap}
-use Rattle.irtext_graph.specs.Nest.{parent_in, children_in, datum_in}
+use Rattle.std.proofs.Common.{ap}
+use Rattle.irtext_graph.specs.Nest.{children_in}
 use Rattle.irtext_graph.specs.Content.{operation_content, node_of}
-use Rattle.irtext_graph.proofs.Arenas.{places_kept, replaced, same_view}
+use Rattle.irtext_graph.proofs.Arenas.{replaced, same_view}
+use Rattle.irtext_graph.proofs.Relisted.{relisted}
 use Rattle.irtext_graph.proofs.Stores.{content_same}
 use Rattle.irtext_graph.proofs.making.Arena+Nest+BasicBlock+Region+OperationData+O+T.make_region_room.Goals as goal
 
@@ -11,14 +12,8 @@ returns-clause-seen g c =
     content_same (node_of operation_content) c.args.self.now c.args.p x _ c.content_mut.ensures.value
     (ap (λ cs. record { parent = x.parent; children = cs; content = operation_content x.data }) c.make_room.ensures.same)
 
-pub returns-clause-places : goal.returns-clause-places
-returns-clause-places g c = places_kept c.args.self.now c.args.p c.content_mut.result.now _ c.content_mut.ensures.value
-
-pub returns-clause-ups : goal.returns-clause-ups
-returns-clause-ups g c = same_view parent_in (replaced c.args.self.now c.args.p c.content_mut.result.now _ c.content_mut.ensures.value) (λ b. refl)
-
-pub returns-clause-data : goal.returns-clause-data
-returns-clause-data g c = same_view datum_in (replaced c.args.self.now c.args.p c.content_mut.result.now _ c.content_mut.ensures.value) (λ b. refl)
+pub returns-clause-only : goal.returns-clause-only
+returns-clause-only g c = relisted c.args.self.now c.args.p c.content_mut.result.now _ c.content_mut.ensures.value
 
 pub returns-clause-kids : goal.returns-clause-kids
 returns-clause-kids g c = same_view children_in (replaced c.args.self.now c.args.p c.content_mut.result.now _ c.content_mut.ensures.value) (λ b. c.make_room.ensures.same)

@@ -39,12 +39,12 @@ returns-in-AtSuccessor-OfBlock-clause-here g c =
 pub returns-in-AtOperand-OfValue-clause-others : goal.returns-in-AtOperand-OfValue-clause-others
 returns-in-AtOperand-OfValue-clause-others g c =
     let k = c.in-AtOperand-OfValue in
-    operand_others c.args.self.now k.p c.content_mut.result.now c.content_mut.ensures.value c.args.u k.i k.is-0 c.index_mut.result.now _
+    operand_others c.args.self.now k.p c.content_mut.result.now c.content_mut.ensures.value c.args.u k.i k.is-0 _
 
 pub returns-in-AtSuccessor-OfBlock-clause-others : goal.returns-in-AtSuccessor-OfBlock-clause-others
 returns-in-AtSuccessor-OfBlock-clause-others g c =
     let k = c.in-AtSuccessor-OfBlock in
-    successor_others c.args.self.now k.p c.content_mut-in-AtSuccessor-OfBlock.result.now c.content_mut-in-AtSuccessor-OfBlock.ensures.value c.args.u k.i k.is-0 c.index_mut-in-AtSuccessor-OfBlock.result.now _
+    successor_others c.args.self.now k.p c.content_mut-in-AtSuccessor-OfBlock.result.now c.content_mut-in-AtSuccessor-OfBlock.ensures.value c.args.u k.i k.is-0 _
 
 pub returns-in-AtOperand-OfValue-clause-heads : goal.returns-in-AtOperand-OfValue-clause-heads
 returns-in-AtOperand-OfValue-clause-heads g c = heads_same c.args.self.now c.in-AtOperand-OfValue.p c.content_mut.result.now c.content_mut.ensures.value _ _

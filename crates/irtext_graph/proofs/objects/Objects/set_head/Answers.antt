@@ -1,9 +1,10 @@
 use Rattle.std.proofs.Common.{refl, ap, ◌∙◌}
 use Rattle.std.proofs.Math.Seq.{map-set_same}
 use Rattle.irtext_graph.specs.Content.{typed}
+use Rattle.irtext_graph.specs.Uses.{first_of}
 use Rattle.irtext_graph.specs.declared.object.Defined.TheVariants.{OfValue}
 use Rattle.irtext_graph.proofs.Fields.{operation_same, block_same}
-use Rattle.irtext_graph.proofs.Puts.{uses_same, result_within, result_here, result_others, argument_within, argument_here, argument_others, preds_here, preds_others}
+use Rattle.irtext_graph.proofs.Puts.{seen_within, uses_same, result_at, result_here, result_others, argument_at, argument_here, argument_others, preds_here, preds_others}
 use Rattle.irtext_graph.proofs.objects.Objects.set_head.Goals as goal
 
 pub returns-in-OfValue-Result-clause-seen : goal.returns-in-OfValue-Result-clause-seen
@@ -22,25 +23,25 @@ returns-in-OfBlock-clause-seen g c = block_same c.args.self.now c.in-OfBlock.b c
 pub index_mut-requires : goal.index_mut-requires
 index_mut-requires g c =
     let k = c.in-OfValue-Result in
-    result_within c.args.self.now k.p c.content_mut.result.now c.content_mut.ensures.value k.i c.args.d (k.is ∙ ap OfValue (rw k.is at k.field-0-is)) c.requires
+    seen_within first_of refl _ k.i _ (result_at c.args.self.now k.p c.content_mut.result.now c.content_mut.ensures.value c.args.d k.i (k.is ∙ ap OfValue (rw k.is at k.field-0-is))) c.requires
 
 pub index_mut-requires-in-OfValue-Argument : goal.index_mut-requires-in-OfValue-Argument
 index_mut-requires-in-OfValue-Argument g c =
     let k = c.in-OfValue-Argument in
     let n = c.content_mut-in-OfValue-Argument in
-    argument_within c.args.self.now k.b n.result.now n.ensures.value k.i c.args.d (k.is ∙ ap OfValue (rw k.is at k.field-0-is)) c.requires
+    seen_within first_of refl _ k.i _ (argument_at c.args.self.now k.b n.result.now n.ensures.value c.args.d k.i (k.is ∙ ap OfValue (rw k.is at k.field-0-is))) c.requires
 
 pub returns-in-OfValue-Result-clause-here : goal.returns-in-OfValue-Result-clause-here
 returns-in-OfValue-Result-clause-here g c =
     let k = c.in-OfValue-Result in
     let n = c.content_mut in
-    result_here c.args.self.now k.p n.result.now n.ensures.value k.i _ c.args.d (k.is ∙ ap OfValue (rw k.is at k.field-0-is)) (result_within c.args.self.now k.p n.result.now n.ensures.value k.i c.args.d (k.is ∙ ap OfValue (rw k.is at k.field-0-is)) c.requires)
+    result_here c.args.self.now k.p n.result.now n.ensures.value k.i _ c.args.d (k.is ∙ ap OfValue (rw k.is at k.field-0-is)) (seen_within first_of refl _ k.i _ (result_at c.args.self.now k.p n.result.now n.ensures.value c.args.d k.i (k.is ∙ ap OfValue (rw k.is at k.field-0-is))) c.requires)
 
 pub returns-in-OfValue-Argument-clause-here : goal.returns-in-OfValue-Argument-clause-here
 returns-in-OfValue-Argument-clause-here g c =
     let k = c.in-OfValue-Argument in
     let n = c.content_mut-in-OfValue-Argument in
-    argument_here c.args.self.now k.b n.result.now n.ensures.value k.i _ c.args.d (k.is ∙ ap OfValue (rw k.is at k.field-0-is)) (argument_within c.args.self.now k.b n.result.now n.ensures.value k.i c.args.d (k.is ∙ ap OfValue (rw k.is at k.field-0-is)) c.requires)
+    argument_here c.args.self.now k.b n.result.now n.ensures.value k.i _ c.args.d (k.is ∙ ap OfValue (rw k.is at k.field-0-is)) (seen_within first_of refl _ k.i _ (argument_at c.args.self.now k.b n.result.now n.ensures.value c.args.d k.i (k.is ∙ ap OfValue (rw k.is at k.field-0-is))) c.requires)
 
 pub returns-in-OfBlock-clause-here : goal.returns-in-OfBlock-clause-here
 returns-in-OfBlock-clause-here g c = preds_here c.args.self.now c.in-OfBlock.b c.content_mut-in-OfBlock.result.now c.content_mut-in-OfBlock.ensures.value _ c.args.d c.in-OfBlock.is

@@ -27,13 +27,11 @@ returns-in-AtSuccessor-clause-here g c =
 
 pub returns-in-AtOperand-clause-others : goal.returns-in-AtOperand-clause-others
 returns-in-AtOperand-clause-others g c =
-    let o = c.index_mut in
-    operand_others c.args.self.now c.in-AtOperand.p c.content_mut.result.now c.content_mut.ensures.value c.args.u c.in-AtOperand.i c.in-AtOperand.is o.result.now _
+    operand_others c.args.self.now c.in-AtOperand.p c.content_mut.result.now c.content_mut.ensures.value c.args.u c.in-AtOperand.i c.in-AtOperand.is _
 
 pub returns-in-AtSuccessor-clause-others : goal.returns-in-AtSuccessor-clause-others
 returns-in-AtSuccessor-clause-others g c =
-    let o = c.index_mut-in-AtSuccessor in
-    successor_others c.args.self.now c.in-AtSuccessor.p c.content_mut-in-AtSuccessor.result.now c.content_mut-in-AtSuccessor.ensures.value c.args.u c.in-AtSuccessor.i c.in-AtSuccessor.is o.result.now _
+    successor_others c.args.self.now c.in-AtSuccessor.p c.content_mut-in-AtSuccessor.result.now c.content_mut-in-AtSuccessor.ensures.value c.args.u c.in-AtSuccessor.i c.in-AtSuccessor.is _
 
 pub returns-in-AtOperand-clause-heads : goal.returns-in-AtOperand-clause-heads
 returns-in-AtOperand-clause-heads g c = heads_same c.args.self.now c.in-AtOperand.p c.content_mut.result.now c.content_mut.ensures.value _ _
