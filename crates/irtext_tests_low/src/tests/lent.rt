@@ -12,9 +12,8 @@ use std::test::Fail;
 
 /// Puts an identifier under a key of a dictionary, and returns whether that was allowed.
 fn put(alloc: Global, attributes: &mut AttributeDict<DemoAttr>, key: &str) -> Result<bool, Fail> {
-    let key = named(alloc, key)?;
     let attr = AttrObj::Ident(named(alloc, "main")?);
-    Ok(attributes.insert(key, attr).is_ok())
+    Ok(attributes.insert(named(alloc, key)?, attr).is_ok())
 }
 
 /// Puts an identifier under a key of an item, and returns whether that was allowed.
@@ -71,9 +70,21 @@ fn names_block(alloc: Global, ctx: &mut Ctx) -> Result<bool, Fail> {
     names_one(alloc, ctx, Item::Block(first), Item::Block(other))
 }
 
+/// Whether an operation, its region and a block are in the context, and only the block once the operation was erased.
+fn contains_what_is_left(alloc: Global, ctx: &mut Ctx) -> Result<bool, Fail> {
+    let (op, other) = (make(alloc, ctx)?, block(alloc, ctx, "", Few::none())?);
+    live(ctx, op)?;
+    let region = op.add_region(ctx)?;
+    if ctx.contains(other) && ctx.contains(region) && ctx.contains(op) && op.can_erase(ctx) {
+        op.erase(ctx);
+    }
+    Ok(!ctx.contains(op) && !ctx.contains(region) && ctx.contains(other))
+}
+
 #[test]
 fn attributes_of_operations_and_blocks(rt: HostRuntime) -> Result<(), Fail> {
     assert!(rt; with_context(rt.alloc(), names_operation)?);
     assert!(rt; with_context(rt.alloc(), names_block)?);
+    assert!(rt; with_context(rt.alloc(), contains_what_is_left)?);
     Ok(())
 }
