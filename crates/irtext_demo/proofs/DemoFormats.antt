@@ -1,5 +1,5 @@
 -- The formats of the demo operations are accepted: registering one fails only if out of memory, or by the name of its dialect.
-use Rattle.std.proofs.Common.{◌≡◌, ◌∙◌, ℕ, refl, ap, sym, subst, false, List, Option}
+use Rattle.std.proofs.Common.{◌≡◌, ◌∙◌, ℕ, refl, ap, sym, subst, Bool, false, List, Option}
 use Rattle.std.specs.Str.{bytes_eq}
 use Rattle.irtext_base.specs.Faults as faults
 use Rattle.irtext_base.specs.Faults.{Demand, demand_of, id_refused}
@@ -10,11 +10,11 @@ use Rattle.irtext_base.specs.declared.format.FormatFault.TheVariants as conditio
 use Rattle.irtext_base.specs.declared.format.OpFormat.{OpFormat}
 use Rattle.irtext_base.specs.declared.result.Cause.{Cause, Memory, Unexpected, FormatFault as IsFault, WrongDialect}
 use Rattle.irtext_context.specs.Dialects.{Table}
-use Rattle.irtext_context.specs.DialectTable.{dialect_or_new, RefusesOp}
+use Rattle.irtext_context.specs.DialectTable.{dialect_or_new, with_operation, RefusesOp}
 use Rattle.irtext_context.specs.Named.{id_of_texts}
 use Rattle.irtext_base.specs.FormatViews.{format_of}
 use Rattle.irtext_format_check.specs.Directives.{condition_number}
-use Rattle.irtext_demo.specs.DemoDialects.{demo_op, Refuses}
+use Rattle.irtext_demo.specs.DemoDialects.{demo_op, with_demo, Refuses}
 use Rattle.irtext_demo.specs.declared.dialects.Demo.{Demo}
 use Rattle.irtext_demo.specs.declared.dialects.Demo.TheVariants as demo
 
@@ -65,3 +65,9 @@ refused dialects d dialect name format (WrongDialect id own) e f k (_, other, sa
     (subst (λ t. bytes_eq t (dialect_or_new dialects t).name ≡ false) e other, same ∙ (λ i. id_of_texts (e i) (f i)), named ∙ ap (λ t. (dialect_or_new dialects t).name) e)
 refused dialects d dialect name format (IsFault fault) e f k fails = absurd (no_fault fault (sym fails ∙ ap first_fault k ∙ accepted d))
 refused dialects d dialect name format _ e f k said_in_error = absurd said_in_error
+
+-- the dialects with an operation of a demo operation's names, format and isolation are those with the demo operation
+pub registered_so : (dialects : List (Text × Table)) (d : Demo) (dialect name : Text) (format : OpFormat) (isolated : Bool)
+    → dialect ≡ (demo_op d).id.dialect → name ≡ (demo_op d).id.name → format_of format ≡ (demo_op d).format → isolated ≡ (demo_op d).isolated
+    → with_operation dialects (id_of_texts dialect name) (format_of format) isolated ≡ with_demo dialects (demo_op d)
+registered_so dialects d dialect name format isolated e f k s = λ i. with_operation dialects (id_of_texts (e i) (f i)) (k i) (s i)

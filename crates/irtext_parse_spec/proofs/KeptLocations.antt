@@ -4,11 +4,11 @@ use Rattle.std.proofs.lemmas.Str.{IsUtf8-string_bytes}
 use Rattle.std.specs.Prelude.{IfSome}
 use Rattle.irtext_base.specs.declared.base.attributes.AttrObj.{AttrObj}
 use Rattle.irtext_base.specs.declared.location.Location.{Location}
-use Rattle.irtext_base.specs.declared.location.Location.TheVariants.{Fused, Named}
+use Rattle.irtext_base.specs.declared.location.Location.TheVariants.{Fused, Named, CallSite}
 use Rattle.irtext_base.specs.Locations.{LocationView, location_view, in_row, attr_view_in, sourced, row_sourced}
 use Rattle.irtext_base.specs.Paths.{path_of}
 use Rattle.irtext_base.specs.Weights.{weight, weight_of}
-use Rattle.irtext_base.proofs.LocationViews.{at-fused, at-named}
+use Rattle.irtext_base.proofs.LocationViews.{at-fused, at-named, at-call_site}
 use Rattle.irtext_grammar.specs.Spelling.AttrText.{IsSpellableAttr}
 use Rattle.irtext_parse_spec.specs.Promises.KeptRoot.{AllHold}
 use Rattle.irtext_parse_spec.specs.Promises.LocationsBack.{AllFit}
@@ -49,3 +49,10 @@ module _ {A : Type 0} where
 
     pub named_kept : (paths : List (List ℕ)) → WholeIsKept paths inside → WholeIsKept paths l
     named_kept paths h = subst (ViewIsKept paths) (sym (at-named l name child inside is same)) ((IsUtf8-string_bytes name.value, h.0), h.1)
+
+  module _ (l : Location A) (callee caller : Box (Location A) Global) (one other : Location A) (is : l ≡ CallSite callee caller) (same : one ≡ callee.value) (also : other ≡ caller.value) where
+    pub call_site_weight : weight_of l ≡ 2 + (weight_of one + weight_of other)
+    call_site_weight = ap weight (at-call_site l callee caller one other is same also)
+
+    pub call_site_kept : (paths : List (List ℕ)) → WholeIsKept paths one → WholeIsKept paths other → WholeIsKept paths l
+    call_site_kept paths h k = subst (ViewIsKept paths) (sym (at-call_site l callee caller one other is same also)) ((h.0, k.0), (h.1, k.1))

@@ -1,6 +1,6 @@
-use Rattle.std.proofs.Common.{◌∙◌, ap, arith}
+use Rattle.std.proofs.Common.{◌∙◌, ap, arith, refl}
 use Rattle.irtext_base.proofs.Inside.{item_weight, fused_weight}
-use Rattle.irtext_parse_spec.proofs.KeptLocations.{fused_last_kept, named_weight, named_kept, WholeIsKept, ManyAreKept}
+use Rattle.irtext_parse_spec.proofs.KeptLocations.{fused_last_kept, named_weight, named_kept, call_site_weight, call_site_kept, WholeIsKept, ManyAreKept}
 use Rattle.irtext_parse_spec.proofs.KeptParts.{next_kept}
 use Rattle.irtext_parse_spec.proofs.parts.+kept.Goals as goal
 
@@ -42,4 +42,20 @@ location_kept-loop-next-preserved-in-Named g t c =
     record {
       kept = λ child. c.loop-next.invariant.kept (named_kept next v.name v.child_loc inside v.is c.deref-next.ensures c.args.ctx.now.paths child);
       inside = omega (arith, c.loop-next.invariant.inside, named_weight next v.name v.child_loc inside v.is c.deref-next.ensures);
+    }
+
+pub location_kept-location_kept-requires : goal.location_kept-location_kept-requires
+location_kept-location_kept-requires g t c κs within =
+    let v = c.in-CallSite in
+    (omega (arith, c.decreases, c.loop-next.invariant.inside, call_site_weight c.loop-next.next.now v.callee v.caller c.deref-in-CallSite.result.now v.caller.value v.is c.deref-in-CallSite.ensures refl), within)
+
+pub location_kept-loop-next-preserved : goal.location_kept-loop-next-preserved
+location_kept-loop-next-preserved g t c =
+    let v = c.in-CallSite in
+    let next = c.loop-next.next.now in
+    let callee = c.deref-in-CallSite.result.now in
+    let caller = c.deref-next-in-CallSite.result.now in
+    record {
+      kept = λ end. c.loop-next.invariant.kept (call_site_kept next v.callee v.caller callee caller v.is c.deref-in-CallSite.ensures c.deref-next-in-CallSite.ensures c.args.ctx.now.paths (c.location_kept.ensures.fits, c.location_kept.ensures.holds) end);
+      inside = omega (arith, c.loop-next.invariant.inside, call_site_weight next v.callee v.caller callee caller v.is c.deref-in-CallSite.ensures c.deref-next-in-CallSite.ensures);
     }
