@@ -95,8 +95,7 @@ pub fn said<
     requires { F.IsAlwaysCallable read }
 {
     let mut stream = TextStream::new(alloc, text)?;
-    let answer = read(&mut stream);
-    line(alloc, &answer)
+    said_next(alloc, &mut stream, read)
 }
 
 /// The text of what a parser returns on a stream.

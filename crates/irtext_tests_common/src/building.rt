@@ -4,13 +4,16 @@ ghost use Rattle.irtext_context.specs.Context.{block, operation};
 
 use crate::contexts::{Ctx, named};
 use crate::formats::format_or_canonical;
-use irtext_base::base::{AttrObj, OpId, SYM_NAME_KEY};
+use irtext_base::base::{AttrObj, Identifier, OpId, SYM_NAME_KEY};
 use irtext_base::format::OpFormat;
 use irtext_base::location::{Location, Source};
 use irtext_base::parsable::SourcePosition;
 use irtext_base::result::Result as Answer;
+use irtext_checked::access::{TryAccess, TryBlockAccess};
+use irtext_checked::insert::TryInsert;
+use irtext_checked::make::TryNewOperation;
 use irtext_context::base::{
-    BasicBlock, BlockAccess, Item, NewBlock, NewOperation, Operation, OperationAccess, Ptr, Value,
+    BasicBlock, BlockAccess, Item, NewBlock, Operation, OperationAccess, Ptr, Value,
 };
 use irtext_context::dialect::{Dialect, DialectName};
 use irtext_demo::{Characters, DemoAttr, DemoType, IntegerType, Signedness, Width};
@@ -59,10 +62,21 @@ pub fn register(
     words: (&str, &str),
     letters: &str,
 ) -> Result<(), Fail> {
-    let id = id(alloc, words)?;
     let dialect = DialectName::from(named(alloc, words.0)?);
+    register_with(alloc, ctx, &dialect, words, letters)
+}
+
+/// Registers such an operation with this dialect.
+fn register_with(
+    alloc: Global,
+    ctx: &mut Ctx,
+    dialect: &DialectName,
+    words: (&str, &str),
+    letters: &str,
+) -> Result<(), Fail> {
     let format = format_or_canonical(alloc, letters)?;
-    Ok(add(ctx, &dialect, id, format).ok().ok_or("refused")?)
+    let id = id(alloc, words)?;
+    Ok(add(ctx, dialect, id, format).ok().ok_or("refused")?)
 }
 
 /// Signed integers of this width.
@@ -99,10 +113,7 @@ pub fn operation(
     successors: &[Ptr<BasicBlock>],
     regions: usize,
 ) -> Result<Ptr<Operation>, Fail> {
-    if !ctx.graph().contains_values(operands) || !ctx.graph().contains_blocks(successors) {
-        return Err(Fail::from("no such value or block"));
-    }
-    let answer = Operation::new(ctx, id, types, operands, successors, regions);
+    let answer = Operation::try_new(ctx, id, types, operands, successors, regions);
     Ok(answer.ok().ok_or("refused")?)
 }
 
@@ -114,6 +125,14 @@ pub fn module(alloc: Global, ctx: &mut Ctx, symbol: &str) -> Result<Ptr<Operatio
     Ok(op)
 }
 
+/// The label with this text, or none if it is empty.
+fn label_of(alloc: Global, text: &str) -> Result<Option<Identifier>, Fail> {
+    if text.is_empty() {
+        return Ok(None);
+    }
+    Ok(Some(named(alloc, text)?))
+}
+
 /// Makes a block with this label, or none if it is empty, and arguments of these types.
 pub fn block(
     alloc: Global,
@@ -121,11 +140,7 @@ pub fn block(
     label: &str,
     types: Few<DemoType>,
 ) -> Result<Ptr<BasicBlock>, Fail> {
-    let label = if label.is_empty() {
-        None
-    } else {
-        Some(named(alloc, label)?)
-    };
+    let label = label_of(alloc, label)?;
     Ok(BasicBlock::new(ctx, label, types).ok().ok_or("refused")?)
 }
 
@@ -144,11 +159,8 @@ pub fn block_inside(
 
 /// Puts an operation, or a placeholder, last into a block.
 pub fn into_block(ctx: &mut Ctx, op: Ptr<Operation>, block: Ptr<BasicBlock>) -> Result<(), Fail> {
-    let alive = ctx.graph().contains(Object::TheOperation(op));
-    if !alive || !ctx.contains_block(block) || !op.can_insert_at_back(block, ctx) {
-        return Err(Fail::from("not to be inserted"));
-    }
-    Ok(op.insert_at_back(block, ctx)?)
+    let put = op.try_insert_at_back(block, ctx);
+    Ok(put.ok().ok_or("not to be inserted")?)
 }
 
 /// Puts a block last into a region of an operation.
@@ -158,17 +170,22 @@ pub fn into_region(
     op: Ptr<Operation>,
     index: usize,
 ) -> Result<(), Fail> {
-    if !ctx.contains_operation(op) || index >= op.num_regions(ctx) {
-        return Err(Fail::from("no such region"));
+    let region = op.try_get_region(ctx, index);
+    let region = region.ok().ok_or("no such region")?;
+    let put = block.try_insert_at_back(region, ctx);
+    Ok(put.ok().ok_or("not to be inserted")?)
+}
+
+fn set(
+    ctx: &mut Ctx,
+    item: Item,
+    key: Identifier,
+    attr: AttrObj<DemoAttr>,
+) -> Answer<(), DemoAttr> {
+    match item {
+        Item::Operation(op) => op.try_set_attribute(ctx, key, attr),
+        Item::Block(block) => block.try_set_attribute(ctx, key, attr),
     }
-    let region = op.get_region(ctx, index);
-    if !ctx.contains_region(region) || !ctx.contains_block(block) {
-        return Err(Fail::from("no such block"));
-    }
-    if !block.can_insert_at_back(region, ctx) {
-        return Err(Fail::from("not to be inserted"));
-    }
-    Ok(block.insert_at_back(region, ctx)?)
 }
 
 /// Gives an operation or a block an attribute.
@@ -180,12 +197,7 @@ pub fn give(
     attr: AttrObj<DemoAttr>,
 ) -> Result<(), Fail> {
     let key = named(alloc, key)?;
-    let answer = match item {
-        Item::Operation(op) if ctx.contains_operation(op) => op.set_attribute(ctx, key, attr),
-        Item::Block(block) if ctx.contains_block(block) => block.set_attribute(ctx, key, attr),
-        _ => return Err(Fail::from("no such item")),
-    };
-    Ok(answer.ok().ok_or("refused")?)
+    Ok(set(ctx, item, key, attr).ok().ok_or("refused")?)
 }
 
 /// Gives an operation its symbol's name.
@@ -238,12 +250,20 @@ pub fn place(ctx: &mut Ctx, item: Item, column: i32) -> Result<(), Fail> {
     Ok(())
 }
 
+/// The object of an item.
+fn object_of(item: Item) -> Object {
+    match item {
+        Item::Operation(op) => Object::TheOperation(op),
+        Item::Block(block) => Object::TheBlock(block),
+    }
+}
+
 /// Erases an operation or a block that nothing outside of it uses.
 pub fn erase(ctx: &mut Ctx, item: Item) -> Result<(), Fail> {
-    match item {
-        Item::Operation(op) if ctx.contains_operation(op) && op.can_erase(ctx) => op.erase(ctx),
-        Item::Block(block) if ctx.contains_block(block) && block.can_erase(ctx) => block.erase(ctx),
-        _ => return Err(Fail::from("not to be erased")),
+    let (graph, object) = (ctx.graph_mut(), object_of(item));
+    if !graph.contains(object) || !graph.can_erase(object) {
+        return Err(Fail::from("not to be erased"));
     }
+    graph.erase(object);
     Ok(())
 }

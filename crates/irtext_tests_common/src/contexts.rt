@@ -22,8 +22,7 @@ pub fn with_context<X, F: FnOnce(Global, &mut Ctx) -> Result<X, Fail> + Drop>(
 ) -> Result<X, Fail>
     requires { F.IsAlwaysCallable call }
 {
-    let mut ctx: Ctx = Context::new(alloc);
-    call(alloc, &mut ctx)
+    with_counters(alloc, 0, 1, call)
 }
 
 /// The result of a call with an empty context whose next value has the number `values`, and whose places count from
@@ -61,10 +60,15 @@ fn registered<X, F: FnOnce(Global, &mut Ctx) -> Result<X, Fail> + Drop>(
 ) -> Result<X, Fail>
     requires { F.IsAlwaysCallable call }
 {
-    match register_demo(ctx) {
-        Ok(()) => call(alloc, ctx),
-        Err(_) => Err(Fail::from("not registered")),
+    if !is_demo(ctx) {
+        return Err(Fail::from("not registered"));
     }
+    call(alloc, ctx)
+}
+
+/// Registers the demo dialects with this context, and returns whether there was enough memory.
+fn is_demo(ctx: &mut Ctx) -> bool {
+    register_demo(ctx).is_ok()
 }
 
 /// The result of a call with two empty contexts.
@@ -75,8 +79,19 @@ pub fn with_contexts<X, F: FnOnce(Global, &mut Ctx, &mut Ctx) -> Result<X, Fail>
     requires { F.IsAlwaysCallable call }
 {
     let mut ctx: Ctx = Context::new(alloc);
+    beside(alloc, &mut ctx, call)
+}
+
+/// The result of a call with this context and an empty one.
+fn beside<X, F: FnOnce(Global, &mut Ctx, &mut Ctx) -> Result<X, Fail> + Drop>(
+    alloc: Global,
+    ctx: &mut Ctx,
+    call: F,
+) -> Result<X, Fail>
+    requires { F.IsAlwaysCallable call }
+{
     let mut other: Ctx = Context::new(alloc);
-    call(alloc, &mut ctx, &mut other)
+    call(alloc, ctx, &mut other)
 }
 
 /// The result of a function on a stream over a text, with a context of its own.

@@ -60,19 +60,25 @@ enum Step {
 
 /// Puts an identifier under a key of a block, and returns whether that was allowed.
 fn put(alloc: Global, ctx: &mut Ctx, block: Ptr<BasicBlock>, key: &str) -> Result<bool, Fail> {
+    live_block(ctx, block)?;
     let key = named(alloc, key)?;
     let attr = AttrObj::Ident(named(alloc, "main")?);
-    Ok(ctx.contains_block(block) && block.set_attribute(ctx, key, attr).is_ok())
+    Ok(block.set_attribute(ctx, key, attr).is_ok())
+}
+
+/// Gives a block a label.
+fn label(alloc: Global, ctx: &mut Ctx, block: Ptr<BasicBlock>) -> Result<bool, Fail> {
+    live_block(ctx, block)?;
+    let label = named(alloc, "entry")?;
+    block.set_label(ctx, Some(label));
+    Ok(true)
 }
 
 /// Changes a block, and returns whether that was allowed.
 fn write(alloc: Global, ctx: &mut Ctx, block: Ptr<BasicBlock>, step: Step) -> Result<bool, Fail> {
-    let label = named(alloc, "entry")?;
-    if !ctx.contains_block(block) {
-        return Ok(false);
-    }
+    live_block(ctx, block)?;
     match step {
-        Step::Label => block.set_label(ctx, Some(label)),
+        Step::Label => return label(alloc, ctx, block),
         Step::NoLabel => block.set_label(ctx, None),
         Step::Place => block.set_loc(ctx, at(Source::InMemory)),
         Step::Name => return put(alloc, ctx, block, SYM_NAME_KEY),
@@ -115,13 +121,19 @@ fn blocks_are_labelled_and_written(rt: HostRuntime) -> Result<(), Fail> {
     Ok(())
 }
 
+/// The text of the result for a block with arguments of these types.
+fn said(alloc: Global, ctx: &mut Ctx, letters: &str) -> Result<String, Fail> {
+    let answer = made(alloc, ctx, letters)?;
+    done_or_cause(alloc, &answer, "made")
+}
+
 /// The result if one number is left for values: for a block of two arguments, the number of live objects then, and whether a block
 /// of one is made.
 fn filled(alloc: Global, ctx: &mut Ctx) -> Result<String, Fail> {
-    let said = done_or_cause(alloc, &made(alloc, ctx, "pp")?, "made")?;
+    let two = said(alloc, ctx, "pp")?;
     let live = ctx.num_live();
-    let one = made(alloc, ctx, "p")?.is_ok();
-    Ok(format!(in alloc; "{said} {live} {one}")?)
+    let one = said(alloc, ctx, "p")?.as_str() == "made";
+    Ok(format!(in alloc; "{two} {live} {one}")?)
 }
 
 #[test]
@@ -133,6 +145,14 @@ fn arguments_end_at_the_greatest_number(rt: HostRuntime) -> Result<(), Fail> {
     Ok(())
 }
 
+/// Whether the location of an operation or a block is known.
+fn is_known(ctx: &Ctx, item: Item) -> bool {
+    match item {
+        Item::Operation(op) => ctx.contains_operation(op) && !op.loc(ctx).is_unknown(),
+        Item::Block(block) => ctx.contains_block(block) && !block.loc(ctx).is_unknown(),
+    }
+}
+
 /// Which of three locations are known: those of an operation, of a block in it, and of an operation in the block.
 fn known(
     ctx: &Ctx,
@@ -141,9 +161,9 @@ fn known(
     inner: Ptr<Operation>,
 ) -> (bool, bool, bool) {
     (
-        ctx.contains_operation(outer) && !outer.loc(ctx).is_unknown(),
-        ctx.contains_block(block) && !block.loc(ctx).is_unknown(),
-        ctx.contains_operation(inner) && !inner.loc(ctx).is_unknown(),
+        is_known(ctx, Item::Operation(outer)),
+        is_known(ctx, Item::Block(block)),
+        is_known(ctx, Item::Operation(inner)),
     )
 }
 

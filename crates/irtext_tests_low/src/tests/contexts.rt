@@ -5,8 +5,10 @@ ghost use Rattle.irtext_context.specs.Context.{KeepsOlder};
 use irtext_base::base::OpId;
 use irtext_base::location::Location;
 use irtext_context::base::context::making::Making;
-use irtext_context::base::{Operation, OperationAccess, Ptr};
+use irtext_context::base::{Operation, OperationAccess, Ptr, Region};
 use irtext_dict::base::AttributeDict;
+use irtext_graph::held::HasGraph;
+use irtext_graph::object::Object;
 use irtext_tests_common::building::{id, live};
 use irtext_tests_common::contexts::{Ctx, with_context, with_counters};
 use std::alloc::{AllocError, Global};
@@ -30,7 +32,8 @@ fn shown(alloc: Global, ctx: &Ctx, op: Ptr<Operation>) -> Result<String, Fail> {
         return Err(Fail::from("no such operation"));
     }
     let unknown = op.loc(ctx).is_unknown();
-    Ok(format!(in alloc; "{} {} {unknown}", op.get_opid(ctx), op.num_regions(ctx))?)
+    let regions = ctx.graph().num_children(Object::TheOperation(op));
+    Ok(format!(in alloc; "{} {regions} {unknown}", op.get_opid(ctx))?)
 }
 
 /// Makes an operation, counts the live objects, and rolls back.
@@ -42,22 +45,36 @@ fn passes(alloc: Global, ctx: &mut Ctx, id: OpId) -> Result<(Ptr<Operation>, u64
     Ok((op, live))
 }
 
+/// Makes a module with a region.
+fn make_with_region(alloc: Global, ctx: &mut Ctx) -> Result<(Ptr<Operation>, Ptr<Region>), Fail> {
+    let op = make(alloc, ctx, module_id(alloc)?)?;
+    live(ctx, op)?;
+    Ok((op, ctx.add_region(op)?))
+}
+
+/// Whether a region is in an operation.
+fn is_in(ctx: &Ctx, region: Ptr<Region>, op: Ptr<Operation>) -> bool {
+    let (graph, region) = (ctx.graph(), Object::TheRegion(region));
+    graph.contains(region) && graph.get_parent(region) == Some(Object::TheOperation(op))
+}
+
+/// The places of two operations, and the generation of the second.
+fn places(alloc: Global, first: Ptr<Operation>, second: Ptr<Operation>) -> Result<String, Fail> {
+    let (place, again) = (first.place(), second.place());
+    Ok(format!(in alloc; "{place} {again} {}", second.generation())?)
+}
+
 /// Makes a module with a region, and another after a mark to which the context is then rolled back; returns what is live.
 fn rolled_back(alloc: Global, ctx: &mut Ctx) -> Result<String, Fail> {
-    let first = make(alloc, ctx, module_id(alloc)?)?;
-    live(ctx, first)?;
-    let region = ctx.add_region(first)?;
-    let inside = ctx.contains_region(region) && region.get_parent_op(ctx) == Some(first);
+    let (first, region) = make_with_region(alloc, ctx)?;
+    let inside = is_in(ctx, region, first);
     let (second, before) = passes(alloc, ctx, module_id(alloc)?)?;
-    let alive = ctx.contains_region(region) && !ctx.contains_operation(second);
+    let alive = is_in(ctx, region, first) && !ctx.contains_operation(second);
     let following = ctx.num_live();
     let third = make(alloc, ctx, module_id(alloc)?)?;
+    let places = places(alloc, second, third)?;
     let shown = shown(alloc, ctx, first)?;
-    let (place, again) = (second.place(), third.place());
-    let generation = third.generation();
-    Ok(format!(in alloc;
-        "{inside} {before} {alive} {following} {place} {again} {generation} {shown}"
-    )?)
+    Ok(format!(in alloc; "{inside} {before} {alive} {following} {places} {shown}")?)
 }
 
 #[test]

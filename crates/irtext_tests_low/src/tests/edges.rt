@@ -1,5 +1,5 @@
 //! Attributes that are set on an operation, and `Refusal`s as errors.
-use irtext_base::base::{AttrObj, GIVEN_NAMES_KEY, Identifier, SYM_NAME_KEY};
+use irtext_base::base::{AttrObj, GIVEN_NAMES_KEY, Refusal, SYM_NAME_KEY};
 use irtext_base::location::Location;
 use irtext_base::result::{Error, Result as Answer};
 use irtext_context::base::context::making::Making;
@@ -13,17 +13,9 @@ use irtext_tests_common::tables::failing;
 use std::alloc::{AllocError, Global};
 use std::test::Fail;
 
-/// The result of setting an attribute under a key of an operation.
-fn set(
-    ctx: &mut Ctx,
-    op: Ptr<Operation>,
-    key: Identifier,
-    attr: AttrObj<DemoAttr>,
-) -> Answer<(), DemoAttr> {
-    if !ctx.contains_operation(op) {
-        return Err(Error::from(AllocError));
-    }
-    match op.set_attribute(ctx, key, attr) {
+/// A result whose error is one with a location.
+fn answer(set: Result<(), Refusal>) -> Answer<(), DemoAttr> {
+    match set {
         Ok(()) => Ok(()),
         Err(refusal) => Err(Error::from(refusal)),
     }
@@ -41,9 +33,10 @@ const KEYS: &[(&str, &str)] = &[
 
 /// Sets an identifier under a key of an operation, and returns the text of the result.
 fn step(alloc: Global, ctx: &mut Ctx, op: Ptr<Operation>, key: &str) -> Result<String, Fail> {
+    live(ctx, op)?;
     let key = named(alloc, key)?;
     let attr = AttrObj::Ident(named(alloc, "main")?);
-    let answer = set(ctx, op, key, attr);
+    let answer = answer(op.set_attribute(ctx, key, attr));
     done_or_cause(alloc, &answer, "set")
 }
 

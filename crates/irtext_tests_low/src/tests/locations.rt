@@ -27,20 +27,28 @@ pub fn at(src: Source) -> Location<DemoAttr> {
     }
 }
 
+/// The name `m`, as metadata.
+fn metadata(alloc: Global) -> Result<Option<AttrObj<DemoAttr>>, Fail> {
+    Ok(Some(AttrObj::Ident(named(alloc, "m")?)))
+}
+
+/// A location fused of these, with a name as metadata.
+fn fused_of(alloc: Global, locations: Vec<Location<DemoAttr>>) -> Result<Location<DemoAttr>, Fail> {
+    let locations = Box::new(alloc, locations)?;
+    let metadata = Box::new(alloc, metadata(alloc)?)?;
+    Ok(Location::Fused {
+        metadata,
+        locations,
+    })
+}
+
 /// A location fused of two others, with a name as metadata.
 fn fused(
     alloc: Global,
     first: Location<DemoAttr>,
     second: Location<DemoAttr>,
 ) -> Result<Location<DemoAttr>, Fail> {
-    let mut locations = Vec::new(alloc);
-    locations.push(first)?;
-    locations.push(second)?;
-    let metadata = Some(AttrObj::Ident(named(alloc, "m")?));
-    Ok(Location::Fused {
-        metadata: Box::new(alloc, metadata)?,
-        locations: Box::new(alloc, locations)?,
-    })
+    fused_of(alloc, Vec::from_array(alloc, [first, second])?)
 }
 
 /// The hash of a new hasher after a location of the context's paths is hashed.
@@ -59,7 +67,8 @@ fn once(alloc: Global, ctx: &mut Ctx, other: &Ctx) -> Result<bool, Fail> {
     let again = file(ctx, "b")?;
     let kept = b != c && b == again && ctx.num_paths() == 2;
     let known = b.is_of(ctx) && !b.is_of(other) && !other.contains_paths(&at(b));
-    Ok(kept && known && path_of(ctx, b) == "b" && in_order(alloc, b)?)
+    let listed = has_single(alloc, b)? && in_order(alloc, b)? && lists_once(alloc, b)?;
+    Ok(kept && known && listed && path_of(ctx, b) == "b")
 }
 
 /// The path of a source of the context.
@@ -72,22 +81,46 @@ fn path_of(ctx: &Ctx, source: Source) -> &str {
     ""
 }
 
-/// Whether sources are in the order of their first mention.
+/// Whether these are the sources of a location.
+fn has_sources(
+    alloc: Global,
+    location: &Location<DemoAttr>,
+    wanted: &[Source],
+) -> Result<bool, Fail> {
+    let sources = location.sources(alloc).ok().ok_or("refused")?;
+    Ok(sources.as_slice() == wanted)
+}
+
+/// Whether a location of one source has that alone.
+fn has_single(alloc: Global, b: Source) -> Result<bool, Fail> {
+    let one = fused(alloc, at(b), at(b))?;
+    Ok(one.source() == Some(b))
+}
+
+/// Whether the sources of a location in another are in the order of their first mention.
 fn in_order(alloc: Global, b: Source) -> Result<bool, Fail> {
     let one = fused(alloc, at(b), at(b))?;
-    let single = one.source() == Some(b);
     let all = fused(alloc, one, at(Source::InMemory))?;
-    let several = all.source().is_none();
-    let sources = all.sources(alloc).ok().ok_or("refused")?;
-    let ordered = sources.len() == 2 && sources[0] == b && sources[1] == Source::InMemory;
-    Ok(single && several && ordered)
+    Ok(all.source().is_none() && has_sources(alloc, &all, &[b, Source::InMemory])?)
+}
+
+/// Whether a source that is mentioned first and last is listed once, first.
+fn lists_once(alloc: Global, b: Source) -> Result<bool, Fail> {
+    let locations = Vec::from_array(alloc, [at(b), at(Source::InMemory), at(b)])?;
+    let all = fused_of(alloc, locations)?;
+    has_sources(alloc, &all, &[b, Source::InMemory])
 }
 
 /// Whether a copy equals its source.
 fn copied(alloc: Global) -> Result<bool, Fail> {
     let location = fused(alloc, at(Source::InMemory), Location::Unknown)?;
+    equals_copy(alloc, &location)
+}
+
+/// Whether the copy of a location equals it.
+fn equals_copy(alloc: Global, location: &Location<DemoAttr>) -> Result<bool, Fail> {
     let copy = location.try_clone(alloc).ok().ok_or("refused")?;
-    Ok(copy == location)
+    Ok(copy == *location)
 }
 
 /// Whether the copy of an attribute equals it.
@@ -111,11 +144,9 @@ fn hashed(ctx: &mut Ctx) -> Result<bool, Fail> {
 
 /// Whether the hash of fused locations counts them.
 fn counted(alloc: Global, ctx: &Ctx) -> Result<bool, Fail> {
-    let metadata = Box::new(alloc, None)?;
-    let locations = Box::new(alloc, Vec::new(alloc))?;
     let none: Location<DemoAttr> = Location::Fused {
-        metadata,
-        locations,
+        metadata: Box::new(alloc, None)?,
+        locations: Box::new(alloc, Vec::new(alloc))?,
     };
     let mut wanted = DefaultHasher::new();
     wanted.write_u8(1);
@@ -138,16 +169,21 @@ fn moved(from: &mut Ctx, to: &mut Ctx) -> Result<bool, Fail> {
     Ok(a == b && moved != b && same && place == Some(position))
 }
 
-/// Whether a location moves to another context with the same text, and adds only the path that is new there.
-fn carried(alloc: Global, from: &mut Ctx, to: &mut Ctx) -> Result<bool, Fail> {
-    let location = fused(alloc, at(file(from, "d")?), at(file(from, "a")?))?;
-    if !from.contains_paths(&location) {
+/// Whether a location moves to another context with the same text.
+fn is_alike(location: &Location<DemoAttr>, from: &Ctx, to: &mut Ctx) -> Result<bool, Fail> {
+    if !from.contains_paths(location) {
         return Ok(false);
     }
     let moved = location.clone_into_context(from, to);
     let moved = moved.ok().ok_or("refused")?;
-    let alike = hash_of(to, &moved) == hash_of(from, &location);
-    Ok(alike && moved != location && to.num_paths() == 3)
+    Ok(hash_of(to, &moved) == hash_of(from, location) && moved != *location)
+}
+
+/// Whether that is so for a location of two files, and adds only the path that is new there.
+fn carried(alloc: Global, from: &mut Ctx, to: &mut Ctx) -> Result<bool, Fail> {
+    let (d, a) = (file(from, "d")?, file(from, "a")?);
+    let location = fused(alloc, at(d), at(a))?;
+    Ok(is_alike(&location, from, to)? && to.num_paths() == 3)
 }
 
 /// Makes a module with a place.

@@ -1,14 +1,15 @@
 //! Operations of a context that are made with results, operands, successors and regions, or fail.
 use irtext_base::result::Result as Answer;
-use irtext_context::base::{BasicBlock, NewOperation, Operation, OperationAccess, Ptr, Value};
+use irtext_context::base::{
+    BasicBlock, NewOperation, Operation, OperationAccess, Ptr, Region, Value,
+};
 use irtext_demo::dialects::register_demo;
 use irtext_demo::{DemoAttr, DemoType, IntegerType, Signedness, Width};
 use irtext_few::Few;
 use irtext_graph::held::HasGraph;
-use irtext_graph_queries::operation::OperationParts;
-use irtext_graph_queries::value::ValueUses;
+use irtext_graph::object::{Defined, Object};
 use irtext_tests_common::answers::done_or_cause;
-use irtext_tests_common::building::{block, id, types};
+use irtext_tests_common::building::{block, id};
 use irtext_tests_common::contexts::{Ctx, with_counters, with_demo};
 use irtext_tests_common::tables::failing_demo;
 use std::alloc::{AllocError, Global};
@@ -23,11 +24,25 @@ fn answered(
     operands: &[Value],
     successors: &[Ptr<BasicBlock>],
 ) -> Result<Answer<Ptr<Operation>, DemoAttr>, Fail> {
-    let (id, types) = (id(alloc, words)?, types(alloc, "pb")?);
     if !ctx.graph().contains_values(operands) || !ctx.graph().contains_blocks(successors) {
         return Err(Fail::from("no such value or block"));
     }
+    let byte = byte().ok_or("no such width")?;
+    let types = Few::two(DemoType::Pointer, byte);
+    let id = id(alloc, words)?;
     Ok(Operation::new(ctx, id, types, operands, successors, 2))
+}
+
+/// The text of the result for such an operation.
+fn said(
+    alloc: Global,
+    ctx: &mut Ctx,
+    words: (&str, &str),
+    operands: &[Value],
+    successors: &[Ptr<BasicBlock>],
+) -> Result<String, Fail> {
+    let answer = answered(alloc, ctx, words, operands, successors)?;
+    done_or_cause(alloc, &answer, "made")
 }
 
 /// Makes such an operation of a demo dialect.
@@ -48,16 +63,14 @@ fn made_block(alloc: Global, ctx: &mut Ctx) -> Result<Ptr<BasicBlock>, Fail> {
 
 /// Whether an operation uses these three values and this block, and nothing else.
 fn is_linked(ctx: &Ctx, op: Ptr<Operation>, operands: [Value; 3], block: Ptr<BasicBlock>) -> bool {
-    if !ctx.contains_operation(op)
-        || op.get_num_operands(ctx) != 3
-        || op.get_num_successors(ctx) != 1
-    {
-        return false;
-    }
-    op.get_operand(ctx, 0) == operands[0]
-        && op.get_operand(ctx, 1) == operands[1]
-        && op.get_operand(ctx, 2) == operands[2]
-        && op.get_successor(ctx, 0) == block
+    let graph = ctx.graph();
+    graph.contains(Object::TheOperation(op))
+        && graph.num_operands(op) == 3
+        && graph.num_successors(op) == 1
+        && graph.get_operand(op, 0) == operands[0]
+        && graph.get_operand(op, 1) == operands[1]
+        && graph.get_operand(op, 2) == operands[2]
+        && graph.get_successor(op, 0) == block
 }
 
 /// The type of signed integers of eight bits.
@@ -67,34 +80,45 @@ fn byte() -> Option<DemoType> {
     Some(DemoType::Integer(IntegerType { kind, width }))
 }
 
+/// Whether a value has this type.
+fn has_type(ctx: &Ctx, value: Value, of_type: Option<DemoType>) -> bool {
+    let graph = ctx.graph();
+    graph.contains_value(value) && *graph.type_of(value) == of_type
+}
+
 /// Whether an operation has two results, a pointer and a byte.
 fn is_typed(ctx: &Ctx, op: Ptr<Operation>) -> bool {
-    ctx.contains_operation(op)
-        && op.get_num_results(ctx) == 2
-        && *ctx.graph().type_of(op.get_result(ctx, 0)) == Some(DemoType::Pointer)
-        && *ctx.graph().type_of(op.get_result(ctx, 1)) == byte()
+    has_type(ctx, Value::Result(op, 0), Some(DemoType::Pointer))
+        && has_type(ctx, Value::Result(op, 1), byte())
+        && !ctx.graph().contains_value(Value::Result(op, 2))
 }
 
 /// The number of operands that are a value, if it is live.
 fn num_uses(ctx: &Ctx, value: Value) -> Option<usize> {
-    if !ctx.graph().contains_value(value) {
+    let graph = ctx.graph();
+    if !graph.contains_value(value) {
         return None;
     }
-    Some(value.num_uses(ctx))
+    Some(graph.num_uses(Defined::OfValue(value)))
+}
+
+/// Whether an operation has so many regions, of which this is one.
+fn has_region(ctx: &Ctx, op: Ptr<Operation>, count: usize, region: Ptr<Region>) -> bool {
+    let (graph, op) = (ctx.graph(), Object::TheOperation(op));
+    let region = Object::TheRegion(region);
+    graph.contains(op)
+        && graph.contains(region)
+        && graph.num_children(op) == count
+        && graph.get_parent(region) == Some(op)
 }
 
 /// Whether a region that is added to an operation with two regions is its third.
 fn grows(ctx: &mut Ctx, op: Ptr<Operation>) -> Result<bool, AllocError> {
-    if !ctx.contains_operation(op) || op.num_regions(ctx) != 2 {
+    if !ctx.contains_operation(op) {
         return Ok(false);
     }
     let region = op.add_region(ctx)?;
-    Ok(
-        ctx.contains_region(region)
-            && region.get_parent_op(ctx) == Some(op)
-            && ctx.contains_operation(op)
-            && op.num_regions(ctx) == 3,
-    )
+    Ok(has_region(ctx, op, 3, region))
 }
 
 /// Whether an operation that uses a result twice, an argument and a block has the parts that it was made with.
@@ -127,12 +151,8 @@ const UNREGISTERED: &[(&str, &str, &str)] = &[
 /// Whether an operation of an id that is to use a value has this error, and leaves no trace.
 fn is_refused(alloc: Global, ctx: &mut Ctx, row: &(&str, &str, &str)) -> Result<bool, Fail> {
     let used = Value::Result(made(alloc, ctx, &[], &[])?, 0);
-    let answer = answered(alloc, ctx, (row.0, row.1), &[used], &[])?;
-    Ok(
-        done_or_cause(alloc, &answer, "made")?.as_str() == row.2
-            && ctx.num_live() == 3
-            && num_uses(ctx, used) == Some(0),
-    )
+    let said = said(alloc, ctx, (row.0, row.1), &[used], &[])?;
+    Ok(said.as_str() == row.2 && ctx.num_live() == 3 && num_uses(ctx, used) == Some(0))
 }
 
 #[test]
@@ -145,8 +165,7 @@ fn what_is_not_registered_is_not_made(rt: HostRuntime) -> Result<(), Fail> {
 fn filled(alloc: Global, ctx: &mut Ctx) -> Result<String, Fail> {
     let used = Value::Result(made(alloc, ctx, &[], &[])?, 0);
     let block = made_block(alloc, ctx)?;
-    let answer = answered(alloc, ctx, ("builtin", "module"), &[used], &[block])?;
-    let said = done_or_cause(alloc, &answer, "made")?;
+    let said = said(alloc, ctx, ("builtin", "module"), &[used], &[block])?;
     let same = ctx.num_live() == 4 && num_uses(ctx, used) == Some(0);
     Ok(format!(in alloc; "{said} {same}")?)
 }

@@ -41,8 +41,13 @@ fn has_one_source(
 
 fn is_copied(alloc: Global, nesting: Nesting) -> Result<bool, Fail> {
     let location = nested(alloc, nesting, DEPTH, at(Source::InMemory))?;
+    has_copy(alloc, nesting, &location)
+}
+
+/// Whether a nested location is copied, and its source found in the copy.
+fn has_copy(alloc: Global, nesting: Nesting, location: &Location<DemoAttr>) -> Result<bool, Fail> {
     let copy = location.try_clone(alloc).ok().ok_or("refused")?;
-    let same = !is_last_nested(nesting) || copy == location;
+    let same = !is_last_nested(nesting) || copy == *location;
     Ok(
         same && is_nested(nesting, &copy, Source::InMemory)
             && has_one_source(alloc, nesting, &copy)?,
@@ -51,7 +56,17 @@ fn is_copied(alloc: Global, nesting: Nesting) -> Result<bool, Fail> {
 
 fn is_carried(alloc: Global, nesting: Nesting, from: &mut Ctx, to: &mut Ctx) -> Result<bool, Fail> {
     let location = nested(alloc, nesting, DEPTH, at(file(from, "e")?))?;
-    if !from.contains_paths(&location) {
+    comes_over(nesting, &location, from, to)
+}
+
+/// Whether a nested location moves to another context.
+fn comes_over(
+    nesting: Nesting,
+    location: &Location<DemoAttr>,
+    from: &Ctx,
+    to: &mut Ctx,
+) -> Result<bool, Fail> {
+    if !from.contains_paths(location) {
         return Ok(false);
     }
     let moved = location.clone_into_context(from, to);

@@ -28,6 +28,18 @@ fn block_name(alloc: Global, ctx: &Ctx, block: Ptr<BasicBlock>) -> Result<String
     Ok(block.unique_name(ctx)?)
 }
 
+/// Appends the name of a block, and a space.
+fn append_block(
+    alloc: Global,
+    ctx: &Ctx,
+    block: Ptr<BasicBlock>,
+    names: &mut String,
+) -> Result<(), Fail> {
+    let name = block_name(alloc, ctx, block)?;
+    names.push_str(name.as_str())?;
+    Ok(names.push(' ')?)
+}
+
 /// Appends the name of a value, and a space.
 fn append(alloc: Global, ctx: &Ctx, v: Value, names: &mut String) -> Result<(), Fail> {
     let name = value_name(alloc, ctx, v)?;
@@ -52,30 +64,43 @@ fn given(alloc: Global, texts: &[Option<&str>]) -> Result<AttrObj<DemoAttr>, Fai
     Ok(AttrObj::GivenNames(names))
 }
 
-/// The names of the first four arguments of a block.
-fn argument_names(alloc: Global, ctx: &Ctx, block: Ptr<BasicBlock>) -> Result<String, Fail> {
-    let mut names = String::new(alloc);
+/// Appends the names of the first four arguments of a block.
+fn append_arguments(
+    alloc: Global,
+    ctx: &Ctx,
+    block: Ptr<BasicBlock>,
+    names: &mut String,
+) -> Result<(), Fail> {
     for index in 0..4 {
-        append(alloc, ctx, Value::Argument(block, index), &mut names)?;
+        append(alloc, ctx, Value::Argument(block, index), names)?;
     }
-    Ok(names)
+    Ok(())
 }
 
-/// The names of a block's three arguments, without given names and with two, of which one is left out.
-fn of_arguments(alloc: Global, ctx: &mut Ctx) -> Result<String, Fail> {
+/// Gives an item these given names.
+fn give_names(
+    alloc: Global,
+    ctx: &mut Ctx,
+    item: Item,
+    texts: &[Option<&str>],
+) -> Result<(), Fail> {
+    let names = given(alloc, texts)?;
+    give(alloc, ctx, item, GIVEN_NAMES_KEY, names)
+}
+
+/// Appends the names of a block's three arguments, without given names and with two, of which one is left out.
+fn of_arguments(alloc: Global, ctx: &mut Ctx, names: &mut String) -> Result<(), Fail> {
     let block = block(alloc, ctx, "entry", types(alloc, "ppp")?)?;
-    let without = argument_names(alloc, ctx, block)?;
-    let names = given(alloc, &[None, Some("x")])?;
-    give(alloc, ctx, Item::Block(block), GIVEN_NAMES_KEY, names)?;
-    let with = argument_names(alloc, ctx, block)?;
-    Ok(format!(in alloc; "{without}| {with}")?)
+    append_arguments(alloc, ctx, block, names)?;
+    names.push_str("| ")?;
+    give_names(alloc, ctx, Item::Block(block), &[None, Some("x")])?;
+    append_arguments(alloc, ctx, block, names)
 }
 
 /// The data of a module whose first result has the name `c0`.
 fn named_data(alloc: Global, ctx: &mut Ctx) -> Result<Option<OperationData<DemoAttr>>, Fail> {
     let op = make(alloc, ctx)?;
-    let names = given(alloc, &[Some("c0")])?;
-    give(alloc, ctx, Item::Operation(op), GIVEN_NAMES_KEY, names)?;
+    give_names(alloc, ctx, Item::Operation(op), &[Some("c0")])?;
     live(ctx, op)?;
     Ok(ctx.graph_mut().operation_mut(op).take())
 }
@@ -89,31 +114,29 @@ fn with_results(
     Ok(ctx.graph_mut().make_operation(data, types, &[], &[])?)
 }
 
-/// The names of the results of an operation that has one given name, and of a placeholder.
-fn of_results(alloc: Global, ctx: &mut Ctx) -> Result<String, Fail> {
+/// Appends the names of the results of an operation that has one given name, and of a placeholder.
+fn of_results(alloc: Global, ctx: &mut Ctx, names: &mut String) -> Result<(), Fail> {
     let data = named_data(alloc, ctx)?;
     let op = with_results(ctx, data)?;
     let placeholder = with_results(ctx, None)?;
-    let mut names = String::new(alloc);
     for index in 0..3 {
-        append(alloc, ctx, Value::Result(op, index), &mut names)?;
+        append(alloc, ctx, Value::Result(op, index), names)?;
     }
-    append(alloc, ctx, Value::Result(placeholder, 0), &mut names)?;
-    Ok(names)
+    append(alloc, ctx, Value::Result(placeholder, 0), names)
 }
 
-/// The names of two blocks, the second with a label, and of one that is at the place of the first.
-fn of_blocks(alloc: Global, ctx: &mut Ctx) -> Result<String, Fail> {
+/// Appends the names of two blocks, the second with a label, and of one that is at the place of the first.
+fn of_blocks(alloc: Global, ctx: &mut Ctx, names: &mut String) -> Result<(), Fail> {
     let first = block(alloc, ctx, "", types(alloc, "p")?)?;
     let second = block(alloc, ctx, "entry", types(alloc, "")?)?;
-    let before = block_name(alloc, ctx, first)?;
+    append_block(alloc, ctx, first, names)?;
     erase(ctx, Item::Block(first))?;
     let third = block(alloc, ctx, "", types(alloc, "p")?)?;
-    let gone = block_name(alloc, ctx, first)?;
-    let labelled = block_name(alloc, ctx, second)?;
-    let again = block_name(alloc, ctx, third)?;
+    append_block(alloc, ctx, first, names)?;
+    append_block(alloc, ctx, second, names)?;
+    append_block(alloc, ctx, third, names)?;
     let argument = value_name(alloc, ctx, Value::Argument(third, 0))?;
-    Ok(format!(in alloc; "{before} {gone} {labelled} {again} {argument}")?)
+    Ok(names.push_str(argument.as_str())?)
 }
 
 /// What is named.
@@ -137,13 +160,20 @@ const NAMES: &[(Kind, u64, u32, &str)] = &[
     ),
 ];
 
+/// Appends the names of what is made so.
+fn append_names(alloc: Global, ctx: &mut Ctx, kind: Kind, names: &mut String) -> Result<(), Fail> {
+    match kind {
+        Kind::Arguments => of_arguments(alloc, ctx, names),
+        Kind::Results => of_results(alloc, ctx, names),
+        Kind::Blocks => of_blocks(alloc, ctx, names),
+    }
+}
+
 /// The names of what is made so.
 fn names_of(alloc: Global, ctx: &mut Ctx, kind: Kind) -> Result<String, Fail> {
-    match kind {
-        Kind::Arguments => of_arguments(alloc, ctx),
-        Kind::Results => of_results(alloc, ctx),
-        Kind::Blocks => of_blocks(alloc, ctx),
-    }
+    let mut names = String::new(alloc);
+    append_names(alloc, ctx, kind, &mut names)?;
+    Ok(names)
 }
 
 #[test]

@@ -1,10 +1,16 @@
 //! The tests, a file for each subject.
 mod attributes;
 mod causes;
+mod demo;
 mod errors;
+mod excerpt;
 mod fits;
+mod formats;
 mod listed;
+mod lists;
 mod location_texts;
+mod notation;
+mod parts;
 mod printing;
 mod roots;
 mod separators;

@@ -1,0 +1,9 @@
+//! Worked rows of what is `Printable`: values, lists, causes, errors, locations and roots; the printing state, which operations fit their
+//! formats, and the section after a root. Also of what needs no context: notations of formats and which formats are accepted, excerpts,
+//! and the ready parts of types and attributes.
+#![tactic(auto)]
+
+#[cfg(test)]
+mod sections;
+#[cfg(test)]
+mod tests;
