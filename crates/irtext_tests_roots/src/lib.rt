@@ -1,5 +1,5 @@
-//! Worked rows of what `pliron_text` re-exports: dialects, objects, errors and macros; of graphs that a caller makes; of roots in formats
-//! of each directive; and the examples of the pages.
+//! Worked rows of graphs that a caller makes, of contexts that were filled separately, and of names outside of regions; and the examples of
+//! the pages.
 #![tactic(auto)]
 
 #[cfg(test)]

@@ -1,3 +1,2 @@
 //! The tests, a file for each subject.
-mod concrete;
-mod directives;
+mod outside;

@@ -1,0 +1,115 @@
+//! Results that are named outside of every region: no scope is open there, so each is an error.
+use irtext_demo::DemoAttr;
+use irtext_tests_common::answers::result_text;
+use irtext_tests_common::contexts::{Ctx, named, with_demo};
+use irtext_tests_print::reading::root;
+use pliron_text::base::{BasicBlock, Identifier, Operation, Ptr};
+use pliron_text::irfmt::parsers::process_parsed_ssa_defs;
+use pliron_text::location::{Location, Source};
+use pliron_text::parsable::{CharStream, SourcePosition, State, StateStream, TextStream};
+use std::alloc::Global;
+use std::test::Fail;
+
+/// A root with an operation without results and one with a result.
+const ROOT: &str = "builtin.module @m { ^a(): test.nop; x = test.make: test.ptr }";
+
+/// The index of an operation in the block of the root, the names of its results, the line and column of each name's location if it has
+/// one, and the expected result.
+const RESULTS: &[(usize, &[(&str, Option<(i32, i32)>)], &str)] = &[
+    (0, &[], "named"),
+    (
+        1,
+        &[],
+        "line: 1, column: 3: Operation has 1 results and 0 names!",
+    ),
+    (
+        0,
+        &[("x", Some((4, 5)))],
+        "line: 1, column: 3: Operation has 0 results and 1 names!",
+    ),
+    (
+        1,
+        &[("x", Some((4, 5)))],
+        "line: 4, column: 5: No active scope for identifier x!",
+    ),
+    (
+        1,
+        &[("x", None)],
+        "line: 1, column: 1: No active scope for identifier x!",
+    ),
+];
+
+/// Names with their locations.
+fn names(
+    alloc: Global,
+    row: &[(&str, Option<(i32, i32)>)],
+) -> Result<Vec<(Identifier, Location<DemoAttr>)>, Fail> {
+    let mut names = Vec::new(alloc);
+    for (name, at) in row {
+        let loc = match at {
+            Some((line, column)) => Location::SrcPos {
+                src: Source::InMemory,
+                pos: SourcePosition {
+                    line: *line,
+                    column: *column,
+                },
+            },
+            None => Location::Unknown,
+        };
+        names.push((named(alloc, name)?, loc))?;
+    }
+    Ok(names)
+}
+
+/// The first block of an operation's first region.
+fn first_block(ctx: &Ctx, op: Ptr<Operation>) -> Result<Ptr<BasicBlock>, Fail> {
+    if !ctx.contains_operation(op) || op.num_regions(ctx) == 0 {
+        return Err(Fail::from("no such region"));
+    }
+    let region = op.get_region(ctx, 0);
+    if !ctx.contains_region(region) || region.num_blocks(ctx) == 0 {
+        return Err(Fail::from("no such block"));
+    }
+    Ok(region.get_block(ctx, 0))
+}
+
+/// The operation of an index in a block.
+fn operation(ctx: &Ctx, block: Ptr<BasicBlock>, index: usize) -> Result<Ptr<Operation>, Fail> {
+    if !ctx.contains_block(block) || index >= block.num_operations(ctx) {
+        return Err(Fail::from("no such operation"));
+    }
+    Ok(block.get_operation(ctx, index))
+}
+
+/// The result for the names of an operation's results, with the stream in its third column.
+fn results(
+    alloc: Global,
+    ctx: &mut Ctx,
+    index: usize,
+    row: &[(&str, Option<(i32, i32)>)],
+) -> Result<String, Fail> {
+    let root = root(ctx, ROOT).ok_or("refused")?;
+    let op = operation(ctx, first_block(ctx, root)?, index)?;
+    if !ctx.contains_operation(op) {
+        return Err(Fail::from("no such operation"));
+    }
+    let names = names(alloc, row)?;
+    let mut stream = TextStream::new(alloc, "ab")?;
+    stream.take();
+    stream.take();
+    let state = State::new(ctx, Source::InMemory, ());
+    let mut s = StateStream { stream, state };
+    match process_parsed_ssa_defs(&mut s, names.as_slice(), op) {
+        Ok(()) => Ok(String::from_str(alloc, "named")?),
+        Err(fault) => result_text(alloc, &fault),
+    }
+}
+
+#[test]
+fn results_are_named_inside_of_regions_alone(rt: HostRuntime) -> Result<(), Fail> {
+    for row in RESULTS {
+        let said = with_demo(rt.alloc(), |alloc, ctx| results(alloc, ctx, row.0, row.1))?;
+        assert_eq!(rt; said.as_str(), row.2);
+    }
+    Ok(())
+}
