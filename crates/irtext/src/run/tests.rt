@@ -1,5 +1,4 @@
-//! Worked rows, and inputs and outputs that fail.
-mod blocks;
+//! Other words of the command line, and an input and an output that fail. The rows of texts are in `examples/rows`.
 
 use super::run;
 use std::io;
@@ -9,96 +8,6 @@ use std::test::Fail;
 
 const FIRST: &[u8] =
     b"builtin.module @m \n{\n  \n} !0\n\noutlined_attributes:\n!0 = @[<in-memory>: line: 1, column: 1], []\n";
-
-/// Inputs of `irtext fmt`, and the output of each.
-const ACCEPTED: &[(&[u8], &[u8])] = &[
-    (b"builtin.module @m {}", FIRST),
-    (b"  builtin.module @m {}", FIRST),
-    (FIRST, FIRST),
-    (b"= builtin.module @m {}", FIRST),
-    (
-        b"builtin.module @m {} !5 outlined_attributes: !5 = @[<in-memory>: line: 7, column: 3], []",
-        b"builtin.module @m \n{\n  \n} !0\n\noutlined_attributes:\n!0 = @[<in-memory>: line: 7, column: 3], []\n",
-    ),
-    (
-        b"builtin.module @m {} !+7 outlined_attributes: !7 = []",
-        FIRST,
-    ),
-    (b"builtin.module @m {} !7 outlined_attributes:", FIRST),
-    (
-        b"builtin.func @f: builtin.function <()->(builtin.integer si64)> {}",
-        b"builtin.func @f: builtin.function <()->(builtin.integer si64)> \n{\n  \n} !0\n\noutlined_attributes:\n!0 = @[<in-memory>: line: 1, column: 1], []\n",
-    ),
-    (
-        b"= test.nop",
-        b"test.nop !0\n\noutlined_attributes:\n!0 = @[<in-memory>: line: 1, column: 1], []\n",
-    ),
-];
-
-/// Inputs of `irtext fmt` that are rejected, and the error of each.
-const REFUSED: &[(&[u8], &[u8])] = &[
-    (
-        b"builtin.module @m {",
-        b"[<in-memory>: line: 1, column: 20] Compilation error: invalid input program.\nParse error at line: 1, column: 20\nUnexpected end of input, expected `}`\n",
-    ),
-    (
-        b"builtin.module @m {} !0",
-        b"[<in-memory>: line: 1, column: 24] Compilation error: invalid input program.\nParse error at line: 1, column: 24\nUnexpected end of input, expected `outlined_attributes:`\n",
-    ),
-    (
-        b"",
-        b"[<in-memory>: line: 1, column: 1] Compilation error: invalid input program.\nParse error at line: 1, column: 1\nUnexpected end of input, expected operation\n",
-    ),
-    (
-        b"\n  tests.nop",
-        b"[<in-memory>: line: 2, column: 3] Compilation error: invalid input program.\nParse error at line: 2, column: 3\nUnregistered dialect tests\n",
-    ),
-    (
-        b"  test.nopx",
-        b"[<in-memory>: line: 1, column: 1] Compilation error: invalid input program.\nParse error at line: 1, column: 1\nUnregistered Op test.nopx\n",
-    ),
-    (
-        b"\n test.scope {}",
-        b"[<in-memory>: line: 1, column: 1] Compilation error: invalid input program.\nParse error at line: 1, column: 1\nRegions in a top-level operation must be IsolatedFromAbove\n",
-    ),
-    (
-        b"  builtin.modul @m {}",
-        b"[<in-memory>: line: 1, column: 1] Compilation error: invalid input program.\nParse error at line: 1, column: 1\nUnregistered Op builtin.modul\n",
-    ),
-    (
-        b"builtin.module @m {} !-0",
-        b"[<in-memory>: line: 1, column: 23] Compilation error: invalid input program.\nParse error at line: 1, column: 23\nNumber out of range: -0\n",
-    ),
-    (
-        b"builtin.module @m {} !18446744073709551616",
-        b"[<in-memory>: line: 1, column: 23] Compilation error: invalid input program.\nParse error at line: 1, column: 23\nNumber out of range: 18446744073709551616\n",
-    ),
-    (
-        b"builtin.module @m {} !0 outlined_attributes: !1 = []",
-        b"[<in-memory>: line: 1, column: 46] Compilation error: invalid input program.\nParse error at line: 1, column: 46\nNo operation or block found for outline index: 1\n",
-    ),
-    (
-        b"builtin.module @m {} !3 outlined_attributes: !3 = [] !3 = []",
-        b"[<in-memory>: line: 1, column: 54] Compilation error: invalid input program.\nParse error at line: 1, column: 54\nNo operation or block found for outline index: 3\n",
-    ),
-    (
-        b"builtin.module @m \xc3\xa9",
-        b"[<in-memory>: line: 1, column: 19] Compilation error: invalid input program.\nParse error at line: 1, column: 19\nUnexpected `\xc3\xa9`, expected `{`\n",
-    ),
-    (b"\xff", b"input is not UTF-8\n"),
-];
-
-/// Inputs of `irtext dbg`, and the output of each.
-const ELIDED: &[(&[u8], &[u8])] = &[
-    (b"builtin.module @bar {}", b"builtin.module @bar {..}\n"),
-    (FIRST, b"builtin.module @m {..}\n"),
-];
-
-/// A text with an elided region, and the error with which it is rejected.
-const UNREADABLE: (&[u8], &[u8]) = (
-    b"builtin.module @bar {..}\n",
-    b"[<in-memory>: line: 1, column: 22] Compilation error: invalid input program.\nParse error at line: 1, column: 22\nUnexpected `.`, expected `}`\n",
-);
 
 /// Arguments that the program does not know.
 const UNKNOWN: &[&[&str]] = &[
@@ -132,30 +41,6 @@ fn check(
     assert_eq!(rt; written_errors.as_slice(), errors);
     assert_eq!(rt; written.as_slice(), output);
     assert_eq!(rt; ended, status);
-}
-
-#[test]
-fn roots_are_read_and_printed(rt: HostRuntime) {
-    for row in ACCEPTED {
-        check(&rt, &["fmt"], row.0, 0, row.1, b"");
-    }
-}
-
-#[test]
-fn texts_of_no_root_are_refused(rt: HostRuntime) {
-    for row in REFUSED {
-        check(&rt, &["fmt"], row.0, 1, b"", row.1);
-    }
-}
-
-#[test]
-fn regions_are_elided(rt: HostRuntime) {
-    for row in ELIDED {
-        check(&rt, &["dbg"], row.0, 0, row.1, b"");
-    }
-    for word in ["fmt", "dbg"] {
-        check(&rt, &[word], UNREADABLE.0, 1, b"", UNREADABLE.1);
-    }
 }
 
 #[test]
