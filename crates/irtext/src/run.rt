@@ -194,6 +194,3 @@ pub fn run(
     let _ = tell(errors, &fault);
     fault.status()
 }
-
-#[cfg(test)]
-mod tests;

@@ -1,33 +1,32 @@
 //! Parsing a location while an allocation fails: the fault says so.
 
-use crate::{Ctx, Fault};
+use crate::{Ctx, Fault, checked};
 use irtext_demo::{DemoAttr, DemoType};
-use pliron_text::base::Context;
 use pliron_text::location::Location;
 use pliron_text::parsable::{Parsable, parse_from_str};
 use pliron_text::printable::Disp;
-use std::alloc::{AllocError, Global};
+use pliron_text::result::Result as Answer;
+use std::fmt::Write;
 
-/// Parses the text as a location, and returns its printed text.
-pub fn read(alloc: Global, text: &str) -> Result<String, Fault> {
-    let mut ctx: Ctx = Context::new(alloc);
-    read_with(alloc, &mut ctx, text)
-}
-
-/// Does the same with a context of the caller.
-fn read_with(alloc: Global, ctx: &mut Ctx, text: &str) -> Result<String, Fault> {
-    let answer = parse_from_str(
+/// Parses the text as a location.
+fn parse(ctx: &mut Ctx, text: &str) -> Answer<Location<DemoAttr>, DemoAttr> {
+    parse_from_str(
         |s| <Location<DemoAttr> as Parsable<DemoType, DemoAttr, ()>>::parse(s, ()),
         ctx,
         text,
-    );
-    match answer {
-        Ok(location) => Ok(printed(alloc, ctx, &location)?),
-        Err(error) => Err(Fault::of(&error)),
+    )
+}
+
+/// Appends the text of a location.
+fn print(ctx: &Ctx, location: &Location<DemoAttr>, out: &mut String) -> Result<(), Fault> {
+    match write!(out, "{}", location.disp(ctx)) {
+        Ok(()) => Ok(()),
+        Err(_) => Err(Fault::Memory),
     }
 }
 
-/// Returns the text of a location.
-fn printed(alloc: Global, ctx: &Ctx, location: &Location<DemoAttr>) -> Result<String, AllocError> {
-    format!(in alloc; "{}", location.disp(ctx))
+/// Parses the text as a location, and appends its printed text.
+pub fn read(ctx: &mut Ctx, text: &str, out: &mut String) -> Result<(), Fault> {
+    let location = checked(parse(ctx, text))?;
+    print(ctx, &location, out)
 }

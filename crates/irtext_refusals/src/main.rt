@@ -7,11 +7,13 @@ mod locating;
 mod printing;
 mod reading;
 mod registering;
+mod roots;
 mod strings;
 
 use crate::printing::Located;
 use irtext_demo::{DemoAttr, DemoType};
 use pliron_text::base::Context;
+use pliron_text::result;
 use pliron_text::result::{Cause, Error};
 use std::alloc::{AllocError, Global};
 use std::io::Write;
@@ -64,6 +66,14 @@ impl Fault {
     }
 }
 
+/// Returns the value of a call, or the fault for its error.
+pub fn checked<X: Drop>(answer: result::Result<X, DemoAttr>) -> Result<X, Fault> {
+    match answer {
+        Ok(value) => Ok(value),
+        Err(error) => Err(Fault::of(&error)),
+    }
+}
+
 /// The calls that a word can select.
 #[derive(Clone, Copy)]
 enum Call {
@@ -89,15 +99,21 @@ impl Call {
         }
     }
 
-    /// Makes the call, and returns its text.
-    fn answer(self, alloc: Global, text: &str) -> Result<String, Fault> {
+    /// Makes the call with an empty context, and appends its text.
+    fn answer(
+        self,
+        alloc: Global,
+        ctx: &mut Ctx,
+        text: &str,
+        out: &mut String,
+    ) -> Result<(), Fault> {
         match self {
-            Call::Again => reading::again(alloc, text),
-            Call::Disp => printing::displayed(alloc, text, Located::AsRead),
-            Call::Location => locating::read(alloc, text),
-            Call::Objects => registering::objects(alloc, text),
-            Call::Strings => strings::read(alloc, text),
-            Call::Unlocated => printing::displayed(alloc, text, Located::Nowhere),
+            Call::Again => reading::again(alloc, ctx, text, out),
+            Call::Disp => printing::displayed(alloc, ctx, text, Located::AsRead, out),
+            Call::Location => locating::read(ctx, text, out),
+            Call::Objects => registering::objects(alloc, ctx, text, out),
+            Call::Strings => strings::read(alloc, text, out),
+            Call::Unlocated => printing::displayed(alloc, ctx, text, Located::Nowhere, out),
         }
     }
 }
@@ -112,20 +128,26 @@ fn named_call(rt: &HostRuntime) -> io::Result<Option<Call>> {
     Ok(None)
 }
 
-/// Makes the call that the arguments select, and returns its text.
-fn answer(rt: &HostRuntime) -> Result<String, Fault> {
-    let text = io::read_to_string(rt.alloc(), rt.reader())?;
-    match named_call(rt)? {
-        Some(call) => call.answer(rt.alloc(), text.as_str()),
-        None => Err(Fault::Wrong),
-    }
+/// Makes the call with a new context, and appends its text.
+fn answer(alloc: Global, call: Call, text: &str, out: &mut String) -> Result<(), Fault> {
+    let mut ctx: Ctx = Context::new(alloc);
+    call.answer(alloc, &mut ctx, text, out)
 }
 
-/// Writes the text, if there is one.
+/// Makes the call that the arguments select, on the text from standard input, and appends its text.
+fn append_answer(rt: &HostRuntime, out: &mut String) -> Result<(), Fault> {
+    let Some(call) = named_call(rt)? else {
+        return Err(Fault::Wrong);
+    };
+    let text = io::read_to_string(rt.alloc(), rt.reader())?;
+    answer(rt.alloc(), call, text.as_str(), out)
+}
+
+/// Does the same, and writes the text if there is one.
 fn write_answer(rt: &HostRuntime) -> Result<(), Fault> {
-    let text = answer(rt)?;
-    rt.stdout().write_all(text.as_bytes())?;
-    Ok(())
+    let mut out = String::new(rt.alloc());
+    append_answer(rt, &mut out)?;
+    Ok(rt.stdout().write_all(out.as_bytes())?)
 }
 
 fn main(rt: HostRuntime) -> ExitCode {

@@ -3,54 +3,12 @@
 ghost use Rattle.std.specs.Prelude.{IsSome};
 ghost use Rattle.irtext_context.specs.Context.{operation};
 
+use crate::roots::{first_root, print};
 use crate::{Ctx, Fault};
-use irtext_demo::dialects::register_demo;
-use pliron_text::base::{Context, Operation, Ptr};
-use pliron_text::ir::OperationText;
+use pliron_text::base::{Operation, Ptr};
 use pliron_text::location::erase_locations;
-use pliron_text::parsable::parse_from_str;
-use pliron_text::printable::{Disp, Printable, RegionPrintDepthLimit, State};
+use pliron_text::printable::{Printable, RegionPrintDepthLimit, State};
 use std::alloc::Global;
-use std::fmt::Write;
-
-/// Returns the text of a root, unless printing it fails.
-fn printed(alloc: Global, ctx: &Ctx, root: Ptr<Operation>) -> Option<String>
-    requires { IsSome (operation ctx.now root) }
-{
-    let mut text = String::new(alloc);
-    match write!(text, "{}", root.disp(ctx)) {
-        Ok(()) => Some(text),
-        Err(_) => None,
-    }
-}
-
-/// Returns the text of a second printing, which has to be equal to that of the first.
-fn compared(first: &str, second: String) -> Result<String, Fault> {
-    if first == second.as_str() {
-        return Ok(second);
-    }
-    Err(Fault::Wrong)
-}
-
-/// Prints a root once more, and returns its text.
-fn again(alloc: Global, ctx: &Ctx, root: Ptr<Operation>, first: &str) -> Result<String, Fault>
-    requires { IsSome (operation ctx.now root) }
-{
-    match printed(alloc, ctx, root) {
-        Some(second) => compared(first, second),
-        None => Err(Fault::Memory),
-    }
-}
-
-/// Returns the text of a root. It is printed twice. If the first printing fails, the second has to succeed.
-fn twice(alloc: Global, ctx: &Ctx, root: Ptr<Operation>) -> Result<String, Fault>
-    requires { IsSome (operation ctx.now root) }
-{
-    match printed(alloc, ctx, root) {
-        Some(first) => again(alloc, ctx, root, first.as_str()),
-        None => Ok(printed(alloc, ctx, root).ok_or(Fault::Wrong)?),
-    }
-}
 
 /// The limit of the state that is passed as `&mut`.
 const LIMIT: RegionPrintDepthLimit = RegionPrintDepthLimit::Max(3);
@@ -67,31 +25,91 @@ fn has_layout(state: &State<()>) -> bool {
         && state.current_region_print_depth_limit() == LIMIT
 }
 
-/// Returns the text of a root in that layout, or `None` if printing it fails. The state has to keep the layout.
-fn appended(alloc: Global, ctx: &Ctx, root: Ptr<Operation>) -> Result<Option<String>, Fault>
+/// Appends the text of a root with this state. Returns whether it could be printed.
+fn append(ctx: &Ctx, root: Ptr<Operation>, state: &mut State<()>, out: &mut String) -> bool
+    requires { IsSome (operation ctx.now root) }
+{
+    root.fmt(ctx, state, out).is_ok()
+}
+
+/// Appends the text of a root in that layout. Returns whether it could be printed. The state has to keep the layout.
+fn print_lent(
+    alloc: Global,
+    ctx: &Ctx,
+    root: Ptr<Operation>,
+    out: &mut String,
+) -> Result<bool, Fault>
     requires { IsSome (operation ctx.now root) }
 {
     let mut state = layout(alloc);
-    let mut text = String::new(alloc);
-    let is_written = root.fmt(ctx, &mut state, &mut text).is_ok();
-    if !has_layout(&state) {
-        return Err(Fault::Wrong);
+    let is_printed = append(ctx, root, &mut state, out);
+    if has_layout(&state) {
+        Ok(is_printed)
+    } else {
+        Err(Fault::Wrong)
     }
-    Ok(if is_written { Some(text) } else { None })
 }
 
-/// Returns the text of a root in that layout. It is printed twice. If the first printing fails, the second has to succeed.
-fn twice_lent(alloc: Global, ctx: &Ctx, root: Ptr<Operation>) -> Result<String, Fault>
+/// How a root is printed.
+#[derive(Clone, Copy)]
+enum Way {
+    /// By `disp`.
+    Displayed,
+    /// By `fmt`, with a state that is passed as `&mut`.
+    Lent,
+}
+
+/// Appends the text of a root. Returns whether it could be printed.
+fn print_by(
+    alloc: Global,
+    ctx: &Ctx,
+    root: Ptr<Operation>,
+    way: Way,
+    out: &mut String,
+) -> Result<bool, Fault>
     requires { IsSome (operation ctx.now root) }
 {
-    let first = appended(alloc, ctx, root)?;
-    let second = appended(alloc, ctx, root)?;
-    match (first, second) {
-        (Some(first), Some(second)) => compared(first.as_str(), second),
-        (None, Some(second)) => Ok(second),
-        (Some(_), None) => Err(Fault::Memory),
-        (None, None) => Err(Fault::Wrong),
+    match way {
+        Way::Displayed => Ok(print(ctx, root, out)),
+        Way::Lent => print_lent(alloc, ctx, root, out),
     }
+}
+
+/// Prints a root twice, into two empty texts. If the first printing fails, the second has to succeed; otherwise both texts have to be equal.
+fn print_twice(
+    alloc: Global,
+    ctx: &Ctx,
+    root: Ptr<Operation>,
+    way: Way,
+    first: &mut String,
+    second: &mut String,
+) -> Result<(), Fault>
+    requires { IsSome (operation ctx.now root) }
+{
+    let is_first = print_by(alloc, ctx, root, way, first)?;
+    let is_second = print_by(alloc, ctx, root, way, second)?;
+    match (is_first, is_second) {
+        (true, false) => Err(Fault::Memory),
+        (true, true) if first.as_str() == second.as_str() => Ok(()),
+        (false, true) => Ok(()),
+        _ => Err(Fault::Wrong),
+    }
+}
+
+/// Appends the text of a root, which is printed twice.
+fn twice(
+    alloc: Global,
+    ctx: &Ctx,
+    root: Ptr<Operation>,
+    way: Way,
+    out: &mut String,
+) -> Result<(), Fault>
+    requires { IsSome (operation ctx.now root) }
+{
+    let mut first = String::new(alloc);
+    let mut second = String::new(alloc);
+    print_twice(alloc, ctx, root, way, &mut first, &mut second)?;
+    Ok(out.push_str(second.as_str())?)
 }
 
 /// Which locations are printed.
@@ -103,45 +121,42 @@ pub enum Located {
     Nowhere,
 }
 
-/// Returns the text of a root, which is printed twice by `disp`, and twice with a state that is passed as `&mut`.
-fn printed_ways(
-    alloc: Global,
-    ctx: &mut Ctx,
-    root: Ptr<Operation>,
-    located: Located,
-) -> Result<String, Fault> {
+/// Erases the locations of a root, unless they are to be printed. Returns whether the root is live, before and after.
+fn prepare(ctx: &mut Ctx, root: Ptr<Operation>, located: Located) -> bool {
     if !ctx.contains_operation(root) {
-        return Err(Fault::Wrong);
+        return false;
     }
     if let Located::Nowhere = located {
         erase_locations(ctx, root);
     }
+    ctx.contains_operation(root)
+}
+
+/// Appends the text of a root, which is printed twice by `disp`, and twice with a state that is passed as `&mut`.
+fn print_ways(
+    alloc: Global,
+    ctx: &Ctx,
+    root: Ptr<Operation>,
+    out: &mut String,
+) -> Result<(), Fault> {
     if !ctx.contains_operation(root) {
         return Err(Fault::Wrong);
     }
-    let displayed = twice(alloc, ctx, root)?;
-    let lent = twice_lent(alloc, ctx, root)?;
-    Ok(format!(in alloc; "{displayed}{lent}")?)
+    twice(alloc, ctx, root, Way::Displayed, out)?;
+    twice(alloc, ctx, root, Way::Lent, out)
 }
 
-/// Parses the text as a root, and then does the same.
-fn read(alloc: Global, ctx: &mut Ctx, text: &str, located: Located) -> Result<String, Fault> {
-    match parse_from_str(|stream| Operation::top_level_parse(stream), ctx, text) {
-        Ok(root) => printed_ways(alloc, ctx, root, located),
-        Err(error) => Err(Fault::of(&error)),
+/// Parses the text as a root, with an empty context, and then does the same.
+pub fn displayed(
+    alloc: Global,
+    ctx: &mut Ctx,
+    text: &str,
+    located: Located,
+    out: &mut String,
+) -> Result<(), Fault> {
+    let root = first_root(ctx, text)?;
+    if !prepare(ctx, root, located) {
+        return Err(Fault::Wrong);
     }
-}
-
-/// Registers the demo dialects first, and then does the same.
-fn registered(alloc: Global, ctx: &mut Ctx, text: &str, located: Located) -> Result<String, Fault> {
-    match register_demo(ctx) {
-        Ok(()) => read(alloc, ctx, text, located),
-        Err(error) => Err(Fault::of(&error)),
-    }
-}
-
-/// Does the same with a new context.
-pub fn displayed(alloc: Global, text: &str, located: Located) -> Result<String, Fault> {
-    let mut ctx: Ctx = Context::new(alloc);
-    registered(alloc, &mut ctx, text, located)
+    print_ways(alloc, ctx, root, out)
 }

@@ -2,88 +2,107 @@
 
 use crate::{Ctx, Fault};
 use irtext_demo::DemoAttr;
-use pliron_text::base::{Context, Identifier, NewBareOperation, OpId, Operation};
+use pliron_text::base::{Identifier, NewBareOperation, OpId, Operation};
 use pliron_text::dialect::{Dialect, DialectName};
 use pliron_text::format::OpFormat;
 use pliron_text::result::{Cause, Error, Result as Answer};
 use std::alloc::Global;
+use std::fmt::Write;
 
-/// Returns the fault for an error: `Memory` if it is out of memory and nothing has changed.
-fn fault_of(error: &Error<DemoAttr>, is_as_it_was: bool) -> Fault {
+/// Returns the fault for an error: `Memory` if it is out of memory.
+fn fault_of(error: &Error<DemoAttr>) -> Fault {
     match &error.err {
-        Cause::Memory if is_as_it_was => Fault::Memory,
+        Cause::Memory => Fault::Memory,
+        _ => Fault::Wrong,
+    }
+}
+
+/// Returns the value of a call, or the fault for its error.
+fn checked<X: Drop>(answer: Answer<X, DemoAttr>) -> Result<X, Fault> {
+    match answer {
+        Ok(value) => Ok(value),
+        Err(error) => Err(fault_of(&error)),
+    }
+}
+
+/// Returns a fault, which is `Wrong` if memory ran out and something has changed.
+fn unchanged(fault: Fault, is_as_it_was: bool) -> Fault {
+    match fault {
+        Fault::Memory if is_as_it_was => Fault::Memory,
         _ => Fault::Wrong,
     }
 }
 
 /// Returns the identifier of a text that is one.
 fn named(alloc: Global, text: &str) -> Result<Identifier, Fault> {
-    let name: Answer<Identifier, DemoAttr> = Identifier::try_new(alloc, text);
-    match name {
-        Ok(name) => Ok(name),
-        Err(error) => Err(fault_of(&error, true)),
-    }
+    checked(Identifier::try_new(alloc, text))
 }
 
 /// Returns the id of the operation `z` of a dialect.
 fn id(alloc: Global, dialect: &str) -> Result<OpId, Fault> {
-    Ok(OpId {
-        dialect: named(alloc, dialect)?,
-        name: named(alloc, "z")?,
-    })
+    let dialect = named(alloc, dialect)?;
+    let name = named(alloc, "z")?;
+    Ok(OpId { dialect, name })
+}
+
+/// Registers a dialect. Returns its fault if there is one.
+fn registered(ctx: &mut Ctx, name: &DialectName) -> Result<(), Fault> {
+    match Dialect::register(ctx, name) {
+        Ok(_) => Ok(()),
+        Err(error) => Err(fault_of(&error)),
+    }
 }
 
 /// Registers a dialect. If memory runs out, it must not be registered.
 fn register(ctx: &mut Ctx, name: &DialectName) -> Result<(), Fault> {
-    let refused = match Dialect::register(ctx, name) {
-        Ok(_) => return Ok(()),
-        Err(error) => error,
-    };
-    Err(fault_of(&refused, ctx.dialect(name).is_none()))
+    match registered(ctx, name) {
+        Ok(()) => Ok(()),
+        Err(fault) => Err(unchanged(fault, ctx.dialect(name).is_none())),
+    }
 }
 
 /// Registers an operation with a dialect that is registered.
 fn add(ctx: &mut Ctx, name: &DialectName, id: OpId) -> Result<(), Fault> {
     match Dialect::register(ctx, name) {
-        Ok(dialect) => add_to(dialect, id),
+        Ok(dialect) => checked(dialect.add_op(id, OpFormat::Canonical, false)),
         Err(_) => Err(Fault::Wrong),
-    }
-}
-
-/// Does the same with the dialect itself.
-fn add_to(dialect: &mut Dialect, id: OpId) -> Result<(), Fault> {
-    let answer: Answer<(), DemoAttr> = dialect.add_op(id, OpFormat::Canonical, false);
-    match answer {
-        Ok(()) => Ok(()),
-        Err(error) => Err(fault_of(&error, true)),
     }
 }
 
 /// Creates an operation with two regions. If memory runs out, no object may be live. Returns how many are live.
 fn make(ctx: &mut Ctx, id: OpId) -> Result<u64, Fault> {
-    match Operation::new(ctx, id, 2) {
+    match checked(Operation::new(ctx, id, 2)) {
         Ok(_) => Ok(ctx.num_live()),
-        Err(error) => Err(fault_of(&error, ctx.num_live() == 0)),
+        Err(fault) => Err(unchanged(fault, ctx.num_live() == 0)),
     }
 }
 
+/// Adds the operation of a dialect that is registered. Returns its id.
+fn added(alloc: Global, ctx: &mut Ctx, name: &DialectName, text: &str) -> Result<OpId, Fault> {
+    let added = id(alloc, text)?;
+    add(ctx, name, added)?;
+    id(alloc, text)
+}
+
 /// Registers a dialect and its operation, and creates that operation. Returns how many objects are live then.
-fn registered(alloc: Global, ctx: &mut Ctx, name: &DialectName, text: &str) -> Result<u64, Fault> {
+fn made(alloc: Global, ctx: &mut Ctx, name: &DialectName, text: &str) -> Result<u64, Fault> {
     register(ctx, name)?;
-    add(ctx, name, id(alloc, text)?)?;
-    make(ctx, id(alloc, text)?)
+    let id = added(alloc, ctx, name, text)?;
+    make(ctx, id)
 }
 
-/// Does the same with the dialect that the text names, and returns a line.
-fn made(alloc: Global, ctx: &mut Ctx, text: &str) -> Result<String, Fault> {
+/// Does the same with the dialect that the text names.
+fn made_of(alloc: Global, ctx: &mut Ctx, text: &str) -> Result<u64, Fault> {
     let name = DialectName::from(named(alloc, text)?);
-    let objects = registered(alloc, ctx, &name, text)?;
-    Ok(format!(in alloc; "{objects}\n")?)
+    made(alloc, ctx, &name, text)
 }
 
-/// Returns a line with the number of live objects after an operation of the dialect that the text names was registered and created with
-/// two regions.
-pub fn objects(alloc: Global, text: &str) -> Result<String, Fault> {
-    let mut ctx: Ctx = Context::new(alloc);
-    made(alloc, &mut ctx, text)
+/// Appends a line with the number of live objects after an operation of the dialect that the text names was registered in an empty context,
+/// and created with two regions.
+pub fn objects(alloc: Global, ctx: &mut Ctx, text: &str, out: &mut String) -> Result<(), Fault> {
+    let objects = made_of(alloc, ctx, text)?;
+    match writeln!(out, "{objects}") {
+        Ok(()) => Ok(()),
+        Err(_) => Err(Fault::Memory),
+    }
 }

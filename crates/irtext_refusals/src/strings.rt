@@ -18,19 +18,18 @@ fn list(stream: &mut TextStream) -> ParseResult<Vec<String>, DemoAttr> {
     )
 }
 
-/// Returns the texts, a line each.
-fn lines(alloc: Global, texts: &[String]) -> Result<String, AllocError> {
-    let mut lines = String::new(alloc);
+/// Appends the texts, a line each.
+fn push_lines(texts: &[String], out: &mut String) -> Result<(), AllocError> {
     for text in texts {
-        lines.push_str(text.as_str())?;
-        lines.push_str("\n")?;
+        out.push_str(text.as_str())?;
+        out.push_str("\n")?;
     }
-    Ok(lines)
+    Ok(())
 }
 
-/// Whether the stream rejects another parse because it has failed.
-fn has_failed(stream: &mut TextStream) -> bool {
-    match list(stream) {
+/// Whether a result says that the stream has failed.
+pub fn has_failed<X: Drop>(answer: ParseResult<X, DemoAttr>) -> bool {
+    match answer {
         Err(fault) => fault.committed && matches!(&fault.cause, Cause::StreamFailed),
         Ok(_) => false,
     }
@@ -39,21 +38,21 @@ fn has_failed(stream: &mut TextStream) -> bool {
 /// Returns the fault for a parse fault: `Memory` if it is out of memory and the stream has failed from then on.
 fn fault_of(stream: &mut TextStream, fault: &ParseFault<DemoAttr>) -> Fault {
     match &fault.cause {
-        Cause::Memory if fault.committed && has_failed(stream) => Fault::Memory,
+        Cause::Memory if fault.committed && has_failed(list(stream)) => Fault::Memory,
         _ => Fault::Wrong,
     }
 }
 
-/// Parses the list of quoted texts that comes next in the stream, and returns the texts, a line each.
-fn read_lines(alloc: Global, stream: &mut TextStream) -> Result<String, Fault> {
+/// Parses the list of quoted texts that comes next in the stream, and appends the texts, a line each.
+fn read_lines(stream: &mut TextStream, out: &mut String) -> Result<(), Fault> {
     match list(stream) {
-        Ok(texts) => Ok(lines(alloc, texts.as_slice())?),
+        Ok(texts) => Ok(push_lines(texts.as_slice(), out)?),
         Err(fault) => Err(fault_of(stream, &fault)),
     }
 }
 
-/// Parses the text as a list of quoted texts, and returns the texts, a line each.
-pub fn read(alloc: Global, text: &str) -> Result<String, Fault> {
+/// Parses the text as a list of quoted texts, and appends the texts, a line each.
+pub fn read(alloc: Global, text: &str, out: &mut String) -> Result<(), Fault> {
     let mut stream = TextStream::new(alloc, text)?;
-    read_lines(alloc, &mut stream)
+    read_lines(&mut stream, out)
 }
