@@ -42,12 +42,17 @@ fn both(s: &mut Stream<'_>) -> Option<Two> {
     Some((first, second))
 }
 
-/// The two roots that follow each other in a text.
-pub fn two(alloc: Global, ctx: &mut Ctx, text: &str) -> Result<Two, Fail> {
+/// The two roots that follow each other in a text, if both are parsed.
+fn both_of(alloc: Global, ctx: &mut Ctx, text: &str) -> Result<Option<Two>, Fail> {
     let stream = TextStream::new(alloc, text)?;
     let state = parsable::State::new(ctx, Source::InMemory, ());
     let mut s = StateStream { stream, state };
-    Ok(both(&mut s).ok_or("refused")?)
+    Ok(both(&mut s))
+}
+
+/// The two roots that follow each other in a text.
+pub fn two(alloc: Global, ctx: &mut Ctx, text: &str) -> Result<Two, Fail> {
+    Ok(both_of(alloc, ctx, text)?.ok_or("refused")?)
 }
 
 /// Parses an operation without looking for its section.

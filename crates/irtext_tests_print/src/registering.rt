@@ -49,9 +49,21 @@ pub fn register(
     letters: &str,
     isolated: bool,
 ) -> Result<(), Fail> {
-    let id = id(alloc, words)?;
     let name = DialectName::from(named(alloc, words.0)?);
+    register_with(alloc, ctx, &name, words, letters, isolated)
+}
+
+/// Registers such an operation with the dialect of this name.
+fn register_with(
+    alloc: Global,
+    ctx: &mut Ctx,
+    name: &DialectName,
+    words: (&str, &str),
+    letters: &str,
+    isolated: bool,
+) -> Result<(), Fail> {
     let format = format_or_canonical(alloc, letters)?;
-    let answer: result::Result<(), DemoAttr> = register_operation(ctx, &name, id, format, isolated);
+    let id = id(alloc, words)?;
+    let answer: result::Result<(), DemoAttr> = register_operation(ctx, name, id, format, isolated);
     Ok(answer.ok().ok_or("refused")?)
 }

@@ -126,6 +126,32 @@ fn white_space_and_faults_in_locations(rt: HostRuntime) -> Result<(), Fail> {
     Ok(())
 }
 
+/// A file's name, and the printed text of its first place.
+const FILE: (&str, &str) = ("a\"b\\c.mlir", "\"a\\\"b\\\\c.mlir\": line: 1, column: 1");
+
+/// Whether a text is parsed as this location.
+fn is_parsed_as(ctx: &mut Ctx, text: &str, wanted: &Location<DemoAttr>) -> bool {
+    match location(ctx, text) {
+        Ok(location) => location == *wanted,
+        Err(_) => false,
+    }
+}
+
+/// Whether the first place of the file has this text, and is parsed back.
+fn comes_back(alloc: Global, ctx: &mut Ctx) -> Result<bool, Fail> {
+    let src = Source::new_from_file(ctx, FILE.0).ok().ok_or("refused")?;
+    let pos = SourcePosition { line: 1, column: 1 };
+    let place = Location::SrcPos { src, pos };
+    let text = printed(alloc, ctx, &place)?;
+    Ok(text.as_str() == FILE.1 && is_parsed_as(ctx, text.as_str(), &place))
+}
+
+#[test]
+fn a_file_with_quotation_marks_in_its_name(rt: HostRuntime) -> Result<(), Fail> {
+    assert!(rt; with_context(rt.alloc(), comes_back)?);
+    Ok(())
+}
+
 /// The source that a text is parsed as.
 fn source(ctx: &mut Ctx, text: &str) -> Option<Source> {
     parse_from_str(|s| Source::parse(s, ()), ctx, text).ok()
