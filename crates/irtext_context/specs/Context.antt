@@ -1,5 +1,5 @@
 -- A context as its callers see it: the graph of its operations, blocks and regions, the paths of source files, and the dialects.
-use Rattle.std.specs.Prelude.{◌≡◌, ℕ, List, [], Option, Some, None, map, option_and_then}
+use Rattle.std.specs.Prelude.{◌≡◌, ℕ, List, [], Option, Some, None, IsSome, map, option_and_then}
 use Rattle.std.specs.Option.{option_map}
 use Rattle.std.specs.Str.{bytes_eq}
 use Rattle.indexmap.specs.IndexMap.{insert_entry}
@@ -19,6 +19,8 @@ use Rattle.irtext_graph.specs.Regions as parts
 use Rattle.irtext_graph.specs.declared.arena.Entry.{Entry}
 use Rattle.irtext_graph.specs.declared.arena.Ptr.{Ptr}
 use Rattle.irtext_graph.specs.declared.object.BasicBlock.{BasicBlock}
+use Rattle.irtext_graph.specs.declared.object.Object.{Object}
+use Rattle.irtext_graph.specs.declared.object.Object.TheVariants.{TheOperation, TheBlock, TheRegion}
 use Rattle.irtext_graph.specs.declared.object.Operation.{Operation}
 use Rattle.irtext_graph.specs.declared.object.Region.{Region}
 use Rattle.irtext_graph.specs.declared.object.Value.{Value}
@@ -138,6 +140,12 @@ module _ {T A : Type 0} where
   -- the region that a pointer refers to
   abbrev pub region : ContextView T A → Ptr Region → Option RegionView
   region c p = option_map region_of (get c.graph.regions p)
+
+  -- the object is in the context: an operation that is no placeholder, a block or a region
+  abbrev pub Contains : ContextView T A → Object → Type 0
+  Contains c (TheOperation p) = IsSome (operation c p)
+  Contains c (TheBlock p) = IsSome (block c p)
+  Contains c (TheRegion p) = IsSome (region c p)
 
   -- every object that was made before the mark is unchanged; each path keeps its key, and the dialects are the same
   pub record KeepsOlder (mark : ℕ) (old new : ContextView T A) : Type 0 where

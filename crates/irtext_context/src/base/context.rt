@@ -2,7 +2,7 @@
 ghost use Rattle.std.specs.Prelude.{◌≡◌, ◌≤◌, ◌↔◌, [], IsSome, IsTrue, refl};
 ghost use Rattle.irtext_graph.specs.Graph.{empty, begun, num_live, IsLive};
 ghost use Rattle.irtext_graph.specs.declared.object.Object.TheVariants.{TheOperation, TheBlock, TheRegion};
-ghost use Rattle.irtext_context.specs.Context.{operation, block, region};
+ghost use Rattle.irtext_context.specs.Context.{operation, block, region, Contains};
 
 pub mod making;
 mod paths;
@@ -15,7 +15,7 @@ use indexmap::IndexMap;
 use irtext_base::location::paths::Paths;
 use irtext_base::text::{AttrText, IrText};
 use irtext_graph::graph::Graph;
-use irtext_graph::held::HasGraph;
+use irtext_graph::held::{HasGraph, Kind};
 use irtext_graph::object::Object;
 use std::alloc::Global;
 use std::marker::Model;
@@ -104,6 +104,19 @@ impl<T: IrText<A>, A: AttrText<A>> Context<T, A> {
         ensures { result ≡ num_live self.now.graph }
     {
         self.graph.num_live()
+    }
+
+    /// Whether a pointer to an operation, a block or a region refers to one that is live, and is no placeholder. It does what the call
+    /// below for its kind does.
+    pub fn contains<K: Kind>(&self, p: Ptr<K>) -> bool
+        ensures alive { IsTrue result ↔ Contains self.now (K.object p) }
+        ensures graph { IsTrue result → IsLive self.now.graph (K.object p) }
+    {
+        match K::object(p) {
+            Object::TheOperation(op) => self.contains_operation(op),
+            Object::TheBlock(at) => self.contains_block(at),
+            Object::TheRegion(of) => self.contains_region(of),
+        }
     }
 
     /// Whether a pointer refers to a live operation that is no placeholder.
