@@ -1,7 +1,8 @@
 -- What stays live while an operation is made of what its front was parsed as.
-use Rattle.std.proofs.Common.{Result, Ok, Err, IfOk, OnOk, slice_get, ◌≡◌, ◌≤◌, ◌∙◌, ◌++◌, ℕ, List, [], length, map, Option, Some, None, IsSome, refl, sym, ap, subst, arith}
+use Rattle.std.proofs.Common.{Result, Ok, Err, IfOk, OnOk, slice_get, ◌≡◌, ◌<◌, ◌≤◌, ◌∙◌, ◌++◌, ℕ, List, [], length, map, Option, Some, None, IsSome, refl, sym, ap, subst, arith}
 use Rattle.std.specs.Prelude.{IfSome}
 use Rattle.std.specs.Option.{option_map}
+use Rattle.irtext_base.specs.Text.{Text}
 use Rattle.irtext_base.specs.declared.base.identifier.OpId.{OpId}
 use Rattle.irtext_base.specs.declared.location.Location.{Location}
 use Rattle.irtext_context.specs.Context.{ContextView, MakesOperation, KeepsOlder, with_graph}
@@ -19,11 +20,16 @@ use Rattle.irtext_graph.specs.declared.object.Object.TheVariants.{TheBlock, TheO
 use Rattle.irtext_names.specs.Tied.{MatchesGraph}
 use Rattle.irtext_parse_spec.specs.Unchanged.{IsThere}
 use Rattle.irtext_parse_pieces.specs.declared.pieces.ReadPiece.{ReadPiece}
-use Rattle.irtext_grammar.specs.Grammar.Tree.{in_order}
+use Rattle.irtext_parse_pieces.specs.Fronts.{IsPart}
+use Rattle.irtext_parse_pieces.specs.Named.{Each}
+use Rattle.irtext_grammar.specs.Grammar.Tree.{in_order, Part}
 use Rattle.irtext_parse_nested.specs.declared.operation_parts.Gathered.{Gathered}
-use Rattle.irtext_parse_nested.specs.Beginning.{types_made, CreatesOf}
-use Rattle.irtext_parse_nested.specs.Gathered.{KeepsScopes, IsNothing, Gathers, AllUsesLive}
+use Rattle.irtext_parse_nested.specs.declared.operation_parts.NotGathered.{NotGathered}
+use Rattle.irtext_parse_nested.specs.declared.operation_parts.NotGathered.TheVariants as refusal
+use Rattle.irtext_parse_nested.specs.Beginning.{types_made, CreatesOf, IsKnownIn}
+use Rattle.irtext_parse_nested.specs.Gathered.{KeepsScopes, IsNothing, Gathers, AllUsesLive, RefusesGathering}
 use Rattle.irtext_parse_nested.specs.Items.{Names, KeepsLive}
+use Rattle.irtext_parse_nested.proofs.BlockReady.{within}
 use Rattle.irtext_parse_nested.proofs.Gathers.{gathers_none}
 use Rattle.irtext_parse_nested.proofs.Lasting.{lasts_then, block_is_live}
 use Rattle.irtext_parse_nested.proofs.Steady.{steady_itself}
@@ -68,6 +74,14 @@ module _ {T A : Type 0} {old used : ContextView T A} {before names : Names} (all
   -- what is older than a mark is kept, whatever is created then
   pub keeps_created : (new : ContextView T A) (m : ℕ) → m ≤ old.graph.made → (m ≤ used.graph.made → KeepsOlder m used new) → KeepsOlder m old new
   keeps_created new m le f = keeps_then m old used new (keeps_used m le) (f (used_more m le))
+
+-- ---- pieces were not gathered
+module _ {O B T A : Type 0} (ps : List (ReadPiece T A)) (names : Names) (g : GraphView (Option O) B (Option T)) (text : Text) (parts : List (Part ℕ T A)) (are : Each (IsPart names.names text) ps parts) where
+  -- the name in the error is known
+  pub refusal_known : (new : List Text) → new ≡ names.names → (why : NotGathered) → RefusesGathering ps names g why → IsKnownIn (length new) why
+  refusal_known new same refusal.Memory r = tt
+  refusal_known new same (refusal.ReservedKey key) r = tt
+  refusal_known new same (refusal.NoActiveScope read) r = let n = r.so text parts are in subst (λ ns. read.name < length ns) (sym same) (within names.names read.name n.0.text n.1.named)
 
 -- ---- an operation was created
 module _ {T A : Type 0} {id : OpId} {pieces : List (ReadPiece T A)} {loc : Location A} {before : Names} {old : ContextView T A} {names : Names} {made : ContextView T A} {op : Ptr Operation} {count : ℕ}

@@ -25,6 +25,10 @@ module _ {A : Type 0} (rule : Rule A) where
     refused = λ r h. subst (λ es. Forbids rule es r) e h;
   }
 
+  -- none is left
+  pub all_stored : {old now : List (Text × Attribute A)} {all left : List (Key × AttrObj A)} → StoresEntries rule old now all left → left ≡ [] → (now ≡ put_all old (map entry_read all)) × AreAllowed rule all
+  all_stored {now = now} i e = (ap (λ es. put_all now (map entry_read es)) (sym e) ∙ i.stored, i.allowed (subst (AreAllowed rule) (sym e) tt))
+
   module _ {old now : List (Text × Attribute A)} {all left rest : List (Key × AttrObj A)} {e : Key × AttrObj A} (i : StoresEntries rule old now all left) (steps : left ≡ e ∷ rest) where
     -- the next entry was stored
     pub stores_more : {new : List (Text × Attribute A)} → new ≡ put_all now (entry_read e ∷ []) → AreAllowed rule (e ∷ []) → StoresEntries rule old new all rest

@@ -71,6 +71,20 @@ first_left (z ∷ xs) (suc n) x ys e = first_left xs n x ys e
 pub registered_steps : (dialects : List (Text × Table)) (id : OpId) (info : OpInfo) → registered dialects id ≡ Some (known_of info) → steps_in dialects (id_of id) ≡ steps_of (format_of info.format)
 registered_steps dialects id info known = ap (λ o. elim o [ Some f ↦ steps_of f | None ↦ [] ]) (ap (λ o. option_map (λ k. k.format) o) known)
 
+-- an operation with a next step is registered, and its format has the step
+pub unregistered_ends : (dialects : List (Text × Table)) (id : OpId) (n : ℕ) → registered dialects id ≡ None → IsFlatNext (slice_get (steps_in dialects (id_of id)) n) → ⊥
+unregistered_ends dialects id n none h =
+    let no_steps : steps_in dialects (id_of id) ≡ [] = ap (λ o. elim o [ Some f ↦ steps_of f | None ↦ [] ]) (ap (λ o. option_map (λ k. k.format) o) none) in
+    subst IsFlatNext (go (steps_in dialects (id_of id)) no_steps n) h
+  where
+    go : (ss : List Step) → ss ≡ [] → (n : ℕ) → slice_get ss n ≡ None
+    go [] e zero = refl
+    go [] e (suc n) = refl
+    go (s ∷ ss) e n = absurd (cc e)
+
+pub ended : (dialects : List (Text × Table)) (id : OpId) (info : OpInfo) (n : ℕ) → registered dialects id ≡ Some (known_of info) → slice_get (steps_of (format_of info.format)) n ≡ None → IsFlatNext (slice_get (steps_in dialects (id_of id)) n) → ⊥
+ended dialects id info n known none h = subst IsFlatNext (ap (λ ss. slice_get ss n) (registered_steps dialects id info known) ∙ none) h
+
 -- ---- what is parsed
 module _ {T A : Type 0} (types_at : Reader T) (attr : Reader (AttrView A)) where
   -- what a step parses after white space is a piece of this step

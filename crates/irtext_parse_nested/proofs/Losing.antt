@@ -68,6 +68,25 @@ module _ {O B T : Type 0} where
   still_placed g h (TheBlock b) a s = (same_is_live g h (TheBlock b) a.contents s.0, subst IsSome (sym a.parents) s.1)
   still_placed g h (TheRegion r) a t = same_is_live g h (TheRegion r) a.contents t
 
+  -- nothing changed
+  many_itself : (g : GraphView (Option O) B T) (q : Object) → HasAsMany g g q
+  many_itself g (TheOperation p) = record { as_many_operands = refl; as_many_successors = refl }
+  many_itself g (TheBlock b) = tt
+  many_itself g (TheRegion r) = tt
+
+  pub loses_nothing : (g : GraphView (Option O) B T) → LosesPlaceholders g g
+  loses_nothing g = record {
+    operations = λ p x e. e;
+    results = λ p x e. refl;
+    blocks = λ b o e. (e, λ l. l);
+    regions = λ r l. l;
+    newer = λ m q n. n;
+    made = refl;
+    alike = λ q p. record { contents = refl; as_many = many_itself g q; parents = refl; lists = refl };
+    brought = λ q p. p;
+    blanks = λ m h. h;
+  }
+
   pub loses_more : {g h k : GraphView (Option O) B T} → LosesPlaceholders g h → LosesPlaceholders h k → LosesPlaceholders g k
   loses_more {g} {h} {k} l m = record {
     operations = λ p x e. m.operations p x (l.operations p x e);

@@ -1,5 +1,5 @@
 -- Items with places, taken out one after another in the order of their places.
-use Rattle.std.proofs.Common.{◌≡◌, ◌<◌, ◌≤◌, ◌+◌, ◌-◌, ◌∙◌, ◌==◌, ℕ, zero, suc, Bool, true, false, cond, List, [], ◌∷◌, ◌++◌, length, option_to_list, Option, Some, None, refl, sym, ap, ap₂, subst, arith, eqb-true, append_assoc, slice_get, inl, inr, ◌⊎◌}
+use Rattle.std.proofs.Common.{◌≡◌, ◌<◌, ◌≤◌, ◌+◌, ◌-◌, ◌∙◌, ◌==◌, ℕ, zero, suc, Bool, true, false, cond, List, [], ◌∷◌, ◌++◌, length, map, option_to_list, Option, Some, None, refl, sym, ap, ap₂, subst, arith, eqb-true, append_assoc, append-nil, slice_get, inl, inr, ◌⊎◌}
 use Rattle.std.specs.Map.{lookup, remove_entry}
 use Rattle.irtext_graph.specs.Chained.{Among}
 use Rattle.irtext_grammar.specs.Grammar.Tree.{at_place, in_order_from, in_order}
@@ -79,3 +79,12 @@ all_in_order P single list h k i x f = elim (both_among (in_order single) list i
   | inl r ↦ let e = from_among (length single) 0 r.0 single x r.1 in subst P e.2 (h e.0 e.1)
   | inr a ↦ k x a
 ]
+
+-- ---- a part of each item
+-- the next item's was added
+pub split_more : {X Y : Type 0} (part : X → Y) (parts more whole : List Y) (x : X) (left rest : List X) → more ≡ parts ++ part x ∷ [] → left ≡ x ∷ rest → parts ++ map part left ≡ whole → more ++ map part rest ≡ whole
+split_more part parts more whole x left rest e s so = ap (λ ys. ys ++ map part rest) e ∙ (append_assoc parts (part x ∷ []) (map part rest) ∙ (ap (λ xs. parts ++ map part xs) (sym s) ∙ so))
+
+-- those of all items were added
+pub split_all : {X Y : Type 0} (part : X → Y) (parts whole : List Y) (left : List X) → left ≡ [] → parts ++ map part left ≡ whole → parts ≡ whole
+split_all part parts whole left none so = sym (append-nil parts) ∙ (ap (λ xs. parts ++ map part xs) (sym none) ∙ so)

@@ -30,9 +30,9 @@ ghost use Rattle.irtext_parse_nested.specs.Read.{ReadsFront, begun_by, BeginsOpe
 
 use crate::frame::{BegunOperation, Names};
 use crate::making::{make_bare, make_gathered};
-use crate::memory::or_memory;
+use crate::memory::{ended, or_memory};
 use crate::name_errors::{NameFault, name_error};
-use crate::operation_parts::{Gathered, NotGathered, gather, nothing};
+use crate::operation_parts::{Gathered, NotGathered, attributes_of, gather, nothing};
 use irtext_base::base::{Identifier, OpId};
 use irtext_base::location::Location;
 use irtext_base::parsable::{CharStream, ParseFault, ParseResult, Place, TextStream};
@@ -220,7 +220,10 @@ fn pieces_created<T: IrText<A>, A: AttrText<A>, U>(
             let made = make_gathered(ctx, id, loc, gathered);
             or_memory(&mut s.stream, made)
         }
-        Err(refusal) => Err(gather_fault(&mut s.stream, names, refusal)),
+        Err(refusal) => {
+            ended((gathered, loc));
+            Err(gather_fault(&mut s.stream, names, refusal))
+        }
     }
 }
 
@@ -256,9 +259,11 @@ fn created<T: IrText<A>, A: AttrText<A>, U>(
     if pieces.len() != 0 {
         return pieces_created(s, names, id, key, loc, pieces);
     }
+    ended(pieces);
     let none: Gathered<T, A> = nothing(s.stream.allocator());
+    let attributes = attributes_of(none);
     let ctx = &mut *s.state.ctx;
-    let made = make_bare(ctx, id, loc, none.attributes);
+    let made = make_bare(ctx, id, loc, attributes);
     or_memory(&mut s.stream, made)
 }
 
@@ -306,7 +311,9 @@ fn begin_read<T: IrText<A>, A: AttrText<A>, U>(
     ctx.made();
     let (op, results) = created(s, names, &id, &key, loc, pieces)?;
     let ctx = &mut *s.state.ctx;
+    ended(key);
     let Ok(()) = placed(ctx, block, op) else {
+        ended((defined, id, coming));
         return Err(out_of_memory(&mut s.stream));
     };
     Ok(BegunOperation {

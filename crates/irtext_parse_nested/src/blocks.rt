@@ -44,6 +44,8 @@ use crate::block_labels::label_block;
 use crate::definitions::{Definer, define_values, undefined_error};
 use crate::dictionary::{arguments_split, block_attributes};
 use crate::frame::{BegunBlock, Names};
+use crate::making::failed;
+use crate::memory::ended;
 use crate::operation_end::note_mark;
 use crate::operation_parts::NotGathered;
 use crate::placing::place_block;
@@ -124,7 +126,7 @@ fn block_made<T: IrText<A>, A: AttrText<A>>(
         → KeepsOlder m ctx.old ctx.new }
 {
     let Some(name) = keys.label(alloc, label.name, names.name(label.name)) else {
-        return Err(AllocError);
+        return failed((loc, attributes, types), AllocError);
     };
     place_block(ctx, region, Some(name), attributes, loc, types)
 }
@@ -158,6 +160,7 @@ fn head_made<T: IrText<A>, A: AttrText<A>, U>(
 {
     let alloc = s.stream.allocator();
     let Ok((arguments, types)) = arguments_split(alloc, arguments) else {
+        ended(entries);
         return Err(NotGathered::Memory);
     };
     let attributes = block_attributes(alloc, names, entries, &arguments)?;
@@ -167,7 +170,10 @@ fn head_made<T: IrText<A>, A: AttrText<A>, U>(
         ctx, alloc, names, keys, region, label, loc, attributes, types,
     ) {
         Ok(block) => Ok((block, arguments)),
-        Err(AllocError) => Err(NotGathered::Memory),
+        Err(AllocError) => {
+            ended(arguments);
+            Err(NotGathered::Memory)
+        }
     }
 }
 

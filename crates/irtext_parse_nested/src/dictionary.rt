@@ -13,6 +13,7 @@ ghost use Rattle.irtext_parse_nested.specs.Gathered.{entry_read, AreAllowed, For
 
 use crate::frame::Names;
 use crate::given::names_stored;
+use crate::memory::ended;
 use crate::operation_parts::{NotGathered, entry_stored};
 use irtext_base::base::Identifier;
 use irtext_dict::base::AttributeDict;
@@ -132,8 +133,26 @@ pub(crate) fn block_attributes<A: Drop>(
     dictionary_stored(&mut attributes, entries)?;
     match names_stored(alloc, names, arguments, &mut attributes) {
         Ok(()) => Ok(attributes),
-        Err(AllocError) => Err(NotGathered::Memory),
+        Err(AllocError) => {
+            ended(attributes);
+            Err(NotGathered::Memory)
+        }
     }
+}
+
+/// Adds the name and the type of an argument to these lists.
+fn argument_split<T: Drop>(
+    names: &mut Vec<ReadName>,
+    types: &mut Vec<T>,
+    argument: (ReadName, T),
+) -> Result<(), AllocError>
+    ensures names { OnOk result (names.new.items ≡ names.old.items ++ argument.0 ∷ []) }
+    ensures types { OnOk result (types.new.items ≡ types.old.items ++ argument.1 ∷ []) }
+{
+    let (name, of_type) = argument;
+    names.push(name)?;
+    types.push(of_type)?;
+    Ok(())
 }
 
 /// Splits arguments into their names and their types.
@@ -146,9 +165,8 @@ fn many_split<T: Drop>(
 {
     let mut names = Vec::new(alloc);
     let mut types = Vec::new(alloc);
-    for (name, of_type) in arguments {
-        names.push(name)?;
-        types.push(of_type)?;
+    for argument in arguments {
+        argument_split(&mut names, &mut types, argument)?;
     }
     Ok((Few::from_vec(names), Few::from_vec(types)))
 }

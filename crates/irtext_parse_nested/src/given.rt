@@ -1,7 +1,8 @@
 //! The names that the text gives to results and arguments, stored as an attribute.
-ghost use Rattle.std.specs.Prelude.{◌≡◌, ℕ, List, length, map, slice_get, IfOk, IfSome, OnOk};
+ghost use Rattle.std.specs.Prelude.{◌≡◌, ℕ, List, length, map, slice_get, IfOk, IfSome, IsSome, OnOk};
 ghost use Rattle.std.specs.Str.{bytes_eq};
 ghost use Rattle.irtext_base.specs.Format.{given_names_key};
+ghost use Rattle.irtext_context.specs.Context.{operation};
 ghost use Rattle.irtext_grammar.specs.Contexts.Held.{entries_of};
 ghost use Rattle.irtext_grammar.specs.Graphs.Build.{put_all, read_names};
 ghost use Rattle.irtext_grammar.specs.Grammar.Tree.{Name};
@@ -63,14 +64,12 @@ fn last_key<A: Drop>(attributes: &AttributeDict<A>) -> Option<Identifier>
     }
 }
 
-/// Returns the key of the given names of an operation's neighbour: of the operation before the last one of its block, if that has given
-/// names. Shares its text, so that a key is allocated once for a row of operations.
-#[inline(never)]
-fn neighbour_key<T: IrText<A>, A: AttrText<A>>(
+/// Returns the operation before the last one of an operation's block, if there is one.
+fn neighbour<T: IrText<A>, A: AttrText<A>>(
     ctx: &Context<T, A>,
     op: Ptr<Operation>,
-) -> Option<Identifier>
-    ensures { IfSome result (λ key. key ≡ given_names_key) }
+) -> Option<Ptr<Operation>>
+    ensures { IfSome result (λ before. IsSome (operation ctx.now before)) }
 {
     if !ctx.contains_operation(op) {
         return None;
@@ -81,6 +80,19 @@ fn neighbour_key<T: IrText<A>, A: AttrText<A>>(
     if !ctx.contains_operation(before) {
         return None;
     }
+    Some(before)
+}
+
+/// Returns the key of the given names of an operation's neighbour, if that has given names. Shares its text, so that a key is allocated
+/// once for a row of operations.
+#[inline(never)]
+fn neighbour_key<T: IrText<A>, A: AttrText<A>>(
+    ctx: &Context<T, A>,
+    op: Ptr<Operation>,
+) -> Option<Identifier>
+    ensures { IfSome result (λ key. key ≡ given_names_key) }
+{
+    let before = neighbour(ctx, op)?;
     last_key(before.attributes(ctx))
 }
 

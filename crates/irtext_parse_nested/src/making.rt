@@ -1,7 +1,8 @@
 //! Creates an operation from what its pieces gave.
-ghost use Rattle.std.specs.Prelude.{◌≡◌, ◌≤◌, ◌++◌, ◌==◌, ℕ, [], IfOk, OnErr, length, position};
+ghost use Rattle.std.specs.Prelude.{◌≡◌, ◌≤◌, ◌++◌, ◌==◌, ℕ, [], Err, IfOk, OnErr, length, position};
 ghost use Rattle.std.specs.Map.{keys_of};
 ghost use Rattle.irtext_context.specs.Context.{KeepsOlder, MakesOperation};
+ghost use Rattle.irtext_context.specs.Made.{AreDefinedValues, AreLiveBlocks};
 ghost use Rattle.irtext_grammar.specs.Grammar.Tree.{at_place, in_order};
 ghost use Rattle.irtext_parse_nested.specs.Beginning.{types_made};
 ghost use Rattle.irtext_parse_nested.specs.Gathered.{AllUsesLive};
@@ -12,7 +13,7 @@ use irtext_base::base::OpId;
 use irtext_base::location::Location;
 use irtext_base::text::{AttrText, IrText};
 use irtext_context::base::context::making::Making;
-use irtext_context::base::{Context, Operation, Ptr};
+use irtext_context::base::{BasicBlock, Context, Operation, Ptr, Value};
 use irtext_dict::base::AttributeDict;
 use irtext_few::Few;
 use std::alloc::{AllocError, Global};
@@ -87,6 +88,13 @@ fn copied(id: &OpId) -> Result<OpId, AllocError>
     Ok(OpId { dialect, name })
 }
 
+/// Ends what was to be used, and returns the error.
+pub(crate) fn failed<X: Drop, R>(_ended: X, error: AllocError) -> Result<R, AllocError>
+    ensures { result ≡ Err error }
+{
+    Err(error)
+}
+
 /// Creates a detached operation with this id and these attributes, without regions, results, operands and successors. Returns it with the
 /// number of its results. If an allocation fails, or a counter is full, nothing changes.
 pub(crate) fn make_bare<T: IrText<A>, A: AttrText<A>>(
@@ -101,9 +109,71 @@ pub(crate) fn make_bare<T: IrText<A>, A: AttrText<A>>(
     ensures err { OnErr result (ctx.new ≡ ctx.old) }
     ensures kept { (m : ℕ) → m ≤ ctx.old.graph.made → KeepsOlder m ctx.old ctx.new }
 {
-    let id = copied(id)?;
+    let id = match copied(id) {
+        Ok(id) => id,
+        Err(error) => return failed((loc, attributes), error),
+    };
     let op = ctx.make_operation(id, attributes, loc)?;
     Ok((op, 0))
+}
+
+/// What a new operation has besides its id, its attributes and its location, in its order.
+#[derive(Drop)]
+struct Parts<T> {
+    operands: Vec<Value>,
+    successors: Vec<Ptr<BasicBlock>>,
+    types: Few<T>,
+}
+
+/// Puts operands, successors and types into their order.
+fn parts_of<T: Drop>(
+    alloc: Global,
+    operands: Placed<Value>,
+    successors: Placed<Ptr<BasicBlock>>,
+    types: Vec<(usize, T)>,
+    listed: Few<T>,
+) -> Result<Parts<T>, AllocError>
+    ensures operands { IfOk result (λ p. p.operands.items ≡ in_order operands.single.items ++ operands.list.items) }
+    ensures successors { IfOk result (λ p. p.successors.items ≡
+        in_order successors.single.items ++ successors.list.items) }
+    ensures types { IfOk result (λ p. p.types ≡ types_made types.items listed) }
+{
+    let types = result_types(alloc, types, listed)?;
+    let operands = all_placed(alloc, operands)?;
+    let successors = all_placed(alloc, successors)?;
+    Ok(Parts {
+        operands,
+        successors,
+        types,
+    })
+}
+
+/// Creates a detached operation without regions, with this id and these parts. Returns it with the number of its results. If an
+/// allocation fails, or a counter is full, nothing changes.
+fn make_of<T: IrText<A>, A: AttrText<A>>(
+    ctx: &mut Context<T, A>,
+    id: OpId,
+    loc: Location<A>,
+    attributes: AttributeDict<A>,
+    parts: Parts<T>,
+) -> Result<(Ptr<Operation>, usize), AllocError>
+    requires operands { AreDefinedValues ctx.old parts.operands.items }
+    requires successors { AreLiveBlocks ctx.old parts.successors.items }
+    ensures makes { IfOk result (λ made. MakesOperation ctx.old ctx.new made.0
+        (record { id = id; attributes = attributes; loc = loc }) parts.types parts.operands.items
+        parts.successors.items) }
+    ensures counts { IfOk result (λ made. made.1 ≡ length parts.types) }
+    ensures err { OnErr result (ctx.new ≡ ctx.old) }
+    ensures kept { (m : ℕ) → m ≤ ctx.old.graph.made → KeepsOlder m ctx.old ctx.new }
+{
+    let Parts {
+        operands,
+        successors,
+        types,
+    } = parts;
+    let results = types.len();
+    let op = ctx.make_operation_with(id, attributes, loc, types, &operands, &successors)?;
+    Ok((op, results))
 }
 
 /// Creates a detached operation without regions from what its pieces gave. Returns it with the number of its results. If an allocation
@@ -131,12 +201,12 @@ pub(crate) fn make_gathered<T: IrText<A>, A: AttrText<A>>(
         listed,
         attributes,
     } = gathered;
-    let id = copied(id)?;
-    let alloc = ctx.allocator();
-    let operands = all_placed(alloc, operands)?;
-    let successors = all_placed(alloc, successors)?;
-    let types = result_types(alloc, types, listed)?;
-    let results = types.len();
-    let op = ctx.make_operation_with(id, attributes, loc, types, &operands, &successors)?;
-    Ok((op, results))
+    let parts = match parts_of(ctx.allocator(), operands, successors, types, listed) {
+        Ok(parts) => parts,
+        Err(error) => return failed((loc, attributes), error),
+    };
+    match copied(id) {
+        Ok(id) => make_of(ctx, id, loc, attributes, parts),
+        Err(error) => failed((loc, attributes, parts), error),
+    }
 }

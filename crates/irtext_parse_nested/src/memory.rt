@@ -1,10 +1,14 @@
-//! Allocations that failed, as errors of a parse.
+//! Allocations that failed, as errors of a parse; and values that end.
 ghost use Rattle.std.specs.Prelude.{◌≡◌, Ok, IfOk, IfErr, OnOk};
 ghost use Rattle.irtext_parse_spec.specs.Promises.Section.{IsOutOfMemory};
 
 use irtext_base::parsable::{ParseResult, TextStream};
 use irtext_tokens::irfmt::faults::out_of_memory;
 use std::alloc::AllocError;
+
+/// Ends a value. What owns it proves nothing about its parts then.
+#[inline(always)]
+pub(crate) fn ended<X: Drop>(_value: X) {}
 
 /// Returns the value, or the committed error `Memory` for an allocation that failed.
 #[inline(always)]

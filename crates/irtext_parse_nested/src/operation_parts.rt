@@ -77,6 +77,13 @@ pub(crate) fn nothing<T: Drop, A: Drop>(alloc: Global) -> Gathered<T, A>
     }
 }
 
+/// Returns the attributes, and ends the rest.
+pub(crate) fn attributes_of<T: Drop, A: Drop>(gathered: Gathered<T, A>) -> AttributeDict<A>
+    ensures { result ≡ gathered.attributes }
+{
+    gathered.attributes
+}
+
 /// Stores an attribute under a key. On an error nothing changes.
 pub(crate) fn stored<A: Drop>(
     attributes: &mut AttributeDict<A>,

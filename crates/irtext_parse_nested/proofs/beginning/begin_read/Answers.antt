@@ -1,5 +1,6 @@
 use Rattle.std.proofs.Common.{refl, subst}
 use Rattle.irtext_graph.specs.Back.{AllOlder}
+use Rattle.irtext_parse_nested.specs.Beginning.{ran_out}
 use Rattle.irtext_parse_nested.proofs.BeginRead.{op_there, op_free, op_empty, block_there, keeps_placed}
 use Rattle.irtext_parse_nested.proofs.beginning.begin_read.Goals as goal
 
@@ -12,6 +13,9 @@ placed-requires g c =
     let older = subst (λ n. AllOlder n old.graph) c.made.ensures.made c.made.ensures.older in
     let creates = c.in_ok-op.ensures.creates in
     record { block = block_there creates older c.args.block c.requires.block; op = op_there creates older; free = op_free creates older; empty = op_empty creates older }
+
+pub returns-in_default-clause-refused : goal.returns-in_default-clause-refused
+returns-in_default-clause-refused g c = ran_out (record { because = c.out_of_memory.ensures.because; flag = c.out_of_memory.ensures.committed })
 
 pub returns-in_default-clause-kept : goal.returns-in_default-clause-kept
 returns-in_default-clause-kept g c = λ m le n.

@@ -12,7 +12,7 @@ returns-clause-creates g c =
     (if_ok_two c.make_bare-made.result
     (λ made. bare_creates c.args.id.now c.args.pieces (none_left c.args.pieces (sym c.len.ensures ∙ c.if-len-ne0.false)) c.args.loc c.args.names.now c.args.s.now.state.ctx.now c.make_bare-made.new.ctx c.requires.tied
     c.nothing-none.result (record { operands = e.operands; successors = e.successors; types = e.types; attributes = e.attributes }) made.0 made.1)
-    c.make_bare-made.ensures.makes c.make_bare-made.ensures.counts)
+    (rw c.attributes_of-attributes.ensures at c.make_bare-made.ensures.makes) c.make_bare-made.ensures.counts)
 
 pub returns-clause-refused : goal.returns-clause-refused
 returns-clause-refused g c = if_err c.or_memory.result (λ f s. ran_out s) c.or_memory.ensures.ran_out

@@ -4,7 +4,7 @@ use Rattle.irtext_graph.specs.Back.{AllOlder}
 use Rattle.irtext_grammar.specs.Contexts.Held.{whole}
 use Rattle.irtext_parse_nested.specs.Beginning.{ran_out, refused, SaysGather}
 use Rattle.irtext_parse_nested.specs.Gathered.{Gathers, RefusesGathering, KeepsScopes}
-use Rattle.irtext_parse_nested.proofs.BeginRead.{keeps_used, keeps_created, nothing_used_is_live}
+use Rattle.irtext_parse_nested.proofs.BeginRead.{keeps_used, keeps_created, nothing_used_is_live, refusal_known}
 use Rattle.irtext_parse_nested.proofs.Marking.{if_err, if_ok_two, if_ok_handed}
 use Rattle.irtext_parse_nested.proofs.beginning.pieces_created.Goals as goal
 
@@ -45,6 +45,11 @@ returns-in-Ok-clause-kept g c = λ m le.
     (subst (λ k. KeepsScopes c.args.names.now n.names k n.graph) c.graph_mut.ensures.value c.gather.ensures.steady) refl c.make_gathered-made.new.ctx m le (c.make_gathered-made.ensures.kept m)
 
 -- ---- a name or a key is an error
+pub gather_fault-requires : goal.gather_fault-requires
+gather_fault-requires g c =
+    refusal_known c.args.pieces c.args.names.now c.args.s.now.state.ctx.now.graph c.requires.are.0 c.requires.are.1 c.requires.are.2 c.gather.new.names.names c.gather.ensures.steady.names c.in-Err.refusal
+    (subst (λ k. RefusesGathering c.args.pieces c.args.names.now k c.in-Err.refusal) c.graph_mut.ensures.value c.in-Err.ensures.refused)
+
 pub returns-in-Err-clause-refused : goal.returns-in-Err-clause-refused
 returns-in-Err-clause-refused g c =
     refused c.in-Err.refusal

@@ -1,8 +1,14 @@
+use Rattle.std.proofs.Common.{length, sym, subst}
 use Rattle.irtext_tokens.proofs.Exits.{propagated}
+use Rattle.irtext_names.specs.Rows.{AreKnown}
 use Rattle.irtext_grammar.specs.Contexts.Held.{whole}
 use Rattle.irtext_parse_nested.specs.Blocks.{entries_in}
+use Rattle.irtext_parse_nested.specs.Ends.{numbers_of}
 use Rattle.irtext_parse_nested.proofs.BlockReady.{makes_head}
 use Rattle.irtext_parse_nested.proofs.blocks.head_made.Goals as goal
+
+pub block_attributes-requires : goal.block_attributes-requires
+block_attributes-requires g c = subst (λ ns. AreKnown (length c.args.names.now.names) (numbers_of ns)) (sym c.in-Ok.ensures.0) c.requires.known
 
 pub returns-in_err-attributes-clause-refused : goal.returns-in_err-attributes-clause-refused
 returns-in_err-attributes-clause-refused g c = rw (propagated c.from_residual.result c.from_residual.ensures.1) c.in_err-attributes.ensures.refused

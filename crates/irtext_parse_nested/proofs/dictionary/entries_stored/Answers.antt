@@ -1,7 +1,8 @@
-use Rattle.std.proofs.Common.{rules}
+use Rattle.std.proofs.Common.{rules, arith}
 use Rattle.irtext_grammar.specs.Contexts.Held.{entries_of}
 use Rattle.irtext_parse_nested.specs.Gathered.{rule_of}
-use Rattle.irtext_parse_nested.proofs.EntriesStored.{stores_none, stores_more, stores_refused}
+use Rattle.irtext_parse_nested.proofs.EntriesStored.{stores_none, stores_more, stores_refused, all_stored}
+use Rattle.irtext_parse_nested.proofs.Gathers.{none_left}
 use Rattle.irtext_parse_nested.proofs.dictionary.entries_stored.Goals as goal
 
 pub loop-entry-init : goal.loop-entry-init
@@ -13,3 +14,13 @@ loop-entry-preserved g c = stores_more (rule_of c.args.holder) c.loop-entry.inva
 pub returns-in_err-held_entry_stored-clause-refused : goal.returns-in_err-held_entry_stored-clause-refused
 returns-in_err-held_entry_stored-clause-refused g c =
     stores_refused (rule_of c.args.holder) c.loop-entry.invariant c.in-Some.ensures.steps.0 c.from_residual.result _ c.from_residual.ensures.1 c.in_err-held_entry_stored.ensures.refused
+
+pub returns-clause-stored : goal.returns-clause-stored
+returns-clause-stored g c =
+    let l = c.loop-entry in
+    (all_stored (rule_of c.args.holder) l.invariant (none_left l.entry-iterator.rest.items (omega (arith, c.in-None.ensures.steps.0, l.entry-iterator.rest.ok.0)))).0
+
+pub returns-clause-allowed : goal.returns-clause-allowed
+returns-clause-allowed g c =
+    let l = c.loop-entry in
+    (all_stored (rule_of c.args.holder) l.invariant (none_left l.entry-iterator.rest.items (omega (arith, c.in-None.ensures.steps.0, l.entry-iterator.rest.ok.0)))).1

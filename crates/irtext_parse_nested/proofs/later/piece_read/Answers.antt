@@ -4,8 +4,18 @@ use Rattle.irtext_parse_spec.specs.Readers.Streams.{itself, replaced}
 use Rattle.irtext_tokens.specs.AttrTexts.{attr_at}
 use Rattle.irtext_parse_pieces.specs.Pieces.{MustPiece}
 use Rattle.irtext_parse_nested.proofs.Faults.{some_same}
-use Rattle.irtext_parse_nested.proofs.LaterPieces.{registered_steps, piece_spaced}
+use Rattle.irtext_parse_nested.proofs.BlockReady.{within}
+use Rattle.irtext_parse_nested.proofs.LaterPieces.{registered_steps, unregistered_ends, ended, piece_spaced}
 use Rattle.irtext_parse_nested.proofs.later.piece_read.Goals as goal
+
+pub unreachable-requires : goal.unreachable-requires
+unreachable-requires g c = unregistered_ends c.args.ctx.now.dialects c.args.begun.now.id c.args.begun.now.step (sym c.in_default.ensures.found) c.requires.step
+
+pub unreachable-requires-in_default-step_at : goal.unreachable-requires-in_default-step_at
+unreachable-requires-in_default-step_at g c = ended c.args.ctx.now.dialects c.args.begun.now.id c.in-Some.info.now c.args.begun.now.step (sym c.in-Some.ensures.found) (sym c.in_default-step_at.ensures) c.requires.step
+
+pub step_after-begun-requires : goal.step_after-begun-requires
+step_after-begun-requires g c = within _ _ _ (sym c.in-Some-step_at.ensures)
 
 pub returns-clause-read : goal.returns-clause-read
 returns-clause-read g c = λ step there.

@@ -3,8 +3,10 @@ use Rattle.irtext_base.specs.Faults as causes
 use Rattle.irtext_graph.specs.declared.object.Value.TheVariants.{Result}
 use Rattle.irtext_grammar.specs.Contexts.Held.{whole}
 use Rattle.irtext_parse_nested.specs.Definitions.{ValuesReady, IsFaultOf}
-use Rattle.irtext_parse_nested.specs.Ends.{no_scope, defined_twice}
-use Rattle.irtext_parse_nested.proofs.Numbered.{item_there}
+use Rattle.irtext_names.specs.Rows.{AreKnown}
+use Rattle.irtext_parse_nested.specs.Ends.{numbers_of, no_scope, defined_twice}
+use Rattle.irtext_parse_nested.proofs.Losing.{loses_nothing}
+use Rattle.irtext_parse_nested.proofs.Numbered.{item_there, number_there, known_at}
 use Rattle.irtext_parse_nested.proofs.operation_end.define_results.Goals as goal
 
 pub returns-then-not-has_value_scope-clause-refused : goal.returns-then-not-has_value_scope-clause-refused
@@ -16,9 +18,34 @@ returns-then-not-has_value_scope-clause-refused g c =
       | inr says ↦ inr (no_scope c.index.result.now (item_there c.args.begun.now.names 0 c.index.result.now there c.index.ensures) counts (sym c.has_value_scope.ensures ∙ c.if-not-has_value_scope.true) says)
     ]
 
+pub returns-then-len-begun-clause-loses : goal.returns-then-len-begun-clause-loses
+returns-then-len-begun-clause-loses g c = loses_nothing c.args.graph.now
+
+pub returns-then-begun-eq0-clause-loses : goal.returns-then-begun-eq0-clause-loses
+returns-then-begun-eq0-clause-loses g c = loses_nothing c.args.graph.now
+
+pub returns-then-not-has_value_scope-clause-loses : goal.returns-then-not-has_value_scope-clause-loses
+returns-then-not-has_value_scope-clause-loses g c = loses_nothing c.args.graph.now
+
+pub name_error-requires : goal.name_error-requires
+name_error-requires g c =
+    let names = c.args.begun.now.names in
+    let counts : length names ≡ c.args.begun.now.results = sym c.len.ensures ∙ c.if-len-begun.false in
+    let there : 0 < length names = omega (arith, counts, c.if-begun-eq0.false) in
+    known_at (length c.args.names.now.names) (numbers_of names) 0 c.index.result.now.name (number_there names 0 c.index.result.now (item_there names 0 c.index.result.now there c.index.ensures)) c.requires.known
+
 pub define_values-requires-clause-ready : goal.define_values-requires-clause-ready
 define_values-requires-clause-ready g c =
     subst (λ n. ValuesReady (λ i. Result c.args.begun.now.op i) n c.args.names.now.values c.args.graph.now) (sym (sym c.len.ensures ∙ c.if-len-begun.false)) c.requires.ready
+
+pub undefined_error-requires-clause-known : goal.undefined_error-requires-clause-known
+undefined_error-requires-clause-known g c = subst (λ ns. AreKnown (length ns) (numbers_of c.args.begun.now.names)) (sym c.in-Err.ensures.rest.0) c.requires.known
+
+pub returns-in-Err-clause-committed : goal.returns-in-Err-clause-committed
+returns-in-Err-clause-committed g c = elim c.undefined_error.ensures [ inl ran_out ↦ ran_out.flag | inr r ↦ r.says.flag ]
+
+pub returns-then-not-has_value_scope-clause-committed : goal.returns-then-not-has_value_scope-clause-committed
+returns-then-not-has_value_scope-clause-committed g c = elim c.name_error.ensures [ inl ran_out ↦ ran_out.flag | inr says ↦ says.flag ]
 
 pub returns-in-Err-clause-refused : goal.returns-in-Err-clause-refused
 returns-in-Err-clause-refused g c =

@@ -1,5 +1,8 @@
-use Rattle.std.proofs.Common.{refl}
+use Rattle.std.proofs.Common.{◌∷◌, [], refl, sym, subst}
+use Rattle.std.proofs.lemmas.Result.{IfErr-weaker}
+use Rattle.std.specs.Prelude.{IfErr}
 use Rattle.irtext_names.specs.Kinds.{NamesOf.{values, labels}}
+use Rattle.irtext_parse_nested.specs.Gathered.{RefusesGathering}
 use Rattle.irtext_parse_nested.proofs.Halves.{half_if}
 use Rattle.irtext_parse_nested.proofs.Pieces.{word_one, alone_at, alone_if}
 use Rattle.irtext_parse_nested.proofs.operation_parts.piece_gathered.Goals as goal
@@ -33,3 +36,8 @@ returns-in-Header-clause-gathers g c = alone_if c.args.names.now c.args.graph.no
 
 pub returns-in-Types-clause-gathers : goal.returns-in-Types-clause-gathers
 returns-in-Types-clause-gathers g c = alone_at c.args.names.now c.args.graph.now c.args.gathered.now _ c.args.piece _ c.in-Types.is c.types_gathered.ensures
+
+pub returns-in-Dictionary-clause-refused : goal.returns-in-Dictionary-clause-refused
+returns-in-Dictionary-clause-refused g c =
+    subst (λ p. IfErr c.dictionary_gathered.result (RefusesGathering (p ∷ []) c.args.names.now c.args.graph.now)) (sym c.in-Dictionary.is)
+    (IfErr-weaker c.dictionary_gathered.result _ _ (λ e h. h c.args.names.now c.args.graph.now) c.dictionary_gathered.ensures.refused)

@@ -1,4 +1,4 @@
-use Rattle.std.proofs.Common.{◌≤◌, ◌∙◌, [], refl, sym, subst, IsSome}
+use Rattle.std.proofs.Common.{◌≤◌, ◌∙◌, inl, inr, [], refl, sym, subst, IsSome}
 use Rattle.std.specs.Prelude.{IfSome}
 use Rattle.std.proofs.lemmas.Result.{err_from_is_err_and}
 use Rattle.irtext_context.specs.Context.{operation, KeepsOlder}
@@ -19,6 +19,11 @@ pub returns-in_err-enter_here-clause-refused : goal.returns-in_err-enter_here-cl
 returns-in_err-enter_here-clause-refused g c =
     let p = err_from_is_err_and c.from_residual.result c.from_residual.ensures.1 in
     rw (p.1, p.2) (unentered g.T.IrText.reading (attr_at g.A.IrText.reading) c.args.isolated c.args.names.now c.args.s.now _ c.in_err-enter_here.ensures.refused)
+
+pub returns-in_err-enter_here-clause-committed : goal.returns-in_err-enter_here-clause-committed
+returns-in_err-enter_here-clause-committed g c =
+    let p = err_from_is_err_and c.from_residual.result c.from_residual.ensures.1 in
+    rw (p.1, p.2) (elim c.in_err-enter_here.ensures.refused [ inl ran_out ↦ ran_out.flag | inr r ↦ r.1 ])
 
 pub returns-in_err-brace_demanded-clause-refused : goal.returns-in_err-brace_demanded-clause-refused
 returns-in_err-brace_demanded-clause-refused g c =
