@@ -1,24 +1,26 @@
 -- Attributes that are borrowed for writing: what the context holds once the borrow has ended, and what is unchanged.
-use Rattle.std.proofs.Common.{◌≡◌, ◌∙◌, refl, sym, ap, subst, List, Option, None, Some}
+use Rattle.std.proofs.Common.{◌≡◌, ◌∙◌, ℕ, refl, sym, ap, subst, List, Option, None, Some, Result, OnOk, OnErr}
+use Rattle.std.proofs.lemmas.Result.{on_ok_weaker, on_err_weaker}
 use Rattle.std.specs.Option.{option_map}
 use Rattle.std.specs.Prelude.{option_and_then}
 use Rattle.std.specs.Str.{bytes_eq}
 use Rattle.indexmap.specs.IndexMap.{insert_entry}
 use Rattle.irtext_base.specs.Text.{Text}
+use Rattle.irtext_base.proofs.Results.{either_way}
 use Rattle.irtext_base.specs.declared.base.attributes.AttrObj.{AttrObj}
 use Rattle.irtext_graph.specs.Data as edits
 use Rattle.irtext_graph.specs.Data.{with_object, with_data, with_block, with_operation_data, with_block_data}
 use Rattle.irtext_graph.specs.Parts.{operation_at, block_at}
-use Rattle.irtext_graph.specs.Store.{get}
+use Rattle.irtext_graph.specs.Store.{get, before}
 use Rattle.irtext_graph.specs.declared.arena.Ptr.{Ptr}
 use Rattle.irtext_graph.specs.declared.object.BasicBlock.{BasicBlock}
 use Rattle.irtext_graph.specs.declared.object.Operation.{Operation}
 use Rattle.irtext_graph.proofs.Data.{edited, unedited, edited_block, unedited_block}
 use Rattle.irtext_graph.proofs.Nests.{some_eq}
-use Rattle.irtext_context.specs.Context.{ContextView, operation, operation_of, view_of, block, block_of, with_attribute, with_attributes, with_block_attribute, with_block_attributes, with_changed_operation, with_changed_block, EditsOperation, EditsBlock}
+use Rattle.irtext_context.specs.Context.{ContextView, operation, operation_of, view_of, block, block_of, with_attribute, with_attributes, with_block_attribute, with_block_attributes, with_changed_operation, with_changed_block, EditsOperation, EditsBlock, KeepsOlder}
 use Rattle.irtext_context.specs.declared.base.block.BlockData.{BlockData}
 use Rattle.irtext_context.specs.declared.base.operation.OperationData.{OperationData}
-use Rattle.irtext_context.proofs.Contexts.{OperationEntry, BlockEntry}
+use Rattle.irtext_context.proofs.Contexts.{OperationEntry, BlockEntry, edits-keeps, edits_block-keeps, same-keeps}
 
 -- the data x of an object are borrowed: how the state c is once other data are written, and that a change is an edit of that object alone
 record IsBorrowed {C X : Type 0} (x : X) (c : C) (after : (X → X) → C) (Edits : C → (X → X) → Type 0) : Type 0 where
@@ -38,6 +40,15 @@ module _ {C X A : Type 0} {x : X} {c : C} {after : (X → X) → C} {Edits : C �
   -- attributes are written back as they are: nothing changed
   entries_back : with_entries (entries x) x ≡ x → a ≡ w → after (with_entries a) ≡ c
   entries_back back e = sym (b.changed (with_entries a)) ∙ ap (λ l. b.write (with_entries l x)) (e ∙ sym is) ∙ ap b.write back ∙ b.same
+
+  -- one was put in, or none could be: so the state is an edit, or as it was, and keeps what it keeps in both cases
+  entry_set : (key : Text) (attr : AttrObj A) {E : Type 0} (r : Result (Unit {0}) E) → OnOk r (a ≡ insert_entry bytes_eq w key attr) → OnErr r (a ≡ w) → with_entries (entries x) x ≡ x → (Keeps : C → Type 0)
+      → ((new : C) → Edits new (λ y. with_entries (insert_entry bytes_eq (entries y) key attr) y) → Keeps new) → ((new : C) → new ≡ c → Keeps new)
+      → OnOk r (Edits (after (with_entries a)) (λ y. with_entries (insert_entry bytes_eq (entries y) key attr) y)) × OnErr r (after (with_entries a) ≡ c) × Keeps (after (with_entries a))
+  entry_set key attr r put same back Keeps edit_keeps same_keeps =
+      let edited = on_ok_weaker r (entry_put key attr) put in
+      let unchanged = on_err_weaker r (entries_back back) same in
+      (edited, unchanged, either_way r (edit_keeps (after (with_entries a))) (same_keeps (after (with_entries a))) edited unchanged)
 
 module _ {T A : Type 0} (c : ContextView T A) where
   module _ (p : Ptr Operation) where
@@ -98,14 +109,12 @@ module _ {T A : Type 0} (c : ContextView T A) where
       same = ap (λ g. record c { graph = g }) (unedited c.graph p (Some held) e);
     }
 
-    -- attributes with one more are written back: that one was put in
-    pub put_edits : (w a : List (Text × AttrObj A)) → option_map (λ op. op.attributes) (operation c p) ≡ Some w → (key : Text) (attr : AttrObj A) → a ≡ insert_entry bytes_eq w key attr
-        → EditsOperation c (with_changed_operation c p (with_attributes a)) p (with_attribute key attr)
-    put_edits w a value = let h = seen_held w value in entry_put (operation_borrowed h.0 h.1) (λ d. d.attributes) with_attributes w a h.2
-
-    -- attributes are written back as they are: nothing changed
-    pub put_back : (w a : List (Text × AttrObj A)) → option_map (λ op. op.attributes) (operation c p) ≡ Some w → a ≡ w → with_changed_operation c p (with_attributes a) ≡ c
-    put_back w a value = let h = seen_held w value in entries_back (operation_borrowed h.0 h.1) (λ d. d.attributes) with_attributes w a h.2 refl
+    -- an attribute was set, or could not be
+    pub operation_set : (w a : List (Text × AttrObj A)) → option_map (λ x. x.attributes) (operation c p) ≡ Some w → (key : Text) (attr : AttrObj A) {E : Type 0} (r : Result (Unit {0}) E) → OnOk r (a ≡ insert_entry bytes_eq w key attr) → OnErr r (a ≡ w)
+        → OnOk r (EditsOperation c (with_changed_operation c p (with_attributes a)) p (with_attribute key attr)) × OnErr r (with_changed_operation c p (with_attributes a) ≡ c) × ((mark : ℕ) → before mark c.graph.operations p ≡ None → KeepsOlder mark c (with_changed_operation c p (with_attributes a)))
+    operation_set w a value key attr r put same = let h = seen_held w value in
+        entry_set (operation_borrowed h.0 h.1) (λ d. d.attributes) with_attributes w a h.2 key attr r put same refl (λ new. (mark : ℕ) → before mark c.graph.operations p ≡ None → KeepsOlder mark c new)
+        (λ new e mark none. edits-keeps mark c new p (with_attribute key attr) none e) (λ new e mark none. same-keeps mark c new e)
 
   module _ (p : Ptr BasicBlock) where
     -- the context holds this of a block
@@ -152,11 +161,9 @@ module _ {T A : Type 0} (c : ContextView T A) where
       same = ap (λ g. record c { graph = g }) (unedited_block c.graph p held e);
     }
 
-    -- attributes with one more are written back: that one was put in
-    pub block_put_edits : (w a : List (Text × AttrObj A)) → option_map (λ b. b.attributes) (block c p) ≡ Some w → (key : Text) (attr : AttrObj A) → a ≡ insert_entry bytes_eq w key attr
-        → EditsBlock c (with_changed_block c p (with_block_attributes a)) p (with_block_attribute key attr)
-    block_put_edits w a value = let h = block_seen_held w value in entry_put (block_borrowed h.0 h.1) (λ d. d.attributes) with_block_attributes w a h.2
-
-    -- attributes are written back as they are: nothing changed
-    pub block_put_back : (w a : List (Text × AttrObj A)) → option_map (λ b. b.attributes) (block c p) ≡ Some w → a ≡ w → with_changed_block c p (with_block_attributes a) ≡ c
-    block_put_back w a value = let h = block_seen_held w value in entries_back (block_borrowed h.0 h.1) (λ d. d.attributes) with_block_attributes w a h.2 refl
+    -- an attribute was set, or could not be
+    pub block_set : (w a : List (Text × AttrObj A)) → option_map (λ x. x.attributes) (block c p) ≡ Some w → (key : Text) (attr : AttrObj A) {E : Type 0} (r : Result (Unit {0}) E) → OnOk r (a ≡ insert_entry bytes_eq w key attr) → OnErr r (a ≡ w)
+        → OnOk r (EditsBlock c (with_changed_block c p (with_block_attributes a)) p (with_block_attribute key attr)) × OnErr r (with_changed_block c p (with_block_attributes a) ≡ c) × ((mark : ℕ) → before mark c.graph.blocks p ≡ None → KeepsOlder mark c (with_changed_block c p (with_block_attributes a)))
+    block_set w a value key attr r put same = let h = block_seen_held w value in
+        entry_set (block_borrowed h.0 h.1) (λ d. d.attributes) with_block_attributes w a h.2 key attr r put same refl (λ new. (mark : ℕ) → before mark c.graph.blocks p ≡ None → KeepsOlder mark c new)
+        (λ new e mark none. edits_block-keeps mark c new p (with_block_attribute key attr) none e) (λ new e mark none. same-keeps mark c new e)
