@@ -1,5 +1,5 @@
 -- What a visit makes of a state: of a list the last is visited after the others; a visit that writes at each location writes all of it.
-use Rattle.std.proofs.Common.{◌≡◌, ◌∙◌, ap, ap₂, sym, refl, ℕ, List, [], ◌∷◌, ◌++◌, map, fold, length, Box, Vec, Global, Option}
+use Rattle.std.proofs.Common.{◌≡◌, ◌∙◌, ◌+◌, ◌<◌, ap, ap₂, sym, refl, arith, ℕ, zero, suc, get_or, drop, List, [], ◌∷◌, ◌++◌, map, fold, length, Box, Vec, Global, Option}
 use Rattle.std.proofs.lemmas.List.Sums.{fold-append}
 use Rattle.std.specs.Hash.{HashWrites}
 use Rattle.irtext_base.specs.declared.base.attributes.AttrObj.{AttrObj}
@@ -31,6 +31,25 @@ module _ {S A : Type 0} (v : Visit S A) where
       ∙ (ap (λ ks. row_visited v head (row ks)) (sym parts)
       ∙ (ap (λ z. row_visited v z (row items)) (h ∙ ap₂ (λ i c. v.fused s (attr_view_in i) c) about (counted ∙ sym (row_len_seen items)))
       ∙ sym (ap (visited v s) (at-fused l m ls items is all)))))
+
+  none_left : (s : S) (about : Option (AttrView A)) (ks : List (Location A)) → length ks ≡ 0 → v.fused s about (length ks) ≡ row_visited v (v.fused s about (row_len (in_row (map location_view ks)))) (in_row (map location_view ks))
+  none_left s about [] h = refl
+  none_left s about (k ∷ ks) h = absurd (omega (arith, h))
+
+  -- the visit of no locations as one
+  pub none_visited : (l : Location A) (m : Box (Option (AttrObj A)) Global) (ls : Box (Vec (Location A) Global) Global) (items : List (Location A)) (inside : Option (AttrObj A)) (n : ℕ) (s head : S)
+      → l ≡ Fused m ls → items ≡ ls.value.items → length items ≡ 0 → inside ≡ m.value → n ≡ length items → head ≡ v.fused s (attr_view_in inside) n → head ≡ visited v s (location_view l)
+  none_visited l m ls items inside n s head is all none about counted h =
+      h ∙ (ap₂ (λ i c. v.fused s (attr_view_in i) c) about counted ∙ (none_left s (attr_view_in m.value) items none ∙ sym (ap (visited v s) (at-fused l m ls items is all))))
+
+  -- in a row, one more is visited
+  pub row_on : (ls : List (Location A)) (i : ℕ) (l : Location A) (s mid : S) → i < length ls → l ≡ get_or ls i l → mid ≡ visited v s (location_view l)
+      → row_visited v mid (in_row (map location_view (drop (i + 1) ls))) ≡ row_visited v s (in_row (map location_view (drop i ls)))
+  row_on [] i l s mid h e m = absurd (omega (arith, h))
+  row_on (k ∷ ls) zero l s mid h e m = ap (λ z. row_visited v z (in_row (map location_view ls))) (m ∙ ap (λ j. visited v s (location_view j)) e)
+  row_on (k ∷ ls) (suc i) l s mid h e m =
+      let one : suc i + 1 ≡ suc (i + 1) = omega arith in
+      ap (λ n. row_visited v mid (in_row (map location_view (drop n (k ∷ ls))))) one ∙ row_on ls i l s mid (omega (arith, h)) e m
 
   -- the visit of a callee leaves that of its caller
   pub call_site_visited : (l : Location A) (callee caller : Box (Location A) Global) (a b : Location A) (s head mid : S) → l ≡ CallSite callee caller → a ≡ callee.value → b ≡ caller.value

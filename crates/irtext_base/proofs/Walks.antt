@@ -3,8 +3,9 @@ use Rattle.std.proofs.Common.{◌≡◌, ◌∙◌, ap, ap₂, refl, sym, ◌+�
 use Rattle.std.proofs.lemmas.List.{map-append}
 use Rattle.std.proofs.lemmas.List.Sums.{fold-append}
 use Rattle.irtext_base.specs.declared.location.Location.{Location}
-use Rattle.irtext_base.specs.declared.location.Location.TheVariants.{Named, CallSite, Unknown}
+use Rattle.irtext_base.specs.declared.location.Location.TheVariants.{SrcPos, Named, CallSite, Unknown}
 use Rattle.irtext_base.specs.declared.location.Source.{Source}
+use Rattle.irtext_stream.specs.declared.position.SourcePosition.{SourcePosition}
 use Rattle.irtext_base.specs.declared.location.walk.Row.{Row}
 use Rattle.irtext_base.specs.declared.location.walk.Frame.{Frame}
 use Rattle.irtext_base.specs.declared.location.walk.Frame.TheVariants as frame
@@ -13,7 +14,7 @@ use Rattle.irtext_base.specs.declared.location.walk.Turn.TheVariants.{Inside, Do
 use Rattle.irtext_base.specs.Locations.{LocationOf, LocationsOf, LocationView, LocationViews, src_pos, fused, named, call_site, unknown, no_location, location, location_view, attr_view_in, in_row}
 use Rattle.irtext_base.specs.Walks.{Rule, same_sources, Taken, still, made, joined, taken, row_taken, Reached, Continues, in_front, row_with, row_left, row_rest, closed, closing, resume, begun, turns, all_turns, row_turns, frame_turns, stack_turns, work}
 use Rattle.irtext_base.proofs.Characters.{and_left}
-use Rattle.irtext_base.proofs.LocationViews.{seen-named, seen-call_site, seen-unknown}
+use Rattle.irtext_base.proofs.LocationViews.{seen-src_pos, seen-named, seen-call_site, seen-unknown}
 
 mutual
   -- a location whose sources stay is the same
@@ -118,6 +119,9 @@ module _ {A : Type 0} (row : Row A) (h : length row.left.now ≡ 0) where
       ap (λ v. resume r old (still v w)) (e ∙ ap (fused (attr_view_in row.metadata.now)) (sym (in_front_none (map location_view row.copies.items))))
       ∙ ap (λ ls. resume r old (made (row_with row) (row_taken r w (in_row (map location_view ls))))) (sym (none row.left.now h))
 
+  pub row_turns_end : (old : List (Frame A)) → stack_turns old + 0 ≡ stack_turns old + row_turns row
+  row_turns_end old = ap (λ ls. stack_turns old + all_turns (in_row (map location_view ls))) (sym (none row.left.now h))
+
 -- a row with one copy more
 pub row_noted : {W A : Type 0} (r : Rule W) (w : W) (f : Frame A) (row later : Row A) (copy : Location A) → f ≡ frame.Fused row → later.metadata ≡ row.metadata → later.left ≡ row.left
     → later.copies.items ≡ row.copies.items ++ copy ∷ [] → row_rest later r w ≡ closing f copy r w
@@ -178,3 +182,12 @@ module _ {A : Type 0} (old new : List (Frame A)) (l : Location A) (callee caller
 -- a location that is not known
 pub unknown_taken : {W A : Type 0} (r : Rule W) (w : W) (l : Location A) → l ≡ Unknown → still (location_view {A = A} Unknown) w ≡ taken r w (location_view l)
 unknown_taken {W} {A} r w l is = ap (λ v. still v w) (seen-unknown {A = A}) ∙ ap (taken r w) (sym (ap location_view is ∙ seen-unknown))
+
+-- a place of a source that is known
+pub place_taken : {W A : Type 0} (r : Rule W) (w v : W) (l : Location A) (s t : Source) (pos : SourcePosition) → l ≡ SrcPos s pos → (taken r w (location_view l)).known ≡ true → t ≡ r.image w s → v ≡ r.after w s
+    → still (location_view {A = A} (SrcPos t pos)) v ≡ taken r w (location_view l)
+place_taken {W} {A} r w v l s t pos is h e f =
+    let seen : location_view l ≡ src_pos s pos = ap location_view is ∙ seen-src_pos s pos in
+    let known : r.known s ≡ true = ap (λ z. (taken r w z).known) (sym seen) ∙ h in
+    let copy : still (src_pos t pos) v ≡ taken r w (src_pos s pos) = (λ i. record { known = sym known i; value = src_pos (e i) pos; after = f i }) in
+    ap (λ z. still z v) (seen-src_pos {A = A} t pos) ∙ (copy ∙ ap (taken r w) (sym seen))

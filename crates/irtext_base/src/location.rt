@@ -20,7 +20,7 @@ mod walk;
 
 use crate::base::AttrObj;
 use crate::parsable::SourcePosition;
-use crate::result::{Cause, Error, ErrorKind};
+use crate::result::{Cause, Error, invalid};
 pub use into_context::CloneIntoContext;
 use std::hash::{Hash, Hasher};
 
@@ -108,11 +108,7 @@ impl<A: Drop> Drop for Location<A> {
 pub(crate) fn out_of_memory<A>() -> Error<A>
     ensures { result ≡ out_of_memory }
 {
-    Error {
-        kind: ErrorKind::InvalidArgument,
-        err: Cause::Memory,
-        loc: Location::Unknown,
-    }
+    invalid(Cause::Memory)
 }
 
 impl<A> Location<A> {

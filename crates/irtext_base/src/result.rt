@@ -150,6 +150,17 @@ impl<A> Cause<A> {
     }
 }
 
+/// Returns an error of kind `InvalidArgument` with this cause and without a location.
+pub(crate) fn invalid<A>(cause: Cause<A>) -> Error<A>
+    ensures { result ≡ record { kind = InvalidArgument; err = cause; loc = Unknown } }
+{
+    Error {
+        kind: ErrorKind::InvalidArgument,
+        err: cause,
+        loc: Location::Unknown,
+    }
+}
+
 impl<A> Error<A> {
     /// Returns the location that the error is about.
     pub fn loc(&self) -> &Location<A>
@@ -184,22 +195,23 @@ impl Display for Expected {
     ghost output = { λ expected. Some (expected_text expected) };
 
     fn fmt<W: fmt::Write>(&self, f: &mut fmt::Formatter<W>) -> fmt::Result {
-        match self {
-            Expected::Text(text) => write!(f, "`{text}`"),
-            Expected::Literal(text) => write!(f, "`{text}`"),
-            Expected::Char(c) => write!(f, "`{c}`"),
-            Expected::Identifier => write!(f, "identifier"),
-            Expected::Digit => write!(f, "digit"),
-            Expected::HexadecimalDigit => write!(f, "hexadecimal digit"),
-            Expected::EscapedCharacter => write!(f, "escaped character"),
-            Expected::Operation => write!(f, "operation"),
-            Expected::Source => write!(f, "source"),
-            Expected::Location => write!(f, "location"),
-            Expected::TrueOrFalse => write!(f, "true or false"),
-            Expected::Type => write!(f, "type"),
-            Expected::Attribute => write!(f, "attribute"),
-            Expected::EndOfInput => write!(f, "end of input"),
-        }
+        let words = match self {
+            Expected::Text(text) => return write!(f, "`{text}`"),
+            Expected::Literal(text) => return write!(f, "`{text}`"),
+            Expected::Char(c) => return write!(f, "`{c}`"),
+            Expected::Identifier => "identifier",
+            Expected::Digit => "digit",
+            Expected::HexadecimalDigit => "hexadecimal digit",
+            Expected::EscapedCharacter => "escaped character",
+            Expected::Operation => "operation",
+            Expected::Source => "source",
+            Expected::Location => "location",
+            Expected::TrueOrFalse => "true or false",
+            Expected::Type => "type",
+            Expected::Attribute => "attribute",
+            Expected::EndOfInput => "end of input",
+        };
+        write!(f, "{words}")
     }
 }
 
@@ -330,11 +342,7 @@ impl<A> From<Refusal> for Error<A> {
     ghost from_gives = { λ refusal error. error ≡ record { kind = InvalidArgument; err = cause_of refusal; loc = Unknown } };
 
     fn from(refusal: Refusal) -> Error<A> {
-        Error {
-            kind: ErrorKind::InvalidArgument,
-            err: Cause::from(refusal),
-            loc: Location::Unknown,
-        }
+        invalid(Cause::from(refusal))
     }
 }
 
@@ -351,11 +359,7 @@ impl<A> From<fmt::Error> for Error<A> {
     ghost from_gives = { λ _ error. error ≡ record { kind = InvalidArgument; err = Fmt; loc = Unknown } };
 
     fn from(_: fmt::Error) -> Error<A> {
-        Error {
-            kind: ErrorKind::InvalidArgument,
-            err: Cause::Fmt,
-            loc: Location::Unknown,
-        }
+        invalid(Cause::Fmt)
     }
 }
 

@@ -8,6 +8,10 @@ none_left [] (suc i) h = refl
 none_left (x ∷ xs) zero h = absurd (omega (arith, h))
 none_left (x ∷ xs) (suc i) h = none_left xs i (omega (arith, h))
 
+pub nothing : {X : Type 0} (xs : List X) → length xs ≡ 0 → xs ≡ []
+nothing [] h = refl
+nothing (x ∷ xs) h = absurd (omega (arith, h))
+
 abbrev some_here : {X : Type 0} → Option X → Type 0
 some_here None = ⊥
 some_here (Some _) = Unit {0}

@@ -14,8 +14,7 @@ ghost use Rattle.irtext_base.specs.Text.{begins_word, in_word, is_identifier, st
 ghost use Rattle.irtext_base.specs.Words.{word_bytes};
 ghost use Rattle.irtext_base.specs.declared.location.Location.{Unknown};
 
-use crate::location::Location;
-use crate::result::{Cause, Error, ErrorKind, Expected};
+use crate::result::{Cause, Error, ErrorKind, Expected, invalid};
 use arrayvec::ArrayString;
 use indexmap::Equivalent;
 use std::alloc::{AllocError, Global};
@@ -141,17 +140,6 @@ fn stranger(text: &str) -> Option<char>
         return Some(first);
     }
     first_alien(text)
-}
-
-/// Returns an error of kind `InvalidArgument` with this cause and without a location.
-fn invalid<A>(cause: Cause<A>) -> Error<A>
-    ensures { result ≡ record { kind = ErrorKind.InvalidArgument; err = cause; loc = Unknown } }
-{
-    Error {
-        kind: ErrorKind::InvalidArgument,
-        err: cause,
-        loc: Location::Unknown,
-    }
 }
 
 /// Returns the error for a text that is no identifier.

@@ -1,5 +1,5 @@
 //! The sources that a location mentions.
-ghost use Rattle.std.specs.Prelude.{◌≡◌, ◌<◌, ◌+◌, [], false, IfOk, IfErr, IsTrue, OnOk, OnErr, length};
+ghost use Rattle.std.specs.Prelude.{◌≡◌, ◌<◌, ◌+◌, [], ◌∷◌, ◌++◌, false, IfOk, IfErr, IsTrue, OnOk, OnErr, length};
 ghost use Rattle.std.specs.List.{list_any};
 ghost use Rattle.irtext_base.specs.Locations.{location_view, same_source, noted, all_noted, sources, source, out_of_memory};
 ghost use Rattle.irtext_base.specs.Waits.{wait_noted, left_noted, wait_weight, left_weight};
@@ -43,6 +43,14 @@ enum Waits<'a, A> {
     Row(&'a [Location<A>]),
 }
 
+/// Pushes locations that are left to search.
+fn wait<'a, A>(waits: &mut Vec<Waits<'a, A>>, next: Waits<'a, A>) -> Result<(), AllocError>
+    ensures { OnOk result (waits.new.items ≡ waits.old.items ++ next.entry ∷ []) }
+{
+    waits.push(next)?;
+    Ok(())
+}
+
 /// Records the source of a `SrcPos`, or pushes the locations that are nested in the location.
 fn note_one<'a, A>(
     location: &'a Location<A>,
@@ -54,16 +62,15 @@ fn note_one<'a, A>(
     ensures less { OnOk result (left_weight waits.new.items ≡ left_weight waits.old.items + weight_of location.now) }
 {
     match location {
-        Location::SrcPos { src, .. } => note_source(found, *src)?,
-        Location::Fused { locations, .. } => waits.push(Waits::Row(locations))?,
-        Location::Named { child_loc, .. } => waits.push(Waits::One(child_loc))?,
+        Location::SrcPos { src, .. } => note_source(found, *src),
+        Location::Fused { locations, .. } => wait(waits, Waits::Row(locations)),
+        Location::Named { child_loc, .. } => wait(waits, Waits::One(child_loc)),
         Location::CallSite { callee, caller } => {
-            waits.push(Waits::One(caller))?;
-            waits.push(Waits::One(callee))?;
+            wait(waits, Waits::One(caller))?;
+            wait(waits, Waits::One(callee))
         }
-        Location::Unknown => {}
+        Location::Unknown => Ok(()),
     }
-    Ok(())
 }
 
 fn note_next<'a, A>(

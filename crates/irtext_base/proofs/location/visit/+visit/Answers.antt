@@ -3,7 +3,7 @@ use Rattle.std.specs.Vec.{vec_len}
 use Rattle.irtext_base.specs.Weights.{weight}
 use Rattle.irtext_base.proofs.Inside.{fused_weight, item_weight}
 use Rattle.irtext_base.proofs.LocationViews.{at-call_site}
-use Rattle.irtext_base.proofs.Visits.{fused_visited, call_site_visited}
+use Rattle.irtext_base.proofs.Visits.{fused_visited, call_site_visited, none_visited, row_on}
 use Rattle.irtext_base.proofs.location.visit.+visit.Goals as goal
 
 pub visit_all-visit-requires : goal.visit_all-visit-requires
@@ -43,3 +43,17 @@ visit-loop-next-preserved g t c =
           ∙ c.loop-next.invariant.visited;
       inside = omega (arith, c.loop-next.invariant.inside, ap weight (at-call_site next v.callee v.caller callee caller v.is c.deref-in-CallSite.ensures c.deref-next-in-CallSite.ensures));
     }
+
+pub visit-returns-in_default : goal.visit-returns-in_default
+visit-returns-in_default g t c =
+    let v = c.in-Fused in
+    let all = c.deref-in-Fused-3.result.now in
+    let items = c.deref-in-Fused-3.ensures.value ∙ ap (λ v. v.items) c.deref-in-Fused-2.ensures in
+    let counted : c.len.result ≡ length all = c.len.ensures ∙ (ap vec_len (c.deref-in-Fused.ensures ∙ sym c.deref-in-Fused-2.ensures) ∙ sym c.deref-in-Fused-3.ensures.len) in
+    none_visited (g.V.Visitor.visit c.args.visitor.now) c.loop-next.next.now v.metadata v.locations all c.deref.result.now c.len.result c.loop-next.state c.fused.new.state v.is items c.in_default.ensures.cases c.deref.ensures counted c.fused.ensures
+    ∙ c.loop-next.invariant.visited
+
+pub visit_all-loop-location-preserved : goal.visit_all-loop-location-preserved
+visit_all-loop-location-preserved g t c =
+    row_on (g.V.Visitor.visit c.args.visitor.now) c.args.locations.now c.loop-location.location-index c.location-item.result c.loop-location.state c.visit.new.state c.loop-location-test.true c.location-item.is c.visit.ensures
+    ∙ c.loop-location.invariant

@@ -1,4 +1,4 @@
-use Rattle.irtext_base.proofs.Walks.{row_goes_on, row_turns_on, row_ends}
+use Rattle.irtext_base.proofs.Walks.{row_goes_on, row_turns_on, row_ends, row_turns_end}
 use Rattle.irtext_base.proofs.location.walk.Walk.go_on.Goals as goal
 
 pub returns-in_ok-push-in-Some-clause-on : goal.returns-in_ok-push-in-Some-clause-on
@@ -13,3 +13,6 @@ returns-in_ok-push-in-Some-clause-less g c =
 pub returns-in_ok-fused-in-None-clause-on : goal.returns-in_ok-fused-in-None-clause-on
 returns-in_ok-fused-in-None-clause-on g c =
     λ w. row_ends c.args.row c.in-None.ensures.cases (g.M.NewSources.rule c.args.self.now.sources.now) w c.args.frames.now.items c.in_ok-fused-in-None.field-0 c.in_ok-fused-in-None.ensures
+
+pub returns-in_ok-fused-in-None-clause-less : goal.returns-in_ok-fused-in-None-clause-less
+returns-in_ok-fused-in-None-clause-less g c = row_turns_end c.args.row c.in-None.ensures.cases c.args.frames.now.items

@@ -1,6 +1,6 @@
 use Rattle.std.proofs.Common.{ap}
 use Rattle.irtext_base.specs.Walks.{resume}
-use Rattle.irtext_base.proofs.Walks.{reached_one, name_opens, name_less, call_site_opens, call_site_less, unknown_taken}
+use Rattle.irtext_base.proofs.Walks.{reached_one, name_opens, name_less, call_site_opens, call_site_less, unknown_taken, place_taken}
 use Rattle.irtext_base.proofs.location.walk.Walk.open.Goals as goal
 
 pub returns-in_ok-src-in-SrcPos-clause-reached : goal.returns-in_ok-src-in-SrcPos-clause-reached
@@ -35,3 +35,9 @@ pub returns-in-Unknown-clause-on : goal.returns-in-Unknown-clause-on
 returns-in-Unknown-clause-on g c =
     let rule = g.M.NewSources.rule c.args.self.now.sources.now in
     ap (resume rule c.args.frames.now.items) (unknown_taken rule c.args.state.now c.args.location.now c.in-Unknown.is)
+
+pub returns-in_ok-src-in-SrcPos-clause-on : goal.returns-in_ok-src-in-SrcPos-clause-on
+returns-in_ok-src-in-SrcPos-clause-on g c =
+    let rule = g.M.NewSources.rule c.args.self.now.sources.now in
+    let ok = c.in_ok-src-in-SrcPos in
+    ap (resume rule c.args.frames.now.items) (place_taken rule c.args.state.now c.new_source.new.state c.args.location.now c.in-SrcPos.src ok.src c.in-SrcPos.pos c.in-SrcPos.is c.requires ok.ensures.ok ok.ensures.kept)
