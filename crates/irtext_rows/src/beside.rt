@@ -1,6 +1,6 @@
 //! Texts that are parsed in a context with a live root, which has to be unchanged.
 use crate::row::Row;
-use crate::streams::{Asked, on_stream};
+use crate::streams::{Asked, on_stream, region_into};
 use irtext_tests_common::contexts::Ctx;
 use irtext_tests_print::reading::{root, whole};
 use irtext_tests_print::registering::register;
@@ -69,7 +69,7 @@ fn count(ctx: &Ctx, op: Ptr<Operation>) -> Result<usize, Fail> {
 
 /// The result for a region that is parsed into an operation. If it is rejected, no object of it may be left, and the operation's text has
 /// to be unchanged.
-fn region_into(
+fn compared_region(
     alloc: Global,
     ctx: &mut Ctx,
     op: Ptr<Operation>,
@@ -77,10 +77,10 @@ fn region_into(
 ) -> Result<String, Fail> {
     let before = whole(alloc, ctx, op)?;
     let live = ctx.num_live();
-    let (said, marks, live_then) = on_stream(alloc, ctx, text, Asked::Region(op))?;
+    let (said, marks) = region_into(alloc, ctx, op, text)?;
     let count = count(ctx, op)?;
     if said.as_str() != "last"
-        && (live_then != live || !is_unchanged(alloc, ctx, op, before.as_str())?)
+        && (ctx.num_live() != live || !is_unchanged(alloc, ctx, op, before.as_str())?)
     {
         return Err(Fail::from("something was left"));
     }
@@ -90,5 +90,5 @@ fn region_into(
 /// The result for the text of a region that is parsed into the operation of the text before it.
 pub(crate) fn region(alloc: Global, ctx: &mut Ctx, row: &Row) -> Result<String, Fail> {
     let op = root(ctx, row.text(0)).ok_or("refused")?;
-    region_into(alloc, ctx, op, row.text(1))
+    compared_region(alloc, ctx, op, row.text(1))
 }

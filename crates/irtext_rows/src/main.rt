@@ -90,7 +90,10 @@ fn holds(rt: &HostRuntime, row: &Row, answer: Result<String, Fail>) -> Result<bo
         Err(fail) => {
             let none: Result<(), Fail> = Err(fail);
             let _ = none.report(rt);
-            println!(rt; "line {}: wanted {:?}, and nothing is said", row.line, row.wanted)?;
+            println!(rt;
+                "line {}: wanted {:?}, and nothing is said",
+                row.line, row.wanted
+            )?;
             Ok(false)
         }
     }

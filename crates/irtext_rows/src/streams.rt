@@ -8,7 +8,7 @@ use pliron_text::ir::OperationText;
 use pliron_text::irfmt::parsers;
 use pliron_text::location::{Location, Source};
 use pliron_text::parsable::{
-    Parsable, ParseFault, ParseResult, State, StreamLocation, TextStream,
+    Parsable, ParseFault, ParseResult, State, StateStream, StreamLocation, TextStream,
     state_stream_from_iterator,
 };
 use pliron_text::result::Cause;
@@ -25,8 +25,6 @@ pub(crate) enum Asked<'t> {
     Root,
     /// A block, which is an error here.
     Block,
-    /// A region, which is put into this operation.
-    Region(Ptr<Operation>),
     /// So many whole texts.
     Whole(u64),
     /// Two operations, without looking for a section.
@@ -69,32 +67,6 @@ fn root(alloc: Global, s: &mut Stream<'_>) -> Result<String, Fail> {
 fn block(alloc: Global, s: &mut Stream<'_>) -> Result<String, Fail> {
     match <BasicBlock as Parsable<DemoType, DemoAttr, ()>>::parse(s, ()) {
         Ok(_) => Err(Fail::from("read")),
-        Err(fault) => faulted(alloc, s, &fault),
-    }
-}
-
-/// Whether a region is the last of an operation.
-fn region_text(
-    alloc: Global,
-    ctx: &Ctx,
-    op: Ptr<Operation>,
-    region: Ptr<Region>,
-) -> Result<String, Fail> {
-    if !ctx.contains_operation(op) || !ctx.contains_region(region) {
-        return Err(Fail::from("no such region"));
-    }
-    let count = op.num_regions(ctx);
-    let is_last = count > 0 && op.get_region(ctx, count - 1) == region;
-    Ok(String::from_str(alloc, if is_last { "last" } else { "elsewhere" })?)
-}
-
-/// The result for a region that is parsed into an operation.
-fn region(alloc: Global, s: &mut Stream<'_>, op: Ptr<Operation>) -> Result<String, Fail> {
-    if !s.state.ctx.contains_operation(op) {
-        return Err(Fail::from("no such operation"));
-    }
-    match <Region as Parsable<DemoType, DemoAttr, ()>>::parse(s, op) {
-        Ok(region) => region_text(alloc, &*s.state.ctx, op, region),
         Err(fault) => faulted(alloc, s, &fault),
     }
 }
@@ -163,7 +135,6 @@ fn said(alloc: Global, s: &mut Stream<'_>, asked: Asked<'_>) -> Result<String, F
     match asked {
         Asked::Root => root(alloc, s),
         Asked::Block => block(alloc, s),
-        Asked::Region(op) => region(alloc, s, op),
         Asked::Whole(times) => whole(alloc, s, times),
         Asked::SameMark => same_mark(alloc, s),
         Asked::After(text, next) => both_after(alloc, s, text, next),
@@ -183,4 +154,46 @@ pub(crate) fn on_stream(
     let marks = s.state.has_marks();
     let live = s.into_ctx().num_live();
     Ok((said?, marks, live))
+}
+
+/// The text of a result for a region: whether the region is the operation's last, or the fault.
+fn region_text(
+    alloc: Global,
+    ctx: &Ctx,
+    op: Ptr<Operation>,
+    answer: &ParseResult<Ptr<Region>, DemoAttr>,
+) -> Result<String, Fail> {
+    match answer {
+        Ok(region) => {
+            if !ctx.contains_operation(op) || !ctx.contains_region(*region) {
+                return Err(Fail::from("no such region"));
+            }
+            let count = op.num_regions(ctx);
+            let is_last = count > 0 && op.get_region(ctx, count - 1) == *region;
+            Ok(String::from_str(alloc, if is_last { "last" } else { "elsewhere" })?)
+        }
+        Err(fault) => result_text(alloc, fault),
+    }
+}
+
+/// The result for a region that is parsed into an operation, and whether a mark is recorded then.
+pub(crate) fn region_into(
+    alloc: Global,
+    ctx: &mut Ctx,
+    op: Ptr<Operation>,
+    text: &str,
+) -> Result<(String, bool), Fail> {
+    let stream = TextStream::new(alloc, text)?;
+    if !ctx.contains_operation(op) {
+        return Err(Fail::from("no such operation"));
+    }
+    let state = State::new(ctx, Source::InMemory, ());
+    let mut s = StateStream { stream, state };
+    let answer = <Region as Parsable<DemoType, DemoAttr, ()>>::parse(&mut s, op);
+    let marks = s.state.has_marks();
+    if let Err(fault) = &answer {
+        faulted(alloc, &mut s, fault)?;
+    }
+    let ctx = s.into_ctx();
+    Ok((region_text(alloc, ctx, op, &answer)?, marks))
 }
