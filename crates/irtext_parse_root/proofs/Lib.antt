@@ -6,6 +6,7 @@ pub mod Carrying
 pub mod Causes
 pub mod Chains
 pub mod Closed
+pub mod DialectReads
 pub mod Failing
 pub mod Faulting
 pub mod Fresh

@@ -21,6 +21,7 @@ ghost use Rattle.irtext_parse_nested.specs.Blocks.{entries_in, IsKeyFault};
 ghost use Rattle.irtext_parse_nested.specs.Definitions.{IsFaultOf};
 ghost use Rattle.irtext_parse_root.specs.Block.{MissesBlock, first_reserved, noted_twice, IsRead};
 
+use crate::beside::ended;
 use crate::outermost::failed_fault;
 use irtext_base::base::{AttrObj, Identifier};
 use irtext_base::parsable::{CharStream, ParseFault, ParseResult, TextStream};
@@ -199,7 +200,10 @@ pub fn block_parse<T: IrText<A>, A: AttrText<A>, U>(
     }
     let mut names = NameTracker::new(s.stream.allocator());
     match header_parse(&mut s.stream, &mut names) {
-        Ok(head) => Err(header_fault(&mut s.stream, &s.state, &names, &head)),
-        Err(fault) => Err(fault),
+        Ok(head) => ended(
+            Err(header_fault(&mut s.stream, &s.state, &names, &head)),
+            (names, head),
+        ),
+        Err(fault) => ended(Err(fault), names),
     }
 }

@@ -4,6 +4,7 @@ ghost use Rattle.irtext_tokens.specs.AttrTexts.{attr_at};
 ghost use Rattle.irtext_parse_root.specs.Levels.{AreAllNew};
 ghost use Rattle.irtext_parse_root.specs.Turned.{AreReady, Finishes, Stops, Spares};
 
+use crate::beside::ended;
 use crate::frames::{Frame, Waiting};
 use crate::steps::step;
 use irtext_base::parsable::ParseResult;
@@ -32,7 +33,10 @@ pub(crate) fn items_parse<T: IrText<A>, A: AttrText<A>, U>(
     let mut frames = Waiting::new(alloc);
     let mut next = Some(first);
     while let Some(frame) = next {
-        next = step(s, names, &mut keys, &mut frames, frame)?;
+        match step(s, names, &mut keys, &mut frames, frame) {
+            Ok(inner) => next = inner,
+            Err(fault) => return ended(Err(fault), (keys, frames)),
+        }
     }
-    Ok(())
+    ended(Ok(()), (keys, frames))
 }

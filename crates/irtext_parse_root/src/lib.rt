@@ -3,6 +3,7 @@
 //! implementations.
 #![tactic(auto)]
 
+mod beside;
 pub mod block;
 mod coming;
 pub mod frames;

@@ -4,6 +4,7 @@ ghost use Rattle.irtext_context.specs.Context.{operation};
 ghost use Rattle.irtext_parse_root.specs.Parses.{CanUndo, Parses, AnswersRegion};
 ghost use Rattle.irtext_parse_root.specs.Region.{unisolated, IsReportedAt};
 
+use crate::beside::ended;
 use crate::one_region as items;
 use crate::one_region::{isolated_by, not_isolated, position_of};
 use crate::outermost::failed_fault;
@@ -62,11 +63,11 @@ fn alone_parse<T: IrText<A>, A: AttrText<A>, U>(
     match items::region_parse(s, &mut names, parent) {
         Ok(region) => {
             context_keeps(&s.state);
-            Ok(region)
+            ended(Ok(region), names)
         }
         Err(fault) => {
             failed_by(&mut s.stream, &fault);
-            Err(fault)
+            ended(Err(fault), names)
         }
     }
 }

@@ -10,6 +10,7 @@ ghost use Rattle.irtext_parse_root.specs.Turns.{IsNext};
 ghost use Rattle.irtext_parse_pieces.specs.declared.coming.Coming.TheVariants as comes;
 ghost use Rattle.irtext_parse_root.specs.declared.frames.Frame.TheVariants as framed;
 
+use crate::beside::ended;
 use crate::coming::{Next, next_turn};
 use crate::frames::{Frame, Waiting};
 use crate::passing::{skip_to_operation, space_parse};
@@ -91,7 +92,10 @@ fn region_step<T: IrText<A>, A: AttrText<A>, U>(
 {
     let op = begun.op;
     space_parse(&mut s.stream);
-    let region = enter(s, names, op, isolated)?;
+    let region = match enter(s, names, op, isolated) {
+        Ok(region) => region,
+        Err(fault) => return ended(Err(fault), begun),
+    };
     let waits = at_step(begun, following);
     let Ok(()) = frames.push(Frame::Operation(waits)) else {
         return Err(out_of_memory(&mut s.stream));
@@ -121,7 +125,10 @@ fn regions_step<T: IrText<A>, A: AttrText<A>, U>(
     if !next_is(&s.stream, '{') {
         return Ok(Some(Frame::Operation(at_step(begun, following))));
     }
-    let region = enter(s, names, begun.op, isolated)?;
+    let region = match enter(s, names, begun.op, isolated) {
+        Ok(region) => region,
+        Err(fault) => return ended(Err(fault), begun),
+    };
     let Ok(()) = frames.push(Frame::Operation(begun)) else {
         return Err(out_of_memory(&mut s.stream));
     };
@@ -142,8 +149,10 @@ fn end_step<T: IrText<A>, A: AttrText<A>, U>(
         frames.old names.old
         s.old result names.new s.new frames.new }
 {
-    end(s, names, &begun)?;
-    Ok(frames.pop())
+    match end(s, names, &begun) {
+        Ok(()) => ended(Ok(frames.pop()), begun),
+        Err(fault) => ended(Err(fault), begun),
+    }
 }
 
 /// Continues an operation with the next step of its format.

@@ -17,6 +17,7 @@ ghost use Rattle.irtext_promises.specs.Promises.{HasFault};
 ghost use Rattle.irtext_parse_root.specs.AnyState.{ReadsTree};
 ghost use Rattle.irtext_parse_root.specs.Parses.{CanUndo};
 
+use crate::beside::ended;
 use crate::nested::nested_parse;
 use irtext_base::parsable::{CharStream, ParseFault, ParseResult, TextStream};
 use irtext_base::text::{AttrText, IrText};
@@ -73,11 +74,11 @@ pub fn tree_parse<T: IrText<A>, A: AttrText<A>, U>(
     match nested_parse(s, &mut names) {
         Ok(op) => {
             context_keeps(&s.state);
-            Ok(op)
+            ended(Ok(op), names)
         }
         Err(fault) => {
             failed_by(&mut s.stream, &fault);
-            Err(fault)
+            ended(Err(fault), names)
         }
     }
 }

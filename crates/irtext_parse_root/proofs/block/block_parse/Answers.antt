@@ -26,24 +26,33 @@ returns-in-Ok g c =
     let h = head_read g.T.IrText.reading attr names old fine c.in-Ok.head c.header_parse.new.stream c.in-Ok.ensures.read in
     let said = c.header_fault.ensures.first h.head h.is in
     let missed = read_missed g.T.IrText.reading attr old new c.header_fault.result names fine c.in-Ok.head c.header_parse.new.stream h c.header_fault.ensures.fails marks said in
-    record {
+    rw c.ended.ensures (record {
       state = refl;
       refused = read_refusal g.T.IrText.reading attr old new c.header_fault.result names fine c.in-Ok.head c.header_parse.new.stream h c.header_fault.ensures.fails marks said;
       failed = λ e. absurd (true≢false (sym e ∙ fine));
       none = tt;
       missed = λ _. missed;
       unresolved = λ fresh. misses_fresh g.T.IrText.reading attr old new c.header_fault.result marks (ap indices_of fresh.marks) missed;
-    }
+    })
 
 -- ---- it is not
-pub returns-clause-refused : goal.returns-clause-refused
-returns-clause-refused g c = unread_refusal g.T.IrText.reading g.A.IrText.reading g.met.T.IrText.sincere g.met.A.IrText.sincere c.in-Err.ensures.read
+pub returns-in-Err-clause-refused : goal.returns-in-Err-clause-refused
+returns-in-Err-clause-refused g c = rw c.ended-in-Err.ensures (unread_refusal g.T.IrText.reading g.A.IrText.reading g.met.T.IrText.sincere g.met.A.IrText.sincere c.in-Err.ensures.read)
 
-pub returns-clause-missed : goal.returns-clause-missed
-returns-clause-missed g c = λ fine.
-    unread_missed g.T.IrText.reading (attr_at g.A.IrText.reading) c.args.s.now.stream c.header_parse.new.stream c.in-Err.fault (indices_of (marks_of c.args.s.now.state)) fine c.in-Err.ensures.read
+pub returns-in-Err-clause-none : goal.returns-in-Err-clause-none
+returns-in-Err-clause-none g c = rw c.ended-in-Err.ensures tt
 
-pub returns-clause-unresolved : goal.returns-clause-unresolved
-returns-clause-unresolved g c = λ fresh.
-    misses_fresh g.T.IrText.reading (attr_at g.A.IrText.reading) c.args.s.now.stream c.header_parse.new.stream c.in-Err.fault (indices_of (marks_of c.args.s.now.state)) (ap indices_of fresh.marks)
-    (returns-clause-missed g c fresh.fine)
+pub returns-in-Err-clause-failed : goal.returns-in-Err-clause-failed
+returns-in-Err-clause-failed g c = λ e. absurd (true≢false (sym e ∙ sym c.has_failed.ensures ∙ c.if-has_failed.false))
+
+pub returns-in-Err-clause-missed : goal.returns-in-Err-clause-missed
+returns-in-Err-clause-missed g c = λ fine.
+    rw c.ended-in-Err.ensures (unread_missed g.T.IrText.reading (attr_at g.A.IrText.reading) c.args.s.now.stream c.header_parse.new.stream c.in-Err.fault (indices_of (marks_of c.args.s.now.state)) fine c.in-Err.ensures.read)
+
+pub returns-in-Err-clause-unresolved : goal.returns-in-Err-clause-unresolved
+returns-in-Err-clause-unresolved g c = λ fresh.
+    let attr = attr_at g.A.IrText.reading in
+    let old = c.args.s.now.stream in
+    let marks = indices_of (marks_of c.args.s.now.state) in
+    rw c.ended-in-Err.ensures (misses_fresh g.T.IrText.reading attr old c.header_parse.new.stream c.in-Err.fault marks (ap indices_of fresh.marks)
+    (unread_missed g.T.IrText.reading attr old c.header_parse.new.stream c.in-Err.fault marks fresh.fine c.in-Err.ensures.read))

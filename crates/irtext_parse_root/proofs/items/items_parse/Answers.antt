@@ -1,6 +1,5 @@
 use Rattle.std.proofs.Common.{◌∙◌, ◌<◌, sym, subst, refl, arith, Some, None}
 use Rattle.irtext_tokens.specs.AttrTexts.{attr_at}
-use Rattle.irtext_tokens.proofs.Exits.{propagated}
 use Rattle.irtext_parse_root.specs.Levels.{AreAllNew, left_to_do}
 use Rattle.irtext_parse_root.proofs.Chains.{carries_still, carries_both}
 use Rattle.irtext_parse_root.proofs.Looping.{arrives_first, are_here, arrives_on, stops_on, less_on, finishes_on, none_wait, come_to}
@@ -29,42 +28,42 @@ step-requires g c =
       };
     }
 
-pub returns-in_err-next-clause-stops : goal.returns-in_err-next-clause-stops
-returns-in_err-next-clause-stops g c =
+pub returns-in-Err-clause-stops : goal.returns-in-Err-clause-stops
+returns-in-Err-clause-stops g c =
     let inv = c.loop-next.invariant in
-    let stops = c.in_err-next.ensures.steps.stops in
-    rw (propagated c.from_residual.result c.from_residual.ensures.1)
+    let stops = c.in-Err.ensures.steps.stops in
+    rw c.ended.ensures
     (record {
       committed = stops.committed;
       stops = λ base v k ls here. stops_on g.T.IrText.reading (attr_at g.A.IrText.reading) c.args.names.now c.args.s.now c.loop-next.names c.loop-next.s inv.carries c.in-Some.frame c.loop-next.frames _ base v k ls stops
           (come_to g.T.IrText.reading (attr_at g.A.IrText.reading) c.args.names.now c.args.s.now c.loop-next.names c.loop-next.s c.loop-next.next c.loop-next.frames c.args.first (Some c.in-Some.frame) c.in-Some.is inv.arrives base v k ls here);
     })
 
-pub returns-in_err-next-clause-spares : goal.returns-in_err-next-clause-spares
-returns-in_err-next-clause-spares g c =
+pub returns-in-Err-clause-spares : goal.returns-in-Err-clause-spares
+returns-in-Err-clause-spares g c =
     let inv = c.loop-next.invariant in
-    let e = c.in_err-next.ensures.steps.spares in
-    rw (propagated c.from_residual.result c.from_residual.ensures.1)
+    let e = c.in-Err.ensures.steps.spares in
+    rw c.ended.ensures
     (spares_then c.args.s.now c.loop-next.s _ inv.carries (λ m all. all)
     (λ m le all. subst (λ n. AreAllNew m c.loop-next.s.state.ctx.now.graph n c.loop-next.frames) c.in-Some.is (inv.fresh m le all)) e.remains inv.spares e)
 
 pub loop-next-smaller : goal.loop-next-smaller
 loop-next-smaller g c =
     let d = c.args.s.now.state.ctx.now.dialects in
-    subst (λ n. left_to_do g.row.T.Denot g.row.A.Denot d c.in_ok-next.next c.step.new.frames c.step.new.s.stream.rest < left_to_do g.row.T.Denot g.row.A.Denot d n c.loop-next.frames c.loop-next.s.stream.rest) (sym c.in-Some.is)
-    (less_on g.T.IrText.reading (attr_at g.A.IrText.reading) c.args.names.now c.args.s.now c.loop-next.names c.loop-next.s c.loop-next.invariant.carries c.in-Some.frame c.loop-next.frames c.step.new.names c.step.new.s c.in_ok-next.next c.step.new.frames c.in_ok-next.ensures.steps.proceeds)
+    subst (λ n. left_to_do g.row.T.Denot g.row.A.Denot d c.in-Ok.inner c.step.new.frames c.step.new.s.stream.rest < left_to_do g.row.T.Denot g.row.A.Denot d n c.loop-next.frames c.loop-next.s.stream.rest) (sym c.in-Some.is)
+    (less_on g.T.IrText.reading (attr_at g.A.IrText.reading) c.args.names.now c.args.s.now c.loop-next.names c.loop-next.s c.loop-next.invariant.carries c.in-Some.frame c.loop-next.frames c.step.new.names c.step.new.s c.in-Ok.inner c.step.new.frames c.in-Ok.ensures.steps.proceeds)
 
 pub loop-next-preserved : goal.loop-next-preserved
 loop-next-preserved g c =
     let inv = c.loop-next.invariant in
-    let p = c.in_ok-next.ensures.steps.proceeds in
+    let p = c.in-Ok.ensures.steps.proceeds in
     record {
-      lent = c.in_ok-next.ensures.lent ∙ inv.lent;
+      lent = c.in-Ok.ensures.lent ∙ inv.lent;
       carries = carries_both inv.carries p.carries;
-      arrives = λ base v k ls here. arrives_on g.T.IrText.reading (attr_at g.A.IrText.reading) c.args.names.now c.args.s.now c.loop-next.names c.loop-next.s inv.carries c.in-Some.frame c.loop-next.frames c.step.new.names c.step.new.s c.in_ok-next.next c.step.new.frames base v k ls p
+      arrives = λ base v k ls here. arrives_on g.T.IrText.reading (attr_at g.A.IrText.reading) c.args.names.now c.args.s.now c.loop-next.names c.loop-next.s inv.carries c.in-Some.frame c.loop-next.frames c.step.new.names c.step.new.s c.in-Ok.inner c.step.new.frames base v k ls p
           (come_to g.T.IrText.reading (attr_at g.A.IrText.reading) c.args.names.now c.args.s.now c.loop-next.names c.loop-next.s c.loop-next.next c.loop-next.frames c.args.first (Some c.in-Some.frame) c.in-Some.is inv.arrives base v k ls here);
       spares = spares_then c.args.s.now c.loop-next.s _ inv.carries (λ m all. all)
-          (λ m le all. subst (λ n. AreAllNew m c.loop-next.s.state.ctx.now.graph n c.loop-next.frames) c.in-Some.is (inv.fresh m le all)) tt inv.spares c.in_ok-next.ensures.steps.spares;
+          (λ m le all. subst (λ n. AreAllNew m c.loop-next.s.state.ctx.now.graph n c.loop-next.frames) c.in-Some.is (inv.fresh m le all)) tt inv.spares c.in-Ok.ensures.steps.spares;
       fresh = λ m le all.
           let up = inv.carries.lasts.made in
           p.fresh m (omega (arith, le, up)) (subst (λ n. AreAllNew m c.loop-next.s.state.ctx.now.graph n c.loop-next.frames) c.in-Some.is (inv.fresh m le all));
@@ -73,11 +72,17 @@ loop-next-preserved g c =
 pub returns-clause-finishes : goal.returns-clause-finishes
 returns-clause-finishes g c =
     let inv = c.loop-next.invariant in
-    record {
+    rw c.ended-2.ensures (record {
       carries = inv.carries;
       arrives = λ base v k ls here. finishes_on g.T.IrText.reading (attr_at g.A.IrText.reading) c.args.names.now c.args.s.now c.loop-next.names c.loop-next.s inv.carries base v k ls c.loop-next.frames
           (come_to g.T.IrText.reading (attr_at g.A.IrText.reading) c.args.names.now c.args.s.now c.loop-next.names c.loop-next.s c.loop-next.next c.loop-next.frames c.args.first None c.in_default.is inv.arrives base v k ls here);
-    }
+    })
 
 pub returns-clause-spares : goal.returns-clause-spares
-returns-clause-spares g c = c.loop-next.invariant.spares
+returns-clause-spares g c = rw c.ended-2.ensures c.loop-next.invariant.spares
+
+pub returns-clause-stops : goal.returns-clause-stops
+returns-clause-stops g c = rw c.ended-2.ensures tt
+
+pub returns-in-Err-clause-finishes : goal.returns-in-Err-clause-finishes
+returns-in-Err-clause-finishes g c = rw c.ended.ensures tt

@@ -38,33 +38,33 @@ returns-in-Some-clause-answers g c =
 pub region_parse-requires-clause-sound : goal.region_parse-requires-clause-sound
 region_parse-requires-clause-sound g c = fresh_sound c.new-names.result c.args.s.now.state c.new-names.ensures.names c.new-names.ensures.values c.new-names.ensures.labels c.context_keeps.ensures.older
 
-pub returns-clause-undone : goal.returns-clause-undone
-returns-clause-undone g c =
+pub returns-in-Err-clause-undone : goal.returns-in-Err-clause-undone
+returns-in-Err-clause-undone g c =
     let m = c.args.s.now.state.ctx.now.graph.made in
     let e = c.new-names.ensures in
     let f = c.in-Err.ensures in
     let says = says_region g.T.IrText.reading g.A.IrText.reading g.met.T.IrText.sincere g.met.A.IrText.sincere c.new-names.result c.args.s.now e.names e.values e.labels c.args.parent c.in-Err.fault f.refused in
-    record {
+    rw c.ended-in-Err.ensures (record {
       rest = f.rest;
       refused = subst (Refusal c.args.s.now.stream c.in-Err.fault) (sym c.failed_by.ensures) (refusal_by c.args.s.now.stream c.region_parse.new.s.stream c.in-Err.fault says f.unread);
       noted = f.unnoted;
       kept = f.kept m (le_refl m) c.context_keeps.ensures.closed (fresh_sound c.new-names.result c.args.s.now.state e.names e.values e.labels c.context_keeps.ensures.older);
-    }
+    })
 
-pub returns-clause-answers : goal.returns-clause-answers
-returns-clause-answers g c =
+pub returns-in-Err-clause-answers : goal.returns-in-Err-clause-answers
+returns-in-Err-clause-answers g c =
     let e = c.new-names.ensures in
     let l = laws g in
     let missed = misses_region g.T.IrText.reading (attr_at g.A.IrText.reading) c.new-names.result c.args.s.now e.names e.values e.labels c.args.parent c.requires.alive (unreported _ c.in_default.ensures) c.in-Err.fault c.in-Err.ensures.refused in
-    record {
+    rw c.ended-in-Err.ensures (record {
       read = tt;
       missed = λ fine. missed;
       builds = λ fresh. tt;
       unresolved = λ fresh. refuses_region g.T.IrText.reading g.T.IrText.written g.A.IrText.reading g.A.IrText.written l.types_split l.splits l.words l.short_types l.short_owns c.args.parent c.args.s.now fresh c.in-Err.fault missed;
-    }
+    })
 
 pub returns-in-Ok-clause-undone : goal.returns-in-Ok-clause-undone
-returns-in-Ok-clause-undone g c = record { rest = c.in-Ok.ensures.rest; refused = tt; noted = tt; kept = tt }
+returns-in-Ok-clause-undone g c = rw c.ended.ensures (record { rest = c.in-Ok.ensures.rest; refused = tt; noted = tt; kept = tt })
 
 pub returns-in-Ok-clause-answers : goal.returns-in-Ok-clause-answers
 returns-in-Ok-clause-answers g c =
@@ -78,11 +78,11 @@ returns-in-Ok-clause-answers g c =
     let begun = fresh_sound c.new-names.result old.state e.names e.values e.labels before.older in
     let kept = u.older m (le_refl m) before.closed begun in
     let id = closed_id old.state.ctx.now c.args.parent c.requires.alive (unreported _ c.in_default.ensures) in
-    record {
+    rw c.ended.ensures (record {
       read = region_read g.T.IrText.reading (attr_at g.A.IrText.reading) c.new-names.result old e.names e.values e.labels c.args.parent c.requires.alive (unreported _ c.in_default.ensures) c.in-Ok.region c.region_parse.new.names new u;
       missed = λ fine. tt;
       builds = λ fresh. builds_region g.T.IrText.reading g.T.IrText.written g.A.IrText.reading g.A.IrText.written l.types_split l.splits l.words l.short_types l.short_owns
           c.new-names.result c.region_parse.new.names old new e.names e.values e.labels fresh c.args.parent c.in-Ok.region u before.accepted (closed_as old.state.ctx.now c.args.parent c.requires.alive (unreported _ c.in_default.ensures) u.iso u.isolation)
           id.0 id.1 c.requires.alive before.older kept (u.sound m (le_refl m) begun) c.context_keeps-in-Ok.ensures.nest before.holders;
       unresolved = λ fresh. tt;
-    }
+    })

@@ -1,5 +1,4 @@
 use Rattle.std.proofs.Common.{◌∙◌, None, ap}
-use Rattle.irtext_tokens.proofs.Exits.{propagated}
 use Rattle.irtext_parse_root.proofs.Chains.{carries_passed}
 use Rattle.irtext_parse_root.proofs.Proceeding.{region_proceeds}
 use Rattle.irtext_parse_root.proofs.Sparing.{fine_after, step_made, step_failed, step_ran_out}
@@ -9,15 +8,15 @@ use Rattle.irtext_parse_root.proofs.steps.region_step.Goals as goal
 pub enter-requires-clause-fine : goal.enter-requires-clause-fine
 enter-requires-clause-fine g c = fine_after c.requires.ready.fine c.space_parse.ensures.moves
 
-pub returns-in_err-region-clause-steps : goal.returns-in_err-region-clause-steps
-returns-in_err-region-clause-steps g c = rw (propagated c.from_residual.result c.from_residual.ensures.1)
-    (step_failed (region_stops g.T.IrText.reading g.A.IrText.reading g.met.T.IrText.sincere.reads g.met.A.IrText.sincere.reads c.args.names.now c.args.s.now c.args.frames.now _ c.args.begun c.in_err-region.ensures.committed c.space_parse.new.stream c.space_parse.ensures c.args.isolated c.requires.isolated c.in_err-region.ensures.refused c.requires.next) c.in_err-region.ensures.spares)
+pub returns-in-Err-clause-steps : goal.returns-in-Err-clause-steps
+returns-in-Err-clause-steps g c = rw c.ended.ensures
+    (step_failed (region_stops g.T.IrText.reading g.A.IrText.reading g.met.T.IrText.sincere.reads g.met.A.IrText.sincere.reads c.args.names.now c.args.s.now c.args.frames.now _ c.args.begun c.in-Err.ensures.committed c.space_parse.new.stream c.space_parse.ensures c.args.isolated c.requires.isolated c.in-Err.ensures.refused c.requires.next) c.in-Err.ensures.spares)
 
 pub returns-in_default-clause-steps : goal.returns-in_default-clause-steps
-returns-in_default-clause-steps g c = step_ran_out c.out_of_memory.ensures (carries_passed c.space_parse.new.stream c.space_parse.ensures.moves c.in_ok-region.ensures.enters.carries) c.in_ok-region.ensures.spares
+returns-in_default-clause-steps g c = step_ran_out c.out_of_memory.ensures (carries_passed c.space_parse.new.stream c.space_parse.ensures.moves c.in-Ok.ensures.enters.carries) c.in-Ok.ensures.spares
 
 pub returns-clause-steps : goal.returns-clause-steps
 returns-clause-steps g c =
     let waits = c.at_step-waits.ensures ∙ ap (λ z. record c.args.begun { coming = None; step = z }) c.requires.following in
-    step_made (region_proceeds g.T.IrText.reading g.A.IrText.reading g.met.T.IrText.sincere.reads g.met.A.IrText.sincere.reads c.args.names.now c.args.s.now c.space_parse.new.stream c.space_parse.ensures c.args.begun c.args.frames.now c.push.new.self c.in_ok-region.region c.enter.new.names c.enter.new.s c.args.isolated
-    c.in_ok-region.ensures.enters c.requires.isolated c.requires.next c.at_step-waits.result waits c.in-Ok.ensures c.requires.ready.here) c.in_ok-region.ensures.spares
+    step_made (region_proceeds g.T.IrText.reading g.A.IrText.reading g.met.T.IrText.sincere.reads g.met.A.IrText.sincere.reads c.args.names.now c.args.s.now c.space_parse.new.stream c.space_parse.ensures c.args.begun c.args.frames.now c.push.new.self c.in-Ok.region c.enter.new.names c.enter.new.s c.args.isolated
+    c.in-Ok.ensures.enters c.requires.isolated c.requires.next c.at_step-waits.result waits c.in-Ok-push.ensures c.requires.ready.here) c.in-Ok.ensures.spares

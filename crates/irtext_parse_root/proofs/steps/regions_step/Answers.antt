@@ -1,5 +1,4 @@
 use Rattle.std.proofs.Common.{◌≡◌, ◌∙◌, None, sym, ap, subst, true, false}
-use Rattle.irtext_tokens.proofs.Exits.{propagated}
 use Rattle.irtext_parse_spec.specs.Reached.{begins_region}
 use Rattle.irtext_parse_root.proofs.Chains.{carries_passed}
 use Rattle.irtext_parse_root.proofs.Proceeding.{another_proceeds, over_proceeds}
@@ -16,17 +15,17 @@ returns-then-not-next_is-clause-steps g c =
 pub enter-requires-clause-fine : goal.enter-requires-clause-fine
 enter-requires-clause-fine g c = fine_after c.requires.ready.fine c.space_parse.ensures.moves
 
-pub returns-in_err-region-clause-steps : goal.returns-in_err-region-clause-steps
-returns-in_err-region-clause-steps g c =
+pub returns-in-Err-clause-steps : goal.returns-in-Err-clause-steps
+returns-in-Err-clause-steps g c =
     let follows_on = subst (λ t. begins_region t ≡ true) c.space_parse.ensures.rest (sym c.next_is.ensures ∙ c.if-not-next_is.false) in
-    rw (propagated c.from_residual.result c.from_residual.ensures.1)
-    (step_failed (another_stops g.T.IrText.reading g.A.IrText.reading g.met.T.IrText.sincere.reads g.met.A.IrText.sincere.reads c.args.names.now c.args.s.now c.args.frames.now _ c.args.begun c.in_err-region.ensures.committed c.space_parse.new.stream c.space_parse.ensures c.args.isolated c.requires.isolated c.in_err-region.ensures.refused c.requires.next follows_on) c.in_err-region.ensures.spares)
+    rw c.ended.ensures
+    (step_failed (another_stops g.T.IrText.reading g.A.IrText.reading g.met.T.IrText.sincere.reads g.met.A.IrText.sincere.reads c.args.names.now c.args.s.now c.args.frames.now _ c.args.begun c.in-Err.ensures.committed c.space_parse.new.stream c.space_parse.ensures c.args.isolated c.requires.isolated c.in-Err.ensures.refused c.requires.next follows_on) c.in-Err.ensures.spares)
 
 pub returns-in_default-clause-steps : goal.returns-in_default-clause-steps
-returns-in_default-clause-steps g c = step_ran_out c.out_of_memory.ensures (carries_passed c.space_parse.new.stream c.space_parse.ensures.moves c.in_ok-region.ensures.enters.carries) c.in_ok-region.ensures.spares
+returns-in_default-clause-steps g c = step_ran_out c.out_of_memory.ensures (carries_passed c.space_parse.new.stream c.space_parse.ensures.moves c.in-Ok.ensures.enters.carries) c.in-Ok.ensures.spares
 
 pub returns-clause-steps : goal.returns-clause-steps
 returns-clause-steps g c =
     let follows_on = subst (λ t. begins_region t ≡ true) c.space_parse.ensures.rest (sym c.next_is.ensures ∙ c.if-not-next_is.false) in
-    step_made (another_proceeds g.T.IrText.reading g.A.IrText.reading g.met.T.IrText.sincere.reads g.met.A.IrText.sincere.reads c.args.names.now c.args.s.now c.space_parse.new.stream c.space_parse.ensures c.args.begun c.args.frames.now c.push.new.self c.in_ok-region.region c.enter.new.names c.enter.new.s c.args.isolated
-    c.in_ok-region.ensures.enters c.requires.isolated c.requires.next follows_on c.in-Ok.ensures c.requires.ready.here) c.in_ok-region.ensures.spares
+    step_made (another_proceeds g.T.IrText.reading g.A.IrText.reading g.met.T.IrText.sincere.reads g.met.A.IrText.sincere.reads c.args.names.now c.args.s.now c.space_parse.new.stream c.space_parse.ensures c.args.begun c.args.frames.now c.push.new.self c.in-Ok.region c.enter.new.names c.enter.new.s c.args.isolated
+    c.in-Ok.ensures.enters c.requires.isolated c.requires.next follows_on c.in-Ok-push.ensures c.requires.ready.here) c.in-Ok.ensures.spares

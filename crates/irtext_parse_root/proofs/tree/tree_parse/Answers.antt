@@ -22,38 +22,50 @@ returns-in-Ok-clause-read g c =
     let laws = laws_of g.T.IrText g.A.IrText g.met.T.IrText.sincere g.met.A.IrText.sincere g.met.A.IrText.lawful in
     let before = c.context_keeps.ensures in
     let e = c.new-names.ensures in
-    reads_tree g.T.IrText.reading g.T.IrText.written g.A.IrText.reading g.A.IrText.written laws.types_split laws.splits laws.words laws.short_types laws.short_owns
+    rw c.ended.ensures (reads_tree g.T.IrText.reading g.T.IrText.written g.A.IrText.reading g.A.IrText.written laws.types_split laws.splits laws.words laws.short_types laws.short_owns
     c.new-names.result c.nested_parse.new.names c.args.s.now c.nested_parse.new.s e.names e.values e.labels c.in-Ok.op c.in-Ok.ensures.read
-    before.accepted before.older (returns-in-Ok-clause-kept g c) c.in-Ok.ensures.carries c.context_keeps-in-Ok.ensures.nest before.holders
+    before.accepted before.older (returns-in-Ok-clause-kept g c) c.in-Ok.ensures.carries c.context_keeps-in-Ok.ensures.nest before.holders)
 
 pub returns-in-Ok-clause-undone : goal.returns-in-Ok-clause-undone
-returns-in-Ok-clause-undone g c = record { rest = c.in-Ok.ensures.rest; refused = tt; noted = tt; kept = tt }
+returns-in-Ok-clause-undone g c = rw c.ended.ensures (record { rest = c.in-Ok.ensures.rest; refused = tt; noted = tt; kept = tt })
+
+pub returns-in-Ok-clause-missed : goal.returns-in-Ok-clause-missed
+returns-in-Ok-clause-missed g c = rw c.ended.ensures tt
+
+pub returns-in-Ok-clause-moves : goal.returns-in-Ok-clause-moves
+returns-in-Ok-clause-moves g c = rw c.ended.ensures c.in-Ok.ensures.carries.moves
 
 pub returns-in-Ok-clause-noted : goal.returns-in-Ok-clause-noted
 returns-in-Ok-clause-noted g c = c.in-Ok.ensures.carries.gains
 
-pub returns-clause-missed : goal.returns-clause-missed
-returns-clause-missed g c =
+pub returns-in-Err-clause-missed : goal.returns-in-Err-clause-missed
+returns-in-Err-clause-missed g c =
     let e = c.new-names.ensures in
-    has_fault g.T.IrText.reading (attr_at g.A.IrText.reading) c.new-names.result c.args.s.now e.names e.values e.labels c.in-Err.fault c.in-Err.ensures.refused
+    rw c.ended-in-Err.ensures (has_fault g.T.IrText.reading (attr_at g.A.IrText.reading) c.new-names.result c.args.s.now e.names e.values e.labels c.in-Err.fault c.in-Err.ensures.refused)
 
-pub returns-clause-kept : goal.returns-clause-kept
-returns-clause-kept g c =
+pub returns-in-Err-clause-read : goal.returns-in-Err-clause-read
+returns-in-Err-clause-read g c = rw c.ended-in-Err.ensures tt
+
+pub returns-in-Err-clause-moves : goal.returns-in-Err-clause-moves
+returns-in-Err-clause-moves g c = rw c.ended-in-Err.ensures tt
+
+pub returns-in-Err-clause-kept : goal.returns-in-Err-clause-kept
+returns-in-Err-clause-kept g c =
     let m = c.args.s.now.state.ctx.now.graph.made in
     let e = c.new-names.ensures in
     c.in-Err.ensures.spares.kept m (le_refl m) c.context_keeps.ensures.closed (fresh_sound c.new-names.result c.args.s.now.state e.names e.values e.labels c.context_keeps.ensures.older) tt
 
-pub returns-clause-undone : goal.returns-clause-undone
-returns-clause-undone g c =
+pub returns-in-Err-clause-undone : goal.returns-in-Err-clause-undone
+returns-in-Err-clause-undone g c =
     let e = c.new-names.ensures in
     let f = c.in-Err.ensures in
     let says = says_text g.T.IrText.reading g.A.IrText.reading g.met.T.IrText.sincere g.met.A.IrText.sincere c.new-names.result c.args.s.now e.names e.values e.labels c.in-Err.fault f.refused in
-    record {
+    rw c.ended-in-Err.ensures (record {
       rest = f.rest;
       refused = subst (Refusal c.args.s.now.stream c.in-Err.fault) (sym c.failed_by.ensures) (refusal_by c.args.s.now.stream c.nested_parse.new.s.stream c.in-Err.fault says f.unread);
       noted = f.spares.remains.gains;
-      kept = returns-clause-kept g c;
-    }
+      kept = returns-in-Err-clause-kept g c;
+    })
 
-pub returns-clause-noted : goal.returns-clause-noted
-returns-clause-noted g c = c.in-Err.ensures.spares.remains.gains
+pub returns-in-Err-clause-noted : goal.returns-in-Err-clause-noted
+returns-in-Err-clause-noted g c = c.in-Err.ensures.spares.remains.gains
