@@ -29,7 +29,7 @@ no_entry_begins attr false text b = let m = missing_followed _ (no_name_begins t
 
 module _ {S A : Type 0} (l : Lens S) where
   -- a fault at an earlier place of the text is one of what was parsed from there
-  refused_there : (cause : Fault) (place : Place) (old mid new : S) (fault : ParseFault A) (t r : Text) → Takes l.view l.at t r old mid → IsPlaceAfter place (l.view old).passed → RefusesAt l.view l.at cause place mid fault new
+  pub refused_there : (cause : Fault) (place : Place) (old mid new : S) (fault : ParseFault A) (t r : Text) → Takes l.view l.at t r old mid → IsPlaceAfter place (l.view old).passed → RefusesAt l.view l.at cause place mid fault new
       → Commits l.view l.at cause [] old fault new
   refused_there cause place old mid new fault t r k p h =
       let s = takes_same_stream l.view l.at l.view_at l.at_at old mid t r k in

@@ -17,6 +17,7 @@ pub mod Looks
 pub mod MarkSteps
 pub mod Meanings
 pub mod NameSteps
+pub mod OutsideNames
 pub mod PairSteps
 pub mod PieceSteps
 pub mod SignatureParts

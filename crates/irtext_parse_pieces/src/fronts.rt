@@ -1,19 +1,22 @@
 //! Parsing of the parts of an operation that its format has before its first region.
-ghost use Rattle.std.specs.Prelude.{◌≡◌, ◌+◌, ◌<◌, ◌^◌, Bool, List, false, length, IfOk, MatchBool, Ok};
+ghost use Rattle.std.specs.Prelude.{◌≡◌, ◌+◌, ◌<◌, ◌^◌, ℕ, Bool, List, false, length, IfOk, MatchBool, Ok};
 ghost use Rattle.irtext_base.specs.Faults.{characters};
 ghost use Rattle.irtext_base.specs.Text.{Text};
 ghost use Rattle.irtext_base.specs.FormatViews.{format_of};
 ghost use Rattle.irtext_tokens.specs.AttrTexts.{attr_at};
+ghost use Rattle.irtext_tokens.specs.Infix.{Reader};
+ghost use Rattle.irtext_grammar.specs.Grammar.Tree.{Piece};
 ghost use Rattle.irtext_parse_spec.specs.Heads.{canonical_steps, steps_of, piece_at};
 ghost use Rattle.irtext_parse_pieces.specs.Fronts.{HasFront, TakesText, MustFront, MustFind};
 ghost use Rattle.irtext_parse_pieces.specs.Named.{NamesRead};
+ghost use Rattle.irtext_parse_pieces.specs.Pieces.{MustPiece};
 ghost use Rattle.irtext_parse_pieces.specs.Steps.{custom_steps, seen_step};
 
 use crate::beside::failed;
 use crate::canonical::canonical_parse;
 use crate::found::{CustomPieces, Pieces};
 use crate::keys::Keys;
-use crate::pieces::{accepts, step_parse};
+use crate::pieces::{ReadPiece, accepts, step_parse};
 use crate::steps::{FormatStep, custom_step, reads_piece, word_of};
 use irtext_base::format::{Directive, OpFormat};
 use irtext_base::parsable::{CharStream, ParseResult};
@@ -63,6 +66,28 @@ fn word_found<S: CharStream, T: IrText<A>, A: AttrText<A>>(
     true
 }
 
+/// Appends a piece that was parsed to the pieces, or returns its error.
+#[inline(always)]
+fn piece_kept<S: CharStream, T: Drop, A: Drop>(
+    stream: &mut S,
+    found: &mut CustomPieces<T, A>,
+    answer: ParseResult<ReadPiece<T, A>, A>,
+) -> ParseResult<(), A>
+    requires { length found.old + 1 < 2 ^ 64 }
+    ensures { (names : List Text) (outcome : Reader (Piece ℕ T A)) (old : _)
+        → MustPiece S.view S.at names outcome old answer stream.old
+        → MustFind S.view S.at names outcome found.old found.new old result stream.new }
+{
+    let piece = match answer {
+        Ok(piece) => piece,
+        Err(fault) => return Err(fault),
+    };
+    match found.push(piece) {
+        Ok(()) => Ok(()),
+        Err(AllocError) => Err(out_of_memory(stream)),
+    }
+}
+
 /// Parses what a step of a format describes, which is no region, and appends it to the pieces. Every error is committed.
 #[inline(always)]
 fn step_found<S: OwnStream, V: Copy, B: Copy, T: IrText<A>, A: AttrText<A>>(
@@ -84,11 +109,8 @@ fn step_found<S: OwnStream, V: Copy, B: Copy, T: IrText<A>, A: AttrText<A>>(
         found.push_word();
         return Ok(());
     }
-    let piece = step_parse(stream, names, step, inside, keys)?;
-    match found.push(piece) {
-        Ok(()) => Ok(()),
-        Err(AllocError) => Err(out_of_memory(stream)),
-    }
+    let answer = step_parse(stream, names, step, inside, keys);
+    piece_kept(stream, found, answer)
 }
 
 /// Parses what a step of a format describes, which is no region, and appends it to the pieces. Every error is committed. A fixed text that
