@@ -1,2 +1,7 @@
 pub mod MadeLive
 mod TypesListed
+mod Preds
+mod Unions
+mod FirstResults
+pub mod Gathered
+mod NestedOperations

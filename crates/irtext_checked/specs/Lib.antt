@@ -1,2 +1,5 @@
 pub mod Checked
 pub mod Types
+pub mod Lists
+pub mod Nested
+pub mod ResultUses

@@ -2,10 +2,14 @@
 //! allocations that fail; and random scripts compared with plain models.
 #![tactic(auto)]
 
+pub mod causes;
 #[cfg(test)]
 mod checks;
+pub mod definitions;
 #[cfg(test)]
 mod held;
+pub mod labels;
+pub mod location_rows;
 #[cfg(test)]
 mod memory;
 #[cfg(test)]

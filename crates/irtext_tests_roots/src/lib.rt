@@ -1,5 +1,5 @@
-//! Worked rows of graphs that a caller makes, of contexts that were filled separately, and of names outside of regions; and the examples of
-//! the pages.
+//! Worked rows of graphs that a caller makes, of contexts that were filled separately, of names outside of regions, and of what
+//! `pliron_text` re-exports: dialects, checked calls, errors and macros; and the examples of the pages.
 #![tactic(auto)]
 
 #[cfg(test)]

@@ -1,8 +1,6 @@
 //! The tests, a file for each subject.
 mod attributes;
-mod causes;
 mod demo;
-mod errors;
 mod excerpt;
 mod fits;
 mod formats;

@@ -1,5 +1,0 @@
-mod Preds
-mod Unions
-mod FirstResults
-pub mod Gathered
-mod NestedOperations

@@ -1,0 +1,7 @@
+use Rattle.std.specs.Prelude.{refl}
+use Rattle.std.specs.Fmt.{digits}
+use Rattle.irtext_tests_names.proofs.labels.a_label_first.Goals as goal
+
+pub returns : goal.returns
+unfolding digits
+returns c = refl

@@ -1,0 +1,254 @@
+//! The texts of causes and of the small error types.
+use crate::parse::errors::{at, error};
+use irtext_base::base::{Identifier, OpId};
+use irtext_base::format::FormatFault;
+use irtext_base::location::Location;
+use irtext_base::parsable::{ParserNameTrackerError, SourcePosition, UnresolvedReference};
+use irtext_base::result::{Cause, ErrorKind, Expected, StringError};
+use irtext_demo::DemoAttr;
+use irtext_print_ir::ir::verify::{BasicBlockVerifyErr, DefUseVerifyErr};
+use irtext_tests_common::contexts::named;
+use irtext_tokens::irfmt::parsers::held;
+use std::alloc::Global;
+use std::test::Fail;
+
+/// The texts of causes.
+const CAUSES: &[&str] = &[
+    "Out of memory",
+    "The stream has failed",
+    "an error occurred when formatting an argument",
+    "Unexpected `x`, expected `->`",
+    "Unexpected escaped character \\q",
+    "Repeated item reads nothing",
+    "List separator is white space",
+    "Operation has 2 results and 1 names",
+    "Duplicate outline index: 5",
+    "No operation or block found for outline index: 6",
+    "No PrintOnceAttr found for outline index: 7",
+    "Format refused by condition C8",
+    "Unexpected end of input, expected `;`",
+    "Unexpected end of input, expected identifier",
+    "Unexpected end of input, expected digit",
+    "Unexpected end of input, expected hexadecimal digit",
+    "Unexpected end of input, expected escaped character",
+    "Unexpected end of input, expected operation",
+    "Unexpected end of input, expected source",
+    "Unexpected end of input, expected location",
+    "Unexpected end of input, expected true or false",
+    "Unexpected end of input, expected type",
+    "Unexpected end of input, expected attribute",
+    "Unexpected end of input, expected end of input",
+    "Unregistered dialect x",
+    "No active scope for identifier x",
+    "Identifier x was not resolved to any definition in the scope",
+    "Identifier x defined more than once in the scope",
+    "Reserved attribute key: x",
+    "Number out of range: 110000",
+    "Invalid unicode escape \\u{110000}",
+    "110000",
+    "110000",
+    "Unexpected end of input, expected `110000`",
+    "Unregistered Op test.z",
+    "Operation test.z is not of dialect builtin",
+    "Parse error at line: 1, column: 1\nCompilation error: invalid argument.\nOut of memory\n",
+];
+
+/// A cause that holds no text.
+fn plain(number: usize) -> Cause<DemoAttr> {
+    match number {
+        0 => Cause::Memory,
+        1 => Cause::StreamFailed,
+        2 => Cause::Fmt,
+        4 => Cause::BadEscape('q'),
+        5 => Cause::EmptyItem,
+        6 => Cause::BadSeparator,
+        7 => Cause::ResultCount {
+            results: 2,
+            names: 1,
+        },
+        8 => Cause::DuplicateIndex(5),
+        9 => Cause::UnknownIndex(6),
+        10 => Cause::UnknownPrintOnce(7),
+        11 => Cause::FormatFault(FormatFault::AmbiguousList),
+        _ => Cause::Unexpected {
+            found: None,
+            expected: expected(number),
+        },
+    }
+}
+
+/// What is expected, at the end of the cause's text.
+fn expected(number: usize) -> Expected {
+    match number {
+        12 => Expected::Char(';'),
+        13 => Expected::Identifier,
+        14 => Expected::Digit,
+        15 => Expected::HexadecimalDigit,
+        16 => Expected::EscapedCharacter,
+        17 => Expected::Operation,
+        18 => Expected::Source,
+        19 => Expected::Location,
+        20 => Expected::TrueOrFalse,
+        21 => Expected::Type,
+        22 => Expected::Attribute,
+        _ => Expected::EndOfInput,
+    }
+}
+
+/// A cause with this name.
+fn with_name(number: usize, name: Identifier) -> Cause<DemoAttr> {
+    match number {
+        24 => Cause::UnregisteredDialect(name),
+        25 => Cause::NoActiveScope(name),
+        26 => Cause::UnresolvedReference(UnresolvedReference(name)),
+        27 => Cause::ParserNameTrackerError(ParserNameTrackerError::MultipleDefinitions(name)),
+        _ => Cause::ReservedKey(name),
+    }
+}
+
+/// A cause with this text.
+fn with_text(number: usize, text: String) -> Cause<DemoAttr> {
+    match number {
+        29 => Cause::NumberRange(text),
+        30 => Cause::BadUnicodeEscape(text),
+        31 => Cause::OwnText(text),
+        32 => Cause::Text(StringError(text)),
+        _ => Cause::Unexpected {
+            found: None,
+            expected: Expected::Literal(text),
+        },
+    }
+}
+
+/// A cause with this operation's id.
+fn with_id(number: usize, id: OpId, dialect: Identifier) -> Cause<DemoAttr> {
+    match number {
+        34 => Cause::UnregisteredOp(id),
+        _ => Cause::WrongDialect { id, dialect },
+    }
+}
+
+/// A cause with the operation's id `test.z`.
+fn of_operation(alloc: Global, number: usize) -> Result<Cause<DemoAttr>, Fail> {
+    let dialect = named(alloc, "test")?;
+    let name = named(alloc, "z")?;
+    let other = named(alloc, "builtin")?;
+    Ok(with_id(number, OpId { dialect, name }, other))
+}
+
+/// A cause that holds others.
+fn nested(alloc: Global) -> Result<Cause<DemoAttr>, Fail> {
+    let inner = error(ErrorKind::InvalidArgument, Location::Unknown, Cause::Memory);
+    let nested: Cause<DemoAttr> = Cause::Nested(Box::new(alloc, inner)?);
+    Ok(Cause::Parse {
+        at: SourcePosition { line: 1, column: 1 },
+        cause: Box::new(alloc, nested)?,
+    })
+}
+
+/// A cause that expects a fixed text.
+fn fixed_text(alloc: Global) -> Result<Cause<DemoAttr>, Fail> {
+    Ok(Cause::Unexpected {
+        found: Some('x'),
+        expected: held(alloc, "->")?,
+    })
+}
+
+/// The cause of a line.
+fn cause(alloc: Global, number: usize) -> Result<Cause<DemoAttr>, Fail> {
+    match number {
+        3 => fixed_text(alloc),
+        0..=23 => Ok(plain(number)),
+        24..=28 => Ok(with_name(number, named(alloc, "x")?)),
+        29..=33 => Ok(with_text(number, String::from_str(alloc, "110000")?)),
+        34..=35 => of_operation(alloc, number),
+        _ => nested(alloc),
+    }
+}
+
+/// The text of the cause of a line.
+fn text_of(alloc: Global, number: usize) -> Result<String, Fail> {
+    let cause = cause(alloc, number)?;
+    Ok(format!(in alloc; "{cause}")?)
+}
+
+#[test]
+fn texts_of_causes(rt: HostRuntime) -> Result<(), Fail> {
+    for (number, wanted) in CAUSES.iter().enumerate() {
+        assert_eq!(rt; text_of(rt.alloc(), number)?.as_str(), *wanted);
+    }
+    Ok(())
+}
+
+/// The texts of the small error types, and of an error without its location, which its `Display` doesn't show.
+const SMALL: &[&str] = &[
+    "Identifier b was not resolved to any definition in the scope",
+    "Regions in a top-level operation must be IsolatedFromAbove",
+    "invalid argument",
+    "verification failed",
+    "Format refused by condition C1",
+    "Basic block \"b\" is missing a terminator",
+    "Basic block \"b\" has a terminator that is not the last operation in the block",
+    "Basic block \"b\" has no parent operation",
+    "Use of b not dominated by definition",
+    "Operand is not a use of its def",
+    "true false Compilation error: invalid input program.\nRepeated item reads nothing\nCompilation error: invalid input program.\nRepeated item reads nothing",
+];
+
+/// The error of a block.
+fn refused_block(number: usize, block: String) -> BasicBlockVerifyErr {
+    match number {
+        5 => BasicBlockVerifyErr::MissingTerminator(block),
+        6 => BasicBlockVerifyErr::TerminatorNotLast(block),
+        _ => BasicBlockVerifyErr::NoParent(block),
+    }
+}
+
+/// The text of the error of a block.
+fn of_block(alloc: Global, number: usize) -> Result<String, Fail> {
+    let error = refused_block(number, String::from_str(alloc, "b")?);
+    Ok(format!(in alloc; "{error}")?)
+}
+
+/// The text of the error of a name that has no definition, or a late one.
+fn of_name(alloc: Global, number: usize) -> Result<String, Fail> {
+    let name = named(alloc, "b")?;
+    if number == 0 {
+        let lost = UnresolvedReference(name);
+        return Ok(format!(in alloc; "{lost}")?);
+    }
+    let late = DefUseVerifyErr::UseNotDominatedByDef(name);
+    Ok(format!(in alloc; "{late}")?)
+}
+
+/// An error whose location is set after it is made.
+fn of_error(alloc: Global) -> Result<String, Fail> {
+    let mut error = error(ErrorKind::InvalidInput, Location::Unknown, Cause::EmptyItem);
+    let before = error.loc().is_unknown();
+    error.set_loc(at(4, 2));
+    let following = error.loc().is_unknown();
+    Ok(format!(in alloc; "{before} {following} {error}\n{error:?}")?)
+}
+
+/// The text of the small error of a line.
+fn small(alloc: Global, number: usize) -> Result<String, Fail> {
+    let isolated = ParserNameTrackerError::TopLevelOpRegionNotIsolatedFromAbove;
+    match number {
+        0 | 8 => of_name(alloc, number),
+        1 => Ok(format!(in alloc; "{isolated}")?),
+        2 => Ok(format!(in alloc; "{}", ErrorKind::InvalidArgument)?),
+        3 => Ok(format!(in alloc; "{}", ErrorKind::VerificationFailed)?),
+        4 => Ok(format!(in alloc; "{}", FormatFault::LiteralNotPrintable)?),
+        5..=7 => of_block(alloc, number),
+        9 => Ok(format!(in alloc; "{}", DefUseVerifyErr::OperandNotUseOfDef)?),
+        _ => of_error(alloc),
+    }
+}
+
+#[test]
+fn texts_of_small_error_types(rt: HostRuntime) -> Result<(), Fail> {
+    for (number, wanted) in SMALL.iter().enumerate() {
+        assert_eq!(rt; small(rt.alloc(), number)?.as_str(), *wanted);
+    }
+    Ok(())
+}
