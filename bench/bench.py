@@ -7,7 +7,8 @@ subtracted, and if a text is printed its parsing too. Printing is done ten times
 parsing. Then come lists of integers and of quoted texts that are parsed, a text that is printed between quotation marks, with a
 plain copy of the same bytes for comparison, positions at the end of a text, and locations nested in one another a million deep. Last
 come the instructions of an item, with its budget, counted by valgrind if it is installed (the program's reading of its input is
-subtracted), and those of calls on graphs and names, by the same program: they are the same on a busy machine."""
+subtracted), and those of calls on graphs and names, by the program of crates/irtext_bench_graphs: they are the same on a busy
+machine."""
 import os
 import re
 import shutil
@@ -20,6 +21,7 @@ from shapes import SHAPES
 
 HERE = os.path.dirname(os.path.abspath(__file__))
 PROGRAM = os.path.join(HERE, "..", "crates", "irtext_bench", "out", "irtext_bench")
+GRAPHS = os.path.join(HERE, "..", "crates", "irtext_bench_graphs", "out", "irtext_bench_graphs")
 PRINTS = 10
 LINES = "builtin.module @module_{} \n{{\n  \n}} !0\n\noutlined_attributes:\n!0 = @[<in-memory>: line: {}, column: 1], []\n"
 
@@ -95,14 +97,14 @@ def reading(path, word):
     return instructions(path, [word]) - instructions(path, ["copied"])
 
 
-def instructions(path, words):
+def instructions(path, words, program=PROGRAM):
     """The instructions of a run."""
-    return counted(path, words, PROGRAM, ["--tool=callgrind", "--callgrind-out-file=/dev/null"], rb"Collected : (\d+)")
+    return counted(path, words, program, ["--tool=callgrind", "--callgrind-out-file=/dev/null"], rb"Collected : (\d+)")
 
 
-def allocations(path, words):
+def allocations(path, words, program=PROGRAM):
     """The allocations of a run."""
-    return counted(path, words, PROGRAM, ["--tool=memcheck", "--leak-check=no"], rb"total heap usage: ([\d,]+) allocs")
+    return counted(path, words, program, ["--tool=memcheck", "--leak-check=no"], rb"total heap usage: ([\d,]+) allocs")
 
 
 def roots(count):
@@ -238,7 +240,7 @@ def print_calls(path):
     print("| Call | instructions | requests for memory |")
     print("|---|---|---|")
     for name, more, less, times in CALLS:
-        took, asked = ((count(path, ["graphs", *more.split()]) - count(path, ["graphs", *less.split()])) / times
+        took, asked = ((count(path, more.split(), GRAPHS) - count(path, less.split(), GRAPHS)) / times
                        for count in (instructions, allocations))
         print("| %s | %.1f | %.2f |" % (name, took, asked))
 

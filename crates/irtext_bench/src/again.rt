@@ -1,49 +1,109 @@
-//! Texts that are printed with a new context each: it has the demo dialects, and an operation in a format if one is given.
+//! Texts that are parsed and printed with a new context each: it has the demo dialects, and an operation in a format if one is given.
 
 use crate::directives::format_of;
-use crate::said::{Ctx, print_of};
+use crate::said::{Ctx, Said, say};
 use irtext_demo::DemoAttr;
 use irtext_demo::dialects::register_demo;
-use pliron_text::base::{Context, OpId};
-use pliron_text::dialect::{Dialect, DialectName};
-use pliron_text::format::OpFormat;
-use pliron_text::result::Result as Answer;
+use pliron_text::base::Context;
+use pliron_text::result::{Cause, Error, Result as Answer};
 use std::alloc::{AllocError, Global};
+use std::fmt::Write;
 
-/// Registers `test.z` with a format.
-fn add(alloc: Global, ctx: &mut Ctx, format: OpFormat) -> Answer<(), DemoAttr> {
-    let name: DialectName = DialectName::try_new(alloc, "test")?;
-    let id = OpId::try_new(alloc, "test", "z")?;
-    let dialect = Dialect::register(ctx, &name)?;
-    dialect.add_op(id, format, false)
-}
-
-/// Registers the demo dialects, and `test.z` with the format of these words if there are any.
-pub fn register(alloc: Global, ctx: &mut Ctx, words: Option<&str>) -> Answer<(), DemoAttr> {
-    register_demo(ctx)?;
-    match words {
-        Some(words) => add(alloc, ctx, format_of(alloc, words)?),
-        None => Ok(()),
-    }
-}
-
-/// Returns the printed text of a root, with an empty context of the caller.
-fn print_with(
-    alloc: Global,
-    ctx: &mut Ctx,
-    words: Option<&str>,
-    text: &str,
-) -> Result<Option<String>, AllocError> {
-    match register(alloc, ctx, words) {
-        Ok(()) => print_of(alloc, ctx, text),
+/// Registers the demo dialects with an empty context.
+pub fn register(ctx: &mut Ctx) -> Result<(), AllocError> {
+    match register_demo(ctx) {
+        Ok(()) => Ok(()),
         Err(_) => Err(AllocError),
     }
 }
 
-/// Does the same with a new context.
-pub fn print(alloc: Global, words: Option<&str>, text: &str) -> Result<Option<String>, AllocError> {
+/// Appends why a format is rejected.
+fn push_fault(error: &Error<DemoAttr>, out: &mut String) -> Result<(), AllocError> {
+    match &error.err {
+        Cause::FormatFault(fault) => write!(out, "{fault}"),
+        _ => Err(AllocError),
+    }
+}
+
+/// Registers `test.z` with the format of these words. Returns whether the format is accepted, and otherwise appends why not.
+fn add(alloc: Global, ctx: &mut Ctx, words: &str, out: &mut String) -> Result<bool, AllocError> {
+    let format = format_of(alloc, words)?;
+    let answer: Answer<(), DemoAttr> = ctx.register_op("test", "z", format, false);
+    match answer {
+        Ok(()) => Ok(true),
+        Err(error) => {
+            push_fault(&error, out)?;
+            Ok(false)
+        }
+    }
+}
+
+/// Registers the demo dialects with an empty context, and `test.z` with the format of these words if there are any. Returns the result for
+/// a text.
+fn say_with(
+    alloc: Global,
+    ctx: &mut Ctx,
+    words: Option<&str>,
+    text: &str,
+    out: &mut String,
+) -> Result<Said, AllocError> {
+    register(ctx)?;
+    if let Some(words) = words {
+        if !add(alloc, ctx, words, out)? {
+            return Ok(Said::NoFormat);
+        }
+    }
+    say(ctx, text, out)
+}
+
+/// Returns the result for a text, with a new context. Appends its printed text, or the cause, or why the format is rejected.
+pub fn say_alone(
+    alloc: Global,
+    words: Option<&str>,
+    text: &str,
+    out: &mut String,
+) -> Result<Said, AllocError> {
     let mut ctx = Context::new(alloc);
-    print_with(alloc, &mut ctx, words, text)
+    say_with(alloc, &mut ctx, words, text, out)
+}
+
+/// Appends the printed text of a root. Returns whether it is parsed and printed.
+pub fn print_alone(
+    alloc: Global,
+    words: Option<&str>,
+    text: &str,
+    out: &mut String,
+) -> Result<bool, AllocError> {
+    match say_alone(alloc, words, text, out)? {
+        Said::Printed => Ok(true),
+        Said::NoFormat => Err(AllocError),
+        _ => Ok(false),
+    }
+}
+
+/// Does the same as `fate`, with two empty texts.
+fn fate_by(
+    alloc: Global,
+    words: Option<&str>,
+    first: &str,
+    unchanged: &'static str,
+    second: &mut String,
+    third: &mut String,
+) -> Result<&'static str, AllocError> {
+    if !print_alone(alloc, words, first, second)? {
+        return Ok("wrong: its print is not printed");
+    }
+    if second.as_str() == first {
+        return Ok(unchanged);
+    }
+    if !print_alone(alloc, words, second.as_str(), third)? {
+        return Ok("wrong: its second print is not printed");
+    }
+    Ok(if third.as_str() == second.as_str() {
+        "filled"
+    } else {
+        "wrong: its second print is printed otherwise"
+    })
 }
 
 /// Checks a printed text. Returns the word `unchanged` if it is printed unchanged, `filled` if the print of that is.
@@ -53,18 +113,7 @@ pub fn fate(
     first: &str,
     unchanged: &'static str,
 ) -> Result<&'static str, AllocError> {
-    let Some(second) = print(alloc, words, first)? else {
-        return Ok("wrong: its print is not printed");
-    };
-    if second.as_str() == first {
-        return Ok(unchanged);
-    }
-    let Some(third) = print(alloc, words, second.as_str())? else {
-        return Ok("wrong: its second print is not printed");
-    };
-    Ok(if third.as_str() == second.as_str() {
-        "filled"
-    } else {
-        "wrong: its second print is printed otherwise"
-    })
+    let mut second = String::new(alloc);
+    let mut third = String::new(alloc);
+    fate_by(alloc, words, first, unchanged, &mut second, &mut third)
 }

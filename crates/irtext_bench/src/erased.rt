@@ -1,48 +1,53 @@
 //! Roots that are parsed and erased, one after another, with one context.
 
+use crate::again::register;
 use crate::said::{Ctx, erase};
-use irtext_demo::dialects::register_demo;
+use irtext_demo::{DemoAttr, DemoType};
 use pliron_text::base::{Context, Operation};
 use pliron_text::ir::OperationText;
 use pliron_text::location::Source;
 use pliron_text::parsable::{SourcePosition, State, StateStream, TextStream};
 use std::alloc::{AllocError, Global};
+use std::fmt::Write;
 
-/// Parses all roots of a text, and erases each as soon as it is parsed. Returns how many there were, and the position where the text is
-/// rejected.
-fn read_and_erase(
-    alloc: Global,
-    ctx: &mut Ctx,
-    text: &str,
-) -> Result<(u64, SourcePosition), AllocError> {
-    let stream = TextStream::new(alloc, text)?;
-    let state = State::new(ctx, Source::InMemory, ());
-    let mut s = StateStream { stream, state };
+/// How many roots there were, and the position where the text is rejected.
+type Count = (u64, SourcePosition);
+
+/// Parses all roots that a stream has, and erases each as soon as it is parsed.
+fn erase_all(s: &mut StateStream<'_, DemoType, DemoAttr, ()>) -> Result<Count, AllocError> {
     let mut count = 0_u64;
-    let mut end = SourcePosition::default();
     for _ in 0..u64::MAX {
-        match Operation::top_level_parse(&mut s) {
+        match Operation::top_level_parse(s) {
             Ok(root) => {
                 if !erase(s.state.ctx, root) {
                     return Err(AllocError);
                 }
                 count = count.saturating_add(1);
             }
-            Err(fault) => {
-                end = fault.pos;
-                break;
-            }
+            Err(fault) => return Ok((count, fault.pos)),
         }
     }
-    Ok((count, end))
+    Err(AllocError)
 }
 
-/// Does the same so many times, with a context of the caller. Returns a line with the number of roots, the position where the text is
-/// rejected each time, and the number of objects that are left.
-fn repeated(alloc: Global, ctx: &mut Ctx, text: &str, times: usize) -> Result<String, AllocError> {
-    if register_demo(ctx).is_err() {
-        return Err(AllocError);
-    }
+/// Parses all roots of a text, and erases each as soon as it is parsed.
+fn read_and_erase(alloc: Global, ctx: &mut Ctx, text: &str) -> Result<Count, AllocError> {
+    let stream = TextStream::new(alloc, text)?;
+    let state = State::new(ctx, Source::InMemory, ());
+    let mut s = StateStream { stream, state };
+    erase_all(&mut s)
+}
+
+/// Does the same so many times, with an empty context. Appends a line with the number of roots, the position where the text is rejected
+/// each time, and the number of objects that are left.
+fn repeated(
+    alloc: Global,
+    ctx: &mut Ctx,
+    text: &str,
+    times: usize,
+    out: &mut String,
+) -> Result<(), AllocError> {
+    register(ctx)?;
     let mut roots = 0_u64;
     let mut last = SourcePosition::default();
     for _ in 0..times {
@@ -51,11 +56,11 @@ fn repeated(alloc: Global, ctx: &mut Ctx, text: &str, times: usize) -> Result<St
         last = end;
     }
     let live = ctx.num_live();
-    format!(in alloc; "{roots} roots, {live} objects left, end at {last}")
+    write!(out, "{roots} roots, {live} objects left, end at {last}")
 }
 
 /// Does the same with a new context.
-pub fn erased(alloc: Global, text: &str, times: usize) -> Result<String, AllocError> {
+pub fn erased(alloc: Global, text: &str, times: usize, out: &mut String) -> Result<(), AllocError> {
     let mut ctx = Context::new(alloc);
-    repeated(alloc, &mut ctx, text, times)
+    repeated(alloc, &mut ctx, text, times, out)
 }

@@ -2,11 +2,17 @@
 
 use pliron_text::parsable::{SourcePosition, TextStream};
 use std::alloc::{AllocError, Global};
+use std::fmt::Write;
 
 const MILLION: usize = 1_000_000;
 
-/// Requests the position of the end of a text so many million times. Returns that position.
-pub fn positions(alloc: Global, text: &str, times: usize) -> Result<String, AllocError> {
+/// Requests the position of the end of a text so many million times. Appends that position.
+pub fn positions(
+    alloc: Global,
+    text: &str,
+    times: usize,
+    out: &mut String,
+) -> Result<(), AllocError> {
     let mut stream = TextStream::new(alloc, text)?;
     for _ in 0..text.len() {
         let _ = stream.take();
@@ -17,5 +23,5 @@ pub fn positions(alloc: Global, text: &str, times: usize) -> Result<String, Allo
             position = stream.locate(stream.position());
         }
     }
-    format!(in alloc; "{position}")
+    write!(out, "{position}")
 }

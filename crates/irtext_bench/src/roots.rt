@@ -1,55 +1,77 @@
 //! Several roots, parsed from one stream, and printed.
 
-use irtext_demo::dialects::register_demo;
+use crate::again::register;
+use crate::said::{Ctx, written};
 use irtext_demo::{DemoAttr, DemoType};
-use pliron_text::base::{Context, OpId, Operation, Ptr};
-use pliron_text::dialect::{Dialect, DialectName};
+use pliron_text::base::{Context, Operation, Ptr};
 use pliron_text::format::{Directive, OpFormat};
 use pliron_text::ir::OperationText;
 use pliron_text::location::Source;
 use pliron_text::parsable::{State, StateStream, TextStream};
 use pliron_text::printable;
 use pliron_text::printable::Printable;
-use pliron_text::result::Result as Answer;
 use std::alloc::{AllocError, Global};
+use std::fmt::Write;
 
-/// Parses all roots of a text, in a context.
-fn read_roots(
-    alloc: Global,
-    text: &str,
-    ctx: &mut Context<DemoType, DemoAttr>,
-) -> Result<Vec<Ptr<Operation>>, AllocError> {
-    let stream = TextStream::new(alloc, text)?;
-    let state = State::new(ctx, Source::InMemory, ());
-    let mut s = StateStream { stream, state };
-    let mut roots = Vec::new(alloc);
+/// Parses all roots that a stream has.
+fn read_all(
+    s: &mut StateStream<'_, DemoType, DemoAttr, ()>,
+    roots: &mut Vec<Ptr<Operation>>,
+) -> Result<(), AllocError> {
     for _ in 0..u64::MAX {
-        match Operation::top_level_parse(&mut s) {
+        match Operation::top_level_parse(s) {
             Ok(root) => roots.push(root)?,
             Err(_) => break,
         }
     }
-    let _ctx = s.into_ctx();
-    Ok(roots)
+    Ok(())
 }
 
-/// Returns the texts of roots, one after another.
-fn print_roots(
+/// Parses all roots of a text, in a context.
+fn read_roots(
     alloc: Global,
-    roots: &[Ptr<Operation>],
-    ctx: &Context<DemoType, DemoAttr>,
-) -> Result<String, AllocError> {
-    let mut text = String::new(alloc);
-    for root in roots {
-        if !ctx.contains_operation(*root) {
-            continue;
-        }
-        let mut state = printable::State::new(alloc, ());
-        if root.fmt(ctx, &mut state, &mut text).is_err() {
-            return Err(AllocError);
-        }
+    ctx: &mut Ctx,
+    text: &str,
+    roots: &mut Vec<Ptr<Operation>>,
+) -> Result<(), AllocError> {
+    let stream = TextStream::new(alloc, text)?;
+    let state = State::new(ctx, Source::InMemory, ());
+    let mut s = StateStream { stream, state };
+    read_all(&mut s, roots)
+}
+
+/// Appends the text of a root, if it is live.
+fn append(
+    alloc: Global,
+    ctx: &Ctx,
+    root: Ptr<Operation>,
+    text: &mut String,
+) -> Result<(), AllocError> {
+    if !ctx.contains_operation(root) {
+        return Ok(());
     }
-    Ok(text)
+    let mut state = printable::State::new(alloc, ());
+    written(root.fmt(ctx, &mut state, text))
+}
+
+/// Appends the texts of roots, one after another.
+fn append_all(
+    alloc: Global,
+    ctx: &Ctx,
+    roots: &[Ptr<Operation>],
+    text: &mut String,
+) -> Result<(), AllocError> {
+    for root in roots {
+        append(alloc, ctx, *root, text)?;
+    }
+    Ok(())
+}
+
+/// Prints roots. Returns the number of bytes.
+fn print_roots(alloc: Global, ctx: &Ctx, roots: &[Ptr<Operation>]) -> Result<usize, AllocError> {
+    let mut text = String::new(alloc);
+    append_all(alloc, ctx, roots, &mut text)?;
+    Ok(text.len())
 }
 
 /// Returns a format that is a dictionary alone.
@@ -60,30 +82,50 @@ fn note_format(alloc: Global) -> Result<OpFormat, AllocError> {
 }
 
 /// Registers `bench.note`, which is printed as a dictionary of its attributes, in addition to the demo dialects.
-fn register(alloc: Global, ctx: &mut Context<DemoType, DemoAttr>) -> Answer<(), DemoAttr> {
-    register_demo(ctx)?;
-    let name: DialectName = DialectName::try_new(alloc, "bench")?;
-    let id = OpId::try_new(alloc, "bench", "note")?;
-    let format = note_format(alloc)?;
-    let dialect = Dialect::register(ctx, &name)?;
-    dialect.add_op(id, format, false)
+fn register_all(alloc: Global, ctx: &mut Ctx) -> Result<(), AllocError> {
+    register(ctx)?;
+    match ctx.register_op("bench", "note", note_format(alloc)?, false) {
+        Ok(()) => Ok(()),
+        Err(_) => Err(AllocError),
+    }
 }
 
-/// Parses all roots, and prints them so many times. Returns a line with the numbers of roots and bytes.
-pub fn roots(alloc: Global, text: &str, times: usize) -> Result<String, AllocError> {
-    let mut ctx = Context::new(alloc);
-    if register(alloc, &mut ctx).is_err() {
-        return Err(AllocError);
-    }
-    let roots = read_roots(alloc, text, &mut ctx)?;
-    let mut printed = String::new(alloc);
+/// Prints roots so many times. Returns the number of bytes.
+fn print_often(
+    alloc: Global,
+    ctx: &Ctx,
+    roots: &[Ptr<Operation>],
+    times: usize,
+) -> Result<usize, AllocError> {
+    let mut bytes = 0;
     for _ in 0..times {
-        printed = print_roots(alloc, roots.as_slice(), &ctx)?;
+        bytes = print_roots(alloc, ctx, roots)?;
     }
-    format!(in alloc;
-        "{} roots, {} bytes read, {} bytes printed",
-        roots.len(),
-        text.len(),
-        printed.len()
+    Ok(bytes)
+}
+
+/// Parses all roots with an empty context, and prints them so many times. Appends a line with the numbers of roots and bytes.
+fn roots_with(
+    alloc: Global,
+    ctx: &mut Ctx,
+    text: &str,
+    times: usize,
+    roots: &mut Vec<Ptr<Operation>>,
+    out: &mut String,
+) -> Result<(), AllocError> {
+    register_all(alloc, ctx)?;
+    read_roots(alloc, ctx, text, roots)?;
+    let printed = print_often(alloc, ctx, roots.as_slice(), times)?;
+    let (read, count) = (text.len(), roots.len());
+    write!(
+        out,
+        "{count} roots, {read} bytes read, {printed} bytes printed"
     )
+}
+
+/// Does the same with a new context.
+pub fn roots(alloc: Global, text: &str, times: usize, out: &mut String) -> Result<(), AllocError> {
+    let mut roots = Vec::new(alloc);
+    let mut ctx = Context::new(alloc);
+    roots_with(alloc, &mut ctx, text, times, &mut roots, out)
 }

@@ -1,4 +1,4 @@
-//! The result of parsing a text as a root: its printed text, or why there is none.
+//! The result of parsing a text as a root, and its printed text or why there is none.
 
 use irtext_demo::{DemoAttr, DemoType};
 use pliron_text::base::{Context, Operation, Ptr};
@@ -6,23 +6,34 @@ use pliron_text::ir::OperationText;
 use pliron_text::parsable::{SourcePosition, parse_from_str};
 use pliron_text::printable::Disp;
 use pliron_text::result::{Cause, Error, Result as Answer};
-use std::alloc::{AllocError, Global};
+use std::alloc::AllocError;
+use std::fmt;
 use std::fmt::Write;
 
 /// A context of the demo types and attributes.
 pub type Ctx = Context<DemoType, DemoAttr>;
 
 /// The result for a text.
-#[derive(Drop)]
+#[derive(Clone, Copy)]
 pub enum Said {
-    /// It is parsed, and printed as this.
-    Printed(String),
+    /// It is parsed and printed.
+    Printed,
     /// It is parsed, and printing it fails.
     Unprinted,
-    /// It is rejected at this position, for this cause.
-    Refused(SourcePosition, String),
+    /// It is rejected at this position.
+    Refused(SourcePosition),
     /// It is rejected, and objects of it are left.
     Left,
+    /// It was not parsed, since the format for it was rejected.
+    NoFormat,
+}
+
+/// Returns the result of a call that writes a text.
+pub fn written(answer: fmt::Result) -> Result<(), AllocError> {
+    match answer {
+        Ok(()) => Ok(()),
+        Err(_) => Err(AllocError),
+    }
 }
 
 /// Parses a text as a root.
@@ -30,16 +41,12 @@ pub fn read(ctx: &mut Ctx, text: &str) -> Answer<Ptr<Operation>, DemoAttr> {
     parse_from_str(|stream| Operation::top_level_parse(stream), ctx, text)
 }
 
-/// Returns the text of a root, unless it is not live or printing it fails.
-pub fn printed(alloc: Global, ctx: &Ctx, root: Ptr<Operation>) -> Option<String> {
+/// Appends the text of a root. Returns whether that could be done: not if it is not live, or printing it fails.
+pub fn print(ctx: &Ctx, root: Ptr<Operation>, out: &mut String) -> bool {
     if !ctx.contains_operation(root) {
-        return None;
+        return false;
     }
-    let mut text = String::new(alloc);
-    match write!(text, "{}", root.disp(ctx)) {
-        Ok(()) => Some(text),
-        Err(_) => None,
-    }
+    write!(out, "{}", root.disp(ctx)).is_ok()
 }
 
 /// Erases a root. Returns whether it could be erased.
@@ -56,34 +63,36 @@ fn is_memory(cause: &Cause<DemoAttr>) -> bool {
     matches!(cause, Cause::Memory)
 }
 
-/// Returns the result for a text that is rejected, unless the cause is out of memory.
-pub fn refused(alloc: Global, error: &Error<DemoAttr>) -> Result<Said, AllocError> {
+/// Returns the result for a text that is rejected, and appends the cause, unless that is out of memory.
+fn refused(error: &Error<DemoAttr>, out: &mut String) -> Result<Said, AllocError> {
     match &error.err {
-        Cause::Parse { at, cause } if !is_memory(cause) => Ok(Said::Refused(
-            *at,
-            format!(in alloc; "{cause}")?,
-        )),
+        Cause::Parse { at, cause } if !is_memory(cause) => {
+            write!(out, "{cause}")?;
+            Ok(Said::Refused(*at))
+        }
         _ => Err(AllocError),
     }
 }
 
-/// Returns the result for a text, with a context of the caller.
-pub fn said_of(alloc: Global, ctx: &mut Ctx, text: &str) -> Result<Said, AllocError> {
-    let live = ctx.num_live();
+/// Parses a text as a root. Returns the root, or the result for a text that is rejected, of which the cause is appended.
+pub fn read_or_refused(
+    ctx: &mut Ctx,
+    text: &str,
+    out: &mut String,
+) -> Result<Result<Ptr<Operation>, Said>, AllocError> {
     match read(ctx, text) {
-        Ok(root) => Ok(match printed(alloc, ctx, root) {
-            Some(print) => Said::Printed(print),
-            None => Said::Unprinted,
-        }),
-        Err(_) if ctx.num_live() != live => Ok(Said::Left),
-        Err(error) => refused(alloc, &error),
+        Ok(root) => Ok(Ok(root)),
+        Err(error) => Ok(Err(refused(&error, out)?)),
     }
 }
 
-/// Returns the printed text of a text, if it is parsed and printed.
-pub fn print_of(alloc: Global, ctx: &mut Ctx, text: &str) -> Result<Option<String>, AllocError> {
-    match said_of(alloc, ctx, text)? {
-        Said::Printed(print) => Ok(Some(print)),
-        _ => Ok(None),
+/// Returns the result for a text, with a context of the caller. Appends its printed text, or the cause.
+pub fn say(ctx: &mut Ctx, text: &str, out: &mut String) -> Result<Said, AllocError> {
+    let live = ctx.num_live();
+    match read_or_refused(ctx, text, out)? {
+        Ok(root) if print(ctx, root, out) => Ok(Said::Printed),
+        Ok(_) => Ok(Said::Unprinted),
+        Err(_) if ctx.num_live() != live => Ok(Said::Left),
+        Err(said) => Ok(said),
     }
 }

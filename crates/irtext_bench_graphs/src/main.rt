@@ -1,11 +1,15 @@
-//! Calls on graphs and names, which the bench script counts. The words say what is done, with how many objects or names, and how often.
-//! Then come the calls that are made for each name, if names and a graph are counted together.
+//! The program with which the benchmark counts calls on graphs and names. Its arguments say what is done, with how many objects or names,
+//! and how often. Then come the calls that are made for each name, if names and a graph are counted together.
+#![tactic(auto)]
+
 mod named;
 mod names;
 mod objects;
 
-use crate::graphs::named::Call;
+use crate::named::Call;
 use std::alloc::{AllocError, Global};
+use std::fmt::Write;
+use std::process::ExitCode;
 use std::{env, io};
 
 /// Does what the word selects. Returns whether each call returned what it should.
@@ -24,49 +28,68 @@ fn done(
         "replace" => objects::replace(alloc, size, times),
         "fill" => objects::fill(alloc, size, times, false),
         "erase" => objects::fill(alloc, size, times, true),
-        "texts" => Ok(names::texts(alloc, size)?.len() == size),
+        "texts" => names::are_texts(alloc, size),
         "names" => names::new_names(alloc, size),
         "definitions" => names::definitions(alloc, size, times),
         "uses" => names::uses(alloc, size, times),
-        _ => names::regions(alloc, size, times),
+        _ => Ok(names::regions(alloc, size, times)),
     }
 }
 
 /// Returns the number that a word denotes.
-fn number(word: Option<String>) -> io::Result<usize> {
-    let Some(word) = word else {
-        return Err(io::Error::from(io::ErrorKind::InvalidInput));
-    };
-    match word.as_str().parse::<usize>() {
-        Ok(number) => Ok(number),
-        Err(_) => Err(io::Error::from(io::ErrorKind::InvalidInput)),
-    }
+fn number(word: Option<&String>) -> Option<usize> {
+    word?.as_str().parse::<usize>().ok()
 }
 
-/// Returns the call that a word denotes.
-fn call_of(word: &str) -> io::Result<Call> {
-    match named::call_of(word) {
-        Some(call) => Ok(call),
-        None => Err(io::Error::from(io::ErrorKind::InvalidInput)),
+/// Returns the calls that the words from the fourth on denote, or `None` if one denotes none.
+fn calls_of(alloc: Global, words: &[String]) -> Result<Option<Vec<Call>>, AllocError> {
+    let mut calls = Vec::new(alloc);
+    for word in words.iter().skip(3) {
+        match named::call_of(word.as_str()) {
+            Some(call) => calls.push(call)?,
+            None => return Ok(None),
+        }
     }
+    Ok(Some(calls))
 }
 
-/// Does what the program's arguments after the first select, and writes whether it was done.
-pub fn measure(rt: &HostRuntime) -> io::Result<()> {
-    let mut words = env::args(rt)?.skip(2);
-    let Some(word) = words.next() else {
-        return Err(io::Error::from(io::ErrorKind::InvalidInput));
+/// Does what the words select, and appends a line that says whether it was done. Returns whether the words select something.
+fn append_line(alloc: Global, words: &[String], out: &mut String) -> Result<bool, AllocError> {
+    let (Some(word), Some(size), Some(times)) = (
+        words.first(),
+        number(words.get(1)),
+        number(words.get(2)),
+    ) else {
+        return Ok(false);
     };
-    let size = number(words.next())?;
-    let times = number(words.next())?;
-    let mut calls = Vec::new(rt.alloc());
-    for said in words {
-        calls.push(call_of(said.as_str())?)?;
-    }
-    let answer = if done(rt.alloc(), word.as_str(), size, times, &calls)? {
+    let Some(calls) = calls_of(alloc, words)? else {
+        return Ok(false);
+    };
+    let said = if done(alloc, word.as_str(), size, times, &calls)? {
         "done"
     } else {
         "refused"
     };
-    println!(rt; "{word} {size} {times}: {answer}")
+    match write!(out, "{word} {size} {times}: {said}") {
+        Ok(()) => Ok(true),
+        Err(_) => Err(AllocError),
+    }
+}
+
+/// Does what the program's arguments select, and writes the line.
+fn measure(rt: &HostRuntime) -> io::Result<()> {
+    let words: Vec<String> = env::args(rt)?.skip(1).collect(rt.alloc())?;
+    let mut line = String::new(rt.alloc());
+    if append_line(rt.alloc(), &words, &mut line)? {
+        println!(rt; "{line}")
+    } else {
+        Err(io::Error::from(io::ErrorKind::InvalidInput))
+    }
+}
+
+fn main(rt: HostRuntime) -> ExitCode {
+    match measure(&rt) {
+        Ok(()) => ExitCode::from(0),
+        Err(_) => ExitCode::from(1),
+    }
 }

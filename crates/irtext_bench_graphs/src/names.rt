@@ -15,6 +15,11 @@ pub fn texts(alloc: Global, size: usize) -> Result<Vec<String>, AllocError> {
     Ok(texts)
 }
 
+/// Makes so many names. Returns whether they are so many.
+pub fn are_texts(alloc: Global, size: usize) -> Result<bool, AllocError> {
+    Ok(texts(alloc, size)?.len() == size)
+}
+
 /// Defines a name in the innermost scope, if it is new there.
 fn define(tracker: &mut Measured, text: &str) -> Result<bool, AllocError> {
     let name = tracker.intern(text)?;
@@ -76,7 +81,7 @@ pub fn uses(alloc: Global, size: usize, times: usize) -> Result<bool, AllocError
 }
 
 /// Enters so many regions, each inside the one before, and leaves them all, so many times.
-pub fn regions(alloc: Global, size: usize, times: usize) -> Result<bool, AllocError> {
+pub fn regions(alloc: Global, size: usize, times: usize) -> bool {
     let mut tracker: Measured = NameTracker::new(alloc);
     let mut all = true;
     for _ in 0..times {
@@ -87,5 +92,5 @@ pub fn regions(alloc: Global, size: usize, times: usize) -> Result<bool, AllocEr
             all = tracker.exit_region(true).is_none() && all;
         }
     }
-    Ok(all && !tracker.has_value_scope())
+    all && !tracker.has_value_scope()
 }

@@ -32,13 +32,20 @@ pub enum Fault {
     Unwritable,
 }
 
-/// What the program does.
+/// What the program does with operations of `arith`.
 #[derive(Clone, Copy)]
-pub enum Task {
+pub enum ArithTask {
     /// Builds the module of a sum.
     Front,
     /// Doubles the constants of a module.
     Pass,
+}
+
+/// What the program does.
+#[derive(Clone, Copy)]
+pub enum Task {
+    /// Builds or changes a module with operations of `arith`.
+    Arith(ArithTask),
     /// Parses a module with operations, types and attributes of two authors' dialects.
     Both,
 }
@@ -47,8 +54,8 @@ impl Task {
     /// Returns the task of a word: `front`, `pass` or `both`.
     pub fn of(word: &str) -> Option<Task> {
         match word {
-            "front" => Some(Task::Front),
-            "pass" => Some(Task::Pass),
+            "front" => Some(Task::Arith(ArithTask::Front)),
+            "pass" => Some(Task::Arith(ArithTask::Pass)),
             "both" => Some(Task::Both),
             _ => None,
         }
@@ -130,6 +137,16 @@ fn doubled(ctx: &mut Ir, input: &str) -> Answer<Ptr<Operation>>
     Ok(root)
 }
 
+/// Does a task with operations of `arith`, and returns the root.
+fn arith_root(ctx: &mut Ir, task: ArithTask, input: &str) -> Answer<Ptr<Operation>>
+    ensures { IfOk result (λ op. IsSome (operation ctx.new op)) }
+{
+    match task {
+        ArithTask::Front => compiled(ctx, input),
+        ArithTask::Pass => doubled(ctx, input),
+    }
+}
+
 /// Parses a root with the operations, types and attributes of two authors' dialects.
 fn parsed_both(ctx: &mut Both, input: &str) -> result::Result<Ptr<Operation>, AnyAttr>
     ensures { IfOk result (λ op. IsSome (operation ctx.new op)) }
@@ -153,24 +170,34 @@ fn printed<T: IrText<A>, A: AttrText<A>>(
     }
 }
 
-/// Does the task in a new context, and returns the root's text.
+/// Does a task with operations of `arith` in a new context, and returns the root's text.
+fn arith_output(alloc: Global, task: ArithTask, input: &str) -> Result<String, Fault> {
+    let mut ctx = Context::new(alloc);
+    let root = arith_root(&mut ctx, task, input);
+    printed(alloc, &ctx, input, root)
+}
+
+/// Parses a root with the operations, types and attributes of two authors' dialects in a new context, and returns its text.
+fn both_output(alloc: Global, input: &str) -> Result<String, Fault> {
+    let mut ctx = Context::new(alloc);
+    let root = parsed_both(&mut ctx, input);
+    printed(alloc, &ctx, input, root)
+}
+
+/// Does the task, and returns the root's text.
 fn output_of(alloc: Global, task: Task, input: &str) -> Result<String, Fault> {
     match task {
-        Task::Front => {
-            let mut ctx = Context::new(alloc);
-            let root = compiled(&mut ctx, input);
-            printed(alloc, &ctx, input, root)
-        }
-        Task::Pass => {
-            let mut ctx = Context::new(alloc);
-            let root = doubled(&mut ctx, input);
-            printed(alloc, &ctx, input, root)
-        }
-        Task::Both => {
-            let mut ctx = Context::new(alloc);
-            let root = parsed_both(&mut ctx, input);
-            printed(alloc, &ctx, input, root)
-        }
+        Task::Arith(task) => arith_output(alloc, task, input),
+        Task::Both => both_output(alloc, input),
+    }
+}
+
+/// Reads the input, does the task, and returns the root's text.
+fn done(alloc: Global, task: Task, input: &mut impl Read) -> Result<String, Fault> {
+    let mut text = String::new(alloc);
+    match input.read_to_string(&mut text) {
+        Ok(_) => output_of(alloc, task, text.as_str()),
+        Err(_) => Err(Fault::Unreadable),
     }
 }
 
@@ -181,14 +208,11 @@ fn try_run(
     input: &mut impl Read,
     output: &mut impl Write,
 ) -> Result<(), Fault> {
-    let mut text = String::new(alloc);
-    input
-        .read_to_string(&mut text)
-        .map_err(|_| Fault::Unreadable)?;
-    let printed = output_of(alloc, task, text.as_str())?;
-    output
-        .write_all(printed.as_bytes())
-        .map_err(|_| Fault::Unwritable)
+    let printed = done(alloc, task, input)?;
+    match output.write_all(printed.as_bytes()) {
+        Ok(()) => Ok(()),
+        Err(_) => Err(Fault::Unwritable),
+    }
 }
 
 /// Does the task that the program's arguments ask for, and returns the exit status: 0, or 1 if the task failed, or 2 if they ask for
