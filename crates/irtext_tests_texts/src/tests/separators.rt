@@ -27,6 +27,7 @@ const LINES: &[&str] = &[
     "\n  108\n  ",
     "\n",
     "text: <\"a\">",
+    "\n  108\n",
 ];
 
 /// Appends a number.
@@ -129,6 +130,19 @@ fn after_guard(alloc: Global) -> Result<String, Fail> {
     Ok(format!(in alloc; "{newline}")?)
 }
 
+/// A newline under one indent and a number, and a newline once the guard, through which the width was changed, is dropped.
+fn widened(alloc: Global) -> Result<String, Fail> {
+    let mut state = State::new(alloc, ());
+    let mut text = String::new(alloc);
+    {
+        let guard = state.indent().ok().ok_or("too deep")?;
+        write!(text, "{}108", indented_nl(guard.state))?;
+        guard.state.set_indent_width(8);
+    }
+    write!(text, "{}", indented_nl(&state))?;
+    Ok(text)
+}
+
 /// The printed text for a line.
 fn line(alloc: Global, ctx: &mut Ctx, number: usize) -> Result<String, Fail> {
     match number {
@@ -145,7 +159,8 @@ fn line(alloc: Global, ctx: &mut Ctx, number: usize) -> Result<String, Fail> {
         10 => stored(alloc, ctx),
         11 => newline(alloc, ctx),
         12 => after_guard(alloc),
-        _ => appended(alloc, ctx),
+        13 => appended(alloc, ctx),
+        _ => widened(alloc),
     }
 }
 
