@@ -67,14 +67,9 @@ pub fn say_alone(
     say_with(alloc, &mut ctx, words, text, out)
 }
 
-/// Appends the printed text of a root. Returns whether it is parsed and printed.
-pub fn print_alone(
-    alloc: Global,
-    words: Option<&str>,
-    text: &str,
-    out: &mut String,
-) -> Result<bool, AllocError> {
-    match say_alone(alloc, words, text, out)? {
+/// Whether a text with this result is parsed and printed. Its format has to be accepted.
+pub fn is_printed(said: Said) -> Result<bool, AllocError> {
+    match said {
         Said::Printed => Ok(true),
         Said::NoFormat => Err(AllocError),
         _ => Ok(false),
@@ -90,13 +85,13 @@ fn fate_by(
     second: &mut String,
     third: &mut String,
 ) -> Result<&'static str, AllocError> {
-    if !print_alone(alloc, words, first, second)? {
+    if !is_printed(say_alone(alloc, words, first, second)?)? {
         return Ok("wrong: its print is not printed");
     }
     if second.as_str() == first {
         return Ok(unchanged);
     }
-    if !print_alone(alloc, words, second.as_str(), third)? {
+    if !is_printed(say_alone(alloc, words, second.as_str(), third)?)? {
         return Ok("wrong: its second print is not printed");
     }
     Ok(if third.as_str() == second.as_str() {

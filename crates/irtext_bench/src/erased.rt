@@ -34,8 +34,7 @@ fn erase_all(s: &mut StateStream<'_, DemoType, DemoAttr, ()>) -> Result<Count, A
 fn read_and_erase(alloc: Global, ctx: &mut Ctx, text: &str) -> Result<Count, AllocError> {
     let stream = TextStream::new(alloc, text)?;
     let state = State::new(ctx, Source::InMemory, ());
-    let mut s = StateStream { stream, state };
-    erase_all(&mut s)
+    erase_all(&mut StateStream { stream, state })
 }
 
 /// Does the same so many times, with an empty context. Appends a line with the number of roots, the position where the text is rejected

@@ -1,7 +1,7 @@
 //! Formats whose directives are given as text, and roots with an operation in each format. The printed text of a root has to contain
 //! the expected text of the operation, and has to parse back.
 
-use crate::again::{fate, print_alone, say_alone};
+use crate::again::{fate, is_printed, say_alone};
 use crate::said::Said;
 use std::alloc::{AllocError, Global};
 
@@ -29,7 +29,7 @@ fn fate_by(
     wanted: &str,
     first: &mut String,
 ) -> Result<&'static str, AllocError> {
-    if !print_alone(alloc, Some(words), text, first)? {
+    if !is_printed(say_alone(alloc, Some(words), text, first)?)? {
         return Ok("wrong: it is not printed");
     }
     if !first.as_str().contains(wanted) {

@@ -17,6 +17,7 @@ mod quoted;
 mod roots;
 mod said;
 
+use crate::quoted::Way;
 use std::alloc::{AllocError, Global};
 use std::io::Write;
 use std::process::ExitCode;
@@ -34,8 +35,8 @@ fn measured(
         "numbers" => lists::numbers(alloc, text, out),
         "strings" => lists::strings(alloc, text, out),
         "positions" => positions::positions(alloc, text, times, out),
-        "quoted" => quoted::quoted(alloc, text, times, out),
-        "copied" => quoted::copied(alloc, text, times, out),
+        "quoted" => quoted::write_often(alloc, Way::Quoted, text, times, out),
+        "copied" => quoted::write_often(alloc, Way::Copied, text, times, out),
         "erased" => erased::erased(alloc, text, times, out),
         "prints" => prints::prints(alloc, text, out),
         "formats" => formats::formats(alloc, text, out),

@@ -102,20 +102,6 @@ fn push_line(
     out.push('\n')
 }
 
-/// Appends a line for each text.
-fn push_lines(
-    alloc: Global,
-    ctx: &mut Ctx,
-    first: First<'_>,
-    texts: &str,
-    out: &mut String,
-) -> Result<(), AllocError> {
-    for text in texts.split(BETWEEN) {
-        push_line(alloc, ctx, first, text, out)?;
-    }
-    Ok(())
-}
-
 /// Parses the first root with an empty context.
 fn first_root(ctx: &mut Ctx) -> Result<Ptr<Operation>, AllocError> {
     register(ctx)?;
@@ -137,8 +123,14 @@ fn push_beside(
     if !print(ctx, root, before) {
         return Err(AllocError);
     }
-    let text = before.as_str();
-    push_lines(alloc, ctx, First { root, text }, texts, out)
+    let first = First {
+        root,
+        text: before.as_str(),
+    };
+    for text in texts.split(BETWEEN) {
+        push_line(alloc, ctx, first, text, out)?;
+    }
+    Ok(())
 }
 
 /// Appends a line for each text. For a text that is printed, the line says whether its printed text is printed unchanged (`same`) or

@@ -5,34 +5,44 @@ use pliron_text::printable::fmt_quoted;
 use std::alloc::{AllocError, Global};
 use std::fmt::Write;
 
-/// Prints the text between quotation marks. Returns the number of bytes.
-fn quote(alloc: Global, text: &str) -> Result<usize, AllocError> {
-    let mut printed = String::new(alloc);
-    written(fmt_quoted(text, &mut printed))?;
-    Ok(printed.len())
+/// How the text is written.
+#[derive(Clone, Copy)]
+pub enum Way {
+    /// Between quotation marks.
+    Quoted,
+    /// As a plain copy.
+    Copied,
 }
 
-/// Prints the text between quotation marks so many times. Appends a line with the number of bytes.
-pub fn quoted(alloc: Global, text: &str, times: usize, out: &mut String) -> Result<(), AllocError> {
+/// Writes the text into an empty one. Returns the number of bytes.
+fn write_by(way: Way, text: &str, out: &mut String) -> Result<usize, AllocError> {
+    match way {
+        Way::Quoted => written(fmt_quoted(text, out))?,
+        Way::Copied => out.push_str(text)?,
+    }
+    Ok(out.len())
+}
+
+/// Writes the text. Returns the number of bytes.
+fn write_once(alloc: Global, way: Way, text: &str) -> Result<usize, AllocError> {
+    let mut out = String::new(alloc);
+    write_by(way, text, &mut out)
+}
+
+/// Writes the text so many times. Appends a line with the number of bytes.
+pub fn write_often(
+    alloc: Global,
+    way: Way,
+    text: &str,
+    times: usize,
+    out: &mut String,
+) -> Result<(), AllocError> {
     let mut length = 0;
     for _ in 0..times {
-        length = quote(alloc, text)?;
+        length = write_once(alloc, way, text)?;
     }
-    write!(out, "{length} bytes printed")
-}
-
-/// Copies the text. Returns the number of bytes.
-fn copy(alloc: Global, text: &str) -> Result<usize, AllocError> {
-    let mut copy = String::new(alloc);
-    copy.push_str(text)?;
-    Ok(copy.len())
-}
-
-/// Copies the text so many times. Appends a line with the number of bytes.
-pub fn copied(alloc: Global, text: &str, times: usize, out: &mut String) -> Result<(), AllocError> {
-    let mut length = 0;
-    for _ in 0..times {
-        length = copy(alloc, text)?;
+    match way {
+        Way::Quoted => write!(out, "{length} bytes printed"),
+        Way::Copied => write!(out, "{length} bytes copied"),
     }
-    write!(out, "{length} bytes copied")
 }

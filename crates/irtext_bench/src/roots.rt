@@ -36,8 +36,7 @@ fn read_roots(
 ) -> Result<(), AllocError> {
     let stream = TextStream::new(alloc, text)?;
     let state = State::new(ctx, Source::InMemory, ());
-    let mut s = StateStream { stream, state };
-    read_all(&mut s, roots)
+    read_all(&mut StateStream { stream, state }, roots)
 }
 
 /// Appends the text of a root, if it is live.

@@ -121,32 +121,17 @@ pub enum Located {
     Nowhere,
 }
 
-/// Erases the locations of a root, unless they are to be printed. Returns whether the root is live, before and after.
-fn prepare(ctx: &mut Ctx, root: Ptr<Operation>, located: Located) -> bool {
-    if !ctx.contains_operation(root) {
-        return false;
-    }
+/// Erases the locations of a root, unless they are to be printed or it is not live.
+fn prepare(ctx: &mut Ctx, root: Ptr<Operation>, located: Located) {
     if let Located::Nowhere = located {
-        erase_locations(ctx, root);
+        if ctx.contains_operation(root) {
+            erase_locations(ctx, root);
+        }
     }
-    ctx.contains_operation(root)
 }
 
-/// Appends the text of a root, which is printed twice by `disp`, and twice with a state that is passed as `&mut`.
-fn print_ways(
-    alloc: Global,
-    ctx: &Ctx,
-    root: Ptr<Operation>,
-    out: &mut String,
-) -> Result<(), Fault> {
-    if !ctx.contains_operation(root) {
-        return Err(Fault::Wrong);
-    }
-    twice(alloc, ctx, root, Way::Displayed, out)?;
-    twice(alloc, ctx, root, Way::Lent, out)
-}
-
-/// Parses the text as a root, with an empty context, and then does the same.
+/// Parses the text as a root, with an empty context. Appends its text, which is printed twice by `disp`, and twice with a state that is
+/// passed as `&mut`.
 pub fn displayed(
     alloc: Global,
     ctx: &mut Ctx,
@@ -155,8 +140,10 @@ pub fn displayed(
     out: &mut String,
 ) -> Result<(), Fault> {
     let root = first_root(ctx, text)?;
-    if !prepare(ctx, root, located) {
+    prepare(ctx, root, located);
+    if !ctx.contains_operation(root) {
         return Err(Fault::Wrong);
     }
-    print_ways(alloc, ctx, root, out)
+    twice(alloc, ctx, root, Way::Displayed, out)?;
+    twice(alloc, ctx, root, Way::Lent, out)
 }
