@@ -1,6 +1,7 @@
 //! Attributes and types as they are parsed and printed.
 use irtext_base::base::AttrObj;
 use irtext_base::parsable::{CharStream, ParseResult};
+use irtext_context::base::Context;
 use irtext_demo::DemoAttr;
 use irtext_parse_state::irfmt::parsers::type_parse;
 use irtext_print_ir::printable::Disp;
@@ -68,12 +69,12 @@ const TYPES: &[(&str, &str)] = &[
 /// The text of an attribute that was parsed, or the fault, and the next character.
 fn printed(
     alloc: Global,
-    ctx: &Ctx,
     answer: &ParseResult<AttrObj<DemoAttr>, DemoAttr>,
     next: Option<char>,
 ) -> Result<String, Fail> {
+    let ctx: Ctx = Context::new(alloc);
     match answer {
-        Ok(attr) => Ok(format!(in alloc; "{}|{next:?}", attr.disp(ctx))?),
+        Ok(attr) => Ok(format!(in alloc; "{}|{next:?}", attr.disp(&ctx))?),
         Err(fault) => left(alloc, fault, next),
     }
 }
@@ -82,7 +83,7 @@ fn printed(
 fn attribute(alloc: Global, s: &mut Stream<'_>) -> Result<String, Fail> {
     let answer = attr_parse(s);
     let next = s.peek();
-    printed(alloc, s.state.ctx, &answer, next)
+    printed(alloc, &answer, next)
 }
 
 /// The result for the type that is parsed.

@@ -1,4 +1,5 @@
 //! Lists whose items are `Printable`.
+use irtext_context::base::Context;
 use irtext_print_ir::irfmt::printers::{iter_with_sep, list_with_sep};
 use irtext_print_ir::printable::{Disp, ListSeparator, State, fmt_iter};
 use irtext_tests_common::contexts::Ctx;
@@ -10,10 +11,11 @@ use std::test::Fail;
 const LISTED: &[&str] = &["1,2", "012", "1+ 2"];
 
 /// The items of a slice.
-fn of_slice(alloc: Global, ctx: &Ctx) -> Result<String, Fail> {
+fn of_slice(alloc: Global) -> Result<String, Fail> {
+    let ctx: Ctx = Context::new(alloc);
     let numbers = [1u64, 2];
     let list = list_with_sep(&numbers, ListSeparator::Char(','));
-    Ok(format!(in alloc; "{}", list.disp(ctx))?)
+    Ok(format!(in alloc; "{}", list.disp(&ctx))?)
 }
 
 /// The items of an iterator.
@@ -41,7 +43,7 @@ fn written(alloc: Global, ctx: &Ctx) -> Result<String, Fail> {
 /// The printed text for a line.
 fn listed(alloc: Global, ctx: &mut Ctx, number: usize) -> Result<String, Fail> {
     match number {
-        0 => of_slice(alloc, ctx),
+        0 => of_slice(alloc),
         1 => of_iterator(alloc, ctx),
         _ => written(alloc, ctx),
     }
