@@ -1,5 +1,4 @@
 //! Locations of each kind as texts, and errors after theirs: files by the paths that the context keeps.
-use crate::tests::errors::error;
 use irtext_base::base::{AttrObj, Identifier};
 use irtext_base::location::{Location, Source};
 use irtext_base::parsable::SourcePosition;
@@ -114,14 +113,22 @@ fn location(alloc: Global, ctx: &mut Ctx, line: usize) -> Result<Location<DemoAt
 fn in_one_file(alloc: Global, ctx: &mut Ctx) -> Result<Error<DemoAttr>, Fail> {
     let place = in_file(ctx, "/tmp/test.pliron", 1, 2)?;
     let cause = Cause::of_text(format!(in alloc; "Test error"));
-    Ok(error(ErrorKind::InvalidInput, place, cause))
+    Ok(Error {
+        kind: ErrorKind::InvalidInput,
+        loc: place,
+        err: cause,
+    })
 }
 
 /// An error in a file, in another one.
 fn in_two_files(alloc: Global, ctx: &mut Ctx) -> Result<Error<DemoAttr>, Fail> {
     let inner = Box::new(alloc, in_one_file(alloc, ctx)?)?;
     let place = in_file(ctx, "/tmp/test.pliron", 1, 1)?;
-    Ok(error(ErrorKind::InvalidInput, place, Cause::Nested(inner)))
+    Ok(Error {
+        kind: ErrorKind::InvalidInput,
+        loc: place,
+        err: Cause::Nested(inner),
+    })
 }
 
 /// The printed text of the error in files.
