@@ -34,16 +34,16 @@ use Rattle.irtext_parse_pieces.specs.Headers.{IsHead}
 use Rattle.irtext_parse_pieces.specs.Named.{Leaves, Each}
 use Rattle.irtext_names.proofs.SameBut.{results_in, results_are}
 use Rattle.irtext_parse_nested.specs.Blocks.{entries_in, MakesHead}
-use Rattle.irtext_parse_nested.specs.Definitions.{LosesPlaceholders}
+use Rattle.irtext_parse_objects.specs.Placeholders.{LosesPlaceholders}
 use Rattle.irtext_parse_nested.specs.Gathered.{entry_read}
-use Rattle.irtext_parse_nested.specs.Items.{KeepsLive}
-use Rattle.irtext_parse_nested.specs.Located.{IsLocated, IsLocatedAt}
-use Rattle.irtext_parse_nested.specs.Placing.{PlacesBlock}
-use Rattle.irtext_parse_nested.proofs.BlockKept.{block_new}
-use Rattle.irtext_parse_nested.proofs.Lasting.{lasts_then}
+use Rattle.irtext_parse_objects.specs.Items.{KeepsLive}
+use Rattle.irtext_parse_objects.specs.Located.{IsLocated, IsLocatedAt}
+use Rattle.irtext_parse_objects.specs.Placing.{PlacesBlock}
+use Rattle.irtext_parse_objects.proofs.BlockKept.{block_new}
+use Rattle.irtext_parse_objects.proofs.Lasting.{lasts_then}
 use Rattle.irtext_parse_nested.proofs.Faults.{place_is_there, named_each}
 use Rattle.irtext_parse_nested.proofs.Headers.{keys_each, arguments_named, arguments_typed}
-use Rattle.irtext_parse_nested.proofs.Lasting.{loses_lasts}
+use Rattle.irtext_parse_objects.proofs.Lasting.{loses_lasts}
 use Rattle.irtext_parse_nested.proofs.Sparing.{loses_spares, live_region_view}
 
 some_mapped : {X Y : Type 0} (f : X → Y) (o : Option X) → IsSome o → IsSome (option_map f o)

@@ -45,7 +45,7 @@ use Rattle.irtext_parse_nested.specs.declared.operation_parts.NotGathered.TheVar
 use Rattle.irtext_parse_nested.specs.Blocks.{entries_in, IsOfEntries, IsRefusalFault, RefusesKeys, MakesHead, NamesHead, RefusesHead}
 use Rattle.irtext_parse_nested.specs.Ends.{noted_as}
 use Rattle.irtext_parse_nested.specs.Gathered.{Forbids}
-use Rattle.irtext_parse_nested.specs.Items.{Names, ActFails, ActsWith}
+use Rattle.irtext_parse_objects.specs.Items.{Names, ActFails, ActsWith}
 use Rattle.irtext_parse_nested.specs.Read.{heads_of, BeginsBlock, RefusesBlock}
 use Rattle.irtext_parse_nested.proofs.OperationClosed.{noted_is}
 use Rattle.irtext_parse_nested.proofs.Ended.{within_honest, honest_mark}

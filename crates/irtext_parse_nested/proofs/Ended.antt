@@ -32,7 +32,7 @@ use Rattle.irtext_parse_pieces.proofs.Meanings.{must_whole}
 use Rattle.irtext_parse_nested.specs.declared.frame.BegunOperation.{BegunOperation}
 use Rattle.irtext_parse_nested.specs.OpenOperation.{pledge_of}
 use Rattle.irtext_parse_nested.specs.Ends.{closes_at, NotesMark, noted_as, RefusesMark}
-use Rattle.irtext_parse_nested.specs.Items.{Names, Acts}
+use Rattle.irtext_parse_objects.specs.Items.{Names, Acts}
 use Rattle.irtext_parse_nested.specs.Read.{EndsOperation, RefusesEnd, no_mark, same_mark}
 use Rattle.irtext_parse_nested.proofs.OperationClosed.{noted_is}
 use Rattle.irtext_parse_nested.proofs.Faults.{StaysWithin, must_demand}

@@ -35,7 +35,7 @@ use Rattle.irtext_parse_nested.specs.declared.frame.BegunOperation.{BegunOperati
 use Rattle.irtext_parse_nested.specs.OpenOperation.{IsBegun, pledge_of}
 use Rattle.irtext_parse_nested.specs.Definitions.{definitions_from, AreMadeAs, DefinesRow, FailsRow, IsFaultOf}
 use Rattle.irtext_parse_nested.specs.Ends.{RefusesResults, uncounted, no_scope, defined_twice}
-use Rattle.irtext_parse_nested.specs.Items.{Made, Names, Pledge, MachineAgrees, Acts, ActFails, doing}
+use Rattle.irtext_parse_objects.specs.Items.{Made, Names, Pledge, MachineAgrees, Acts, ActFails, doing}
 use Rattle.irtext_parse_nested.proofs.Faults.{place_is_there, named_each, each_length, each_there, some_same, name_failure}
 
 -- ---- the machine

@@ -20,7 +20,7 @@ use Rattle.irtext_names.specs.Rows.{AreNamed}
 use Rattle.irtext_parse_pieces.specs.declared.names.ReadName.{ReadName}
 use Rattle.irtext_parse_pieces.specs.Named.{Leaves, Represents, Each}
 use Rattle.irtext_parse_nested.specs.Definitions.{IsFaultOf}
-use Rattle.irtext_parse_nested.specs.Items.{IsFailure, IsTextFault}
+use Rattle.irtext_parse_objects.specs.Items.{IsFailure, IsTextFault}
 use Rattle.irtext_parse_nested.specs.Read.{Demands}
 
 -- ---- places

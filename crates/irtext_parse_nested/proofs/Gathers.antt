@@ -23,9 +23,9 @@ use Rattle.irtext_parse_pieces.specs.declared.pieces.ReadPiece.{ReadPiece}
 use Rattle.irtext_parse_pieces.specs.declared.pieces.ReadPiece.TheVariants as read
 use Rattle.irtext_parse_pieces.specs.Fronts.{IsPart}
 use Rattle.irtext_parse_pieces.specs.Named.{Each}
-use Rattle.irtext_parse_nested.specs.declared.operation_parts.Gathered.{Gathered}
-use Rattle.irtext_parse_nested.specs.declared.uses.Placed.{Placed}
-use Rattle.irtext_parse_nested.specs.Items.{Names}
+use Rattle.irtext_parse_objects.specs.declared.gathered.Gathered.{Gathered}
+use Rattle.irtext_parse_objects.specs.declared.gathered.Placed.{Placed}
+use Rattle.irtext_parse_objects.specs.Items.{Names}
 use Rattle.irtext_parse_nested.specs.Gathered.{operand_place, successor_place, operand_list, successor_list, placed_type, type_list, stored_of, last_list, IsInHand, Grows, AreInHand, FailsUses, TakesParts, LackOperands, LackSuccessors, OperandsOnce, SuccessorsOnce, CanUseAll, CanGather, Gathers, FailsAt}
 
 -- ---- lists
@@ -235,8 +235,3 @@ module _ {O B T A : Type 0} where
       fails text (part ∷ parts) e =
           let r = s.so text (part ∷ []) (e.0, tt) in
           (r.0, r.1, λ p k l. subst (λ acts. FailsUses acts old g (record { cause = cause r.0.text; at = Some r.0.place })) (sym (first_views p k l part parts)) (fails_first (views (piece_acts p k l) parts) (r.2 p k l)))
-
--- a list without items
-pub none_left : {X : Type 0} (xs : List X) → length xs ≡ 0 → xs ≡ []
-none_left [] e = refl
-none_left (x ∷ xs) e = absurd (omega (arith, e))

@@ -7,10 +7,11 @@ use Rattle.irtext_parse_pieces.specs.declared.names.ReadName.{ReadName}
 use Rattle.irtext_parse_pieces.specs.declared.pieces.ReadPiece.{ReadPiece}
 use Rattle.irtext_parse_pieces.specs.Found.{only_words}
 use Rattle.irtext_scopes.specs.Scopes.{is_open}
-use Rattle.irtext_parse_nested.specs.declared.operation_parts.Gathered.{Gathered}
-use Rattle.irtext_parse_nested.specs.declared.uses.Placed.{Placed}
-use Rattle.irtext_parse_nested.specs.Items.{Names}
-use Rattle.irtext_parse_nested.specs.Gathered.{single_of, list_of, half_of, with_half, CanUseAll, CanGather, KeepsScopes, TakesName, Gathers, GathersHalf, GatherOutside}
+use Rattle.irtext_parse_objects.specs.declared.gathered.Gathered.{Gathered}
+use Rattle.irtext_parse_objects.specs.declared.gathered.Placed.{Placed}
+use Rattle.irtext_parse_objects.specs.Items.{Names}
+use Rattle.irtext_parse_nested.specs.Gathered.{single_of, list_of, half_of, with_half, CanUseAll, CanGather, Gathers, GathersHalf, GatherOutside}
+use Rattle.irtext_parse_objects.specs.Uses.{KeepsScopes, TakesName}
 use Rattle.irtext_parse_nested.proofs.Gathering.{Objects, Gathering, gathering_can, gathering_more}
 use Rattle.irtext_parse_nested.proofs.Marking.{on_ok}
 use Rattle.irtext_parse_nested.proofs.Pieces.{operand_one, successor_one, operands_one, successors_one, operand_outside, successor_outside, operands_outside, successors_outside}

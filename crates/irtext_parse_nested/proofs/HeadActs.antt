@@ -44,7 +44,7 @@ use Rattle.irtext_parse_pieces.specs.Named.{Represents, Each, NamesRead}
 use Rattle.irtext_parse_nested.specs.Blocks.{entries_in, RefusesKeys, MakesHead, RefusesArguments, DefinesArguments, NamesHead, RefusesHead, same_argument, same_mark, same_label}
 use Rattle.irtext_parse_nested.specs.Definitions.{IsFaultOf}
 use Rattle.irtext_parse_nested.specs.Ends.{numbers_of, NotesMark, RefusesMark}
-use Rattle.irtext_parse_nested.specs.Items.{Made, Names, Pledge, MachineAgrees, ActsWith, ActFails, doing}
+use Rattle.irtext_parse_objects.specs.Items.{Made, Names, Pledge, MachineAgrees, ActsWith, ActFails, doing}
 use Rattle.irtext_parse_nested.specs.Placing.{RefusesLabel}
 use Rattle.irtext_parse_nested.proofs.BlockPlaced.{arguments_made, with_block, placed_agrees}
 use Rattle.irtext_parse_nested.proofs.Ends.{definitions_unmarked}

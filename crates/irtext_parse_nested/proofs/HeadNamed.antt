@@ -24,9 +24,9 @@ use Rattle.irtext_parse_spec.specs.Promises.Root.{UnlessMemory}
 use Rattle.irtext_parse_pieces.specs.declared.marks.ReadMark.{ReadMark}
 use Rattle.irtext_parse_pieces.specs.declared.names.ReadName.{ReadName}
 use Rattle.irtext_parse_nested.specs.Blocks.{DefinesArguments, NamesHead, RefusesHead, same_mark, same_label}
-use Rattle.irtext_parse_nested.specs.Definitions.{LosesPlaceholders}
+use Rattle.irtext_parse_objects.specs.Placeholders.{LosesPlaceholders}
 use Rattle.irtext_parse_nested.specs.Ends.{NotesMark, RefusesMark}
-use Rattle.irtext_parse_nested.specs.Items.{Names, IsSound, BlanksDefine}
+use Rattle.irtext_parse_objects.specs.Items.{Names, IsSound, BlanksDefine}
 use Rattle.irtext_parse_nested.specs.Placing.{RefusesLabel}
 
 -- ---- the block, where nothing but placeholders is lost

@@ -37,7 +37,7 @@ use Rattle.irtext_parse_nested.specs.Blocks.{entries_in}
 use Rattle.irtext_parse_nested.specs.Gathered.{AreAllowed, IsFirstForbidden}
 use Rattle.irtext_parse_nested.specs.Definitions.{definitions_from, AreMadeAs}
 use Rattle.irtext_parse_nested.specs.Ends.{NotesMark}
-use Rattle.irtext_parse_nested.specs.Items.{Names}
+use Rattle.irtext_parse_objects.specs.Items.{Names}
 use Rattle.irtext_parse_nested.proofs.BlockPlaced.{arguments_made, with_block}
 use Rattle.irtext_parse_nested.proofs.Ends.{after_nothing}
 use Rattle.irtext_parse_nested.proofs.Marking.{mark_agrees, not_noted}

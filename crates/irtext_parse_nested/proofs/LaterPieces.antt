@@ -47,7 +47,7 @@ use Rattle.irtext_parse_nested.specs.declared.operation_parts.NotGathered.TheVar
 use Rattle.irtext_parse_nested.specs.Beginning.{IsKnownIn, IsPartOf}
 use Rattle.irtext_parse_nested.specs.OpenOperation.{ReadsNeither}
 use Rattle.irtext_parse_nested.specs.Gathered.{FailsUses, IsFirstReserved, stored_of}
-use Rattle.irtext_parse_nested.specs.Items.{Names}
+use Rattle.irtext_parse_objects.specs.Items.{Names}
 use Rattle.irtext_parse_nested.specs.Later.{given_by, IsFlatNext, MayStore, RefusesStored}
 use Rattle.irtext_parse_nested.proofs.Faults.{StaysWithin}
 use Rattle.irtext_parse_nested.proofs.FrontHonest.{spaced_within}

@@ -57,9 +57,9 @@ use Rattle.irtext_parse_nested.specs.Beginning.{HasBegun, SaysGather}
 use Rattle.irtext_parse_nested.specs.OpenOperation.{IsBegun, HasNoType, ReadNeither}
 use Rattle.irtext_parse_nested.specs.Ends.{WritesAttributes}
 use Rattle.irtext_parse_nested.specs.Gathered.{stored_of}
-use Rattle.irtext_parse_nested.specs.Items.{Names, Pledge, Made, MachineAgrees, Acts, IsSound, KeepsLive, doing}
+use Rattle.irtext_parse_objects.specs.Items.{Names, Pledge, Made, MachineAgrees, Acts, IsSound, KeepsLive, doing}
 use Rattle.irtext_parse_nested.specs.Later.{IsFlatNext, RefusesStored, StoresPiece, NotStored, GoesOn}
-use Rattle.irtext_parse_nested.specs.Located.{IsLocated}
+use Rattle.irtext_parse_objects.specs.Located.{IsLocated}
 use Rattle.irtext_parse_nested.specs.Read.{Demands, ReadsPiece, RefusesPiece}
 use Rattle.irtext_parse_nested.proofs.Begins.{note_piece, marks_stay}
 use Rattle.irtext_parse_nested.proofs.BegunParts.{stored_alike, later_one, all_more}

@@ -23,7 +23,7 @@ use Rattle.irtext_parse_pieces.specs.Named.{Leaves}
 use Rattle.irtext_parse_pieces.proofs.Meanings.{must_whole}
 use Rattle.irtext_parse_nested.specs.declared.frame.BegunRegion.{BegunRegion}
 use Rattle.irtext_parse_nested.specs.Definitions.{IsFaultOf}
-use Rattle.irtext_parse_nested.specs.Items.{Names}
+use Rattle.irtext_parse_objects.specs.Items.{Names}
 use Rattle.irtext_parse_nested.specs.Leaving.{IsUnresolved}
 use Rattle.irtext_parse_nested.specs.Read.{EndsRegion, RefusesRegionEnd}
 use Rattle.irtext_parse_nested.proofs.Ended.{within_honest}

@@ -1,11 +1,8 @@
 -- Lemmas on the parsing of nested text: what is unchanged by acts and edits, pieces that are gathered, and the turns of the loop.
 pub mod Agreement
-pub mod Apart
 pub mod RegionAdded
-pub mod Losing
 pub mod Blanks
 pub mod Numbered
-pub mod Lasting
 pub mod Faults
 pub mod Ends
 pub mod Marking
@@ -13,9 +10,7 @@ pub mod Ended
 pub mod BlockPlaced
 pub mod Unplaced
 pub mod RegionBegun
-pub mod BlockKept
 pub mod StepParts
-pub mod Steady
 pub mod Gathering
 pub mod Gathers
 pub mod Pieces
@@ -51,6 +46,5 @@ pub mod BeginRead
 pub mod BegunSteps
 pub mod LaterPieces
 pub mod LaterRead
-pub mod Ordering
 pub mod NamesLeft
 pub mod RegionCreated

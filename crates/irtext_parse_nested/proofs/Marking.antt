@@ -27,7 +27,7 @@ use Rattle.irtext_names.proofs.Rows.{map-through}
 use Rattle.irtext_parse_pieces.specs.declared.marks.ReadMark.{ReadMark}
 use Rattle.irtext_parse_pieces.specs.Marks.{IsMarkIf}
 use Rattle.irtext_parse_nested.specs.Ends.{NotesMark, GainsMarks, RefusesMark}
-use Rattle.irtext_parse_nested.specs.Items.{Made, Names, Pledge, MachineAgrees, Acts, ActFails}
+use Rattle.irtext_parse_objects.specs.Items.{Made, Names, Pledge, MachineAgrees, Acts, ActFails}
 use Rattle.irtext_parse_nested.proofs.Faults.{place_is_there}
 
 -- ---- results

@@ -28,10 +28,10 @@ use Rattle.irtext_parse_pieces.specs.Named.{Represents, Each}
 use Rattle.irtext_parse_nested.specs.declared.frame.BegunOperation.{BegunOperation}
 use Rattle.irtext_parse_nested.specs.OpenOperation.{pledge_of}
 use Rattle.irtext_parse_nested.specs.Ends.{closes_at, NotesMark, noted_as, WritesAttributes, GivesNames, BecomesNamed}
-use Rattle.irtext_parse_nested.specs.Items.{Names, Acts, KeepsLive, IsSound}
+use Rattle.irtext_parse_objects.specs.Items.{Names, Acts, KeepsLive, IsSound}
 use Rattle.irtext_parse_nested.proofs.Edited.{edited_lasts, edited_sound, edited_agrees}
 use Rattle.irtext_parse_nested.proofs.Faults.{named_each}
-use Rattle.irtext_parse_nested.proofs.Lasting.{lasts_then}
+use Rattle.irtext_parse_objects.proofs.Lasting.{lasts_then}
 
 module _ {T A : Type 0} where
   module _ (old mid new : ContextView T A) (op : Ptr Operation) (spares : ModifiesOnly [] old mid) where

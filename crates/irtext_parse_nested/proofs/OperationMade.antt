@@ -29,14 +29,16 @@ use Rattle.irtext_parse_spec.proofs.Edits.{operation_made, operation_made_spares
 use Rattle.irtext_parse_spec.proofs.Kept.{there_still}
 use Rattle.irtext_parse_nested.specs.declared.beginning.ReadFront.{ReadFront}
 use Rattle.irtext_parse_nested.specs.declared.frame.BegunOperation.{BegunOperation}
-use Rattle.irtext_parse_nested.specs.Beginning.{types_made, PlacedIn, MakesOf, ComesInto}
-use Rattle.irtext_parse_nested.specs.Items.{Names, KeepsLive, BlanksDefine}
-use Rattle.irtext_parse_nested.specs.Definitions.{BlanksHaveResults}
+use Rattle.irtext_parse_objects.specs.Gathered.{types_made}
+use Rattle.irtext_parse_objects.specs.Placing.{PlacedIn}
+use Rattle.irtext_parse_nested.specs.Beginning.{MakesOf, ComesInto}
+use Rattle.irtext_parse_objects.specs.Items.{Names, KeepsLive, BlanksDefine}
+use Rattle.irtext_parse_objects.specs.Placeholders.{BlanksHaveResults}
 use Rattle.irtext_parse_nested.proofs.Blanks.{blanks_on}
-use Rattle.irtext_parse_nested.proofs.Losing.{blanks_by}
-use Rattle.irtext_parse_nested.proofs.Steady.{seen_operation}
+use Rattle.irtext_parse_objects.proofs.Losing.{blanks_by}
+use Rattle.irtext_parse_objects.proofs.Steady.{seen_operation}
 use Rattle.irtext_parse_nested.proofs.Begins.{operation_placed_ties, operation_placed_waits}
-use Rattle.irtext_parse_nested.proofs.Lasting.{lasts_then, lasts_itself, data_there}
+use Rattle.irtext_parse_objects.proofs.Lasting.{lasts_then, lasts_itself, data_there}
 use Rattle.irtext_parse_nested.proofs.UsedLive.{used_spares, used_lasts, made_new, made_lasts, placed_lasts}
 use Rattle.irtext_stream.specs.declared.position.Place.{Place}
 

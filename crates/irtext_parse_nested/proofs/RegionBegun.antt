@@ -1,20 +1,20 @@
 -- A region that is created as it is entered: what stays live and what names refer to, and what came.
-use Rattle.std.proofs.Common.{◌≡◌, ◌≤◌, ℕ, [], ◌∷◌, Option, Some, None, IsSome, Result, Ok, Err, IfOk, arith, ap}
+use Rattle.std.proofs.Common.{◌≤◌, ℕ, [], ◌∷◌, Option, Some, None, IsSome, arith, ap}
 use Rattle.std.specs.Prelude.{IfSome}
 use Rattle.std.specs.Option.{option_map}
-use Rattle.irtext_context.specs.Context.{ContextView, operation, AddsRegion, with_graph}
+use Rattle.irtext_context.specs.Context.{ContextView, operation, AddsRegion}
 use Rattle.irtext_graph.specs.declared.arena.Ptr.{Ptr}
 use Rattle.irtext_graph.specs.declared.object.Operation.{Operation}
 use Rattle.irtext_graph.specs.declared.object.Region.{Region}
 use Rattle.irtext_graph.specs.declared.object.Object.TheVariants.{TheOperation, TheRegion}
 use Rattle.irtext_graph.specs.Content.{ARegion}
-use Rattle.irtext_graph.specs.Graph.{content_of, IsLive, IsNew, MakesRegion}
-use Rattle.irtext_parse_nested.specs.Items.{KeepsLive}
-use Rattle.irtext_parse_nested.proofs.Lasting.{data_there}
+use Rattle.irtext_graph.specs.Graph.{content_of, IsLive, IsNew}
+use Rattle.irtext_parse_objects.specs.Items.{KeepsLive}
+use Rattle.irtext_parse_objects.proofs.Lasting.{data_there}
 use Rattle.irtext_parse_spec.specs.Grows.{RegionCame, OperationGains}
 use Rattle.irtext_parse_spec.specs.Unchanged.{ModifiesOnly}
 use Rattle.irtext_parse_spec.proofs.Edits.{region_added_came, region_added_gains, region_added_spares}
-use Rattle.irtext_parse_nested.specs.Read.{CreatesIn}
+use Rattle.irtext_parse_objects.specs.Placing.{CreatesIn}
 use Rattle.irtext_parse_nested.proofs.RegionAdded as added
 use Rattle.irtext_parse_nested.proofs.RegionAdded.{operation_same, object_same}
 use Rattle.irtext_parse_nested.proofs.NamesLeft.{LeavesNames}
@@ -71,8 +71,3 @@ module _ {T A : Type 0} (old new : ContextView T A) (r : Ptr Region) where
   pub region_spares : (op : Option (Ptr Operation)) → CreatesIn op old new r → IfSome op (λ o. ModifiesOnly (TheRegion r ∷ TheOperation o ∷ []) old new)
   region_spares (Some op) adds = region_added_spares old new op r adds
   region_spares None made = tt
-
--- a region was made without a parent, if it was made
-pub made_alone : {T A E : Type 0} (old new : ContextView T A) (result : Result (Ptr Region) E) → IfOk result (MakesRegion old.graph new.graph) → new ≡ with_graph old new.graph → IfOk result (CreatesIn None old new)
-made_alone old new (Ok r) makes with_it = (makes, with_it)
-made_alone old new (Err e) makes with_it = tt

@@ -19,7 +19,7 @@ use Rattle.irtext_graph.specs.declared.arena.Ptr.{Ptr}
 use Rattle.irtext_graph.specs.declared.object.BasicBlock.{BasicBlock}
 use Rattle.irtext_graph.specs.declared.object.Operation.{Operation}
 use Rattle.irtext_graph.specs.declared.object.Object.TheVariants.{TheBlock, TheOperation}
-use Rattle.irtext_graph.specs.Graph.{GraphView, Appends}
+use Rattle.irtext_graph.specs.Graph.{GraphView}
 use Rattle.irtext_tokens.specs.Infix.{Reader}
 use Rattle.irtext_grammar.specs.Contexts.Formats.{format_of}
 use Rattle.irtext_grammar.specs.Contexts.Held.{whole}
@@ -43,12 +43,14 @@ use Rattle.irtext_parse_pieces.specs.Fronts.{IsPart}
 use Rattle.irtext_parse_pieces.specs.Named.{Represents, Each}
 use Rattle.irtext_parse_nested.specs.declared.beginning.ReadFront.{ReadFront}
 use Rattle.irtext_parse_nested.specs.declared.frame.BegunOperation.{BegunOperation}
-use Rattle.irtext_parse_nested.specs.declared.operation_parts.Gathered.{Gathered}
+use Rattle.irtext_parse_objects.specs.declared.gathered.Gathered.{Gathered}
 use Rattle.irtext_parse_nested.specs.declared.operation_parts.NotGathered.{NotGathered}
 use Rattle.irtext_parse_nested.specs.declared.operation_parts.NotGathered.TheVariants as refusal
 use Rattle.irtext_parse_nested.specs.Definitions.{IsFaultOf}
-use Rattle.irtext_parse_nested.specs.Gathered.{IsNothing, KeepsScopes, Gathers, RefusesGathering}
-use Rattle.irtext_parse_nested.specs.Items.{Names}
+use Rattle.irtext_parse_objects.specs.Gathered.{IsNothing}
+use Rattle.irtext_parse_objects.specs.Uses.{KeepsScopes}
+use Rattle.irtext_parse_nested.specs.Gathered.{Gathers, RefusesGathering}
+use Rattle.irtext_parse_objects.specs.Items.{Names}
 use Rattle.irtext_parse_nested.specs.Read.{Demands}
 
 -- ---- what was parsed
@@ -98,17 +100,7 @@ pub data NotGatheredAs {T A O B : Type 0} (pieces : List (ReadPiece T A)) (names
   refused : (why : NotGathered) → RefusesGathering pieces names g why → SaysGather names.names text why fault → NotGatheredAs pieces names g text fault
 
 -- ---- what is created
--- the types of results: those with places; if there are none, those of the list
-abbrev pub types_made : {T : Type 0} → List (ℕ × T) → List T → List T
-types_made [] listed = listed
-types_made (e ∷ es) listed = in_order (e ∷ es)
-
 module _ {T A : Type 0} where
-  -- the operation was appended to the block, if one is given; otherwise nothing changed
-  abbrev pub PlacedIn : Option (Ptr BasicBlock) → ContextView T A → ContextView T A → Ptr Operation → Type 0
-  PlacedIn None old new op = new ≡ old
-  PlacedIn (Some b) old new op = Appends old.graph new.graph (TheBlock b) (TheOperation op) × (new.paths ≡ old.paths) × (new.dialects ≡ old.dialects)
-
   -- The names of the pieces were used, and an operation with so many results was created from what the pieces give.
   pub record CreatesOf (id : OpId) (pieces : List (ReadPiece T A)) (loc : Location A) (before : Names) (old : ContextView T A) (names : Names) (new : ContextView T A) (op : Ptr Operation) (results : ℕ) : Type 0 where
     pub none : Gathered T A

@@ -33,7 +33,7 @@ use Rattle.irtext_graph.specs.declared.object.Operation.{Operation}
 use Rattle.irtext_base.specs.declared.base.attributes.AttrObj.{AttrObj}
 use Rattle.irtext_base.specs.declared.location.Location.{Location}
 use Rattle.irtext_parse_spec.specs.Resume.{OpenOperation}
-use Rattle.irtext_parse_nested.specs.Items.{Names, doing}
+use Rattle.irtext_parse_objects.specs.Items.{Names, doing}
 
 -- the numbers of the parsed names
 abbrev pub numbers_of : List ReadName → List ℕ

@@ -1,6 +1,5 @@
 -- Between functions: the pieces before an operation's first region: what they use, and what they give the operation.
-use Rattle.std.specs.Prelude.{◌≡◌, ◌⊎◌, ◌+◌, ◌<◌, ◌≤◌, ℕ, true, false, List, [], ◌∷◌, ◌++◌, length, map, flat_map, slice_get, Option, Some, None, ⊤}
-use Rattle.std.specs.Option.{option_map}
+use Rattle.std.specs.Prelude.{◌≡◌, ◌⊎◌, ◌+◌, ◌<◌, ℕ, true, false, List, [], ◌∷◌, ◌++◌, length, map, flat_map, slice_get, Option, Some, None, ⊤}
 use Rattle.irtext_base.specs.Text.{Text}
 use Rattle.irtext_base.specs.Format.{sym_name_key}
 use Rattle.irtext_base.specs.declared.base.attributes.AttrObj.{AttrObj}
@@ -11,27 +10,21 @@ use Rattle.irtext_context.specs.declared.base.block.BlockData.{BlockData}
 use Rattle.irtext_context.specs.declared.base.operation.OperationData.{OperationData}
 use Rattle.irtext_graph.specs.declared.arena.Ptr.{Ptr}
 use Rattle.irtext_graph.specs.declared.object.BasicBlock.{BasicBlock}
-use Rattle.irtext_graph.specs.declared.object.Object.{Object}
-use Rattle.irtext_graph.specs.declared.object.Object.TheVariants.{TheBlock, TheRegion}
 use Rattle.irtext_graph.specs.declared.object.Operation.{Operation}
-use Rattle.irtext_graph.specs.declared.object.Region.{Region}
 use Rattle.irtext_graph.specs.declared.object.Value.{Value}
 use Rattle.irtext_graph.specs.declared.object.Defined.{Defined}
 use Rattle.irtext_graph.specs.declared.object.Defined.TheVariants.{OfValue, OfBlock}
 use Rattle.irtext_graph.specs.Chained.{Among}
-use Rattle.irtext_graph.specs.Graph.{GraphView, KeepsOlder, IsLive, parent}
-use Rattle.irtext_graph.specs.Parts.{operation_at}
-use Rattle.irtext_graph.specs.Used.{IsDefined}
+use Rattle.irtext_graph.specs.Graph.{GraphView}
 use Rattle.irtext_grammar.specs.Contexts.Held.{attribute_of, entries_of}
 use Rattle.irtext_grammar.specs.Grammar.Tree.{Name, Attribute, ident, Part, views}
 use Rattle.irtext_grammar.specs.Graphs.Build.{put_all}
 use Rattle.irtext_grammar.specs.Names.Acts.{Rule, piece_acts, may_hold, block_may_hold}
 use Rattle.irtext_grammar.specs.Names.History.{State, act, going, failed, run}
 use Rattle.irtext_grammar.specs.Names.Script.{Path, User, operand, successor, Cause, ReservedKey, NoActiveScope}
-use Rattle.irtext_grammar.specs.Names.TextScopes.{Act, Word, Failure}
+use Rattle.irtext_grammar.specs.Names.TextScopes.{Act, Failure}
 use Rattle.irtext_names.specs.Kinds.{NamesOf, NamesOf.{values, labels}}
-use Rattle.irtext_names.specs.Linked.{Known, NamesAgree, TakesUse}
-use Rattle.irtext_names.specs.Tied.{MatchesGraph, ArePending}
+use Rattle.irtext_names.specs.Linked.{Known, NamesAgree}
 use Rattle.irtext_names.specs.Rows.{AreKnown, TakesUses}
 use Rattle.irtext_parse_pieces.specs.declared.entries.Key.{Key}
 use Rattle.irtext_parse_pieces.specs.declared.names.ReadName.{ReadName}
@@ -42,12 +35,11 @@ use Rattle.irtext_parse_pieces.specs.Fronts.{IsPart}
 use Rattle.irtext_parse_pieces.specs.Named.{Represents, Each}
 use Rattle.irtext_parse_nested.specs.declared.dictionary.Holder.{Holder}
 use Rattle.irtext_parse_nested.specs.declared.dictionary.Holder.TheVariants as holder
-use Rattle.irtext_parse_nested.specs.declared.operation_parts.Gathered.{Gathered}
+use Rattle.irtext_parse_objects.specs.declared.gathered.Gathered.{Gathered}
 use Rattle.irtext_parse_nested.specs.declared.operation_parts.NotGathered.{NotGathered}
 use Rattle.irtext_parse_nested.specs.declared.operation_parts.NotGathered.TheVariants as refusal
-use Rattle.irtext_parse_nested.specs.declared.uses.Placed.{Placed}
-use Rattle.irtext_parse_nested.specs.Definitions.{BlanksHaveResults}
-use Rattle.irtext_parse_nested.specs.Items.{Names}
+use Rattle.irtext_parse_objects.specs.declared.gathered.Placed.{Placed}
+use Rattle.irtext_parse_objects.specs.Items.{Names}
 
 -- ---- what pieces give
 -- a parsed entry, with its key as a text
@@ -163,13 +155,6 @@ module _ {T A : Type 0} where
     pub operands_once : OperandsOnce values ps
     pub successors_once : SuccessorsOnce blocks ps
 
-  -- nothing was gathered
-  pub record IsNothing (x : Gathered T A) : Type 0 where
-    pub operands : (x.operands.single.items ≡ []) × (x.operands.list.items ≡ [])
-    pub successors : (x.successors.single.items ≡ []) × (x.successors.list.items ≡ [])
-    pub types : (x.types.items ≡ []) × (x.listed ≡ [])
-    pub attributes : x.attributes ≡ []
-
 -- ---- entries of a dictionary
 -- which attributes a dictionary may have under which keys
 abbrev pub rule_of : {A : Type 0} → Holder → Rule A
@@ -230,31 +215,6 @@ pub record AreInHand (p : Path) (k l : ℕ) (operands : Placed Value) (successor
       ⊎ IsInHand OfBlock (successor p) l successors.single.items successors.list.items u d
 
 module _ {O B T : Type 0} where
-  -- Nothing but placeholders was added: each operation that has data had it, each block that has a parent had the same parent, and each
-  -- region was live.
-  pub record BringsNone (g k : GraphView (Option O) B T) : Type 0 where
-    pub operations : (p : Ptr Operation) (x : O) → option_map (λ c. c.data_of) (operation_at k p) ≡ Some (Some x) → option_map (λ c. c.data_of) (operation_at g p) ≡ Some (Some x)
-    pub blocks : (b : Ptr BasicBlock) (o : Object) → parent k (TheBlock b) ≡ Some o → parent g (TheBlock b) ≡ Some o
-    pub regions : (r : Ptr Region) → IsLive k (TheRegion r) → IsLive g (TheRegion r)
-
-  -- The names are the same, as many scopes are open, and names and graph are still tied; what is older is unchanged, nothing but
-  -- placeholders was added, and each operation without data has a result if that was so before.
-  pub record KeepsScopes (old new : Names) (g k : GraphView (Option O) B T) : Type 0 where
-    pub names : new.names ≡ old.names
-    pub values : length new.values ≡ length old.values
-    pub labels : length new.labels ≡ length old.labels
-    pub tied : MatchesGraph new.values new.labels k
-    pub waiting : (m : ℕ) (own : List (Ptr BasicBlock)) → m ≤ g.made → ArePending m own old.values old.labels g → ArePending m own new.values new.labels k
-    pub kept : (m : ℕ) → m ≤ g.made → KeepsOlder m g k
-    pub brings : BringsNone g k
-    pub blanks : (m : ℕ) → BlanksHaveResults m g → BlanksHaveResults m k
-
-  -- a name of this number was used, by any user, and refers to this
-  pub record TakesName {X : Type 0} (of : X → Defined) (uses : Word → User → Act) (number : ℕ) (old new : Names) (g h : GraphView (Option O) B T) (x : X) : Type 0 where
-    pub still : (d : Defined) → IsDefined g d → IsDefined h d
-    pub there : IsDefined h (of x)
-    pub follows : (w : Word) (u : User) → slice_get old.names number ≡ Some w.name → TakesUse (uses w u) old new g h u (of x)
-
   -- whenever names and graph agree with a state of the machine, whatever is in hand, the acts fail so
   pub record FailsUses (acts : List Act) (names : Names) (g : GraphView (Option O) B T) (failure : Failure) : Type 0 where
     pub so : (known : Known) (held : List (User × Defined)) (st : State) → NamesAgree names g known held st → run (going st) (map act acts) ≡ failed failure
@@ -267,13 +227,6 @@ module _ {O B T : Type 0} where
     pub held : AreInHand p k l operands successors more
 
 module _ {O B T A : Type 0} where
-  -- everything that was used so far is live
-  pub record AllUsesLive (g : GraphView (Option O) B (Option T)) (x : Gathered T A) : Type 0 where
-    pub operands : (e : ℕ × Value) → Among e x.operands.single.items → IsDefined g (OfValue e.1)
-    pub listed_operands : (v : Value) → Among v x.operands.list.items → IsDefined g (OfValue v)
-    pub successors : (e : ℕ × Ptr BasicBlock) → Among e x.successors.single.items → IsDefined g (OfBlock e.1)
-    pub listed_successors : (b : Ptr BasicBlock) → Among b x.successors.list.items → IsDefined g (OfBlock b)
-
   -- The pieces were used and stored, in their order.
   pub record Gathers (ps : List (ReadPiece T A)) (old : Names) (g : GraphView (Option O) B (Option T)) (x : Gathered T A)
       (new : Names) (h : GraphView (Option O) B (Option T)) (y : Gathered T A) : Type 0 where

@@ -26,8 +26,8 @@ use Rattle.irtext_parse_nested.specs.declared.operation_parts.NotGathered.TheVar
 use Rattle.irtext_parse_nested.specs.Beginning.{HasBegun, SaysGather}
 use Rattle.irtext_parse_nested.specs.OpenOperation.{IsBegun}
 use Rattle.irtext_parse_nested.specs.Gathered.{MayAllHold, RefusesEntries, stored_of}
-use Rattle.irtext_parse_nested.specs.Items.{Names}
-use Rattle.irtext_parse_nested.specs.Located.{IsLocated}
+use Rattle.irtext_parse_objects.specs.Items.{Names}
+use Rattle.irtext_parse_objects.specs.Located.{IsLocated}
 use Rattle.irtext_parse_nested.specs.Read.{ReadsPiece}
 
 -- there is a next step, and it parses a piece and no region

@@ -1,5 +1,4 @@
 -- What the parsers of nested text promise each other: the names, and the open frames.
-pub mod Items
 pub mod OpenOperation
 pub mod Read
 pub mod Definitions
@@ -7,7 +6,6 @@ pub mod Ends
 pub mod Placing
 pub mod Gathered
 pub mod Leaving
-pub mod Located
 pub mod Blocks
 pub mod Beginning
 pub mod Later

@@ -21,7 +21,7 @@ use Rattle.irtext_parse_nested.specs.declared.frame.BegunOperation.{BegunOperati
 use Rattle.irtext_parse_nested.specs.declared.frame.BegunRegion.{BegunRegion}
 use Rattle.irtext_parse_nested.specs.declared.frame.BegunBlock.{BegunBlock}
 use Rattle.irtext_parse_pieces.specs.Coming.{IsStep}
-use Rattle.irtext_parse_nested.specs.Items.{Pledge}
+use Rattle.irtext_parse_objects.specs.Items.{Pledge}
 
 -- the part gives no result its type
 abbrev pub HasNoType : {T A : Type 0} → Part ℕ T A → Type 0

@@ -1,30 +1,16 @@
 -- Between functions: a block that is created in a region, and its label.
-use Rattle.std.specs.Prelude.{◌≡◌, List, Option, Some, slice_get}
+use Rattle.std.specs.Prelude.{◌≡◌, Option, Some, slice_get}
 use Rattle.irtext_base.specs.Text.{Text}
 use Rattle.irtext_base.specs.Faults as causes
 use Rattle.irtext_base.specs.declared.parsable.fault.ParseFault.{ParseFault}
-use Rattle.irtext_context.specs.Context.{ContextView, MakesBlock}
-use Rattle.irtext_context.specs.declared.base.block.BlockData.{BlockData}
-use Rattle.irtext_graph.specs.declared.arena.Ptr.{Ptr}
-use Rattle.irtext_graph.specs.declared.object.BasicBlock.{BasicBlock}
-use Rattle.irtext_graph.specs.declared.object.Region.{Region}
-use Rattle.irtext_graph.specs.declared.object.Object.TheVariants.{TheBlock, TheRegion}
-use Rattle.irtext_graph.specs.Graph.{GraphView, Appends}
+use Rattle.irtext_graph.specs.Graph.{GraphView}
 use Rattle.irtext_grammar.specs.Names.History.{act}
 use Rattle.irtext_grammar.specs.Names.Script.{Place, define_label, MultipleDefinitions}
 use Rattle.irtext_grammar.specs.Names.TextScopes.{Word}
 use Rattle.irtext_names.specs.Linked.{FailsBy}
 use Rattle.irtext_parse_pieces.specs.declared.names.ReadName.{ReadName}
 use Rattle.irtext_parse_nested.specs.Definitions.{IsFaultOf}
-use Rattle.irtext_parse_nested.specs.Items.{Names}
-
--- a block with this data and with arguments of these types was created and appended to a region
-pub record PlacesBlock {T A : Type 0} (old new : ContextView T A) (r : Ptr Region) (b : Ptr BasicBlock) (held : BlockData A) (types : List T) : Type 0 where
-  pub between : ContextView T A
-  pub makes : MakesBlock old between b held types
-  pub appends : Appends between.graph new.graph (TheRegion r) (TheBlock b)
-  pub paths : new.paths ≡ old.paths
-  pub dialects : new.dialects ≡ old.dialects
+use Rattle.irtext_parse_objects.specs.Items.{Names}
 
 -- the label is already defined: whenever names and graph agree with a state of the machine, its definition fails, and the fault is for
 -- it, at the label

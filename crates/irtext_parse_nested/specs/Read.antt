@@ -1,5 +1,5 @@
 -- Between functions: what each action of the parser of nested text parses and does, and how it fails.
-use Rattle.std.specs.Prelude.{◌≡◌, ◌⊎◌, ℕ, ◌-◌, Bool, true, ◌||◌, List, [], ◌∷◌, codes, length, Option, Some, None}
+use Rattle.std.specs.Prelude.{◌≡◌, ◌⊎◌, ℕ, ◌-◌, Bool, true, ◌||◌, List, [], ◌∷◌, codes, length, Option}
 use Rattle.irtext_base.specs.Text.{Text}
 use Rattle.irtext_base.specs.Format.{Id}
 use Rattle.irtext_base.specs.Faults.{Fault}
@@ -9,11 +9,6 @@ use Rattle.irtext_base.specs.declared.parsable.fault.ParseFault.{ParseFault}
 use Rattle.irtext_tokens.specs.Infix.{Reader, ◌▷◌}
 use Rattle.irtext_tokens.specs.Tokens.{space_at, word}
 use Rattle.irtext_parse_state.specs.declared.parsable.state.StateStream.{StateStream}
-use Rattle.irtext_context.specs.Context.{ContextView, AddsRegion, with_graph}
-use Rattle.irtext_graph.specs.Graph.{MakesRegion}
-use Rattle.irtext_graph.specs.declared.arena.Ptr.{Ptr}
-use Rattle.irtext_graph.specs.declared.object.Operation.{Operation}
-use Rattle.irtext_graph.specs.declared.object.Region.{Region}
 use Rattle.irtext_graph.specs.declared.object.Object.TheVariants.{TheOperation, TheBlock}
 use Rattle.irtext_grammar.specs.Contexts.Held.{whole}
 use Rattle.irtext_grammar.specs.Grammar.Tree.{Name, Mark, Piece, Part, Head}
@@ -29,7 +24,7 @@ use Rattle.irtext_parse_nested.specs.declared.frame.BegunOperation.{BegunOperati
 use Rattle.irtext_parse_nested.specs.declared.frame.BegunRegion.{BegunRegion}
 use Rattle.irtext_parse_nested.specs.declared.frame.BegunBlock.{BegunBlock}
 use Rattle.irtext_parse_nested.specs.OpenOperation.{IsBegun, IsRegion, IsBlock, pledge_of}
-use Rattle.irtext_parse_nested.specs.Items.{Names, doing, Acts, ActsWith, ActFails, IsTextFault}
+use Rattle.irtext_parse_objects.specs.Items.{Names, doing, Acts, ActsWith, ActFails, IsTextFault}
 
 -- the fault of a parser that starts at `rest`, which is the end of the whole text, if what it parses is required
 pub record Demands {X A : Type 0} (text : Text) (o : Outcome X) (rest : Text) (fault : ParseFault A) : Type 0 where
@@ -37,11 +32,6 @@ pub record Demands {X A : Type 0} (text : Text) (o : Outcome X) (rest : Text) (f
   pub upto : Text
   pub bad : demanded o ≡ Bad cause upto
   pub fault_is : IsTextFault text cause (length rest - length upto) fault
-
--- a region was created: the last of an operation, or without a parent
-abbrev pub CreatesIn : {T A : Type 0} → Option (Ptr Operation) → ContextView T A → ContextView T A → Ptr Region → Type 0
-CreatesIn (Some op) old new r = AddsRegion old new op r
-CreatesIn None old new r = MakesRegion old.graph new.graph r × (new ≡ with_graph old new.graph)
 
 module _ {T A U : Type 0} (types_at : Reader T) (attr : Reader (AttrView A)) where
   -- ---- an operation begins

@@ -1,11 +1,11 @@
 //! The beginning of an operation: what precedes its first region is parsed, names are used, and the operation is created and appended to
 //! its block.
-ghost use Rattle.std.specs.Prelude.{◌≡◌, ◌≤◌, ◌<◌, ℕ, List, [], length, cond, true, false, None, IfOk, IfErr, IfSome, OnOk, is_some, slice_get};
+ghost use Rattle.std.specs.Prelude.{◌≡◌, ◌≤◌, ◌<◌, ℕ, List, [], length, cond, true, false, IfOk, IfErr, IfSome, OnOk, is_some, slice_get};
 ghost use Rattle.irtext_base.specs.Answers.{Demands};
 ghost use Rattle.irtext_base.specs.Format.{sym_name_key};
 ghost use Rattle.irtext_base.specs.Text.{Text};
 ghost use Rattle.irtext_context.specs.Context.{KeepsOlder};
-ghost use Rattle.irtext_graph.specs.Graph.{IsNew, IsLive, parent, children};
+ghost use Rattle.irtext_graph.specs.Graph.{IsNew};
 ghost use Rattle.irtext_graph.specs.declared.object.Object.TheVariants.{TheBlock, TheOperation};
 ghost use Rattle.irtext_tokens.specs.AttrTexts.{attr_at};
 ghost use Rattle.irtext_scopes.specs.Names.{AreDistinct};
@@ -19,20 +19,18 @@ ghost use Rattle.irtext_parse_spec.specs.Promises.Root.{UnlessMemory};
 ghost use Rattle.irtext_parse_spec.specs.Unchanged.{OwnSoFar, IsThere};
 ghost use Rattle.irtext_parse_pieces.specs.Fronts.{IsPart};
 ghost use Rattle.irtext_parse_pieces.specs.Named.{Each, NamesRead};
-ghost use Rattle.irtext_parse_nested.specs.Beginning.{FrontComes, MissesFront, IsKnownIn, SaysGather, NotGatheredAs, PlacedIn, CreatesOf, MakesOf, HasBegun, ComesInto};
+ghost use Rattle.irtext_parse_nested.specs.Beginning.{FrontComes, MissesFront, IsKnownIn, SaysGather, NotGatheredAs, CreatesOf, MakesOf, HasBegun, ComesInto};
 ghost use Rattle.irtext_parse_pieces.specs.Coming.{IsStep};
 ghost use Rattle.irtext_parse_nested.specs.Gathered.{CanGather};
-ghost use Rattle.irtext_parse_nested.specs.Items.{IsSound, KeepsLive, KeepsDepths};
+ghost use Rattle.irtext_parse_objects.specs.Items.{IsSound, KeepsLive, KeepsDepths};
 ghost use Rattle.irtext_base.specs.Faults.{id_of};
 ghost use Rattle.irtext_parse_spec.specs.Reached.{steps_in};
-ghost use Rattle.irtext_parse_nested.specs.Located.{IsLocated};
+ghost use Rattle.irtext_parse_objects.specs.Located.{IsLocated};
 ghost use Rattle.irtext_parse_nested.specs.Read.{ReadsFront, begun_by, BeginsOperation, RefusesOperation};
 
-use crate::frame::{BegunOperation, Names};
-use crate::making::{make_bare, make_gathered};
-use crate::memory::{ended, or_memory};
-use crate::name_errors::{NameFault, name_error};
-use crate::operation_parts::{Gathered, NotGathered, attributes_of, gather, nothing};
+use crate::frame::BegunOperation;
+use crate::name_errors::name_error;
+use crate::operation_parts::{NotGathered, gather};
 use irtext_base::base::{Identifier, OpId};
 use irtext_base::location::Location;
 use irtext_base::parsable::{CharStream, ParseFault, ParseResult, Place, TextStream};
@@ -40,9 +38,15 @@ use irtext_base::result::Cause;
 use irtext_base::text::{AttrText, IrText};
 use irtext_context::base::context::making::Making;
 use irtext_context::base::{BasicBlock, Context, Operation, Ptr};
-use irtext_context::dialect::OpInfo;
 use irtext_few::Few;
 use irtext_graph::held::HasGraph;
+use irtext_parse_objects::gathered::{Gathered, attributes_of, nothing};
+use irtext_parse_objects::keys::kept_key;
+use irtext_parse_objects::making::{make_bare, make_gathered};
+use irtext_parse_objects::memory::{ended, or_memory};
+use irtext_parse_objects::name_errors::NameFault;
+use irtext_parse_objects::names::Names;
+use irtext_parse_objects::placing::placed;
 use irtext_parse_pieces::coming::{Coming, coming_at};
 use irtext_parse_pieces::counting::step_count;
 use irtext_parse_pieces::found::Pieces;
@@ -53,7 +57,6 @@ use irtext_parse_pieces::names::ReadName;
 use irtext_parse_state::parsable::StateStream;
 use irtext_parse_state::parsable::state::StreamLocation;
 use irtext_tokens::irfmt::faults::{commit, out_of_memory, refuse_at};
-use std::alloc::AllocError;
 
 /// What precedes an operation's first region.
 #[derive(Drop)]
@@ -81,16 +84,6 @@ fn commit_if<A>(stream: &mut TextStream, is_required: bool, fault: ParseFault<A>
         commit(stream, fault)
     } else {
         fault
-    }
-}
-
-/// Returns the key of a symbol's name that is stored for an operation; shares its text.
-pub(crate) fn kept_key(info: &OpInfo) -> Option<Identifier>
-    ensures { IfSome result (λ key. key ≡ sym_name_key) }
-{
-    match info.sym_name_key()?.clone() {
-        Ok(key) => Some(key),
-        Err(_) => None,
     }
 }
 
@@ -157,28 +150,6 @@ pub(crate) fn gather_fault<A>(
             NameFault::NoActiveScope,
         ),
     }
-}
-
-/// Appends a detached and empty operation to the block, if one is given. If an allocation fails, nothing changes.
-fn placed<T: IrText<A>, A: AttrText<A>>(
-    ctx: &mut Context<T, A>,
-    block: Option<Ptr<BasicBlock>>,
-    op: Ptr<Operation>,
-) -> Result<(), AllocError>
-    requires block { IfSome block (λ b. IsLive ctx.old.graph (TheBlock b)) }
-    requires op { IsLive ctx.old.graph (TheOperation op) }
-    requires free { parent ctx.old.graph (TheOperation op) ≡ None }
-    requires empty { children ctx.old.graph (TheOperation op) ≡ [] }
-    ensures places { OnOk result (PlacedIn block ctx.old ctx.new op) }
-    ensures kept { (m : ℕ) → IfSome block (λ b. IsNew m ctx.old.graph (TheBlock b))
-        → IsNew m ctx.old.graph (TheOperation op)
-        → KeepsOlder m ctx.old ctx.new }
-{
-    let Some(block) = block else {
-        return Ok(());
-    };
-    ctx.graph().keeps_nesting();
-    op.insert_at_back(block, ctx)
 }
 
 /// Uses the names of an operation's pieces, and creates it, detached, from what they give. Returns it with the number of its results. Every

@@ -33,22 +33,20 @@ ghost use Rattle.irtext_names.specs.Rows.{AreKnown};
 ghost use Rattle.irtext_parse_pieces.specs.Headers.{MustHead};
 ghost use Rattle.irtext_parse_pieces.specs.Named.{AreWords, NamesRead};
 ghost use Rattle.irtext_parse_nested.specs.Blocks.{entries_in, PlacesLabelled, IsOfEntries, IsRefusalFault, MakesHead, RefusesArguments, DefinesArguments, NamesHead, RefusesHead};
-ghost use Rattle.irtext_parse_nested.specs.Definitions.{ValuesReady, LosesPlaceholders};
+ghost use Rattle.irtext_parse_nested.specs.Definitions.{ValuesReady};
+ghost use Rattle.irtext_parse_objects.specs.Placeholders.{LosesPlaceholders};
 ghost use Rattle.irtext_parse_nested.specs.Ends.{numbers_of, noted_as, GainsMarks};
 ghost use Rattle.irtext_parse_nested.specs.Gathered.{Forbids};
-ghost use Rattle.irtext_parse_nested.specs.Items.{IsSound, KeepsLive, KeepsDepths};
-ghost use Rattle.irtext_parse_nested.specs.Located.{IsLocated, IsLocatedAt};
+ghost use Rattle.irtext_parse_objects.specs.Items.{IsSound, KeepsLive, KeepsDepths};
+ghost use Rattle.irtext_parse_objects.specs.Located.{IsLocated};
 ghost use Rattle.irtext_parse_nested.specs.Read.{BeginsBlock, RefusesBlock};
 
 use crate::block_labels::label_block;
 use crate::definitions::{Definer, define_values, undefined_error};
 use crate::dictionary::{arguments_split, block_attributes};
-use crate::frame::{BegunBlock, Names};
-use crate::making::failed;
-use crate::memory::ended;
+use crate::frame::BegunBlock;
 use crate::operation_end::note_mark;
 use crate::operation_parts::NotGathered;
-use crate::placing::place_block;
 use irtext_base::location::Location;
 use irtext_base::parsable::{CharStream, ParseFault, ParseResult, Place, TextStream};
 use irtext_base::result::Cause;
@@ -57,6 +55,11 @@ use irtext_context::base::{BasicBlock, Context, Item, Ptr, Region};
 use irtext_dict::base::AttributeDict;
 use irtext_few::Few;
 use irtext_graph::held::HasGraph;
+use irtext_parse_objects::locations::location_at;
+use irtext_parse_objects::making::failed;
+use irtext_parse_objects::memory::ended;
+use irtext_parse_objects::names::Names;
+use irtext_parse_objects::placing::place_block;
 use irtext_parse_pieces::entries::ReadEntry;
 use irtext_parse_pieces::headers::{BlockHead, block_head_parse};
 use irtext_parse_pieces::keys::Keys;
@@ -79,19 +82,6 @@ fn head_parse<T: IrText<A>, A: AttrText<A>>(
     let answer = block_head_parse(stream, names);
     names.keeps_names();
     answer
-}
-
-/// Returns the location of a position in the text.
-pub(crate) fn location_at<T: IrText<A>, A: AttrText<A>, U>(
-    s: &StateStream<'_, T, A, U>,
-    at: Place,
-) -> Location<A>
-    ensures { IsLocatedAt s.now.state.src (whole s.now.stream) at result }
-{
-    Location::SrcPos {
-        src: s.state.src,
-        pos: s.stream.locate(at),
-    }
 }
 
 /// Returns the error for entries that were not stored.

@@ -1,7 +1,5 @@
 //! Dictionaries: the entries of an operation's or a block's, and the names of a block's arguments.
 ghost use Rattle.std.specs.Prelude.{◌≡◌, ◌∷◌, ◌++◌, [], ℕ, List, length, map, IfOk, IfErr, OnOk};
-ghost use Rattle.std.specs.Str.{bytes_eq};
-ghost use Rattle.irtext_base.specs.Format.{block_label_key};
 ghost use Rattle.irtext_grammar.specs.Contexts.Held.{entries_of};
 ghost use Rattle.irtext_grammar.specs.Graphs.Build.{put_all, read_names};
 ghost use Rattle.irtext_grammar.specs.Grammar.Tree.{Name};
@@ -11,13 +9,13 @@ ghost use Rattle.irtext_parse_nested.specs.Blocks.{entries_in};
 ghost use Rattle.irtext_parse_nested.specs.Ends.{numbers_of};
 ghost use Rattle.irtext_parse_nested.specs.Gathered.{entry_read, AreAllowed, Forbids, rule_of};
 
-use crate::frame::Names;
 use crate::given::names_stored;
-use crate::memory::ended;
 use crate::operation_parts::{NotGathered, entry_stored};
-use irtext_base::base::Identifier;
 use irtext_dict::base::AttributeDict;
 use irtext_few::{Few, Items};
+use irtext_parse_objects::keys::is_label_key;
+use irtext_parse_objects::memory::ended;
+use irtext_parse_objects::names::Names;
 use irtext_parse_pieces::entries::ReadEntry;
 use irtext_parse_pieces::names::ReadName;
 use std::alloc::{AllocError, Global};
@@ -27,23 +25,6 @@ use std::alloc::{AllocError, Global};
 pub enum Holder {
     Operation,
     Block,
-}
-
-/// The key under which the section has the label of a block.
-const BLOCK_LABEL_KEY: &'static str = "builtin_block_label";
-
-/// Whether a text is the key of a block's label.
-fn is_label_text(key: &str) -> bool
-    ensures { result ≡ bytes_eq block_label_key key.now }
-{
-    BLOCK_LABEL_KEY == key
-}
-
-/// Whether a key is that of a block's label.
-fn is_label_key(key: &Identifier) -> bool
-    ensures { result ≡ bytes_eq block_label_key key.now }
-{
-    is_label_text(key.as_str())
 }
 
 /// Stores an entry of a block's dictionary. The key of a label is an error.

@@ -4,13 +4,8 @@ use irtext_base::base::OpId;
 use irtext_base::parsable::Place;
 use irtext_context::base::{BasicBlock, Operation, Ptr, Region};
 use irtext_few::Few;
-use irtext_graph::object::Value;
 use irtext_parse_pieces::coming::Coming;
 use irtext_parse_pieces::names::ReadName;
-use irtext_scopes::tracker::NameTracker;
-
-/// The names of a parse, with the values and blocks that they refer to.
-pub type Names = NameTracker<Value, Ptr<BasicBlock>>;
 
 /// An operation that was created, with everything before its first region parsed.
 #[derive(Drop)]

@@ -1,8 +1,6 @@
 //! The names that the text gives to results and arguments, stored as an attribute.
-ghost use Rattle.std.specs.Prelude.{◌≡◌, ℕ, List, length, map, slice_get, IfOk, IfSome, IsSome, OnOk};
-ghost use Rattle.std.specs.Str.{bytes_eq};
+ghost use Rattle.std.specs.Prelude.{◌≡◌, ℕ, List, length, map, slice_get, IfOk, IfSome, OnOk};
 ghost use Rattle.irtext_base.specs.Format.{given_names_key};
-ghost use Rattle.irtext_context.specs.Context.{operation};
 ghost use Rattle.irtext_grammar.specs.Contexts.Held.{entries_of};
 ghost use Rattle.irtext_grammar.specs.Graphs.Build.{put_all, read_names};
 ghost use Rattle.irtext_grammar.specs.Grammar.Tree.{Name};
@@ -10,14 +8,15 @@ ghost use Rattle.irtext_names.specs.Rows.{AreKnown, AreNamed};
 ghost use Rattle.irtext_parse_nested.specs.Ends.{numbers_of};
 
 use crate::definitions::number_at;
-use crate::frame::{BegunOperation, Names};
-use crate::name_errors::identifier_of;
-use crate::operation_parts::stored;
-use irtext_base::base::{AttrObj, GIVEN_NAMES_KEY, Identifier};
+use crate::frame::BegunOperation;
+use irtext_base::base::{AttrObj, Identifier};
 use irtext_base::text::{AttrText, IrText};
-use irtext_context::base::{Context, Operation, OperationAccess, Ptr};
+use irtext_context::base::Context;
 use irtext_dict::base::AttributeDict;
 use irtext_few::Few;
+use irtext_parse_objects::keys::{key_of, neighbour_key, stored};
+use irtext_parse_objects::name_errors::identifier_of;
+use irtext_parse_objects::names::Names;
 use irtext_parse_pieces::names::ReadName;
 use std::alloc::{AllocError, Global};
 
@@ -42,60 +41,6 @@ fn given_names(
     Ok(given)
 }
 
-/// Whether a text is the key of given names.
-fn is_given_key(text: &str) -> bool
-    ensures { result ≡ bytes_eq given_names_key text.now }
-{
-    GIVEN_NAMES_KEY == text
-}
-
-/// Returns the key of a dictionary's last entry, if that has the given names. Shares its text.
-fn last_key<A: Drop>(attributes: &AttributeDict<A>) -> Option<Identifier>
-    ensures { IfSome result (λ key. key ≡ given_names_key) }
-{
-    let last = attributes.len().checked_sub(1)?;
-    let (key, _) = attributes.get_index(last)?;
-    if !is_given_key(key.as_str()) {
-        return None;
-    }
-    match key.clone() {
-        Ok(copy) => Some(copy),
-        Err(_) => None,
-    }
-}
-
-/// Returns the operation before the last one of an operation's block, if there is one.
-fn neighbour<T: IrText<A>, A: AttrText<A>>(
-    ctx: &Context<T, A>,
-    op: Ptr<Operation>,
-) -> Option<Ptr<Operation>>
-    ensures { IfSome result (λ before. IsSome (operation ctx.now before)) }
-{
-    if !ctx.contains_operation(op) {
-        return None;
-    }
-    let block = op.get_parent_block(ctx)?;
-    let index = block.num_operations(ctx).checked_sub(2)?;
-    let before = block.get_operation(ctx, index);
-    if !ctx.contains_operation(before) {
-        return None;
-    }
-    Some(before)
-}
-
-/// Returns the key of the given names of an operation's neighbour, if that has given names. Shares its text, so that a key is allocated
-/// once for a row of operations.
-#[inline(never)]
-fn neighbour_key<T: IrText<A>, A: AttrText<A>>(
-    ctx: &Context<T, A>,
-    op: Ptr<Operation>,
-) -> Option<Identifier>
-    ensures { IfSome result (λ key. key ≡ given_names_key) }
-{
-    let before = neighbour(ctx, op)?;
-    last_key(before.attributes(ctx))
-}
-
 /// Returns the key of given names of an operation's neighbour if it has one to share, and if there are names to store under it.
 pub(crate) fn shared_key<T: IrText<A>, A: AttrText<A>>(
     ctx: &Context<T, A>,
@@ -107,17 +52,6 @@ pub(crate) fn shared_key<T: IrText<A>, A: AttrText<A>>(
         return None;
     }
     neighbour_key(ctx, begun.op)
-}
-
-/// Returns the key of given names: this one, or a new one.
-fn key_of(alloc: Global, shared: Option<Identifier>) -> Result<Identifier, AllocError>
-    requires { IfSome shared (λ key. key ≡ given_names_key) }
-    ensures { IfOk result (λ key. key ≡ given_names_key) }
-{
-    match shared {
-        Some(key) => Ok(key),
-        None => Identifier::from_word(alloc, GIVEN_NAMES_KEY),
-    }
 }
 
 /// Stores the names as given names, if there are any, under this key or a new one.

@@ -1,52 +1,35 @@
 //! What the pieces before an operation's first region give: their names are used, and what they give the operation is gathered, in the
 //! order of the text. A name is used by looking up the value or the block that it refers to; without a definition so far it gets a
 //! placeholder.
-ghost use Rattle.std.specs.Prelude.{◌≡◌, ◌∷◌, [], length, IfOk, IfErr, IfSome, OnOk, true};
+ghost use Rattle.std.specs.Prelude.{◌≡◌, ◌∷◌, [], length, IfErr, IfSome, OnOk};
 ghost use Rattle.irtext_base.specs.Format.{sym_name_key};
-ghost use Rattle.irtext_dict.specs.Dictionary.{RefusesEntry};
 ghost use Rattle.irtext_grammar.specs.Contexts.Held.{attribute_of, entries_of};
 ghost use Rattle.irtext_grammar.specs.Graphs.Build.{put_all};
-ghost use Rattle.irtext_grammar.specs.Names.Acts.{may_hold};
 ghost use Rattle.irtext_names.specs.Tied.{MatchesGraph};
 ghost use Rattle.irtext_parse_pieces.specs.Canonical.{pieces_of};
 ghost use Rattle.irtext_parse_pieces.specs.declared.pieces.ReadPiece.TheVariants as read;
 ghost use Rattle.irtext_parse_nested.specs.declared.operation_parts.NotGathered.TheVariants.{Memory};
-ghost use Rattle.irtext_parse_nested.specs.Gathered.{entry_read, refused_at, single_of, list_of, GathersAlone, GathersHalf, RefusesAlone, MayAllHold, RefusesEntries, IsNothing, CanUseAll, CanGather, KeepsScopes, Gathers, RefusesGathering};
+ghost use Rattle.irtext_parse_nested.specs.Gathered.{entry_read, refused_at, single_of, list_of, GathersAlone, GathersHalf, RefusesAlone, MayAllHold, RefusesEntries, CanUseAll, CanGather, Gathers, RefusesGathering};
+ghost use Rattle.irtext_parse_objects.specs.Uses.{KeepsScopes};
 
 use crate::dictionary::{Holder, entries_stored};
-use crate::frame::Names;
-use crate::uses::{Placed, name_placed, names_used};
+use crate::uses::names_used;
 use irtext_base::base::{AttrObj, Identifier, Refusal};
 use irtext_base::parsable::Place;
 use irtext_context::base::block::BlockData;
-use irtext_context::base::operation::OperationData;
-use irtext_context::base::{BasicBlock, Ptr};
 use irtext_dict::base::AttributeDict;
 use irtext_few::Few;
-use irtext_graph::graph::Graph;
-use irtext_graph::object::Value;
 use irtext_names::kinds::{Blank, Referent};
+use irtext_parse_objects::gathered::{Gathered, Objects, Placed};
+use irtext_parse_objects::keys::{stored, symbol_key};
+use irtext_parse_objects::names::Names;
+use irtext_parse_objects::uses::name_placed;
 use irtext_parse_pieces::canonical::CanonicalPieces;
 use irtext_parse_pieces::entries::{Key, ReadEntry};
 use irtext_parse_pieces::found::{CustomPieces, Form, Pieces};
 use irtext_parse_pieces::names::{ReadName, Symbol};
 use irtext_parse_pieces::pieces::ReadPiece;
-use std::alloc::{AllocError, Global};
-
-/// The graph of a context.
-pub type Objects<T, A> = Graph<Option<OperationData<A>>, BlockData<A>, Option<T>>;
-
-/// What the pieces of an operation gave.
-#[derive(Drop)]
-pub struct Gathered<T, A> {
-    pub operands: Placed<Value>,
-    pub successors: Placed<Ptr<BasicBlock>>,
-    /// The types of results, each with its place.
-    pub types: Vec<(usize, T)>,
-    /// The last list of types.
-    pub listed: Few<T>,
-    pub attributes: AttributeDict<A>,
-}
+use std::alloc::Global;
 
 /// Why pieces were not gathered.
 #[derive(Drop)]
@@ -56,46 +39,6 @@ pub enum NotGathered {
     ReservedKey(Key),
     /// No scope of the name's kind is open.
     NoActiveScope(ReadName),
-}
-
-/// Returns an empty value. Allocates nothing.
-pub(crate) fn nothing<T: Drop, A: Drop>(alloc: Global) -> Gathered<T, A>
-    ensures { IsNothing result }
-{
-    Gathered {
-        operands: Placed {
-            single: Vec::new(alloc),
-            list: Vec::new(alloc),
-        },
-        successors: Placed {
-            single: Vec::new(alloc),
-            list: Vec::new(alloc),
-        },
-        types: Vec::new(alloc),
-        listed: Few::none(),
-        attributes: AttributeDict::new(alloc),
-    }
-}
-
-/// Returns the attributes, and ends the rest.
-pub(crate) fn attributes_of<T: Drop, A: Drop>(gathered: Gathered<T, A>) -> AttributeDict<A>
-    ensures { result ≡ gathered.attributes }
-{
-    gathered.attributes
-}
-
-/// Stores an attribute under a key. On an error nothing changes.
-pub(crate) fn stored<A: Drop>(
-    attributes: &mut AttributeDict<A>,
-    key: Identifier,
-    attr: AttrObj<A>,
-) -> Result<(), Refusal>
-    ensures stored { OnOk result (entries_of attributes.new
-        ≡ put_all (entries_of attributes.old) ((key, attribute_of attr) ∷ [])) }
-    ensures holds { OnOk result (may_hold key (attribute_of attr) ≡ true) }
-    ensures refused { IfErr result (RefusesEntry key attr) }
-{
-    attributes.insert(key, attr)
 }
 
 /// Returns the error for an entry whose key is at this position.
@@ -221,17 +164,6 @@ fn dictionary_gathered<T: Drop, A: Drop>(
     ensures refused { IfErr result (RefusesAlone {T = T} {A = A} (read.Dictionary entries ∷ [])) }
 {
     entries_stored(&mut gathered.attributes, Holder::Operation, entries)
-}
-
-/// Returns the key of a symbol's name. Shares the text of `key` if it is given.
-pub(crate) fn symbol_key(alloc: Global, key: &Option<Identifier>) -> Result<Identifier, AllocError>
-    requires { IfSome key.now (λ k. k ≡ sym_name_key) }
-    ensures { IfOk result (λ k. k ≡ sym_name_key) }
-{
-    match key {
-        Some(key) => key.clone(),
-        None => Identifier::from_word(alloc, "builtin_sym_name"),
-    }
 }
 
 /// Stores a symbol's name.

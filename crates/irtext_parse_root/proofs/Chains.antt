@@ -23,8 +23,8 @@ use Rattle.irtext_parse_spec.proofs.Resume.Frames.{goes_trans, stuck_at}
 use Rattle.irtext_parse_pieces.proofs.Meanings.{takes_whole}
 use Rattle.irtext_parse_nested.proofs.Marking.{gains_nothing}
 use Rattle.irtext_parse_nested.specs.Ends.{GainsMarks}
-use Rattle.irtext_parse_nested.specs.Items.{Names, Made, Pledge, MachineAgrees, Acts, ActsWith, ActFails, IsFailure, IsTextFault, doing}
-use Rattle.irtext_parse_nested.specs.Located.{IsLocated}
+use Rattle.irtext_parse_objects.specs.Items.{Names, Made, Pledge, MachineAgrees, Acts, ActsWith, ActFails, IsFailure, IsTextFault, doing}
+use Rattle.irtext_parse_objects.specs.Located.{IsLocated}
 use Rattle.irtext_parse_root.specs.Built.{Built}
 use Rattle.irtext_parse_root.specs.Here.{Base}
 use Rattle.irtext_parse_spec.specs.Readers.Streams.{KeepsRest}
@@ -34,7 +34,7 @@ use Rattle.irtext_parse_root.specs.Turned.{Carries, Remains, Turned, Faulted, at
 use Rattle.irtext_parse_root.proofs.Carrying.{falls_both}
 use Rattle.irtext_parse_root.proofs.Staying.{stay_still, stay_both}
 use Rattle.irtext_parse_root.proofs.Telling.{done_both, goes_recorded, goes_after, stuck_after}
-use Rattle.irtext_parse_nested.proofs.Lasting.{lasts_then, lasts_itself}
+use Rattle.irtext_parse_objects.proofs.Lasting.{lasts_then, lasts_itself}
 
 -- ---- acts
 module _ {T A U : Type 0} where

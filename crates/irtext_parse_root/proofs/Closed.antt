@@ -32,8 +32,8 @@ use Rattle.irtext_promises.specs.Leaves.{LeavesTree, LeavesClosed}
 use Rattle.irtext_promises.specs.Promises.{tree_marks}
 use Rattle.irtext_promises.proofs.AfterTree.{none_left, place_written}
 use Rattle.irtext_promises.proofs.Kept as kept
-use Rattle.irtext_parse_nested.specs.Items.{Names, IsSound}
-use Rattle.irtext_parse_nested.specs.Located.{IsLocated}
+use Rattle.irtext_parse_objects.specs.Items.{Names, IsSound}
+use Rattle.irtext_parse_objects.specs.Located.{IsLocated}
 use Rattle.irtext_parse_root.specs.Carried.{marks_in}
 use Rattle.irtext_parse_root.specs.Nested.{ReadsNested}
 use Rattle.irtext_parse_root.specs.Turned.{Carries}

@@ -35,7 +35,7 @@ use Rattle.irtext_parse_nested.specs.declared.frame.BegunOperation.{BegunOperati
 use Rattle.irtext_parse_nested.specs.declared.frame.BegunRegion.{BegunRegion}
 use Rattle.irtext_parse_nested.specs.declared.frame.BegunBlock.{BegunBlock}
 use Rattle.irtext_parse_nested.specs.OpenOperation.{pledge_of}
-use Rattle.irtext_parse_nested.specs.Items.{Names, Made, Pledge, MachineAgrees, Acts, ActFails, IsFailure, IsTextFault, doing}
+use Rattle.irtext_parse_objects.specs.Items.{Names, Made, Pledge, MachineAgrees, Acts, ActFails, IsFailure, IsTextFault, doing}
 use Rattle.irtext_parse_nested.specs.Read as read
 use Rattle.irtext_parse_nested.specs.Read.{begun_by, closes_of, RefusesOperation, RefusesPiece, RefusesEnd, RefusesRegion, RefusesRegionEnd, RefusesBlock}
 use Rattle.irtext_parse_root.specs.Here.{Base}

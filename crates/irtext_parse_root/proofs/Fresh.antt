@@ -14,7 +14,7 @@ use Rattle.irtext_names.specs.Linked.{nothing_made}
 use Rattle.irtext_names.proofs.Added.{no_ties, no_waits}
 use Rattle.irtext_names.proofs.Linked.Kept.{agrees_by}
 use Rattle.irtext_promises.specs.Promises.{start_with}
-use Rattle.irtext_parse_nested.specs.Items.{Names, MachineAgrees, BlanksDefine, IsSound}
+use Rattle.irtext_parse_objects.specs.Items.{Names, MachineAgrees, BlanksDefine, IsSound}
 use Rattle.irtext_parse_nested.proofs.OfItems.{nothing_of}
 use Rattle.irtext_parse_root.specs.Turned.{IsSoundOnce}
 

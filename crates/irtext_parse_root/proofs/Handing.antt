@@ -35,10 +35,10 @@ use Rattle.irtext_parse_nested.specs.declared.frame.BegunBlock.{BegunBlock}
 use Rattle.irtext_parse_nested.specs.Beginning.{HasBegun, ComesInto}
 use Rattle.irtext_parse_nested.specs.OpenOperation.{IsBegun, IsRegion}
 use Rattle.irtext_parse_nested.specs.Ends.{noted_as, GainsMarks, BecomesNamed}
-use Rattle.irtext_parse_nested.specs.Items.{Names, IsSound, KeepsLive}
+use Rattle.irtext_parse_objects.specs.Items.{Names, IsSound, KeepsLive}
 use Rattle.irtext_parse_nested.specs.Later.{GoesOn}
 use Rattle.irtext_parse_nested.proofs.Marking.{gains_nothing, on_err, always_err}
-use Rattle.irtext_parse_nested.specs.Located.{IsLocated}
+use Rattle.irtext_parse_objects.specs.Located.{IsLocated}
 use Rattle.irtext_parse_nested.specs.Read.{ReadsFront, begun_by, BeginsOperation, EndsOperation, BeginsRegion, EndsRegion, BeginsBlock}
 use Rattle.irtext_parse_root.specs.Turned.{Spares}
 use Rattle.irtext_parse_root.specs.Turns.{Begins, Continues, Ends, Enters, Leaves, Heads}

@@ -22,7 +22,7 @@ use Rattle.irtext_parse_nested.specs.declared.frame.BegunOperation.{BegunOperati
 use Rattle.irtext_parse_nested.specs.Beginning.{HasBegun}
 use Rattle.irtext_parse_nested.specs.OpenOperation.{IsBegun}
 use Rattle.irtext_parse_pieces.specs.Coming.{IsStep}
-use Rattle.irtext_parse_nested.specs.Items.{KeepsLive}
+use Rattle.irtext_parse_objects.specs.Items.{KeepsLive}
 use Rattle.irtext_parse_root.specs.declared.frames.Frame.{Frame}
 use Rattle.irtext_parse_root.specs.declared.frames.Frame.TheVariants as framed
 use Rattle.irtext_parse_root.specs.Here.{IsLevel, AreLevels}

@@ -19,8 +19,8 @@ use Rattle.irtext_parse_spec.specs.Promises.Root.{UnlessMemory}
 use Rattle.irtext_parse_spec.specs.Promises.Section.{indices_of}
 use Rattle.irtext_promises.specs.Leaves.{LeavesTree}
 use Rattle.irtext_promises.specs.Promises.{start_with, HasFault, at_text, by_names}
-use Rattle.irtext_parse_nested.specs.Items.{Names, MachineAgrees, doing}
-use Rattle.irtext_parse_nested.specs.Located.{IsLocated}
+use Rattle.irtext_parse_objects.specs.Items.{Names, MachineAgrees, doing}
+use Rattle.irtext_parse_objects.specs.Located.{IsLocated}
 use Rattle.irtext_parse_root.specs.Nested as nested
 use Rattle.irtext_parse_root.specs.Nested.{ReadsNested, RefusesNested}
 use Rattle.irtext_parse_root.proofs.Fresh.{begun_agrees}

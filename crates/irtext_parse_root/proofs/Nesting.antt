@@ -38,8 +38,8 @@ use Rattle.irtext_parse_spec.proofs.Tracked.{holds_nothing, uses_at_root}
 use Rattle.irtext_parse_nested.specs.declared.frame.BegunOperation.{BegunOperation}
 use Rattle.irtext_parse_nested.specs.Beginning.{HasBegun}
 use Rattle.irtext_parse_nested.specs.OpenOperation.{IsBegun, pledge_of}
-use Rattle.irtext_parse_nested.specs.Items.{Names, MachineAgrees, IsFailure, IsTextFault, doing}
-use Rattle.irtext_parse_nested.specs.Located.{IsLocated}
+use Rattle.irtext_parse_objects.specs.Items.{Names, MachineAgrees, IsFailure, IsTextFault, doing}
+use Rattle.irtext_parse_objects.specs.Located.{IsLocated}
 use Rattle.irtext_parse_nested.specs.Read as read
 use Rattle.irtext_parse_nested.specs.Read.{begun_by, RefusesOperation}
 use Rattle.irtext_parse_root.specs.declared.frames.Frame.TheVariants as framed

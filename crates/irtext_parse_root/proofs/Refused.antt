@@ -11,7 +11,7 @@ use Rattle.irtext_grammar.specs.Names.History.{going}
 use Rattle.irtext_grammar.specs.Names.Script.{Path}
 use Rattle.irtext_parse_spec.specs.Promises.Root.{UnlessMemory}
 use Rattle.irtext_parse_spec.specs.Readers.Refusals.{Refusal}
-use Rattle.irtext_parse_nested.specs.Items.{Names, doing}
+use Rattle.irtext_parse_objects.specs.Items.{Names, doing}
 use Rattle.irtext_parse_root.specs.Nested as nested
 use Rattle.irtext_parse_root.specs.Nested.{RefusesNested}
 use Rattle.irtext_parse_root.proofs.Failing.{operation_never_failed, operation_first}

@@ -41,7 +41,7 @@ use Rattle.irtext_parse_spec.proofs.Built.{blocks_after, last_after, whole_after
 use Rattle.irtext_parse_spec.proofs.Seen.{shows_blocks}
 use Rattle.irtext_parse_spec.proofs.Whole.{WholeRegions, WholeBlocks, WholeOperations, blocks_read}
 use Rattle.irtext_names.proofs.Linked.Passes.{ran_through}
-use Rattle.irtext_parse_nested.specs.Items.{Names, MachineAgrees, doing}
+use Rattle.irtext_parse_objects.specs.Items.{Names, MachineAgrees, doing}
 use Rattle.irtext_parse_root.specs.Carried.{marks_in_blocks, AreCarried}
 use Rattle.irtext_parse_root.specs.Recorded.{Did, did_enter, did_leave, recorder, all_done}
 use Rattle.irtext_parse_root.specs.Under.{ReadsUnder}
@@ -63,8 +63,8 @@ use Rattle.irtext_names.specs.Tied.{NoneIsLeft}
 use Rattle.irtext_promises.specs.Alone.{region_alone, BuildsRegion}
 use Rattle.irtext_promises.proofs.AfterTree.{values_shut, labels_shut, none_left, place_written}
 use Rattle.irtext_promises.proofs.Kept.{came_same}
-use Rattle.irtext_parse_nested.specs.Items.{IsSound}
-use Rattle.irtext_parse_nested.specs.Located.{IsLocated}
+use Rattle.irtext_parse_objects.specs.Items.{IsSound}
+use Rattle.irtext_parse_objects.specs.Located.{IsLocated}
 use Rattle.irtext_parse_root.proofs.RegionBuilt as built
 use Rattle.irtext_parse_root.proofs.RegionPlaces.{paths_exist}
 use Rattle.irtext_parse_root.proofs.RegionRuns.{region_runs}

@@ -46,7 +46,7 @@ use Rattle.irtext_promises.specs.Alone as alone
 use Rattle.irtext_promises.specs.Alone.{region_alone, RefusesRegion, first}
 use Rattle.irtext_promises.specs.Promises.{start_with, IsOf, IsFirst}
 use Rattle.irtext_promises.proofs.Refuses.{first_is}
-use Rattle.irtext_parse_nested.specs.Items.{Names, MachineAgrees, doing}
+use Rattle.irtext_parse_objects.specs.Items.{Names, MachineAgrees, doing}
 use Rattle.irtext_parse_root.specs.AnyRegion as region
 use Rattle.irtext_parse_root.specs.AnyRegion.{ReadsRegion, HasRegionFault, MissesRegion}
 use Rattle.irtext_parse_root.specs.Under as under

@@ -16,7 +16,7 @@ use Rattle.irtext_parse_spec.specs.Promises.Section.{Moves}
 use Rattle.irtext_parse_spec.specs.Readers.Streams.{itself, replaced}
 use Rattle.irtext_parse_section.proofs.SectionSteps.{ran_out_there}
 use Rattle.irtext_parse_nested.proofs.Marking.{on_err}
-use Rattle.irtext_parse_nested.specs.Items.{Names, IsSound}
+use Rattle.irtext_parse_objects.specs.Items.{Names, IsSound}
 use Rattle.irtext_parse_nested.specs.declared.frame.BegunRegion.{BegunRegion}
 use Rattle.irtext_parse_root.proofs.Chains.{remains_on, remains_so}
 use Rattle.irtext_parse_root.proofs.Looping.{keeps_itself}

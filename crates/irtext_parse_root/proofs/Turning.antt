@@ -36,8 +36,8 @@ use Rattle.irtext_parse_nested.specs.declared.frame.BegunBlock.{BegunBlock}
 use Rattle.irtext_parse_nested.specs.Beginning.{HasBegun, ComesInto}
 use Rattle.irtext_parse_nested.specs.OpenOperation.{pledge_of}
 use Rattle.irtext_parse_nested.specs.Ends.{noted_as}
-use Rattle.irtext_parse_nested.specs.Items.{Names, Made, Acts, doing}
-use Rattle.irtext_parse_nested.specs.Located.{IsLocated}
+use Rattle.irtext_parse_objects.specs.Items.{Names, Made, Acts, doing}
+use Rattle.irtext_parse_objects.specs.Located.{IsLocated}
 use Rattle.irtext_parse_nested.specs.Read.{begun_by, uses_of, ReadsPiece, EndsOperation, BeginsRegion, EndsRegion, BeginsBlock}
 use Rattle.irtext_parse_root.specs.Built.{Built, IsHeld, Ended}
 use Rattle.irtext_parse_root.specs.Here.{Base, outermost, within}

@@ -52,9 +52,9 @@ use Rattle.irtext_parse_spec.specs.Unchanged.{region_under, IsThere, ModifiesOnl
 use Rattle.irtext_parse_spec.specs.Tracks.{Made, HoldsMade, IsHeld as HeldBy}
 use Rattle.irtext_parse_spec.proofs.Kept.{there_still}
 use Rattle.irtext_parse_nested.specs.declared.frame.BegunRegion.{BegunRegion}
-use Rattle.irtext_parse_nested.specs.Items.{Names, MachineAgrees, IsFailure, IsTextFault, IsSound, doing}
+use Rattle.irtext_parse_objects.specs.Items.{Names, MachineAgrees, IsFailure, IsTextFault, IsSound, doing}
 use Rattle.irtext_parse_nested.specs.OpenOperation.{IsRegion}
-use Rattle.irtext_parse_nested.specs.Located.{IsLocated}
+use Rattle.irtext_parse_objects.specs.Located.{IsLocated}
 use Rattle.irtext_parse_nested.specs.Read as read
 use Rattle.irtext_parse_nested.specs.Read.{BeginsRegion, RefusesRegion}
 use Rattle.irtext_parse_root.specs.declared.frames.Frame.TheVariants as framed

@@ -22,7 +22,7 @@ use Rattle.irtext_promises.specs.OnlyNew.{OnlyNew}
 use Rattle.irtext_promises.specs.Promises.{HasFault, tree_marks}
 use Rattle.irtext_parse_spec.specs.Entries.{section_at}
 use Rattle.irtext_parse_root.specs.Carried.{marks_in, AreCarried, Falls}
-use Rattle.irtext_parse_nested.specs.Located.{IsLocated}
+use Rattle.irtext_parse_objects.specs.Located.{IsLocated}
 use Rattle.irtext_parse_section.specs.Said.{rules_of}
 use Rattle.irtext_parse_section.specs.Section.{ReadsSection}
 

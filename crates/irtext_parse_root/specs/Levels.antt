@@ -14,7 +14,7 @@ use Rattle.irtext_parse_nested.specs.declared.frame.BegunOperation.{BegunOperati
 use Rattle.irtext_parse_nested.specs.declared.frame.BegunRegion.{BegunRegion}
 use Rattle.irtext_parse_nested.specs.declared.frame.BegunBlock.{BegunBlock}
 use Rattle.irtext_parse_nested.specs.OpenOperation.{pledge_of}
-use Rattle.irtext_parse_nested.specs.Items.{Pledge}
+use Rattle.irtext_parse_objects.specs.Items.{Pledge}
 use Rattle.irtext_parse_root.specs.declared.frames.Frame.{Frame}
 use Rattle.irtext_parse_root.specs.declared.frames.Frame.TheVariants.{Operation, Region, Block}
 

@@ -24,8 +24,8 @@ use Rattle.irtext_parse_spec.specs.Reached.{Advanced, Stopped, operation_at}
 use Rattle.irtext_parse_spec.specs.Resume.{EndsIn}
 use Rattle.irtext_parse_spec.specs.Building.{building, nothing_open, finished}
 use Rattle.irtext_parse_spec.specs.Tracks.{HoldsMade}
-use Rattle.irtext_parse_nested.specs.Items.{Names, Made, MachineAgrees, IsFailure, IsTextFault, doing}
-use Rattle.irtext_parse_nested.specs.Located.{IsLocated}
+use Rattle.irtext_parse_objects.specs.Items.{Names, Made, MachineAgrees, IsFailure, IsTextFault, doing}
+use Rattle.irtext_parse_objects.specs.Located.{IsLocated}
 use Rattle.irtext_parse_root.specs.Carried.{marks_in, AreCarried, Falls}
 
 module _ {T A U : Type 0} (types_at : Reader T) (attr : Reader (AttrView A)) where

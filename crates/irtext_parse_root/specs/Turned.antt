@@ -27,8 +27,8 @@ use Rattle.irtext_parse_spec.specs.Readers.Streams.{KeepsRest}
 use Rattle.irtext_parse_spec.specs.Resume as theory
 use Rattle.irtext_parse_spec.specs.Resume.{Goes, StoppedAt, EndsIn}
 use Rattle.irtext_parse_nested.specs.Ends.{GainsMarks}
-use Rattle.irtext_parse_nested.specs.Items.{Names, Pledge, MachineAgrees, IsFailure, IsTextFault, IsSound, KeepsLive, Made, ActsWith, doing}
-use Rattle.irtext_parse_nested.specs.Located.{IsLocated}
+use Rattle.irtext_parse_objects.specs.Items.{Names, Pledge, MachineAgrees, IsFailure, IsTextFault, IsSound, KeepsLive, Made, ActsWith, doing}
+use Rattle.irtext_parse_objects.specs.Located.{IsLocated}
 use Rattle.irtext_parse_root.specs.declared.frames.Frame.{Frame}
 use Rattle.irtext_parse_root.specs.Built.{Built}
 use Rattle.irtext_parse_root.specs.Carried.{Falls}

@@ -36,9 +36,9 @@ use Rattle.irtext_parse_nested.specs.Beginning.{HasBegun, ComesInto}
 use Rattle.irtext_parse_nested.specs.OpenOperation.{IsBegun, IsRegion}
 use Rattle.irtext_parse_pieces.specs.Coming.{IsStep}
 use Rattle.irtext_parse_nested.specs.Ends.{noted_as}
-use Rattle.irtext_parse_nested.specs.Items.{Names}
+use Rattle.irtext_parse_objects.specs.Items.{Names}
 use Rattle.irtext_parse_nested.specs.Later.{GoesOn}
-use Rattle.irtext_parse_nested.specs.Located.{IsLocated}
+use Rattle.irtext_parse_objects.specs.Located.{IsLocated}
 use Rattle.irtext_parse_nested.specs.Read.{begun_by, BeginsOperation, EndsOperation, BeginsRegion, EndsRegion, BeginsBlock}
 use Rattle.irtext_parse_root.specs.Turned.{Carries}
 

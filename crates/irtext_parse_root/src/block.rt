@@ -28,7 +28,7 @@ use irtext_base::parsable::{CharStream, ParseFault, ParseResult, TextStream};
 use irtext_base::result::Cause;
 use irtext_base::text::{AttrText, IrText};
 use irtext_context::base::{BasicBlock, Ptr};
-use irtext_parse_nested::frame::Names;
+use irtext_parse_objects::names::Names;
 use irtext_parse_pieces::entries::{Key, ReadEntry};
 use irtext_parse_pieces::headers::{BlockHead, block_head_parse};
 use irtext_parse_pieces::marks::ReadMark;

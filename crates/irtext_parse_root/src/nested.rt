@@ -14,7 +14,7 @@ use crate::turns::begin;
 use irtext_base::parsable::ParseResult;
 use irtext_base::text::{AttrText, IrText};
 use irtext_context::base::{Operation, Ptr};
-use irtext_parse_nested::frame::Names;
+use irtext_parse_objects::names::Names;
 use irtext_parse_pieces::keys::Keys;
 use irtext_parse_state::parsable::StateStream;
 

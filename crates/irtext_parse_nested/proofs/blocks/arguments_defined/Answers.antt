@@ -2,7 +2,8 @@ use Rattle.std.proofs.Common.{inl, inr, length, sym, subst, []}
 use Rattle.irtext_base.specs.Faults as causes
 use Rattle.irtext_graph.specs.declared.object.Value.TheVariants.{Argument}
 use Rattle.irtext_grammar.specs.Contexts.Held.{whole}
-use Rattle.irtext_parse_nested.specs.Definitions.{ValuesReady, DefinesRow, FailsRow, IsFaultOf, LosesPlaceholders}
+use Rattle.irtext_parse_nested.specs.Definitions.{ValuesReady, DefinesRow, FailsRow, IsFaultOf}
+use Rattle.irtext_parse_objects.specs.Placeholders.{LosesPlaceholders}
 use Rattle.irtext_parse_nested.specs.Ends.{numbers_of}
 use Rattle.irtext_names.specs.Rows.{AreKnown}
 use Rattle.irtext_names.specs.Tied.{ArePending}

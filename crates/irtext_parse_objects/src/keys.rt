@@ -1,0 +1,134 @@
+//! The keys under which a parse stores attributes: those of a symbol's name, of given names and of a block's label. Copies of a key share
+//! its text where they can.
+ghost use Rattle.std.specs.Prelude.{◌≡◌, ◌∷◌, [], true, IfOk, IfErr, IfSome, IsSome, OnOk};
+ghost use Rattle.std.specs.Str.{bytes_eq};
+ghost use Rattle.irtext_base.specs.Format.{block_label_key, given_names_key, sym_name_key};
+ghost use Rattle.irtext_context.specs.Context.{operation};
+ghost use Rattle.irtext_dict.specs.Dictionary.{RefusesEntry};
+ghost use Rattle.irtext_grammar.specs.Contexts.Held.{attribute_of, entries_of};
+ghost use Rattle.irtext_grammar.specs.Graphs.Build.{put_all};
+ghost use Rattle.irtext_grammar.specs.Names.Acts.{may_hold};
+
+use irtext_base::base::{AttrObj, GIVEN_NAMES_KEY, Identifier, Refusal};
+use irtext_base::text::{AttrText, IrText};
+use irtext_context::base::{Context, Operation, OperationAccess, Ptr};
+use irtext_context::dialect::OpInfo;
+use irtext_dict::base::AttributeDict;
+use std::alloc::{AllocError, Global};
+
+/// Stores an attribute under a key. On an error nothing changes.
+pub fn stored<A: Drop>(
+    attributes: &mut AttributeDict<A>,
+    key: Identifier,
+    attr: AttrObj<A>,
+) -> Result<(), Refusal>
+    ensures stored { OnOk result (entries_of attributes.new
+        ≡ put_all (entries_of attributes.old) ((key, attribute_of attr) ∷ [])) }
+    ensures holds { OnOk result (may_hold key (attribute_of attr) ≡ true) }
+    ensures refused { IfErr result (RefusesEntry key attr) }
+{
+    attributes.insert(key, attr)
+}
+
+/// Returns the key of a symbol's name. Shares the text of `key` if it is given.
+pub fn symbol_key(alloc: Global, key: &Option<Identifier>) -> Result<Identifier, AllocError>
+    requires { IfSome key.now (λ k. k ≡ sym_name_key) }
+    ensures { IfOk result (λ k. k ≡ sym_name_key) }
+{
+    match key {
+        Some(key) => key.clone(),
+        None => Identifier::from_word(alloc, "builtin_sym_name"),
+    }
+}
+
+/// Returns the key of a symbol's name that is stored for an operation; shares its text.
+pub fn kept_key(info: &OpInfo) -> Option<Identifier>
+    ensures { IfSome result (λ key. key ≡ sym_name_key) }
+{
+    match info.sym_name_key()?.clone() {
+        Ok(key) => Some(key),
+        Err(_) => None,
+    }
+}
+
+/// Whether a text is the key of given names.
+fn is_given_key(text: &str) -> bool
+    ensures { result ≡ bytes_eq given_names_key text.now }
+{
+    GIVEN_NAMES_KEY == text
+}
+
+/// Returns the key of a dictionary's last entry, if that has the given names. Shares its text.
+fn last_key<A: Drop>(attributes: &AttributeDict<A>) -> Option<Identifier>
+    ensures { IfSome result (λ key. key ≡ given_names_key) }
+{
+    let last = attributes.len().checked_sub(1)?;
+    let (key, _) = attributes.get_index(last)?;
+    if !is_given_key(key.as_str()) {
+        return None;
+    }
+    match key.clone() {
+        Ok(copy) => Some(copy),
+        Err(_) => None,
+    }
+}
+
+/// Returns the operation before the last one of an operation's block, if there is one.
+fn neighbour<T: IrText<A>, A: AttrText<A>>(
+    ctx: &Context<T, A>,
+    op: Ptr<Operation>,
+) -> Option<Ptr<Operation>>
+    ensures { IfSome result (λ before. IsSome (operation ctx.now before)) }
+{
+    if !ctx.contains_operation(op) {
+        return None;
+    }
+    let block = op.get_parent_block(ctx)?;
+    let index = block.num_operations(ctx).checked_sub(2)?;
+    let before = block.get_operation(ctx, index);
+    if !ctx.contains_operation(before) {
+        return None;
+    }
+    Some(before)
+}
+
+/// Returns the key of the given names of an operation's neighbour, if that has given names. Shares its text, so that a key is allocated
+/// once for a row of operations.
+#[inline(never)]
+pub fn neighbour_key<T: IrText<A>, A: AttrText<A>>(
+    ctx: &Context<T, A>,
+    op: Ptr<Operation>,
+) -> Option<Identifier>
+    ensures { IfSome result (λ key. key ≡ given_names_key) }
+{
+    let before = neighbour(ctx, op)?;
+    last_key(before.attributes(ctx))
+}
+
+/// Returns the key of given names: this one, or a new one.
+pub fn key_of(alloc: Global, shared: Option<Identifier>) -> Result<Identifier, AllocError>
+    requires { IfSome shared (λ key. key ≡ given_names_key) }
+    ensures { IfOk result (λ key. key ≡ given_names_key) }
+{
+    match shared {
+        Some(key) => Ok(key),
+        None => Identifier::from_word(alloc, GIVEN_NAMES_KEY),
+    }
+}
+
+/// The key under which the section has the label of a block.
+const BLOCK_LABEL_KEY: &'static str = "builtin_block_label";
+
+/// Whether a text is the key of a block's label.
+fn is_label_text(key: &str) -> bool
+    ensures { result ≡ bytes_eq block_label_key key.now }
+{
+    BLOCK_LABEL_KEY == key
+}
+
+/// Whether a key is that of a block's label.
+pub fn is_label_key(key: &Identifier) -> bool
+    ensures { result ≡ bytes_eq block_label_key key.now }
+{
+    is_label_text(key.as_str())
+}
