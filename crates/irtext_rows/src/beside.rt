@@ -2,8 +2,8 @@
 use crate::row::Row;
 use crate::streams::{Asked, on_stream, region_into};
 use irtext_tests_common::contexts::Ctx;
-use irtext_tests_print::reading::{root, whole};
-use irtext_tests_print::registering::register;
+use irtext_tests_roots::reading::{root, whole};
+use irtext_tests_roots::registering::register;
 use pliron_text::base::{Operation, Ptr};
 use std::alloc::Global;
 use std::test::Fail;

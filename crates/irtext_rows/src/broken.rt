@@ -4,7 +4,7 @@ use crate::beside::beside;
 use crate::row::Row;
 use crate::streams::Asked;
 use irtext_tests_common::contexts::with_demo;
-use irtext_tests_print::reading::printed;
+use irtext_tests_roots::reading::printed;
 use std::alloc::Global;
 use std::test::Fail;
 

@@ -3,7 +3,7 @@ use crate::row::{Group, Row};
 use irtext_demo::DemoAttr;
 use irtext_demo::dialects::register_demo;
 use irtext_tests_common::contexts::{Ctx, with_counters};
-use irtext_tests_print::reading::{concrete, read_root, whole};
+use irtext_tests_roots::reading::{concrete, read_root, whole};
 use pliron_text::base::{Operation, Ptr};
 use pliron_text::result::{Cause, Error};
 use std::alloc::Global;

@@ -3,7 +3,7 @@ use crate::row::Row;
 use crate::streams::{Asked, on_stream};
 use irtext_tests_common::building::live;
 use irtext_tests_common::contexts::Ctx;
-use irtext_tests_print::reading::{location, two, whole};
+use irtext_tests_roots::reading::{location, two, whole};
 use std::alloc::Global;
 use std::test::Fail;
 

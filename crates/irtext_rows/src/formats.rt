@@ -1,9 +1,9 @@
 //! Operations that are parsed and printed in a format of their own, which is given by its letters.
 use crate::row::Row;
 use irtext_tests_common::contexts::{Ctx, with_demo};
-use irtext_tests_print::reading;
-use irtext_tests_print::reading::{concrete, read_root, whole};
-use irtext_tests_print::registering::register;
+use irtext_tests_roots::reading;
+use irtext_tests_roots::reading::{concrete, read_root, whole};
+use irtext_tests_roots::registering::register;
 use pliron_text::base::{Operation, Ptr};
 use std::alloc::Global;
 use std::test::Fail;

@@ -5,7 +5,7 @@ use irtext_context::base::Item;
 use irtext_demo::{DemoAttr, DemoType};
 use irtext_tests_common::building::{erase, live};
 use irtext_tests_common::contexts::Ctx;
-use irtext_tests_print::reading::{appended, concrete, laid_out, read_root, whole};
+use irtext_tests_roots::reading::{appended, concrete, laid_out, read_root, whole};
 use pliron_text::base::{Operation, OperationAccess, Ptr};
 use pliron_text::ir::{OpDbg, keeps_parts, print_dbg};
 use pliron_text::irfmt::printers::op::{region, symb_op_header, typed_symb_op_header};

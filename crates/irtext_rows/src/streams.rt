@@ -2,7 +2,7 @@
 use irtext_demo::{DemoAttr, DemoType};
 use irtext_tests_common::answers::result_text;
 use irtext_tests_common::contexts::{Ctx, Stream};
-use irtext_tests_print::reading::{alone, location};
+use irtext_tests_roots::reading::{alone, location};
 use pliron_text::base::{BasicBlock, Operation, Ptr, Region};
 use pliron_text::ir::OperationText;
 use pliron_text::irfmt::parsers;

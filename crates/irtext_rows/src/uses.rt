@@ -3,7 +3,7 @@ use crate::places::{block_at, number, operand, operation_at, successor, value_at
 use crate::row::Row;
 use irtext_graph::held::HasGraph;
 use irtext_tests_common::contexts::Ctx;
-use irtext_tests_print::reading::root;
+use irtext_tests_roots::reading::root;
 use pliron_text::base::{BasicBlock, BlockParts, Operation, Ptr, UniqueName, Value, ValueUses};
 use std::alloc::Global;
 use std::test::Fail;

@@ -1,8 +1,8 @@
 //! What `pliron_text` re-exports from the crates below, by its own paths, unless another row names it.
+use crate::reading::root;
 use irtext_demo::DemoAttr;
 use irtext_tests_common::building::{id, live, live_block};
 use irtext_tests_common::contexts::{Ctx, named, with_demo};
-use irtext_tests_print::reading::root;
 use pliron_text::base::{
     AttrObj, AttributeDict, BasicBlock, BlockAccess, Few, Identifier, NewBlock, NewOperation, OpId,
     Operation, OperationAccess, Ptr, Region,
