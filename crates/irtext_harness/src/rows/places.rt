@@ -1,6 +1,6 @@
 //! Places in a root: a path is a list of indices, of a region, a block, an operation, a region and so on, with dots between them.
+use crate::roots::Ctx;
 use irtext_tests_common::building::live;
-use irtext_tests_common::contexts::Ctx;
 use pliron_text::base::{BasicBlock, Operation, OperationParts, Ptr, Region, Value};
 use std::test::Fail;
 
