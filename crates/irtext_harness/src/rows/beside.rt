@@ -1,9 +1,10 @@
 //! Texts that are parsed in a context with a live root, which has to be unchanged.
 use crate::roots::{Ctx, register, root, whole};
+use crate::rows::places::num_parts;
 use crate::rows::row::Row;
 use crate::rows::said::{or_fail, require};
 use crate::rows::streams::{Asked, Outcome, on_stream, region_into};
-use irtext_tests_common::building;
+use irtext_graph::object::Object;
 use pliron_text::base::{Operation, Ptr};
 use std::alloc::Global;
 use std::test::Fail;
@@ -84,8 +85,7 @@ fn region_line(
     said: &str,
     marks: bool,
 ) -> Result<String, Fail> {
-    building::live(ctx, op)?;
-    let count = op.num_regions(ctx);
+    let count = num_parts(ctx, Object::TheOperation(op))?;
     let is_kept = said == "last" || ctx.num_live() == live && is_unchanged(alloc, ctx, op, before)?;
     require(is_kept, "something was left")?;
     or_fail(format!(in alloc; "{said}, {marks}, {count}"))

@@ -1,16 +1,9 @@
 //! Places in a root: a path is a list of indices, of a region, a block, an operation, a region and so on, with dots between them.
 use crate::roots::Ctx;
-use irtext_tests_common::building::live;
-use pliron_text::base::{BasicBlock, Operation, OperationParts, Ptr, Region, Value};
+use irtext_graph::held::HasGraph;
+use irtext_graph::object::Object;
+use pliron_text::base::{BasicBlock, Operation, Ptr, Value};
 use std::test::Fail;
-
-/// What a path leads to.
-#[derive(Clone, Copy)]
-pub(crate) enum Found {
-    Operation(Ptr<Operation>),
-    Region(Ptr<Region>),
-    Block(Ptr<BasicBlock>),
-}
 
 /// The number of a word.
 pub(crate) fn number(word: &str) -> Result<usize, Fail> {
@@ -20,42 +13,27 @@ pub(crate) fn number(word: &str) -> Result<usize, Fail> {
     }
 }
 
-/// The region of an index in an operation.
-fn region(ctx: &Ctx, op: Ptr<Operation>, index: usize) -> Result<Found, Fail> {
-    if !ctx.contains_operation(op) || index >= op.num_regions(ctx) {
-        return Err(Fail::from("no such region"));
+/// How many regions an operation has, blocks a region, or operations a block.
+pub(crate) fn num_parts(ctx: &Ctx, whole: Object) -> Result<usize, Fail> {
+    let graph = ctx.graph();
+    if !graph.contains(whole) {
+        return Err(Fail::from("no such object"));
     }
-    Ok(Found::Region(op.get_region(ctx, index)))
+    Ok(graph.num_children(whole))
 }
 
-/// The block of an index in a region.
-fn block(ctx: &Ctx, region: Ptr<Region>, index: usize) -> Result<Found, Fail> {
-    if !ctx.contains_region(region) || index >= region.num_blocks(ctx) {
-        return Err(Fail::from("no such block"));
+/// The part of an index: the region of an operation, the block of a region, or the operation of a block.
+pub(crate) fn part(ctx: &Ctx, whole: Object, index: usize) -> Result<Object, Fail> {
+    let graph = ctx.graph();
+    if !graph.contains(whole) || index >= graph.num_children(whole) {
+        return Err(Fail::from("no such part"));
     }
-    Ok(Found::Block(region.get_block(ctx, index)))
-}
-
-/// The operation of an index in a block.
-fn operation(ctx: &Ctx, block: Ptr<BasicBlock>, index: usize) -> Result<Found, Fail> {
-    if !ctx.contains_block(block) || index >= block.num_operations(ctx) {
-        return Err(Fail::from("no such operation"));
-    }
-    Ok(Found::Operation(block.get_operation(ctx, index)))
-}
-
-/// The part of an index.
-fn part(ctx: &Ctx, whole: Found, index: usize) -> Result<Found, Fail> {
-    match whole {
-        Found::Operation(op) => region(ctx, op, index),
-        Found::Region(of) => block(ctx, of, index),
-        Found::Block(of) => operation(ctx, of, index),
-    }
+    Ok(graph.get_child(whole, index))
 }
 
 /// What a path from a root leads to.
-fn at(ctx: &Ctx, root: Ptr<Operation>, path: &str) -> Result<Found, Fail> {
-    let mut found = Found::Operation(root);
+fn at(ctx: &Ctx, root: Ptr<Operation>, path: &str) -> Result<Object, Fail> {
+    let mut found = Object::TheOperation(root);
     for word in path.split('.') {
         if !word.is_empty() {
             found = part(ctx, found, number(word)?)?;
@@ -71,7 +49,7 @@ pub(crate) fn operation_at(
     path: &str,
 ) -> Result<Ptr<Operation>, Fail> {
     match at(ctx, root, path)? {
-        Found::Operation(op) => Ok(op),
+        Object::TheOperation(op) => Ok(op),
         _ => Err(Fail::from("this is no path of an operation")),
     }
 }
@@ -83,7 +61,7 @@ pub(crate) fn block_at(
     path: &str,
 ) -> Result<Ptr<BasicBlock>, Fail> {
     match at(ctx, root, path)? {
-        Found::Block(block) => Ok(block),
+        Object::TheBlock(block) => Ok(block),
         _ => Err(Fail::from("this is no path of a block")),
     }
 }
@@ -96,19 +74,19 @@ pub(crate) fn value_at(
     index: usize,
 ) -> Result<Value, Fail> {
     match at(ctx, root, path)? {
-        Found::Operation(op) => Ok(Value::Result(op, index)),
-        Found::Block(block) => Ok(Value::Argument(block, index)),
-        Found::Region(_) => Err(Fail::from("a region has no values")),
+        Object::TheOperation(op) => Ok(Value::Result(op, index)),
+        Object::TheBlock(block) => Ok(Value::Argument(block, index)),
+        Object::TheRegion(_) => Err(Fail::from("a region has no values")),
     }
 }
 
 /// The operand of an index.
 pub(crate) fn operand(ctx: &Ctx, op: Ptr<Operation>, index: usize) -> Result<Value, Fail> {
-    live(ctx, op)?;
-    if index >= op.get_num_operands(ctx) {
+    let graph = ctx.graph();
+    if !graph.contains(Object::TheOperation(op)) || index >= graph.num_operands(op) {
         return Err(Fail::from("no such operand"));
     }
-    Ok(op.get_operand(ctx, index))
+    Ok(graph.get_operand(op, index))
 }
 
 /// The successor of an index.
@@ -117,9 +95,9 @@ pub(crate) fn successor(
     op: Ptr<Operation>,
     index: usize,
 ) -> Result<Ptr<BasicBlock>, Fail> {
-    live(ctx, op)?;
-    if index >= op.get_num_successors(ctx) {
+    let graph = ctx.graph();
+    if !graph.contains(Object::TheOperation(op)) || index >= graph.num_successors(op) {
         return Err(Fail::from("no such successor"));
     }
-    Ok(op.get_successor(ctx, index))
+    Ok(graph.get_successor(op, index))
 }

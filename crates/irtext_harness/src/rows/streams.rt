@@ -1,8 +1,10 @@
 //! What is said of the text of a stream that has its state.
 use crate::failed::refuses_another;
 use crate::roots::{Ctx, Stream, alone, location};
+use crate::rows::places::{num_parts, part};
 use crate::rows::said::{or_fail, require, words};
 use irtext_demo::{DemoAttr, DemoType};
+use irtext_graph::object::Object;
 use irtext_tests_common::answers::result_text;
 use irtext_tests_common::building::live;
 use pliron_text::base::{BasicBlock, Operation, Ptr, Region};
@@ -185,18 +187,16 @@ pub(crate) fn on_stream(
     outcome(alloc, &mut s, asked)
 }
 
-/// Whether a region is the last of an operation.
+/// Whether a region is the last of an operation, as a word.
 fn region_text(
     alloc: Global,
     ctx: &Ctx,
     op: Ptr<Operation>,
     region: Ptr<Region>,
 ) -> Result<String, Fail> {
-    if !ctx.contains_operation(op) || !ctx.contains_region(region) {
-        return Err(Fail::from("no such region"));
-    }
-    let count = op.num_regions(ctx);
-    let is_last = count > 0 && op.get_region(ctx, count - 1) == region;
+    let whole = Object::TheOperation(op);
+    let last = num_parts(ctx, whole)?.saturating_sub(1);
+    let is_last = part(ctx, whole, last)? == Object::TheRegion(region);
     words(alloc, if is_last { "last" } else { "elsewhere" })
 }
 
