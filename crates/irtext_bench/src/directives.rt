@@ -61,14 +61,24 @@ fn directive(alloc: Global, word: &str) -> Result<Directive, AllocError> {
     }
 }
 
+/// Appends the directives that the words denote.
+fn push_directives(
+    alloc: Global,
+    words: &str,
+    directives: &mut Vec<Directive>,
+) -> Result<(), AllocError> {
+    for word in words.split_whitespace() {
+        directives.push(directive(alloc, word)?)?;
+    }
+    Ok(())
+}
+
 /// Returns the format that the words denote.
 pub fn format_of(alloc: Global, words: &str) -> Result<OpFormat, AllocError> {
     if words == "canonical" {
         return Ok(OpFormat::Canonical);
     }
     let mut directives = Vec::new(alloc);
-    for word in words.split_whitespace() {
-        directives.push(directive(alloc, word)?)?;
-    }
+    push_directives(alloc, words, &mut directives)?;
     Ok(OpFormat::Custom(directives))
 }

@@ -23,49 +23,89 @@ use std::io::Write;
 use std::process::ExitCode;
 use std::{env, io};
 
-/// Does what the word selects so many times, and appends a line with the amount.
-fn measured(
-    alloc: Global,
-    word: &str,
-    times: usize,
-    text: &str,
-    out: &mut String,
-) -> Result<(), AllocError> {
-    match word {
-        "numbers" => lists::numbers(alloc, text, out),
-        "strings" => lists::strings(alloc, text, out),
-        "positions" => positions::positions(alloc, text, times, out),
-        "quoted" => quoted::write_often(alloc, Way::Quoted, text, times, out),
-        "copied" => quoted::write_often(alloc, Way::Copied, text, times, out),
-        "erased" => erased::erased(alloc, text, times, out),
-        "prints" => prints::prints(alloc, text, out),
-        "formats" => formats::formats(alloc, text, out),
-        _ => roots::roots(alloc, text, times, out),
+/// What a word selects.
+#[derive(Clone, Copy)]
+enum Task {
+    Numbers,
+    Strings,
+    Positions,
+    Written(Way),
+    Erased,
+    Prints,
+    Formats,
+    Roots,
+}
+
+impl Task {
+    /// Returns the task of a word.
+    fn of(word: &str) -> Task {
+        match word {
+            "numbers" => Task::Numbers,
+            "strings" => Task::Strings,
+            "positions" => Task::Positions,
+            "quoted" => Task::Written(Way::Quoted),
+            "copied" => Task::Written(Way::Copied),
+            "erased" => Task::Erased,
+            "prints" => Task::Prints,
+            "formats" => Task::Formats,
+            _ => Task::Roots,
+        }
+    }
+
+    /// Does the task so many times, and appends a line with the amount.
+    fn append(
+        self,
+        alloc: Global,
+        times: usize,
+        text: &str,
+        out: &mut String,
+    ) -> Result<(), AllocError> {
+        match self {
+            Task::Numbers => lists::numbers(alloc, text, out),
+            Task::Strings => lists::strings(alloc, text, out),
+            Task::Positions => positions::positions(alloc, text, times, out),
+            Task::Written(way) => quoted::write_often(alloc, way, text, times, out),
+            Task::Erased => erased::erased(alloc, text, times, out),
+            Task::Prints => prints::prints(alloc, text, out),
+            Task::Formats => formats::formats(alloc, text, out),
+            Task::Roots => roots::roots(alloc, text, times, out),
+        }
+    }
+
+    /// Does the same for a caller of input and output.
+    fn measured(self, alloc: Global, times: usize, text: &str, out: &mut String) -> io::Result<()> {
+        Ok(self.append(alloc, times, text, out)?)
     }
 }
 
-/// Returns the word that is selected, if there is one, and the number of words after it.
-fn selected(rt: &HostRuntime) -> io::Result<(Option<String>, usize)> {
+/// Returns the task that the first argument selects, if there is one, and the number of arguments after it.
+fn selected(rt: &HostRuntime) -> io::Result<Option<(Task, usize)>> {
     let mut words = env::args(rt)?.skip(1);
-    let word = words.next();
-    Ok((word, words.count()))
+    match words.next() {
+        Some(word) => Ok(Some((Task::of(word.as_str()), words.count()))),
+        None => Ok(None),
+    }
 }
 
 /// Does what the arguments select, and appends the line.
 fn append_line(rt: &HostRuntime, out: &mut String) -> io::Result<()> {
-    let (word, times) = selected(rt)?;
-    let Some(word) = word else {
+    let Some((task, times)) = selected(rt)? else {
         return Err(io::Error::from(io::ErrorKind::InvalidInput));
     };
     let text = io::read_to_string(rt.alloc(), rt.reader())?;
-    Ok(measured(rt.alloc(), word.as_str(), times, text.as_str(), out)?)
+    task.measured(rt.alloc(), times, text.as_str(), out)
 }
 
-/// Does what the arguments select, and writes the line.
+/// Does what the arguments select, and writes the line, which is empty before.
+fn write_line(rt: &HostRuntime, out: &mut String) -> io::Result<()> {
+    append_line(rt, out)?;
+    println!(rt; "{out}")
+}
+
+/// Does the same with a new line.
 fn measure(rt: &HostRuntime) -> io::Result<()> {
     let mut out = String::new(rt.alloc());
-    append_line(rt, &mut out)?;
-    println!(rt; "{out}")
+    write_line(rt, &mut out)
 }
 
 fn main(rt: HostRuntime) -> ExitCode {

@@ -1,6 +1,8 @@
 //! The result of parsing a text as a root, and its printed text or why there is none.
 
 use irtext_demo::{DemoAttr, DemoType};
+use irtext_graph::held::HasGraph;
+use irtext_graph::object::Object;
 use pliron_text::base::{Context, Operation, Ptr};
 use pliron_text::ir::OperationText;
 use pliron_text::parsable::{SourcePosition, parse_from_str};
@@ -51,10 +53,11 @@ pub fn print(ctx: &Ctx, root: Ptr<Operation>, out: &mut String) -> bool {
 
 /// Erases a root. Returns whether it could be erased.
 pub fn erase(ctx: &mut Ctx, root: Ptr<Operation>) -> bool {
-    if !ctx.contains_operation(root) || !root.can_erase(ctx) {
+    let (graph, object) = (ctx.graph_mut(), Object::TheOperation(root));
+    if !graph.contains(object) || !graph.can_erase(object) {
         return false;
     }
-    root.erase(ctx);
+    graph.erase(object);
     true
 }
 

@@ -64,21 +64,21 @@ fn parse_term(alloc: Global, text: &str, at: SourcePosition) -> Answer<Term> {
     }
 }
 
-/// Returns the numbers of a sum such as `1 + 2 + 3`.
-fn parse_terms(alloc: Global, text: &str) -> Answer<Vec<Term>> {
-    let mut terms = Vec::new(alloc);
+/// Appends the numbers of a sum such as `1 + 2 + 3`.
+fn parse_terms(alloc: Global, text: &str, terms: &mut Vec<Term>) -> Answer<()> {
     let mut at = SourcePosition::default();
     for piece in text.split('+') {
         terms.push(parse_term(alloc, piece, at)?)?;
         at = after(after_text(at, piece), '+');
     }
-    Ok(terms)
+    Ok(())
 }
 
 /// Returns the attribute that gives one name, for an operation of one result or a block of one argument.
 fn given_name(alloc: Global, name: &str) -> Answer<AttrObj<Attr>> {
+    let name = Identifier::try_new(alloc, name)?;
     let mut names = Vec::new(alloc);
-    names.push(Some(Identifier::try_new(alloc, name)?))?;
+    names.push(Some(name))?;
     Ok(AttrObj::GivenNames(names))
 }
 
@@ -139,19 +139,43 @@ fn body(ctx: &mut Ir) -> Answer<Ptr<BasicBlock>> {
     Ok(block)
 }
 
-/// Makes the function `@sum`, which returns the sum of its argument and the numbers.
-fn function(ctx: &mut Ir, terms: &[Term]) -> Answer<Ptr<Operation>> {
-    let alloc = ctx.allocator();
-    let block = body(ctx)?;
+/// Adds the numbers to the argument of a block, and returns the sum.
+fn add_terms(ctx: &mut Ir, block: Ptr<BasicBlock>, terms: &[Term]) -> Answer<Value> {
     let mut sum = Value::Argument(block, 0);
     for term in terms {
         sum = add_term(ctx, block, sum, *term)?;
     }
-    let id = OpId::try_new(alloc, "arith", "return")?;
-    let end = Operation::try_new(ctx, id, Few::none(), &[sum], &[], 0)?;
-    end.try_insert_at_back(block, ctx)?;
-    let id = OpId::try_new(alloc, "arith", "func")?;
+    Ok(sum)
+}
+
+/// Returns a value at the end of a block.
+fn end(ctx: &mut Ir, block: Ptr<BasicBlock>, value: Value) -> Answer<()> {
+    let id = OpId::try_new(ctx.allocator(), "arith", "return")?;
+    let end = Operation::try_new(ctx, id, Few::none(), &[value], &[], 0)?;
+    end.try_insert_at_back(block, ctx)
+}
+
+/// Makes the function `@sum`, which returns the sum of its argument and the numbers.
+fn function(ctx: &mut Ir, terms: &[Term]) -> Answer<Ptr<Operation>> {
+    let block = body(ctx)?;
+    let sum = add_terms(ctx, block, terms)?;
+    end(ctx, block, sum)?;
+    let id = OpId::try_new(ctx.allocator(), "arith", "func")?;
     symbol(ctx, id, "sum", block)
+}
+
+/// Makes the function of the sum in a text.
+fn function_of(ctx: &mut Ir, text: &str) -> Answer<Ptr<Operation>> {
+    let alloc = ctx.allocator();
+    let mut terms = Vec::new(alloc);
+    parse_terms(alloc, text, &mut terms)?;
+    function(ctx, &terms)
+}
+
+/// Makes a block with a label and no arguments.
+fn entry(ctx: &mut Ir) -> Answer<Ptr<BasicBlock>> {
+    let label = Identifier::try_new(ctx.allocator(), "entry")?;
+    Ok(BasicBlock::new(ctx, Some(label), Few::none())?)
 }
 
 /// Parses a sum such as `1 + 2 + 3`, and builds the module `@program` with the function `@sum`, which returns the sum of its argument and
@@ -160,12 +184,9 @@ fn function(ctx: &mut Ir, terms: &[Term]) -> Answer<Ptr<Operation>> {
 pub fn compile(ctx: &mut Ir, text: &str) -> Answer<Ptr<Operation>>
     ensures { IfOk result (λ op. IsSome (operation ctx.new op)) }
 {
-    let alloc = ctx.allocator();
-    let terms = parse_terms(alloc, text)?;
-    let function = function(ctx, &terms)?;
-    let label = Identifier::try_new(alloc, "entry")?;
-    let entry = BasicBlock::new(ctx, Some(label), Few::none())?;
+    let function = function_of(ctx, text)?;
+    let entry = entry(ctx)?;
     function.try_insert_at_back(entry, ctx)?;
-    let id = OpId::try_new(alloc, "builtin", "module")?;
+    let id = OpId::try_new(ctx.allocator(), "builtin", "module")?;
     symbol(ctx, id, "program", entry)
 }

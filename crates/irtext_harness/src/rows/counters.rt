@@ -1,9 +1,9 @@
 //! Counters that are nearly full: a text that would exceed one fails with out of memory, and leaves no objects.
-use crate::row::{Group, Row};
+use crate::roots::{Ctx, concrete, read_root, register_dialects, whole};
+use crate::rows::row::{Group, Row};
+use crate::rows::said::or_fail;
 use irtext_demo::DemoAttr;
-use irtext_demo::dialects::register_demo;
-use irtext_tests_common::contexts::{Ctx, with_counters};
-use irtext_tests_roots::reading::{concrete, read_root, whole};
+use irtext_tests_common::contexts::with_counters;
 use pliron_text::base::{Operation, Ptr};
 use pliron_text::result::{Cause, Error};
 use std::alloc::Global;
@@ -20,21 +20,39 @@ fn result_text(alloc: Global, error: &Error<DemoAttr>) -> Result<String, Fail> {
 /// A live root, and its text.
 type Root = (Ptr<Operation>, String);
 
-/// The result for a text, and then the number of live objects. A root that is parsed is added to the live ones.
+/// The concrete text of a root, which is added to the live ones.
+fn added(
+    alloc: Global,
+    ctx: &Ctx,
+    parsed_roots: &mut Vec<Root>,
+    op: Ptr<Operation>,
+) -> Result<String, Fail> {
+    parsed_roots.push((op, whole(alloc, ctx, op)?))?;
+    concrete(alloc, ctx, op)
+}
+
+/// The result for a text. A root that is parsed is added to the live ones.
+fn parsed(
+    alloc: Global,
+    ctx: &mut Ctx,
+    parsed_roots: &mut Vec<Root>,
+    text: &str,
+) -> Result<String, Fail> {
+    match read_root(ctx, text) {
+        Ok(op) => added(alloc, ctx, parsed_roots, op),
+        Err(error) => result_text(alloc, &error),
+    }
+}
+
+/// The same, and then the number of live objects.
 fn answered(
     alloc: Global,
     ctx: &mut Ctx,
     parsed_roots: &mut Vec<Root>,
     text: &str,
 ) -> Result<String, Fail> {
-    let said = match read_root(ctx, text) {
-        Ok(op) => {
-            parsed_roots.push((op, whole(alloc, ctx, op)?))?;
-            concrete(alloc, ctx, op)?
-        }
-        Err(error) => result_text(alloc, &error)?,
-    };
-    Ok(format!(in alloc; "{said}, {}", ctx.num_live())?)
+    let said = parsed(alloc, ctx, parsed_roots, text)?;
+    or_fail(format!(in alloc; "{said}, {}", ctx.num_live()))
 }
 
 /// Fails if a live root has another text than before.
@@ -47,17 +65,29 @@ fn are_as_they_were(alloc: Global, ctx: &Ctx, parsed_roots: &[Root]) -> Result<(
     Ok(())
 }
 
+/// Parses the texts one after the other. What is said of the last is in `said` then.
+fn say_last(
+    alloc: Global,
+    ctx: &mut Ctx,
+    parsed_roots: &mut Vec<Root>,
+    texts: &[String],
+    said: &mut String,
+) -> Result<(), Fail> {
+    for text in texts {
+        *said = answered(alloc, ctx, parsed_roots, text.as_str())?;
+        are_as_they_were(alloc, ctx, parsed_roots.as_slice())?;
+    }
+    Ok(())
+}
+
 /// The result for the last of the texts, which are parsed one after the other.
 fn last(alloc: Global, ctx: &mut Ctx, texts: &[String]) -> Result<String, Fail> {
-    if register_demo(ctx).is_err() {
+    if register_dialects(ctx).is_err() {
         return Err(Fail::from("not registered"));
     }
     let mut parsed_roots = Vec::new(alloc);
     let mut said = String::new(alloc);
-    for text in texts {
-        said = answered(alloc, ctx, &mut parsed_roots, text.as_str())?;
-        are_as_they_were(alloc, ctx, parsed_roots.as_slice())?;
-    }
+    say_last(alloc, ctx, &mut parsed_roots, texts, &mut said)?;
     Ok(said)
 }
 

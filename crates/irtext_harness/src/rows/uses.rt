@@ -1,9 +1,9 @@
 //! The uses in a root that was parsed: which value an operand is, and which block a successor is.
-use crate::places::{block_at, number, operand, operation_at, successor, value_at};
-use crate::row::Row;
+use crate::roots::{Ctx, root};
+use crate::rows::places::{block_at, number, operand, operation_at, successor, value_at};
+use crate::rows::row::Row;
+use crate::rows::said::or_fail;
 use irtext_graph::held::HasGraph;
-use irtext_tests_common::contexts::Ctx;
-use irtext_tests_roots::reading::root;
 use pliron_text::base::{BasicBlock, BlockParts, Operation, Ptr, UniqueName, Value, ValueUses};
 use std::alloc::Global;
 use std::test::Fail;
@@ -14,7 +14,7 @@ fn value_text(alloc: Global, ctx: &Ctx, value: Value) -> Result<String, Fail> {
         return Err(Fail::from("no such value"));
     }
     let name = value.unique_name(ctx)?;
-    Ok(format!(in alloc; "{name}, {}", value.num_uses(ctx))?)
+    or_fail(format!(in alloc; "{name}, {}", value.num_uses(ctx)))
 }
 
 /// What is said of a value that is used, if it is the value that it has to be.

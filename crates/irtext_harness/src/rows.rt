@@ -1,7 +1,7 @@
-//! The program of the rows: it reads a file of texts and of what has to be said of each, and says it. `#` at the beginning of a line makes
-//! it a comment. A word in brackets begins a group; in it each row is one or more quoted texts, `->`, and what is wanted, quoted too. For
-//! each row of which something else is said, the program prints its line, what is wanted, and what is said; at the end the number of rows.
-//! Its status is 1 if a row differs or the file is no file of rows. A text that a row lacks is empty, and a number 0.
+//! Files of rows: texts, and what has to be said of each. `#` at the beginning of a line makes it a comment. A word in brackets begins a
+//! group; in it each row is one or more quoted texts, `->`, and what is wanted, quoted too. For each row of which something else is said,
+//! the program prints its line, what is wanted, and what is said; at the end the number of rows. Its status is 1 if a row differs or the
+//! file is no file of rows. A text that a row lacks is empty, and a number 0.
 //!
 //! The groups, with the texts of a row. Each row has a context of its own, with the demo dialects if nothing else is said.
 //!
@@ -32,7 +32,6 @@
 //!   `[debugged]`, `[header]`, `[typed_header]`, `[braces]` TEXT, `[in_file]` TEXT PATH, `[afterwards]` TEXT PATH: a text of the root (see
 //!   `printing.rt`), or the error and the number of objects.
 //! - `[kept]` TEXT: the same after `keeps_parts`. `[objects]` TEXT: the number of objects.
-#![tactic(auto)]
 
 mod beside;
 mod broken;
@@ -45,13 +44,13 @@ mod names;
 mod places;
 mod printing;
 mod row;
+mod said;
 mod streams;
 mod uses;
 
-use crate::file::{next, without_comments};
-use crate::row::{Group, Item, Row};
+use crate::rows::file::{next, without_comments};
+use crate::rows::row::{Group, Item, Row};
 use pliron_text::parsable::TextStream;
-use std::io;
 use std::io::Write;
 use std::process::{ExitCode, Termination};
 use std::test::Fail;
@@ -99,25 +98,6 @@ fn holds(rt: &HostRuntime, row: &Row, answer: Result<String, Fail>) -> Result<bo
     }
 }
 
-/// Tries the rows of a file without comments.
-fn rows(rt: &HostRuntime, text: &str) -> Result<Count, Fail> {
-    let alloc = rt.alloc();
-    let mut stream = TextStream::new(alloc, text)?;
-    let mut current: Option<Group> = None;
-    let mut count = Count {
-        rows: 0,
-        differing: 0,
-    };
-    for _ in 0..u64::MAX {
-        match next(alloc, &mut stream)? {
-            Item::End => break,
-            Item::Group(group) => current = Some(group),
-            Item::Row(row) => count = count.with(tried(rt, &current, &row)?),
-        }
-    }
-    Ok(count)
-}
-
 /// Tries a row of a group.
 fn tried(rt: &HostRuntime, group: &Option<Group>, row: &Row) -> Result<bool, Fail> {
     match group {
@@ -126,10 +106,62 @@ fn tried(rt: &HostRuntime, group: &Option<Group>, row: &Row) -> Result<bool, Fai
     }
 }
 
-fn main(rt: HostRuntime) -> Result<ExitCode, Fail> {
-    let file = io::read_to_string(rt.alloc(), rt.reader())?;
-    let text = without_comments(rt.alloc(), file.as_str())?;
-    let count = rows(&rt, text.as_str())?;
+/// Does what comes next in a file without comments: a row is tried, and a group is that of the rows after it. Returns the count then, or
+/// `None` at the file's end.
+fn step(
+    rt: &HostRuntime,
+    stream: &mut TextStream,
+    current: &mut Option<Group>,
+    count: Count,
+) -> Result<Option<Count>, Fail> {
+    match next(rt.alloc(), stream)? {
+        Item::End => Ok(None),
+        Item::Group(group) => {
+            *current = Some(group);
+            Ok(Some(count))
+        }
+        Item::Row(row) => {
+            let holds = tried(rt, current, &row)?;
+            Ok(Some(count.with(holds)))
+        }
+    }
+}
+
+/// Tries the rows that are left of a file without comments.
+fn rows(
+    rt: &HostRuntime,
+    stream: &mut TextStream,
+    current: &mut Option<Group>,
+) -> Result<Count, Fail> {
+    let mut count = Count {
+        rows: 0,
+        differing: 0,
+    };
+    for _ in 0..u64::MAX {
+        match step(rt, stream, current, count)? {
+            Some(then) => count = then,
+            None => break,
+        }
+    }
+    Ok(count)
+}
+
+/// Tries the rows of a file without comments.
+fn counted(rt: &HostRuntime, text: &str) -> Result<Count, Fail> {
+    let mut stream = TextStream::new(rt.alloc(), text)?;
+    let mut current = None;
+    rows(rt, &mut stream, &mut current)
+}
+
+/// Tries the rows of a file without comments, and prints their number. Returns the exit status.
+fn status_without_comments(rt: &HostRuntime, text: &str) -> Result<ExitCode, Fail> {
+    let count = counted(rt, text)?;
     println!(rt; "{} rows, {} differ", count.rows, count.differing)?;
     Ok(ExitCode::from(if count.differing == 0 { 0 } else { 1 }))
+}
+
+/// Tries the rows of a file: prints each of which something else is said, and at the end their number. Returns the exit status.
+pub(crate) fn status(rt: &HostRuntime, file: &str) -> Result<ExitCode, Fail> {
+    let text = without_comments(rt.alloc(), file)?;
+    status_without_comments(rt, text.as_str())
 }

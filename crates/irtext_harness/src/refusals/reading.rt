@@ -1,10 +1,11 @@
 //! Parsing a root while an allocation fails, in a context that already contains a root: no object of it is left, the stream has failed,
 //! and the same text then parses as it does with enough memory.
 
-use crate::roots::{first_root, print};
-use crate::strings::has_failed;
-use crate::{Ctx, Fault};
-use irtext_demo::{DemoAttr, DemoType};
+use crate::failed::refuses_another;
+use crate::fault::Fault;
+use crate::refusals::printing::print;
+use crate::roots::{Ctx, Stream, first_root};
+use irtext_demo::DemoAttr;
 use pliron_text::base::{Operation, Ptr};
 use pliron_text::ir::OperationText;
 use pliron_text::location::Source;
@@ -23,8 +24,6 @@ enum Said {
     RanOut,
 }
 
-type Stream<'c> = StateStream<'c, DemoType, DemoAttr, ()>;
-
 /// Appends the line about a fault.
 fn push_fault(fault: &ParseFault<DemoAttr>, out: &mut String) -> Result<Said, Fault> {
     match write!(out, "{}: {}", fault.pos, fault.cause) {
@@ -40,7 +39,7 @@ fn refused(
     out: &mut String,
 ) -> Result<Said, Fault> {
     match &fault.cause {
-        Cause::Memory if has_failed(Operation::top_level_parse(s)) => Ok(Said::RanOut),
+        Cause::Memory if refuses_another(s) => Ok(Said::RanOut),
         Cause::Memory => Err(Fault::Wrong),
         _ => push_fault(fault, out),
     }
@@ -107,8 +106,8 @@ fn print_first(ctx: &Ctx, root: Ptr<Operation>, out: &mut String) -> Result<(), 
     }
 }
 
-/// Appends the line about a text that is parsed next to the first root. That root is printed before and after it, into two empty texts,
-/// which have to be equal.
+/// Appends the line about a text that is parsed next to the first root, and then the text of that root. It is printed before and after the
+/// line, into two empty texts, which have to be equal.
 fn beside(
     alloc: Global,
     ctx: &mut Ctx,
@@ -121,18 +120,21 @@ fn beside(
     print_first(ctx, root, before)?;
     twice(alloc, ctx, text, out)?;
     print_first(ctx, root, following)?;
-    if following.as_str() == before.as_str() {
-        Ok(())
-    } else {
-        Err(Fault::Wrong)
+    if following.as_str() != before.as_str() {
+        return Err(Fault::Wrong);
     }
+    Ok(out.push_str(following.as_str())?)
 }
 
 /// Appends the line about a text that is parsed as a root in an empty context, again if memory runs out, and then the text of the first
 /// root.
-pub fn again(alloc: Global, ctx: &mut Ctx, text: &str, out: &mut String) -> Result<(), Fault> {
+pub(crate) fn again(
+    alloc: Global,
+    ctx: &mut Ctx,
+    text: &str,
+    out: &mut String,
+) -> Result<(), Fault> {
     let mut before = String::new(alloc);
     let mut following = String::new(alloc);
-    beside(alloc, ctx, text, &mut before, &mut following, out)?;
-    Ok(out.push_str(following.as_str())?)
+    beside(alloc, ctx, text, &mut before, &mut following, out)
 }

@@ -3,12 +3,13 @@
 ghost use Rattle.std.specs.Prelude.{IsSome};
 ghost use Rattle.irtext_context.specs.Context.{operation};
 
-use crate::roots::{first_root, print};
-use crate::{Ctx, Fault};
+use crate::fault::Fault;
+use crate::roots::{Ctx, first_root};
 use pliron_text::base::{Operation, Ptr};
 use pliron_text::location::erase_locations;
-use pliron_text::printable::{Printable, RegionPrintDepthLimit, State};
+use pliron_text::printable::{Disp, Printable, RegionPrintDepthLimit, State};
 use std::alloc::Global;
+use std::fmt::Write;
 
 /// The limit of the state that is passed as `&mut`.
 const LIMIT: RegionPrintDepthLimit = RegionPrintDepthLimit::Max(3);
@@ -18,11 +19,23 @@ fn layout(alloc: Global) -> State<()> {
     State::with_layout(alloc, 4, 1, LIMIT, ())
 }
 
-/// Whether a state has that layout.
-fn has_layout(state: &State<()>) -> bool {
-    state.indent_width() == 4
+/// Returns this, or the fault if a state does not have that layout.
+fn if_laid_out(state: &State<()>, is_printed: bool) -> Result<bool, Fault> {
+    let has_layout = state.indent_width() == 4
         && state.current_indent() == 1
-        && state.current_region_print_depth_limit() == LIMIT
+        && state.current_region_print_depth_limit() == LIMIT;
+    if has_layout {
+        Ok(is_printed)
+    } else {
+        Err(Fault::Wrong)
+    }
+}
+
+/// Appends the text of a root. Returns whether it could be printed.
+pub(crate) fn print(ctx: &Ctx, root: Ptr<Operation>, out: &mut String) -> bool
+    requires { IsSome (operation ctx.now root) }
+{
+    write!(out, "{}", root.disp(ctx)).is_ok()
 }
 
 /// Appends the text of a root with this state. Returns whether it could be printed.
@@ -43,11 +56,7 @@ fn print_lent(
 {
     let mut state = layout(alloc);
     let is_printed = append(ctx, root, &mut state, out);
-    if has_layout(&state) {
-        Ok(is_printed)
-    } else {
-        Err(Fault::Wrong)
-    }
+    if_laid_out(&state, is_printed)
 }
 
 /// How a root is printed.
@@ -96,6 +105,22 @@ fn print_twice(
     }
 }
 
+/// Prints a root twice, into two empty texts, and appends the second.
+fn append_twice(
+    alloc: Global,
+    ctx: &Ctx,
+    root: Ptr<Operation>,
+    way: Way,
+    first: &mut String,
+    second: &mut String,
+    out: &mut String,
+) -> Result<(), Fault>
+    requires { IsSome (operation ctx.now root) }
+{
+    print_twice(alloc, ctx, root, way, first, second)?;
+    Ok(out.push_str(second.as_str())?)
+}
+
 /// Appends the text of a root, which is printed twice.
 fn twice(
     alloc: Global,
@@ -108,13 +133,12 @@ fn twice(
 {
     let mut first = String::new(alloc);
     let mut second = String::new(alloc);
-    print_twice(alloc, ctx, root, way, &mut first, &mut second)?;
-    Ok(out.push_str(second.as_str())?)
+    append_twice(alloc, ctx, root, way, &mut first, &mut second, out)
 }
 
 /// Which locations are printed.
 #[derive(Clone, Copy)]
-pub enum Located {
+pub(crate) enum Located {
     /// Those that the root's text gives it.
     AsRead,
     /// None: they are erased first.
@@ -132,7 +156,7 @@ fn prepare(ctx: &mut Ctx, root: Ptr<Operation>, located: Located) {
 
 /// Parses the text as a root, with an empty context. Appends its text, which is printed twice by `disp`, and twice with a state that is
 /// passed as `&mut`.
-pub fn displayed(
+pub(crate) fn displayed(
     alloc: Global,
     ctx: &mut Ctx,
     text: &str,

@@ -1,6 +1,7 @@
 //! Parsing a list of texts while an allocation fails: the fault says so, and the stream has failed from then on.
 
-use crate::Fault;
+use crate::failed::has_failed;
+use crate::fault::Fault;
 use irtext_demo::DemoAttr;
 use pliron_text::irfmt::parsers::{delimited_list_parser, quoted_string_parse};
 use pliron_text::parsable::{ParseFault, ParseResult, TextStream};
@@ -27,14 +28,6 @@ fn push_lines(texts: &[String], out: &mut String) -> Result<(), AllocError> {
     Ok(())
 }
 
-/// Whether a result says that the stream has failed.
-pub fn has_failed<X: Drop>(answer: ParseResult<X, DemoAttr>) -> bool {
-    match answer {
-        Err(fault) => fault.committed && matches!(&fault.cause, Cause::StreamFailed),
-        Ok(_) => false,
-    }
-}
-
 /// Returns the fault for a parse fault: `Memory` if it is out of memory and the stream has failed from then on.
 fn fault_of(stream: &mut TextStream, fault: &ParseFault<DemoAttr>) -> Fault {
     match &fault.cause {
@@ -52,7 +45,7 @@ fn read_lines(stream: &mut TextStream, out: &mut String) -> Result<(), Fault> {
 }
 
 /// Parses the text as a list of quoted texts, and appends the texts, a line each.
-pub fn read(alloc: Global, text: &str, out: &mut String) -> Result<(), Fault> {
+pub(crate) fn read(alloc: Global, text: &str, out: &mut String) -> Result<(), Fault> {
     let mut stream = TextStream::new(alloc, text)?;
     read_lines(&mut stream, out)
 }

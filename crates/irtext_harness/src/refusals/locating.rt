@@ -1,6 +1,7 @@
 //! Parsing a location while an allocation fails: the fault says so.
 
-use crate::{Ctx, Fault, checked};
+use crate::fault::{Fault, checked};
+use crate::roots::Ctx;
 use irtext_demo::{DemoAttr, DemoType};
 use pliron_text::location::Location;
 use pliron_text::parsable::{Parsable, parse_from_str};
@@ -26,7 +27,7 @@ fn print(ctx: &Ctx, location: &Location<DemoAttr>, out: &mut String) -> Result<(
 }
 
 /// Parses the text as a location, and appends its printed text.
-pub fn read(ctx: &mut Ctx, text: &str, out: &mut String) -> Result<(), Fault> {
+pub(crate) fn read(ctx: &mut Ctx, text: &str, out: &mut String) -> Result<(), Fault> {
     let location = checked(parse(ctx, text))?;
     print(ctx, &location, out)
 }

@@ -1,11 +1,11 @@
 //! The texts of a root that was parsed: whole, concrete, with another layout, without locations, for debugging, and of its parts.
-use crate::places::operation_at;
-use crate::row::{Group, Row};
+use crate::roots::{Ctx, appended, concrete, laid_out, read_root, whole};
+use crate::rows::places::operation_at;
+use crate::rows::row::{Group, Row};
+use crate::rows::said::{or_fail, require};
 use irtext_context::base::Item;
 use irtext_demo::{DemoAttr, DemoType};
 use irtext_tests_common::building::{erase, live};
-use irtext_tests_common::contexts::Ctx;
-use irtext_tests_roots::reading::{appended, concrete, laid_out, read_root, whole};
 use pliron_text::base::{Operation, OperationAccess, Ptr};
 use pliron_text::ir::{OpDbg, keeps_parts, print_dbg};
 use pliron_text::irfmt::printers::op::{region, symb_op_header, typed_symb_op_header};
@@ -43,20 +43,43 @@ fn elided(alloc: Global, ctx: &Ctx, op: Ptr<Operation>) -> Result<String, Fail> 
     laid_out(alloc, ctx, op, &state)
 }
 
-/// The text of the operation at a path, and that of the root after it with the same state once the operation is erased. An item (an
-/// operation or a block with a mark) that was printed and then erased keeps its index and has no entry.
+/// The text of the root with this state, after that of an operation, which is erased first.
+fn after_erasing(
+    alloc: Global,
+    ctx: &mut Ctx,
+    op: Ptr<Operation>,
+    erased: Ptr<Operation>,
+    state: &mut State<()>,
+    part: &str,
+) -> Result<String, Fail> {
+    erase(ctx, Item::Operation(erased))?;
+    let following = appended(alloc, ctx, op, state)?;
+    or_fail(format!(in alloc; "{part}\n{following}"))
+}
+
+/// The text of an operation, and that of the root after it with the same state once the operation is erased.
+fn before_and_after(
+    alloc: Global,
+    ctx: &mut Ctx,
+    op: Ptr<Operation>,
+    erased: Ptr<Operation>,
+    state: &mut State<()>,
+) -> Result<String, Fail> {
+    let part = appended(alloc, ctx, erased, state)?;
+    after_erasing(alloc, ctx, op, erased, state, part.as_str())
+}
+
+/// The same for the operation at a path. An item (an operation or a block with a mark) that was printed and then erased keeps its index and
+/// has no entry.
 fn afterwards(
     alloc: Global,
     ctx: &mut Ctx,
     op: Ptr<Operation>,
     path: &str,
 ) -> Result<String, Fail> {
-    let first = operation_at(ctx, op, path)?;
+    let erased = operation_at(ctx, op, path)?;
     let mut state: State<()> = State::new(alloc, ());
-    let part = appended(alloc, ctx, first, &mut state)?;
-    erase(ctx, Item::Operation(first))?;
-    let following = appended(alloc, ctx, op, &mut state)?;
-    Ok(format!(in alloc; "{part}\n{following}")?)
+    before_and_after(alloc, ctx, op, erased, &mut state)
 }
 
 /// Removes the locations of an operation and of everything nested in it.
@@ -75,14 +98,18 @@ fn in_file(alloc: Global, ctx: &mut Ctx, op: Ptr<Operation>, path: &str) -> Resu
     whole(alloc, ctx, op)
 }
 
+/// The text, which has to be the same as before.
+fn same(alloc: Global, ctx: &Ctx, op: Ptr<Operation>, before: &str) -> Result<String, Fail> {
+    let text = whole(alloc, ctx, op)?;
+    require(text.as_str() == before, "it is printed otherwise")?;
+    Ok(text)
+}
+
 /// The text, after the call that changes nothing.
 fn kept(alloc: Global, ctx: &mut Ctx, op: Ptr<Operation>) -> Result<String, Fail> {
     let before = whole(alloc, ctx, op)?;
     keeps_parts(ctx);
-    if whole(alloc, ctx, op)? != before {
-        return Err(Fail::from("it is printed otherwise"));
-    }
-    Ok(before)
+    same(alloc, ctx, op, before.as_str())
 }
 
 /// The text that is appended for debugging.
@@ -105,17 +132,27 @@ fn header(alloc: Global, ctx: &Ctx, op: Ptr<Operation>) -> Result<String, Fail> 
     Ok(format!(in alloc; "{}", symb_op_header(op).disp(ctx))?)
 }
 
-/// The header with a type.
-fn typed_header(alloc: Global, ctx: &Ctx, op: Ptr<Operation>) -> Result<String, Fail> {
+/// The header with a type, which is printed with this state.
+fn header_of_type(
+    alloc: Global,
+    ctx: &Ctx,
+    op: Ptr<Operation>,
+    ty: &DemoType,
+    state: &mut State<()>,
+) -> Result<String, Fail> {
     live(ctx, op)?;
-    let ty = DemoType::Pointer;
-    let mut state = State::new(alloc, ());
     let mut text = String::new(alloc);
-    typed_symb_op_header(op, &ty)
-        .fmt(ctx, &mut state, &mut text)
+    typed_symb_op_header(op, ty)
+        .fmt(ctx, state, &mut text)
         .ok()
         .ok_or("refused")?;
     Ok(text)
+}
+
+/// The header with a type.
+fn typed_header(alloc: Global, ctx: &Ctx, op: Ptr<Operation>) -> Result<String, Fail> {
+    let mut state = State::new(alloc, ());
+    header_of_type(alloc, ctx, op, &DemoType::Pointer, &mut state)
 }
 
 /// The region.

@@ -1,8 +1,12 @@
 //! What is said of the text of a stream that has its state.
+use crate::failed::refuses_another;
+use crate::roots::{Ctx, Stream, alone, location};
+use crate::rows::places::{num_parts, part};
+use crate::rows::said::{or_fail, require, words};
 use irtext_demo::{DemoAttr, DemoType};
+use irtext_graph::object::Object;
 use irtext_tests_common::answers::result_text;
-use irtext_tests_common::contexts::{Ctx, Stream};
-use irtext_tests_roots::reading::{alone, location};
+use irtext_tests_common::building::live;
 use pliron_text::base::{BasicBlock, Operation, Ptr, Region};
 use pliron_text::ir::OperationText;
 use pliron_text::irfmt::parsers;
@@ -11,7 +15,6 @@ use pliron_text::parsable::{
     Parsable, ParseFault, ParseResult, State, StateStream, StreamLocation, TextStream,
     state_stream_from_iterator,
 };
-use pliron_text::result::Cause;
 use std::alloc::Global;
 use std::test::Fail;
 
@@ -33,32 +36,21 @@ pub(crate) enum Asked<'t> {
     After(&'t str, &'t str),
 }
 
-/// Whether a result is that the stream had failed.
-fn says_failed(answer: &Root) -> bool {
-    match answer {
-        Ok(_) => false,
-        Err(fault) => matches!(fault.cause, Cause::StreamFailed) && fault.committed,
-    }
-}
-
 /// The text of a fault. If it is committed, one more call has to return that the stream has failed; else it has to return something else.
 fn faulted(
     alloc: Global,
     s: &mut Stream<'_>,
     fault: &ParseFault<DemoAttr>,
 ) -> Result<String, Fail> {
-    let said = result_text(alloc, fault)?;
-    let again = Operation::top_level_parse(s);
-    if says_failed(&again) != fault.committed {
-        return Err(Fail::from("one more call says something else"));
-    }
-    Ok(said)
+    let is_as_said = refuses_another(s) == fault.committed;
+    require(is_as_said, "one more call says something else")?;
+    result_text(alloc, fault)
 }
 
 /// The result for a root.
 fn root(alloc: Global, s: &mut Stream<'_>) -> Result<String, Fail> {
     match Operation::top_level_parse(s) {
-        Ok(_) => Ok(String::from_str(alloc, "read")?),
+        Ok(_) => words(alloc, "read"),
         Err(fault) => faulted(alloc, s, &fault),
     }
 }
@@ -74,7 +66,7 @@ fn block(alloc: Global, s: &mut Stream<'_>) -> Result<String, Fail> {
 /// The text of a result for a whole text.
 fn answered(alloc: Global, answer: &Root) -> Result<String, Fail> {
     match answer {
-        Ok(_) => Ok(String::from_str(alloc, "root")?),
+        Ok(_) => words(alloc, "root"),
         Err(fault) => result_text(alloc, fault),
     }
 }
@@ -96,18 +88,34 @@ fn refused(alloc: Global, answer: &Root, marks: bool) -> Result<String, Fail> {
     }
 }
 
+/// Whether the stream's next location is a place of its text.
+fn is_located(s: &Stream<'_>) -> bool {
+    matches!(s.loc(), Location::SrcPos { .. })
+        && matches!(parsers::location(s), Location::SrcPos { .. })
+}
+
 /// Parses two roots with the same mark: whether the first one's mark is in the state, and the result for the second one.
 fn same_mark(alloc: Global, s: &mut Stream<'_>) -> Result<String, Fail> {
     let first = alone(s).is_ok();
     let marks = s.state.has_marks();
     let answer = alone(s);
-    let places = matches!(s.loc(), Location::SrcPos { .. })
-        && matches!(parsers::location(s), Location::SrcPos { .. });
-    refused(alloc, &answer, first && marks && places)
+    refused(alloc, &answer, first && marks && is_located(s))
 }
 
-/// The result for a whole text on a stream of its own, whether a mark is recorded then, the number of live objects, and the location of
-/// an earlier operation.
+/// What is said of a whole text, whether a mark is recorded then, the number of live objects, and the location of an earlier operation.
+fn located(
+    alloc: Global,
+    s: &mut Stream<'_>,
+    earlier: Ptr<Operation>,
+    said: &str,
+) -> Result<String, Fail> {
+    let marks = s.state.has_marks();
+    let ctx = &mut *s.state.ctx;
+    let at = location(alloc, ctx, earlier)?;
+    or_fail(format!(in alloc; "{said}, {marks}, {}, {at}", ctx.num_live()))
+}
+
+/// The same for a whole text on a stream of its own.
 fn after(
     alloc: Global,
     s: &mut Stream<'_>,
@@ -116,18 +124,26 @@ fn after(
 ) -> Result<String, Fail> {
     s.stream = TextStream::new(alloc, text)?;
     let said = whole(alloc, s, 1)?;
-    let marks = s.state.has_marks();
-    let ctx = &mut *s.state.ctx;
-    let at = location(alloc, ctx, earlier)?;
-    Ok(format!(in alloc; "{said}, {marks}, {}, {at}", ctx.num_live())?)
+    located(alloc, s, earlier, said.as_str())
+}
+
+/// The same for one more text, after what is said of the first.
+fn second_after(
+    alloc: Global,
+    s: &mut Stream<'_>,
+    earlier: Ptr<Operation>,
+    first: &str,
+    text: &str,
+) -> Result<String, Fail> {
+    let second = after(alloc, s, earlier, text)?;
+    or_fail(format!(in alloc; "{first}; {second}"))
 }
 
 /// The same for two texts.
 fn both_after(alloc: Global, s: &mut Stream<'_>, text: &str, next: &str) -> Result<String, Fail> {
     let earlier = alone(s).ok().ok_or("refused")?;
     let first = after(alloc, s, earlier, text)?;
-    let second = after(alloc, s, earlier, next)?;
-    Ok(format!(in alloc; "{first}; {second}")?)
+    second_after(alloc, s, earlier, first.as_str(), next)
 }
 
 /// The result for what is asked.
@@ -141,39 +157,72 @@ fn said(alloc: Global, s: &mut Stream<'_>, asked: Asked<'_>) -> Result<String, F
     }
 }
 
-/// The result for what is asked of a text, whether a mark is recorded then, and the number of live objects.
+/// What is said of a text, whether a mark is recorded then, and the number of live objects.
+#[derive(Drop)]
+pub(crate) struct Outcome {
+    pub(crate) said: String,
+    pub(crate) marks: bool,
+    pub(crate) live: u64,
+}
+
+/// The outcome of what is asked.
+fn outcome(alloc: Global, s: &mut Stream<'_>, asked: Asked<'_>) -> Result<Outcome, Fail> {
+    let said = said(alloc, s, asked)?;
+    Ok(Outcome {
+        said,
+        marks: s.state.has_marks(),
+        live: s.state.ctx.num_live(),
+    })
+}
+
+/// The outcome of what is asked of a text.
 pub(crate) fn on_stream(
     alloc: Global,
     ctx: &mut Ctx,
     text: &str,
     asked: Asked<'_>,
-) -> Result<(String, bool, u64), Fail> {
+) -> Result<Outcome, Fail> {
     let state = State::new(ctx, Source::InMemory, ());
     let mut s = state_stream_from_iterator(text.chars(), state)?;
-    let said = said(alloc, &mut s, asked);
-    let marks = s.state.has_marks();
-    let live = s.into_ctx().num_live();
-    Ok((said?, marks, live))
+    outcome(alloc, &mut s, asked)
 }
 
-/// The text of a result for a region: whether the region is the operation's last, or the fault.
+/// Whether a region is the last of an operation, as a word.
 fn region_text(
     alloc: Global,
     ctx: &Ctx,
     op: Ptr<Operation>,
-    answer: &ParseResult<Ptr<Region>, DemoAttr>,
+    region: Ptr<Region>,
+) -> Result<String, Fail> {
+    let whole = Object::TheOperation(op);
+    let last = num_parts(ctx, whole)?.saturating_sub(1);
+    let is_last = part(ctx, whole, last)? == Object::TheRegion(region);
+    words(alloc, if is_last { "last" } else { "elsewhere" })
+}
+
+/// The text of a result for a region: whether the region is the operation's last, or the fault.
+fn region_answer(
+    alloc: Global,
+    s: &mut Stream<'_>,
+    op: Ptr<Operation>,
+    answer: ParseResult<Ptr<Region>, DemoAttr>,
 ) -> Result<String, Fail> {
     match answer {
-        Ok(region) => {
-            if !ctx.contains_operation(op) || !ctx.contains_region(*region) {
-                return Err(Fail::from("no such region"));
-            }
-            let count = op.num_regions(ctx);
-            let is_last = count > 0 && op.get_region(ctx, count - 1) == *region;
-            Ok(String::from_str(alloc, if is_last { "last" } else { "elsewhere" })?)
-        }
-        Err(fault) => result_text(alloc, fault),
+        Ok(region) => region_text(alloc, s.state.ctx, op, region),
+        Err(fault) => faulted(alloc, s, &fault),
     }
+}
+
+/// The same, and whether a mark is recorded after the region.
+fn marked(
+    alloc: Global,
+    s: &mut Stream<'_>,
+    op: Ptr<Operation>,
+    answer: ParseResult<Ptr<Region>, DemoAttr>,
+) -> Result<(String, bool), Fail> {
+    let marks = s.state.has_marks();
+    let said = region_answer(alloc, s, op, answer)?;
+    Ok((said, marks))
 }
 
 /// The result for a region that is parsed into an operation, and whether a mark is recorded then.
@@ -183,17 +232,10 @@ pub(crate) fn region_into(
     op: Ptr<Operation>,
     text: &str,
 ) -> Result<(String, bool), Fail> {
+    live(ctx, op)?;
     let stream = TextStream::new(alloc, text)?;
-    if !ctx.contains_operation(op) {
-        return Err(Fail::from("no such operation"));
-    }
     let state = State::new(ctx, Source::InMemory, ());
     let mut s = StateStream { stream, state };
     let answer = <Region as Parsable<DemoType, DemoAttr, ()>>::parse(&mut s, op);
-    let marks = s.state.has_marks();
-    if let Err(fault) = &answer {
-        faulted(alloc, &mut s, fault)?;
-    }
-    let ctx = s.into_ctx();
-    Ok((region_text(alloc, ctx, op, &answer)?, marks))
+    marked(alloc, &mut s, op, answer)
 }

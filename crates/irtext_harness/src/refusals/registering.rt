@@ -1,6 +1,7 @@
 //! Registering an operation and creating it while an allocation fails: the call that fails has changed nothing.
 
-use crate::{Ctx, Fault};
+use crate::fault::Fault;
+use crate::roots::Ctx;
 use irtext_demo::DemoAttr;
 use pliron_text::base::{Identifier, NewBareOperation, OpId, Operation};
 use pliron_text::dialect::{Dialect, DialectName};
@@ -33,16 +34,9 @@ fn unchanged(fault: Fault, is_as_it_was: bool) -> Fault {
     }
 }
 
-/// Returns the identifier of a text that is one.
-fn named(alloc: Global, text: &str) -> Result<Identifier, Fault> {
-    checked(Identifier::try_new(alloc, text))
-}
-
 /// Returns the id of the operation `z` of a dialect.
 fn id(alloc: Global, dialect: &str) -> Result<OpId, Fault> {
-    let dialect = named(alloc, dialect)?;
-    let name = named(alloc, "z")?;
-    Ok(OpId { dialect, name })
+    checked(OpId::try_new(alloc, dialect, "z"))
 }
 
 /// Registers a dialect. Returns its fault if there is one.
@@ -93,13 +87,18 @@ fn made(alloc: Global, ctx: &mut Ctx, name: &DialectName, text: &str) -> Result<
 
 /// Does the same with the dialect that the text names.
 fn made_of(alloc: Global, ctx: &mut Ctx, text: &str) -> Result<u64, Fault> {
-    let name = DialectName::from(named(alloc, text)?);
+    let name = DialectName::from(checked(Identifier::try_new(alloc, text))?);
     made(alloc, ctx, &name, text)
 }
 
 /// Appends a line with the number of live objects after an operation of the dialect that the text names was registered in an empty context,
 /// and created with two regions.
-pub fn objects(alloc: Global, ctx: &mut Ctx, text: &str, out: &mut String) -> Result<(), Fault> {
+pub(crate) fn objects(
+    alloc: Global,
+    ctx: &mut Ctx,
+    text: &str,
+    out: &mut String,
+) -> Result<(), Fault> {
     let objects = made_of(alloc, ctx, text)?;
     match writeln!(out, "{objects}") {
         Ok(()) => Ok(()),

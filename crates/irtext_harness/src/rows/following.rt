@@ -1,9 +1,9 @@
 //! Roots and whole texts that follow each other on one stream.
-use crate::row::Row;
-use crate::streams::{Asked, on_stream};
+use crate::roots::{Ctx, location, two, whole};
+use crate::rows::row::Row;
+use crate::rows::said::or_fail;
+use crate::rows::streams::{Asked, on_stream};
 use irtext_tests_common::building::live;
-use irtext_tests_common::contexts::Ctx;
-use irtext_tests_roots::reading::{location, two, whole};
 use std::alloc::Global;
 use std::test::Fail;
 
@@ -12,7 +12,7 @@ pub(crate) fn second(alloc: Global, ctx: &mut Ctx, text: &str) -> Result<String,
     let (first, second) = two(alloc, ctx, text)?;
     live(ctx, first)?;
     let at = location(alloc, ctx, second)?;
-    Ok(format!(in alloc; "{at} {}", ctx.num_live())?)
+    or_fail(format!(in alloc; "{at} {}", ctx.num_live()))
 }
 
 /// The text of the second of two roots.
@@ -23,8 +23,8 @@ pub(crate) fn second_text(alloc: Global, ctx: &mut Ctx, text: &str) -> Result<St
 
 /// The result for the second of two operations with the same mark, and the number of objects.
 pub(crate) fn same_mark(alloc: Global, ctx: &mut Ctx, text: &str) -> Result<String, Fail> {
-    let (said, _marks, live) = on_stream(alloc, ctx, text, Asked::SameMark)?;
-    Ok(format!(in alloc; "{said} {live}")?)
+    let outcome = on_stream(alloc, ctx, text, Asked::SameMark)?;
+    or_fail(format!(in alloc; "{} {}", outcome.said, outcome.live))
 }
 
 /// The result for the last of so many whole texts, whether a mark is recorded, and the number of objects.
@@ -34,12 +34,12 @@ pub(crate) fn whole_text(
     text: &str,
     times: u64,
 ) -> Result<String, Fail> {
-    let (said, marks, live) = on_stream(alloc, ctx, text, Asked::Whole(times))?;
-    Ok(format!(in alloc; "{said}, {marks}, {live}")?)
+    let outcome = on_stream(alloc, ctx, text, Asked::Whole(times))?;
+    or_fail(format!(in alloc; "{}, {}, {}", outcome.said, outcome.marks, outcome.live))
 }
 
 /// The results for two whole texts while the mark of an earlier operation is recorded.
 pub(crate) fn after(alloc: Global, ctx: &mut Ctx, row: &Row) -> Result<String, Fail> {
     let asked = Asked::After(row.text(1), row.text(2));
-    Ok(on_stream(alloc, ctx, row.text(0), asked)?.0)
+    Ok(on_stream(alloc, ctx, row.text(0), asked)?.said)
 }

@@ -1,0 +1,20 @@
+//! What says that a stream has failed.
+use crate::roots::Stream;
+use irtext_demo::DemoAttr;
+use pliron_text::base::Operation;
+use pliron_text::ir::OperationText;
+use pliron_text::parsable::ParseResult;
+use pliron_text::result::Cause;
+
+/// Whether a result says that the stream has failed.
+pub(crate) fn has_failed<X: Drop>(answer: ParseResult<X, DemoAttr>) -> bool {
+    match answer {
+        Err(fault) => fault.committed && matches!(&fault.cause, Cause::StreamFailed),
+        Ok(_) => false,
+    }
+}
+
+/// Whether the next root of a stream is refused because the stream has failed.
+pub(crate) fn refuses_another(s: &mut Stream<'_>) -> bool {
+    has_failed(Operation::top_level_parse(s))
+}

@@ -1,0 +1,69 @@
+//! Why a call has no text.
+use irtext_demo::DemoAttr;
+use pliron_text::result;
+use pliron_text::result::{Cause, Error};
+use std::alloc::AllocError;
+use std::io;
+use std::process::ExitCode;
+
+/// Why there is no text.
+#[derive(Clone, Copy, Drop)]
+pub(crate) enum Fault {
+    /// Out of memory.
+    Memory,
+    /// The call returned something that it must not return.
+    Wrong,
+}
+
+impl From<AllocError> for Fault {
+    fn from(_: AllocError) -> Fault {
+        Fault::Memory
+    }
+}
+
+impl From<io::Error> for Fault {
+    fn from(error: io::Error) -> Fault {
+        match error.kind() {
+            io::ErrorKind::OutOfMemory => Fault::Memory,
+            _ => Fault::Wrong,
+        }
+    }
+}
+
+impl Fault {
+    /// Returns the fault for an error: `Memory` if its cause is out of memory, in parsing or for its text; otherwise `Wrong`.
+    fn of(error: &Error<DemoAttr>) -> Fault {
+        match &error.err {
+            Cause::Memory => Fault::Memory,
+            Cause::Parse { at: _, cause } => Fault::of_reading(cause),
+            _ => Fault::Wrong,
+        }
+    }
+
+    /// Returns the fault for the cause of a parse error.
+    fn of_reading(cause: &Cause<DemoAttr>) -> Fault {
+        match cause {
+            Cause::Memory => Fault::Memory,
+            _ => Fault::Wrong,
+        }
+    }
+
+    /// Returns the exit status, after a word on standard error if memory ran out.
+    pub(crate) fn status(self, rt: &HostRuntime) -> ExitCode {
+        match self {
+            Fault::Memory => {
+                let _ = eprintln!(rt; "Out of memory");
+                ExitCode::from(1)
+            }
+            Fault::Wrong => ExitCode::from(3),
+        }
+    }
+}
+
+/// Returns the value of a call, or the fault for its error.
+pub(crate) fn checked<X: Drop>(answer: result::Result<X, DemoAttr>) -> Result<X, Fault> {
+    match answer {
+        Ok(value) => Ok(value),
+        Err(error) => Err(Fault::of(&error)),
+    }
+}

@@ -1,0 +1,237 @@
+//! A text that ends early, or in which a character is replaced, at each of its characters in turn. It is given in pieces, each followed by
+//! what is said if the text is broken in that piece.
+use crate::rows::modes::Trial;
+use crate::rows::row::Row;
+use pliron_text::parsable::SourcePosition;
+use std::alloc::{AllocError, Global};
+use std::fmt::Write;
+use std::test::Fail;
+
+/// How a text is broken.
+#[derive(Clone, Copy)]
+pub(crate) enum Break {
+    /// It ends.
+    End,
+    /// The character there is `#`.
+    Character,
+}
+
+impl Break {
+    /// How an error names what is found there.
+    fn found(self) -> &'static str {
+        match self {
+            Break::End => "end of input",
+            Break::Character => "`#`",
+        }
+    }
+}
+
+/// The text of a row, which consists of every second of its texts, and how it is broken.
+#[derive(Clone, Copy)]
+struct Broken<'t> {
+    text: &'t str,
+    way: Break,
+}
+
+/// A place at which a text is broken, in a piece that begins at `from`.
+#[derive(Clone, Copy)]
+struct Spot {
+    from: usize,
+    at: usize,
+}
+
+/// Appends the pieces, one after the other.
+fn push_pieces(row: &Row, text: &mut String) -> Result<(), AllocError> {
+    for (index, piece) in row.texts.iter().enumerate() {
+        if index % 2 == 0 {
+            text.push_str(piece.as_str())?;
+        }
+    }
+    Ok(())
+}
+
+/// Appends the characters of a text from an offset up to another.
+fn push_between(text: &str, from: usize, to: usize, out: &mut String) -> Result<(), AllocError> {
+    for c in text.chars().skip(from).take(to.saturating_sub(from)) {
+        out.push(c)?;
+    }
+    Ok(())
+}
+
+/// Appends the text that is broken at an offset.
+fn push_broken(test: Broken<'_>, at: usize, out: &mut String) -> Result<(), AllocError> {
+    push_between(test.text, 0, at, out)?;
+    match test.way {
+        Break::End => Ok(()),
+        Break::Character => {
+            out.push('#')?;
+            push_between(test.text, at.saturating_add(1), usize::MAX, out)
+        }
+    }
+}
+
+/// The line and the column of an offset.
+fn place(text: &str, at: usize) -> SourcePosition {
+    let mut place = SourcePosition { line: 1, column: 1 };
+    for c in text.chars().take(at) {
+        if c == '\n' {
+            place = SourcePosition {
+                line: place.line.saturating_add(1),
+                column: 1,
+            };
+        } else {
+            place.column = place.column.saturating_add(1);
+        }
+    }
+    place
+}
+
+/// Appends the error if something else is expected at the break.
+fn push_unexpected(
+    test: Broken<'_>,
+    at: usize,
+    rule: &str,
+    out: &mut String,
+) -> Result<(), AllocError> {
+    let place = place(test.text, at);
+    let found = test.way.found();
+    // a fault is uncommitted if nothing was consumed
+    let mark = if at == 0 { "" } else { "!" };
+    write!(out, "{place}: Unexpected {found}, {rule}{mark}")
+}
+
+/// Appends the error so many characters before the piece: these words, and then the piece up to the break.
+fn push_earlier(
+    test: Broken<'_>,
+    spot: Spot,
+    back: &str,
+    words: &str,
+    out: &mut String,
+) -> Result<(), AllocError> {
+    let back = back.parse::<usize>().unwrap_or(0);
+    let place = place(test.text, spot.from.saturating_sub(back));
+    write!(out, "{place}: {words}")?;
+    push_between(test.text, spot.from, spot.at, out)?;
+    out.push('!')
+}
+
+/// Appends what has to be said of the text that is broken at a place. A rule is `expected` and what is expected there, or a number,
+/// ` before: ` and the words of an error so many characters before the piece. Any other rule is the text of a root that is printed.
+fn push_wanted(
+    test: Broken<'_>,
+    spot: Spot,
+    rule: &str,
+    out: &mut String,
+) -> Result<(), AllocError> {
+    if rule.starts_with("expected ") {
+        return push_unexpected(test, spot.at, rule, out);
+    }
+    match rule.split_once(" before: ") {
+        Some((back, words)) => push_earlier(test, spot, back, words, out),
+        None => out.push_str(rule),
+    }
+}
+
+/// What is said of a text beside a live root: its printed text, in a context of its own, or its fault.
+fn said_of(alloc: Global, text: &str) -> Result<String, Fail> {
+    let said = Trial::Beside(text).said(alloc)?;
+    match said.as_str() {
+        "read" => Trial::Printed(text).said(alloc),
+        _ => Ok(said),
+    }
+}
+
+/// Adds a line if this is not what is said of the text that is broken at an offset.
+fn add_unless(
+    alloc: Global,
+    lines: &mut String,
+    text: &str,
+    at: usize,
+    wanted: &str,
+) -> Result<(), Fail> {
+    let said = said_of(alloc, text)?;
+    if said.as_str() == wanted {
+        return Ok(());
+    }
+    Ok(writeln!(lines, "at {at}: {said}")?)
+}
+
+/// Adds a line if something else is said of the text that is broken at a place. Both texts are empty before: that text, and what has to be
+/// said of it.
+fn add_between(
+    alloc: Global,
+    lines: &mut String,
+    test: Broken<'_>,
+    spot: Spot,
+    rule: &str,
+    text: &mut String,
+    wanted: &mut String,
+) -> Result<(), Fail> {
+    push_broken(test, spot.at, text)?;
+    push_wanted(test, spot, rule, wanted)?;
+    add_unless(alloc, lines, text.as_str(), spot.at, wanted.as_str())
+}
+
+/// Adds a line if something else is said of the text that is broken at a place.
+fn add(
+    alloc: Global,
+    lines: &mut String,
+    test: Broken<'_>,
+    spot: Spot,
+    rule: &str,
+) -> Result<(), Fail> {
+    let mut text = String::new(alloc);
+    let mut wanted = String::new(alloc);
+    add_between(alloc, lines, test, spot, rule, &mut text, &mut wanted)
+}
+
+/// Adds a line for each place of a piece of which something else is said. Returns the offset of its end.
+fn add_piece(
+    alloc: Global,
+    lines: &mut String,
+    test: Broken<'_>,
+    from: usize,
+    parts: (&str, &str),
+) -> Result<usize, Fail> {
+    let to = from.saturating_add(parts.0.chars().count());
+    for at in from..to {
+        add(alloc, lines, test, Spot { from, at }, parts.1)?;
+    }
+    Ok(to)
+}
+
+/// Adds the number of the places, after a line for each at which something else is said.
+fn add_lines(alloc: Global, lines: &mut String, test: Broken<'_>, row: &Row) -> Result<(), Fail> {
+    let mut next = 0_usize;
+    for (index, piece) in row.texts.iter().enumerate() {
+        if index % 2 == 0 {
+            let parts = (piece.as_str(), row.text(index.saturating_add(1)));
+            next = add_piece(alloc, lines, test, next, parts)?;
+        }
+    }
+    Ok(write!(lines, "{next} places")?)
+}
+
+/// The same for this text.
+fn lines(alloc: Global, test: Broken<'_>, row: &Row) -> Result<String, Fail> {
+    let mut lines = String::new(alloc);
+    add_lines(alloc, &mut lines, test, row)?;
+    Ok(lines)
+}
+
+/// The text of all pieces.
+fn joined(alloc: Global, row: &Row) -> Result<String, Fail> {
+    let mut text = String::new(alloc);
+    push_pieces(row, &mut text)?;
+    Ok(text)
+}
+
+/// The number of the places of a row, after a line for each at which something else is said.
+pub(crate) fn said(alloc: Global, row: &Row, way: Break) -> Result<String, Fail> {
+    let text = joined(alloc, row)?;
+    let test = Broken {
+        text: text.as_str(),
+        way,
+    };
+    lines(alloc, test, row)
+}
