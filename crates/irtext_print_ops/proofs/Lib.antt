@@ -3,6 +3,7 @@ pub mod BlockBegins
 pub mod BlockTexts
 pub mod CanonicalTexts
 pub mod Chained
+pub mod ChildrenAt
 pub mod Counting
 pub mod Depths
 pub mod Descents
@@ -16,6 +17,7 @@ pub mod Lines
 pub mod ListTexts
 pub mod Marked
 pub mod NamesWritten
+pub mod NextRegions
 pub mod Opens
 pub mod PartTexts
 pub mod Parts

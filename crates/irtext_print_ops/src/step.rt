@@ -11,6 +11,7 @@ ghost use Rattle.irtext_print_ops.specs.Steps as steps;
 ghost use Rattle.irtext_print_ops.specs.declared.frame.Frame.TheVariants as framed;
 
 use crate::block_heads::fmt_block_head;
+use crate::children::{count_blocks, region_at};
 use crate::frame::{BlockFrame, BlockTurn, Frame, OperationFrame, RegionFrame, Turn, gather, open};
 use crate::front::begin_front;
 use crate::marks::{is_block_marked, is_operation_marked};
@@ -121,11 +122,10 @@ fn region_turn<'c, T: IrText<A>, A: AttrText<A>>(
     ensures refused { IfErr result (λ e. e ≢ refusal.Memory → (e ≡ refusal.Depth) × steps.NextTooDeep ctx.now
         width frame.old) }
 {
-    if frame.region >= frame.op.num_regions(ctx) {
+    let Some(region) = region_at(ctx.graph(), frame.op, frame.region) else {
         frame.repeats = false;
         return Ok(None);
-    }
-    let region = frame.op.get_region(ctx, frame.region);
+    };
     let begun = begin_region(region, frame.repeats, frame.indent, width, frame.limit, f)?;
     frame.region += 1;
     Ok(begun)
@@ -147,7 +147,7 @@ fn entered<T: IrText<A>, A: AttrText<A>>(
     let Some(inside) = begun else {
         return Ok(Turn::Stays);
     };
-    if inside.region.num_blocks(ctx) == 0 {
+    if count_blocks(ctx.graph(), inside.region) == 0 {
         fmt_closing(inside.indent, f)?;
         return Ok(Turn::Stays);
     }
