@@ -8,6 +8,7 @@ pub mod Exits
 pub mod Steps
 pub mod SetBack
 pub mod Numerals
+pub mod Signs
 pub mod QuotedNumbers
 pub mod QuotedUnits
 pub mod QuotedSteps

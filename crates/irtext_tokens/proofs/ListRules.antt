@@ -82,7 +82,12 @@ module _ {S : Type 0} (view : S → StreamView) (at : S → StreamView → S) wh
       commits_settles : (cause : Fault) (upto : Text) (t : S) (fault : ParseFault A) (u : S) → Commits view at cause upto t fault u → (fault.committed ≡ true) × ((view u).failed ≡ true)
       commits_settles cause upto t fault u k = (k.committed, same_stream_failed t u k.left)
 
-      passes_keeps : (Y : Type 0) (cause : Fault) (s : S) (fault : ParseFault A) (u : S) → Passes view at cause s fault u → KeepsRules view at {Y = Y} s (Err fault) u
+      -- a committed error keeps the rules, wherever the stream began
+      pub commits_keeps : (Y : Type 0) (cause : Fault) (upto : Text) (s t : S) (fault : ParseFault A) (u : S) → Commits view at cause upto t fault u → KeepsRules view at {Y = Y} s (Err fault) u
+      commits_keeps Y cause upto s t fault u k = settles_keeps {Y = Y} s (Err fault) u (commits_settles cause upto t fault u k)
+
+      -- so does an error that is not committed
+      pub passes_keeps : (Y : Type 0) (cause : Fault) (s : S) (fault : ParseFault A) (u : S) → Passes view at cause s fault u → KeepsRules view at {Y = Y} s (Err fault) u
       passes_keeps Y cause s fault u k = (λ e. k.left, λ e. absurd (let q : true ≡ false = sym e ∙ k.committed in cc))
 
       module _ {F X : Type 0} (calls : F → S → Result X (ParseFault A) → F → S → Type 0) (keeps : (f : F) (s : S) (r : Result X (ParseFault A)) (g : F) (t : S) → calls f s r g t → KeepsRules view at s r t) where

@@ -1,7 +1,7 @@
 use Rattle.std.proofs.Common.{refl, Ok, Err, sym, ◌∙◌, subst}
 use Rattle.irtext_tokens.specs.Lists.{Calls, Spaced, read, refused, refused_after}
 use Rattle.irtext_tokens.proofs.ListSteps.{called_at, commits_item, rules_at, unless_met, no_space}
-use Rattle.irtext_tokens.proofs.ListRules.{spaced_item_keeps}
+use Rattle.irtext_tokens.proofs.ListRules.{spaced_item_keeps, commits_keeps}
 use Rattle.irtext_tokens.proofs.irfmt.parsers.lists.spaced.Goals as goal
 
 pub returns-in-Ok-clause-answers : goal.returns-in-Ok-clause-answers
@@ -37,3 +37,6 @@ returns-clause-kept g c =
     let called : Calls (λ r. r) g.F.FnMut c.args.item c.skip_white_space.new.stream (Err c.in-Err.fault) c.item.new.self c.item.new.arg2 = called_at c.in-Err.ensures refl in
     let stays = no_space g.S.CharStream.view g.S.CharStream.at m.view_at m.at_view m.at_at c.args.stream.now c.skip_white_space.new.stream (sym c.begins-begun.ensures ∙ c.if-begun.false) c.skip_white_space.ensures in
     spaced_item_keeps g.S.CharStream.view g.S.CharStream.at g.met.S.CharStream.view_at (λ r. r) g.F.FnMut c.requires.rules c.args.item c.args.stream.now (Err c.in-Err.fault) c.item.new.arg2 (refused _ _ _ (sym c.begins-begun.ensures ∙ c.if-begun.false) (subst (λ z. Calls (λ r. r) g.F.FnMut c.args.item z (Err c.in-Err.fault) c.item.new.self c.item.new.arg2) stays called))
+
+pub returns-then-has_failed-clause-kept : goal.returns-then-has_failed-clause-kept
+returns-then-has_failed-clause-kept g c = commits_keeps g.S.CharStream.view g.S.CharStream.at g.met.S.CharStream.view_at (Unit {0}) _ _ c.args.stream.now c.args.stream.now c.refuse.result c.refuse.new.stream c.refuse.ensures
