@@ -18,6 +18,7 @@ fn register_make(ctx: &mut Context<DemoType, DemoAttr>) -> Answer<(), DemoAttr> 
 }
 
 use crate::reading::{root, whole};
+use crate::value::value_of;
 use irtext_tests_common::contexts::with_demo;
 use std::test::Fail;
 
@@ -37,7 +38,7 @@ fn made(alloc: Global, ctx: &mut Context<DemoType, DemoAttr>) -> Result<String, 
 }
 
 #[test]
-fn the_example_of_the_page_registers_an_operation(rt: HostRuntime) -> Result<(), Fail> {
-    assert_eq!(rt; with_demo(rt.alloc(), made)?.as_str(), PRINTED);
-    Ok(())
+fn the_example_of_the_page_registers_an_operation(rt: HostRuntime) {
+    let text = value_of(&rt, with_demo(rt.alloc(), made), "no text");
+    assert_eq!(rt; text.as_str(), PRINTED);
 }

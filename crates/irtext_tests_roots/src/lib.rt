@@ -15,3 +15,5 @@ mod readme;
 pub mod registering;
 #[cfg(test)]
 mod tests;
+#[cfg(test)]
+mod value;

@@ -25,15 +25,14 @@ fn printed(alloc: Global, text: &str) -> Result<String, Fail> {
     Ok(format!(in alloc; "{}", root.disp(&ctx))?)
 }
 
+use crate::value::value_of;
+
 /// The printed text of an empty module.
 const PRINTED: &str =
     "builtin.module @m \n{\n  \n} !0\n\noutlined_attributes:\n!0 = @[<in-memory>: line: 1, column: 1], []\n";
 
 #[test]
-fn the_example_of_the_readme_prints_a_text(rt: HostRuntime) -> Result<(), Fail> {
-    assert_eq!(rt;
-        printed(rt.alloc(), "builtin.module @m { }")?.as_str(),
-        PRINTED
-    );
-    Ok(())
+fn the_example_of_the_readme_prints_a_text(rt: HostRuntime) {
+    let text = value_of(&rt, printed(rt.alloc(), "builtin.module @m { }"), "no text");
+    assert_eq!(rt; text.as_str(), PRINTED);
 }

@@ -7,6 +7,7 @@ ghost use Rattle.irtext_tests_roots.specs.Apart.{lab_dialects, lab_format, lab_i
 
 use crate::reading::concrete;
 use crate::registering::register_operation;
+use crate::value::value_of;
 use irtext_context::base::context::making::Making;
 use irtext_demo::DemoAttr;
 use irtext_tests_common::answers::result_text;
@@ -20,6 +21,7 @@ use pliron_text::location::Location;
 use pliron_text::printable::State;
 use pliron_text::result::Result as Answer;
 use std::alloc::Global;
+use std::process::Abort;
 use std::test::Fail;
 
 /// The id of `lab.d`.
@@ -108,34 +110,39 @@ fn brought_over(
 const NESTED: &str = "lab.d here { ^a(): lab.d here {} }";
 
 /// The concrete texts of both roots after that text is parsed in the one context, printed, and parsed in the other.
-fn read_again(alloc: Global, ctx: &mut Ctx, other: &mut Ctx) -> Result<(String, String), Fail>
+fn read_again(rt: &impl Abort, alloc: Global, ctx: &mut Ctx, other: &mut Ctx) -> (String, String)
     requires { other.old.dialects ≡ ctx.old.dialects }
 {
     let layout = State::new(alloc, ());
     match read_printed_and_read(NESTED, ctx, &layout, other) {
-        Ok((first, second)) => Ok((
-            concrete(alloc, ctx, first)?,
-            concrete(alloc, other, second)?,
-        )),
-        Err(_) => Err(Fail::from("not read again")),
+        Ok((first, second)) => (
+            value_of(rt, concrete(alloc, ctx, first), "no text"),
+            value_of(rt, concrete(alloc, other, second), "no text"),
+        ),
+        Err(_) => rt.panic("not read again"),
     }
 }
 
 /// The same, if the dialect is registered with each context separately.
-fn registered_again(alloc: Global, ctx: &mut Ctx, other: &mut Ctx) -> Result<(String, String), Fail>
+fn registered_again(
+    rt: &impl Abort,
+    alloc: Global,
+    ctx: &mut Ctx,
+    other: &mut Ctx,
+) -> Result<(String, String), Fail>
     requires one { ctx.old.dialects ≡ [] }
     requires two { other.old.dialects ≡ [] }
 {
     register(alloc, ctx)?;
     register(alloc, other)?;
-    read_again(alloc, ctx, other)
+    Ok(read_again(rt, alloc, ctx, other))
 }
 
 /// The same with two contexts that had no dialects before.
-fn again(alloc: Global) -> Result<(String, String), Fail> {
+fn again(rt: &impl Abort, alloc: Global) -> Result<(String, String), Fail> {
     let mut ctx: Ctx = Context::new(alloc);
     let mut other: Ctx = Context::new(alloc);
-    registered_again(alloc, &mut ctx, &mut other)
+    registered_again(rt, alloc, &mut ctx, &mut other)
 }
 
 /// The result for `lab.d`, if the dialect is registered with each context separately.
@@ -177,24 +184,23 @@ fn apart(alloc: Global, registered: bool) -> Result<String, Fail> {
 }
 
 #[test]
-fn a_text_is_read_printed_and_read_again(rt: HostRuntime) -> Result<(), Fail> {
-    let (first, second) = again(rt.alloc())?;
+fn a_text_is_read_printed_and_read_again(rt: HostRuntime) {
+    let (first, second) = value_of(&rt, again(&rt, rt.alloc()), "not registered");
     assert_eq!(rt; first.as_str(), second.as_str());
     assert_eq!(rt;
         first.as_str(),
         "lab.d here \n{\n  ^a_block1v1() !0:\n    lab.d here \n    {\n      \n    } !1\n}"
     );
-    Ok(())
 }
 
 #[test]
-fn a_root_comes_back_where_its_dialect_is_registered_apart(rt: HostRuntime) -> Result<(), Fail> {
-    assert_eq!(rt; apart(rt.alloc(), true)?.as_str(), "lab.d here \n{\n  \n}");
-    Ok(())
+fn a_root_comes_back_where_its_dialect_is_registered_apart(rt: HostRuntime) {
+    let text = value_of(&rt, apart(rt.alloc(), true), "no text");
+    assert_eq!(rt; text.as_str(), "lab.d here \n{\n  \n}");
 }
 
 #[test]
-fn what_is_not_registered_is_not_brought_over(rt: HostRuntime) -> Result<(), Fail> {
-    assert_eq!(rt; apart(rt.alloc(), false)?.as_str(), "Misfit");
-    Ok(())
+fn what_is_not_registered_is_not_brought_over(rt: HostRuntime) {
+    let text = value_of(&rt, apart(rt.alloc(), false), "no text");
+    assert_eq!(rt; text.as_str(), "Misfit");
 }

@@ -1,76 +1,77 @@
 //! Calls that test what other calls require, the types of values, and the list of all operations in a root, by the names of this layer.
+use crate::value::value_of;
 use irtext_demo::{DemoAttr, DemoType};
 use irtext_tests_common::answers::printed;
 use irtext_tests_common::building::{id, types};
 use irtext_tests_common::contexts::{Ctx, with_demo};
-use irtext_tests_common::tables::differing;
 use pliron_text::base::{
     BasicBlock, ContainsParts, Few, NestedOperations, NewBlock, Operation, OperationTypes, Ptr,
     TryInsert, TryNewOperation, Value, ValueType,
 };
 use pliron_text::result;
-use std::alloc::{AllocError, Global};
-use std::test::Fail;
+use std::alloc::Global;
+use std::process::Abort;
 
 /// The result of a call.
 type Answer<X> = result::Result<X, DemoAttr>;
 
 /// Tries to make `test.NAME` with these operands.
 fn tried(
+    rt: &impl Abort,
     alloc: Global,
     ctx: &mut Ctx,
     name: &str,
     operands: &[Value],
-) -> Result<Answer<Ptr<Operation>>, Fail> {
-    let id = id(alloc, ("test", name))?;
+) -> Answer<Ptr<Operation>> {
+    let id = value_of(rt, id(alloc, ("test", name)), "no identifier");
     let types: Few<DemoType> = Few::none();
-    Ok(Operation::try_new(ctx, id, types, operands, &[], 0))
+    Operation::try_new(ctx, id, types, operands, &[], 0)
 }
 
 /// An operation `test.nop` without a parent.
-fn nop(alloc: Global, ctx: &mut Ctx) -> Result<Ptr<Operation>, Fail> {
-    Ok(tried(alloc, ctx, "nop", &[])?.ok().ok_or("refused")?)
+fn nop(rt: &impl Abort, alloc: Global, ctx: &mut Ctx) -> Ptr<Operation> {
+    tried(rt, alloc, ctx, "nop", &[]).expect(rt, "refused")
 }
 
 /// A block without a parent.
-fn block(ctx: &mut Ctx) -> Result<Ptr<BasicBlock>, Fail> {
+fn block(rt: &impl Abort, ctx: &mut Ctx) -> Ptr<BasicBlock> {
     let types: Few<DemoType> = Few::none();
-    Ok(BasicBlock::new(ctx, None, types).ok().ok_or("refused")?)
+    BasicBlock::new(ctx, None, types).expect(rt, "refused")
 }
 
 /// The text of a result: `ok`, or the error.
-fn answered<X: Drop>(alloc: Global, answer: Answer<X>) -> Result<String, Fail> {
+fn answered<X: Drop>(rt: &impl Abort, alloc: Global, answer: Answer<X>) -> String {
     let said: Answer<&str> = match answer {
         Ok(_) => Ok("ok"),
         Err(error) => Err(error),
     };
-    printed(alloc, &said)
+    value_of(rt, printed(alloc, &said), "out of memory")
 }
 
 /// What the context contains of a block: as many operations as were put into it, the value that is its argument, that value in a list, and
 /// the block.
-fn contained(alloc: Global, ctx: &mut Ctx) -> Result<String, Fail> {
-    let holder = block(ctx)?;
+fn contained(rt: &impl Abort, alloc: Global, ctx: &mut Ctx) -> String {
+    let holder = block(rt, ctx);
     for _operation in 0..2 {
-        let op = nop(alloc, ctx)?;
-        op.try_insert_at_back(holder, ctx).ok().ok_or("refused")?;
+        let op = nop(rt, alloc, ctx);
+        op.try_insert_at_back(holder, ctx).expect(rt, "refused");
     }
     let value = Value::Argument(holder, 0);
     let defines = ctx.contains_value(value);
     let all = ctx.contains_values(&[value]);
     let live = ctx.contains_blocks(&[holder]);
     if !ctx.contains_block(holder) {
-        return Err(Fail::from("no such block"));
+        rt.panic("no such block");
     }
-    let count = holder.all_operations(ctx)?.len();
-    Ok(format!(in alloc; "{count} {defines} {all} {live}")?)
+    let count = holder.all_operations(ctx).expect(rt, "out of memory").len();
+    format!(in alloc; "{count} {defines} {all} {live}").expect(rt, "out of memory")
 }
 
 /// Makes an operation with two results, a pointer and a byte.
-fn make_two(alloc: Global, ctx: &mut Ctx) -> Result<Ptr<Operation>, Fail> {
-    let (id, types) = (id(alloc, ("test", "make"))?, types(alloc, "pb")?);
-    let made = Operation::try_new(ctx, id, types, &[], &[], 0);
-    Ok(made.ok().ok_or("refused")?)
+fn make_two(rt: &impl Abort, alloc: Global, ctx: &mut Ctx) -> Ptr<Operation> {
+    let id = value_of(rt, id(alloc, ("test", "make")), "no identifier");
+    let types = value_of(rt, types(alloc, "pb"), "no types");
+    Operation::try_new(ctx, id, types, &[], &[], 0).expect(rt, "refused")
 }
 
 /// Whether these are two types, and only the second is a pointer.
@@ -79,18 +80,18 @@ fn are_types(listed: &[&DemoType]) -> bool {
 }
 
 /// Whether an operation's results are a pointer and a byte, and another's operands a byte and a pointer, as lists and one by one.
-fn has_types(ctx: &Ctx, maker: Ptr<Operation>, user: Ptr<Operation>) -> Result<bool, AllocError> {
+fn has_types(rt: &impl Abort, ctx: &Ctx, maker: Ptr<Operation>, user: Ptr<Operation>) -> bool {
     let first = Value::Result(maker, 0);
     let live = ctx.contains_operation(maker) && ctx.contains_operation(user);
     if !live || !ctx.contains_value(first) {
-        return Ok(false);
+        return false;
     }
-    let mut results = maker.result_types(ctx)?;
+    let mut results = maker.result_types(ctx).expect(rt, "out of memory");
     results.reverse();
-    let operands = user.operand_types(ctx)?;
+    let operands = user.operand_types(ctx).expect(rt, "out of memory");
     let single = *first.get_type(ctx) == DemoType::Pointer;
     let indexed = *maker.get_type(ctx, 0) == DemoType::Pointer;
-    Ok(single && indexed && are_types(&results) && are_types(&operands))
+    single && indexed && are_types(&results) && are_types(&operands)
 }
 
 /// Whether an operation is erased, after which its first result is not in the context any more.
@@ -105,22 +106,22 @@ fn is_erased(ctx: &mut Ctx, op: Ptr<Operation>) -> bool {
 
 /// Whether values have the types with which they were made, and whether an operation is erased whose result is used, and one whose result
 /// is not.
-fn typed(alloc: Global, ctx: &mut Ctx) -> Result<String, Fail> {
-    let (maker, other) = (make_two(alloc, ctx)?, make_two(alloc, ctx)?);
+fn typed(rt: &impl Abort, alloc: Global, ctx: &mut Ctx) -> String {
+    let (maker, other) = (make_two(rt, alloc, ctx), make_two(rt, alloc, ctx));
     let values = [Value::Result(maker, 1), Value::Result(maker, 0)];
-    let user = tried(alloc, ctx, "use", &values)?.ok().ok_or("refused")?;
-    let types = has_types(ctx, maker, user)?;
+    let user = tried(rt, alloc, ctx, "use", &values).expect(rt, "refused");
+    let types = has_types(rt, ctx, maker, user);
     let (used, unused) = (is_erased(ctx, maker), is_erased(ctx, other));
-    Ok(format!(in alloc; "{types} {used} {unused}")?)
+    format!(in alloc; "{types} {used} {unused}").expect(rt, "out of memory")
 }
 
 /// The results of an insertion, and of the same once more.
-fn inserted(alloc: Global, ctx: &mut Ctx) -> Result<String, Fail> {
-    let holder = block(ctx)?;
-    let op = nop(alloc, ctx)?;
-    let first = answered(alloc, op.try_insert_at_back(holder, ctx))?;
-    let second = answered(alloc, op.try_insert_at_back(holder, ctx))?;
-    Ok(format!(in alloc; "{first}; {second}")?)
+fn inserted(rt: &impl Abort, alloc: Global, ctx: &mut Ctx) -> String {
+    let holder = block(rt, ctx);
+    let op = nop(rt, alloc, ctx);
+    let first = answered(rt, alloc, op.try_insert_at_back(holder, ctx));
+    let second = answered(rt, alloc, op.try_insert_at_back(holder, ctx));
+    format!(in alloc; "{first}; {second}").expect(rt, "out of memory")
 }
 
 /// What each call says.
@@ -133,32 +134,37 @@ const SAID: &[&str] = &[
 ];
 
 /// What the call of a number says.
-fn said(alloc: Global, ctx: &mut Ctx, number: usize) -> Result<String, Fail> {
+fn said(rt: &impl Abort, alloc: Global, ctx: &mut Ctx, number: usize) -> String {
     if number == 0 {
-        return contained(alloc, ctx);
+        return contained(rt, alloc, ctx);
     }
     if number == 1 {
-        return inserted(alloc, ctx);
+        return inserted(rt, alloc, ctx);
     }
     if number == 2 {
-        return typed(alloc, ctx);
+        return typed(rt, alloc, ctx);
     }
-    let op = nop(alloc, ctx)?;
+    let op = nop(rt, alloc, ctx);
     let answer = if number == 3 {
-        tried(alloc, ctx, "use", &[Value::Result(op, 0)])?
+        tried(rt, alloc, ctx, "use", &[Value::Result(op, 0)])
     } else {
-        tried(alloc, ctx, "none", &[])?
+        tried(rt, alloc, ctx, "none", &[])
     };
-    answered(alloc, answer)
+    answered(rt, alloc, answer)
 }
 
 /// The number of the first call that says something else.
-fn differing_call(alloc: Global, ctx: &mut Ctx) -> Result<Option<usize>, Fail> {
-    differing(alloc, SAID, ctx, said)
+fn differing_call(rt: &impl Abort, alloc: Global, ctx: &mut Ctx) -> Option<usize> {
+    for (number, wanted) in SAID.iter().enumerate() {
+        if said(rt, alloc, ctx, number).as_str() != *wanted {
+            return Some(number);
+        }
+    }
+    None
 }
 
 #[test]
-fn calls_test_what_others_require(rt: HostRuntime) -> Result<(), Fail> {
-    assert_eq!(rt; with_demo(rt.alloc(), differing_call)?, None);
-    Ok(())
+fn calls_test_what_others_require(rt: HostRuntime) {
+    let differing = with_demo(rt.alloc(), |alloc, ctx| Ok(differing_call(&rt, alloc, ctx)));
+    assert_eq!(rt; value_of(&rt, differing, "no context"), None);
 }

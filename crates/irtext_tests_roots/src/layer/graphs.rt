@@ -1,119 +1,156 @@
 //! Graphs with blocks and values that a caller makes, and their printed texts.
 use crate::reading::{concrete, whole};
 use crate::registering::register;
+use crate::value::value_of;
 use irtext_context::base::Item;
 use irtext_tests_common::building::{
-    block_inside, give, id, into_block, live, module, note, one_name, operation, place, types,
+    block_inside, give, id, into_block, module, note, one_name, operation, place, types,
 };
 use irtext_tests_common::contexts::{Ctx, with_counters, with_demo};
-use irtext_tests_common::tables::failing;
 use pliron_text::base::{BasicBlock, Few, GIVEN_NAMES_KEY, Operation, Ptr, Value};
 use pliron_text::ir::print_root;
 use pliron_text::printable::State;
 use std::alloc::Global;
+use std::process::Abort;
 use std::test::Fail;
 
 /// Registers a constant (its value, a colon, its type) and an operation that uses one value.
-fn register_both(alloc: Global, ctx: &mut Ctx) -> Result<(), Fail> {
-    register(alloc, ctx, ("test", "constant"), "c:v", false)?;
-    register(alloc, ctx, ("test", "use"), "0", false)
+fn register_both(rt: &impl Abort, alloc: Global, ctx: &mut Ctx) {
+    let constant = register(alloc, ctx, ("test", "constant"), "c:v", false);
+    value_of(rt, constant, "refused");
+    value_of(
+        rt,
+        register(alloc, ctx, ("test", "use"), "0", false),
+        "refused",
+    );
 }
 
 /// Makes an operation of the dialect `test`, last in a block.
 fn inner(
+    rt: &impl Abort,
     alloc: Global,
     ctx: &mut Ctx,
     block: Ptr<BasicBlock>,
     name: &str,
     letters: &str,
     operands: &[Value],
-) -> Result<Ptr<Operation>, Fail> {
-    let id = id(alloc, ("test", name))?;
-    let op = operation(ctx, id, types(alloc, letters)?, operands, &[], 0)?;
-    into_block(ctx, op, block)?;
-    Ok(op)
+) -> Ptr<Operation> {
+    let id = value_of(rt, id(alloc, ("test", name)), "no identifier");
+    let types = value_of(rt, types(alloc, letters), "no types");
+    let op = value_of(rt, operation(ctx, id, types, operands, &[], 0), "not made");
+    value_of(rt, into_block(ctx, op, block), "not inserted");
+    op
 }
 
 /// Makes a block with this label at a place, last in a root's region.
 fn block_at(
+    rt: &impl Abort,
     alloc: Global,
     ctx: &mut Ctx,
     root: Ptr<Operation>,
     label: &str,
     letters: &str,
     column: i32,
-) -> Result<Ptr<BasicBlock>, Fail> {
-    let block = block_inside(alloc, ctx, root, label, types(alloc, letters)?)?;
-    place(ctx, Item::Block(block), column)?;
-    Ok(block)
+) -> Ptr<BasicBlock> {
+    let types = value_of(rt, types(alloc, letters), "no types");
+    let block = block_inside(alloc, ctx, root, label, types);
+    let block = value_of(rt, block, "not made");
+    value_of(rt, place(ctx, Item::Block(block), column), "not placed");
+    block
 }
 
 /// Gives an operation the debug note `s`.
-fn remark(alloc: Global, ctx: &mut Ctx, op: Ptr<Operation>, key: &str) -> Result<(), Fail> {
-    give(alloc, ctx, Item::Operation(op), key, note(alloc, "s")?)
+fn remark(rt: &impl Abort, alloc: Global, ctx: &mut Ctx, op: Ptr<Operation>, key: &str) {
+    let note = value_of(rt, note(alloc, "s"), "out of memory");
+    let given = give(alloc, ctx, Item::Operation(op), key, note);
+    value_of(rt, given, "not given");
 }
 
 /// Gives a result, or an argument, the name `x`.
-fn name(alloc: Global, ctx: &mut Ctx, item: Item) -> Result<(), Fail> {
-    give(alloc, ctx, item, GIVEN_NAMES_KEY, one_name(alloc, "x")?)
+fn name(rt: &impl Abort, alloc: Global, ctx: &mut Ctx, item: Item) {
+    let name = value_of(rt, one_name(alloc, "x"), "no identifier");
+    value_of(
+        rt,
+        give(alloc, ctx, item, GIVEN_NAMES_KEY, name),
+        "not given",
+    );
+}
+
+/// Gives an operation a place.
+fn operation_at(rt: &impl Abort, ctx: &mut Ctx, op: Ptr<Operation>, column: i32) {
+    value_of(rt, place(ctx, Item::Operation(op), column), "not placed");
+}
+
+/// The whole text of a root.
+fn text(rt: &impl Abort, alloc: Global, ctx: &Ctx, root: Ptr<Operation>) -> String {
+    value_of(rt, whole(alloc, ctx, root), "no text")
 }
 
 /// The root `builtin.module @m`, at a place.
-fn placed(alloc: Global, ctx: &mut Ctx) -> Result<Ptr<Operation>, Fail> {
-    let root = module(alloc, ctx, "m")?;
-    place(ctx, Item::Operation(root), 1)?;
-    Ok(root)
+fn placed(rt: &impl Abort, alloc: Global, ctx: &mut Ctx) -> Ptr<Operation> {
+    let root = value_of(rt, module(alloc, ctx, "m"), "not made");
+    operation_at(rt, ctx, root, 1);
+    root
 }
 
 /// The text of a root with a note, at a place.
-fn noted(alloc: Global, ctx: &mut Ctx) -> Result<String, Fail> {
-    let root = placed(alloc, ctx)?;
-    remark(alloc, ctx, root, "dbg")?;
-    whole(alloc, ctx, root)
+fn noted(rt: &impl Abort, alloc: Global, ctx: &mut Ctx) -> String {
+    let root = placed(rt, alloc, ctx);
+    remark(rt, alloc, ctx, root, "dbg");
+    text(rt, alloc, ctx, root)
 }
 
 /// The text of a root with two operations that have one note.
-fn shared(alloc: Global, ctx: &mut Ctx) -> Result<String, Fail> {
-    let root = module(alloc, ctx, "m")?;
-    let inside = block_inside(alloc, ctx, root, "", Few::none())?;
+fn shared(rt: &impl Abort, alloc: Global, ctx: &mut Ctx) -> String {
+    let root = value_of(rt, module(alloc, ctx, "m"), "not made");
+    let inside = block_inside(alloc, ctx, root, "", Few::none());
+    let inside = value_of(rt, inside, "not made");
     for _operation in 0..2 {
-        let op = inner(alloc, ctx, inside, "nop", "", &[])?;
-        remark(alloc, ctx, op, "dbg")?;
+        let op = inner(rt, alloc, ctx, inside, "nop", "", &[]);
+        remark(rt, alloc, ctx, op, "dbg");
     }
-    whole(alloc, ctx, root)
+    text(rt, alloc, ctx, root)
 }
 
 /// The text of a root with a block whose argument is used.
-fn used(alloc: Global, ctx: &mut Ctx) -> Result<String, Fail> {
-    let root = placed(alloc, ctx)?;
-    let inside = block_at(alloc, ctx, root, "b", "i", 21)?;
-    name(alloc, ctx, Item::Block(inside))?;
-    let op = inner(alloc, ctx, inside, "use", "", &[Value::Argument(inside, 0)])?;
-    place(ctx, Item::Operation(op), 50)?;
-    whole(alloc, ctx, root)
+fn used(rt: &impl Abort, alloc: Global, ctx: &mut Ctx) -> String {
+    let root = placed(rt, alloc, ctx);
+    let inside = block_at(rt, alloc, ctx, root, "b", "i", 21);
+    name(rt, alloc, ctx, Item::Block(inside));
+    let op = inner(
+        rt,
+        alloc,
+        ctx,
+        inside,
+        "use",
+        "",
+        &[Value::Argument(inside, 0)],
+    );
+    operation_at(rt, ctx, op, 50);
+    text(rt, alloc, ctx, root)
 }
 
 /// A root with a constant that has no value, and the constant.
-fn valueless(alloc: Global, ctx: &mut Ctx) -> Result<(Ptr<Operation>, Ptr<Operation>), Fail> {
-    let root = placed(alloc, ctx)?;
-    let inside = block_at(alloc, ctx, root, "a", "", 21)?;
-    let op = inner(alloc, ctx, inside, "constant", "i", &[])?;
-    place(ctx, Item::Operation(op), 27)?;
-    name(alloc, ctx, Item::Operation(op))?;
-    Ok((root, op))
+fn valueless(rt: &impl Abort, alloc: Global, ctx: &mut Ctx) -> (Ptr<Operation>, Ptr<Operation>) {
+    let root = placed(rt, alloc, ctx);
+    let inside = block_at(rt, alloc, ctx, root, "a", "", 21);
+    let op = inner(rt, alloc, ctx, inside, "constant", "i", &[]);
+    operation_at(rt, ctx, op, 27);
+    name(rt, alloc, ctx, Item::Operation(op));
+    (root, op)
 }
 
 /// The text of such a root once the constant's value is a note, so that the section has it.
-fn constant(alloc: Global, ctx: &mut Ctx) -> Result<String, Fail> {
-    let (root, op) = valueless(alloc, ctx)?;
-    remark(alloc, ctx, op, "test_value")?;
-    whole(alloc, ctx, root)
+fn constant(rt: &impl Abort, alloc: Global, ctx: &mut Ctx) -> String {
+    let (root, op) = valueless(rt, alloc, ctx);
+    remark(rt, alloc, ctx, op, "test_value");
+    text(rt, alloc, ctx, root)
 }
 
 /// The reason why such a root is not printed.
-fn misfit(alloc: Global, ctx: &mut Ctx) -> Result<String, Fail> {
-    let (root, _constant) = valueless(alloc, ctx)?;
-    refusal(alloc, ctx, root)
+fn misfit(rt: &impl Abort, alloc: Global, ctx: &mut Ctx) -> String {
+    let (root, _constant) = valueless(rt, alloc, ctx);
+    refusal(rt, alloc, ctx, root)
 }
 
 /// A root that a caller makes.
@@ -153,39 +190,41 @@ const ROOTS: &[(Root, &str)] = &[
 ];
 
 /// The reason why a root is not printed.
-fn refusal(alloc: Global, ctx: &Ctx, root: Ptr<Operation>) -> Result<String, Fail> {
-    live(ctx, root)?;
+fn refusal(rt: &impl Abort, alloc: Global, ctx: &Ctx, root: Ptr<Operation>) -> String {
+    assert!(rt; ctx.contains_operation(root));
     let mut state: State<()> = State::new(alloc, ());
     let mut text = String::new(alloc);
     let answer = print_root(ctx, root, &mut state, &mut text);
-    Ok(format!(in alloc; "{:?}", answer.err().ok_or("printed")?)?)
+    let refusal = answer.err().expect(rt, "printed");
+    format!(in alloc; "{refusal:?}").expect(rt, "out of memory")
 }
 
 /// The printed text of a root, or the reason why it is not printed.
-fn printed(alloc: Global, ctx: &mut Ctx, root: Root) -> Result<String, Fail> {
+fn printed(rt: &impl Abort, alloc: Global, ctx: &mut Ctx, root: Root) -> String {
     match root {
-        Root::Noted => noted(alloc, ctx),
-        Root::Shared => shared(alloc, ctx),
-        Root::Used => used(alloc, ctx),
-        Root::Constant => constant(alloc, ctx),
-        Root::Misfit => misfit(alloc, ctx),
+        Root::Noted => noted(rt, alloc, ctx),
+        Root::Shared => shared(rt, alloc, ctx),
+        Root::Used => used(rt, alloc, ctx),
+        Root::Constant => constant(rt, alloc, ctx),
+        Root::Misfit => misfit(rt, alloc, ctx),
     }
 }
 
 /// The number of the first root with another text.
-fn differing_root(alloc: Global, ctx: &mut Ctx) -> Result<Option<usize>, Fail> {
-    register_both(alloc, ctx)?;
-    failing(
-        ROOTS,
-        ctx,
-        |ctx, row| Ok(printed(alloc, ctx, row.0)?.as_str() == row.1),
-    )
+fn differing_root(rt: &impl Abort, alloc: Global, ctx: &mut Ctx) -> Option<usize> {
+    register_both(rt, alloc, ctx);
+    for (number, row) in ROOTS.iter().enumerate() {
+        if printed(rt, alloc, ctx, row.0).as_str() != row.1 {
+            return Some(number);
+        }
+    }
+    None
 }
 
 #[test]
-fn graphs_made_by_a_caller_are_printed(rt: HostRuntime) -> Result<(), Fail> {
-    assert_eq!(rt; with_demo(rt.alloc(), differing_root)?, None);
-    Ok(())
+fn graphs_made_by_a_caller_are_printed(rt: HostRuntime) {
+    let differing = with_demo(rt.alloc(), |alloc, ctx| Ok(differing_root(&rt, alloc, ctx)));
+    assert_eq!(rt; value_of(&rt, differing, "no context"), None);
 }
 
 /// A root with two blocks, made with counters that are nearly full.
@@ -193,19 +232,24 @@ const LAST: &str =
     "test.scope \n{\n  ^a_block4294967293v1() !0:\n    \n\n  ^b_block4294967294v1() !1:\n    \n}";
 
 /// The printed text of this root.
-fn last(alloc: Global, ctx: &mut Ctx) -> Result<String, Fail> {
-    register(alloc, ctx, ("test", "scope"), "a", false)?;
-    let root = operation(ctx, id(alloc, ("test", "scope"))?, Few::none(), &[], &[], 1)?;
-    block_at(alloc, ctx, root, "a", "", 21)?;
-    block_at(alloc, ctx, root, "b", "", 27)?;
+fn last(rt: &impl Abort, alloc: Global, ctx: &mut Ctx) -> Result<String, Fail> {
+    let scope = ("test", "scope");
+    value_of(rt, register(alloc, ctx, scope, "a", false), "refused");
+    let id = value_of(rt, id(alloc, scope), "no identifier");
+    let root = operation(ctx, id, Few::none(), &[], &[], 1);
+    let root = value_of(rt, root, "not made");
+    block_at(rt, alloc, ctx, root, "a", "", 21);
+    block_at(rt, alloc, ctx, root, "b", "", 27);
     concrete(alloc, ctx, root)
 }
 
 #[test]
-fn the_last_places_are_printed(rt: HostRuntime) -> Result<(), Fail> {
-    assert_eq!(rt;
-        with_counters(rt.alloc(), 0, u32::MAX - 2, last)?.as_str(),
-        LAST
+fn the_last_places_are_printed(rt: HostRuntime) {
+    let text = with_counters(
+        rt.alloc(),
+        0,
+        u32::MAX - 2,
+        |alloc, ctx| last(&rt, alloc, ctx),
     );
-    Ok(())
+    assert_eq!(rt; value_of(&rt, text, "no text").as_str(), LAST);
 }

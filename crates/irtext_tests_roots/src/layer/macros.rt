@@ -1,4 +1,5 @@
 //! The errors that the macros make from a cause or a text.
+use crate::value::{to_text, value_of};
 use irtext_demo::DemoAttr;
 use irtext_tests_common::contexts::Ctx;
 use irtext_tests_common::tables::differing_alone;
@@ -7,7 +8,7 @@ use pliron_text::parsable::SourcePosition;
 use pliron_text::printable::Disp;
 use pliron_text::result::{Cause, Error, ErrorKind};
 use std::alloc::Global;
-use std::test::Fail;
+use std::process::Abort;
 
 /// What a call returns here: an error either way.
 type Answer = Result<Error<DemoAttr>, Error<DemoAttr>>;
@@ -66,44 +67,43 @@ fn of_set(alloc: Global, set: usize, number: usize) -> Answer {
 }
 
 /// The text of a result, with the locations of its error.
-fn shown(alloc: Global, ctx: &Ctx, answer: &Answer) -> Result<String, Fail> {
-    Ok(format!(in alloc; "{}", answer.disp(ctx))?)
+fn shown(rt: &impl Abort, alloc: Global, ctx: &Ctx, answer: &Answer) -> String {
+    format!(in alloc; "{}", answer.disp(ctx)).expect(rt, "out of memory")
 }
 
 /// The text of the error that the macros of a set make for a line.
-fn shown_of_set(alloc: Global, ctx: &mut Ctx, set: usize, number: usize) -> Result<String, Fail> {
+fn shown_of_set(rt: &impl Abort, alloc: Global, ctx: &Ctx, set: usize, number: usize) -> String {
     let answer = of_set(alloc, set, number);
-    shown(alloc, ctx, &answer)
+    shown(rt, alloc, ctx, &answer)
 }
 
 /// The number of the first line for which the macros of a set make another text.
-fn differing_of_set(alloc: Global, set: usize) -> Result<Option<usize>, Fail> {
-    differing_alone(
+fn differing_of_set(rt: &impl Abort, alloc: Global, set: usize) -> Option<usize> {
+    let differing = differing_alone(
         alloc,
         MADE,
-        |alloc, ctx, number| shown_of_set(alloc, ctx, set, number),
-    )
+        |alloc, ctx, number| Ok(shown_of_set(rt, alloc, ctx, set, number)),
+    );
+    value_of(rt, differing, "no texts")
 }
 
 #[test]
-fn what_the_macros_make(rt: HostRuntime) -> Result<(), Fail> {
+fn what_the_macros_make(rt: HostRuntime) {
     for set in 0..2 {
-        assert_eq!(rt; differing_of_set(rt.alloc(), set)?, None);
+        assert_eq!(rt; differing_of_set(&rt, rt.alloc(), set), None);
     }
-    Ok(())
 }
 
 /// The `Display` of an error that a macro makes from a format and its arguments.
-fn displayed(alloc: Global) -> Result<String, Fail> {
+fn displayed(rt: &impl Abort, alloc: Global) -> String {
     let error: Error<DemoAttr> = pliron_text::input_error_noloc!(in alloc; "Some formatted {}", 0);
-    Ok(format!(in alloc; "{error}")?)
+    to_text(rt, alloc, error)
 }
 
 #[test]
-fn what_an_error_displays(rt: HostRuntime) -> Result<(), Fail> {
+fn what_an_error_displays(rt: HostRuntime) {
     assert_eq!(rt;
-        displayed(rt.alloc())?.as_str(),
+        displayed(&rt, rt.alloc()).as_str(),
         "Compilation error: invalid input program.\nSome formatted 0",
     );
-    Ok(())
 }

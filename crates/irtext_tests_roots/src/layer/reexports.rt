@@ -1,7 +1,8 @@
 //! What `pliron_text` re-exports from the crates below, by its own paths, unless another row names it.
 use crate::reading::root;
+use crate::value::value_of;
 use irtext_demo::DemoAttr;
-use irtext_tests_common::building::{id, live, live_block};
+use irtext_tests_common::building::id;
 use irtext_tests_common::contexts::{Ctx, named, with_demo};
 use pliron_text::base::{
     AttrObj, AttributeDict, BasicBlock, BlockAccess, Few, Identifier, NewBlock, NewOperation, OpId,
@@ -19,7 +20,7 @@ use pliron_text::parsable::{
 };
 use pliron_text::result::{Cause, Error, Expected, StringError};
 use std::alloc::Global;
-use std::test::Fail;
+use std::process::Abort;
 
 /// The line and the column after the next character that is no white space.
 fn passed<S: CharStream>(stream: &mut S) -> SourcePosition {
@@ -39,25 +40,32 @@ fn fault() -> Option<ParseFault<DemoAttr>> {
     answer.err()
 }
 
+/// The identifier with this text.
+fn name(rt: &impl Abort, alloc: Global, text: &str) -> Identifier {
+    value_of(rt, named(alloc, text), "no identifier")
+}
+
+/// A copy of a text.
+fn held(rt: &impl Abort, alloc: Global, text: &str) -> String {
+    String::from_str(alloc, text).expect(rt, "out of memory")
+}
+
 /// The texts of the small errors.
-fn errors(alloc: Global) -> Result<String, Fail> {
-    let late: Identifier = named(alloc, "a")?;
-    let lost = UnresolvedReference(named(alloc, "b")?);
+fn errors(rt: &impl Abort, alloc: Global) -> String {
+    let late = DefUseVerifyErr::UseNotDominatedByDef(name(rt, alloc, "a"));
+    let lost = UnresolvedReference(name(rt, alloc, "b"));
     let open = ParserNameTrackerError::TopLevelOpRegionNotIsolatedFromAbove;
-    let block = BasicBlockVerifyErr::NoParent(String::from_str(alloc, "c")?);
-    let text = StringError(String::from_str(alloc, "d")?);
-    Ok(format!(in alloc;
-        "{}\n{lost}\n{open}\n{block}\n{text}",
-        DefUseVerifyErr::UseNotDominatedByDef(late)
-    )?)
+    let block = BasicBlockVerifyErr::NoParent(held(rt, alloc, "c"));
+    let text = StringError(held(rt, alloc, "d"));
+    format!(in alloc; "{late}\n{lost}\n{open}\n{block}\n{text}").expect(rt, "out of memory")
 }
 
 /// Whether a dictionary keeps what is inserted.
-fn keeps(alloc: Global) -> Result<bool, Fail> {
+fn keeps(rt: &impl Abort, alloc: Global) -> bool {
     let mut dictionary: AttributeDict<DemoAttr> = AttributeDict::new(alloc);
-    let value = AttrObj::Ident(named(alloc, "x")?);
-    let kept = dictionary.insert(named(alloc, "k")?, value).is_ok();
-    Ok(kept && dictionary.len() == 1)
+    let value = AttrObj::Ident(name(rt, alloc, "x"));
+    let kept = dictionary.insert(name(rt, alloc, "k"), value).is_ok();
+    kept && dictionary.len() == 1
 }
 
 /// Whether a module's region is in it, and `get_op_dyn` returns the value of its pointer.
@@ -88,37 +96,35 @@ fn key(ctx: &mut Ctx, path: &str) -> Option<PathKey> {
 }
 
 /// Whether a module and a block that were just made have no location.
-fn unlocated(alloc: Global, ctx: &mut Ctx) -> Result<bool, Fail> {
-    let id = id(alloc, ("builtin", "module"))?;
+fn unlocated(rt: &impl Abort, alloc: Global, ctx: &mut Ctx) -> bool {
+    let id = value_of(rt, id(alloc, ("builtin", "module")), "no identifier");
     let made = <Operation as NewOperation>::new(ctx, id, Few::none(), &[], &[], 1);
-    let op = made.ok().ok_or("refused")?;
-    let block = BasicBlock::new(ctx, None, Few::none())
-        .ok()
-        .ok_or("refused")?;
-    live(ctx, op)?;
-    live_block(ctx, block)?;
-    Ok(op.loc(ctx).is_unknown() && block.loc(ctx).is_unknown())
+    let op = made.expect(rt, "refused");
+    let block = BasicBlock::new(ctx, None, Few::none()).expect(rt, "refused");
+    assert!(rt; ctx.contains_operation(op));
+    assert!(rt; ctx.contains_block(block));
+    op.loc(ctx).is_unknown() && block.loc(ctx).is_unknown()
 }
 
 /// Whether modules are isolated.
-fn isolated(alloc: Global, ctx: &Ctx) -> Result<bool, Fail> {
-    let id: OpId = id(alloc, ("builtin", "module"))?;
+fn isolated(rt: &impl Abort, alloc: Global, ctx: &Ctx) -> bool {
+    let id: OpId = value_of(rt, id(alloc, ("builtin", "module")), "no identifier");
     let info: Option<&OpInfo> = ctx.op_info(&id);
-    Ok(matches!(info, Some(info) if info.isolated))
+    matches!(info, Some(info) if info.isolated)
 }
 
 /// Whether all of this is true of a module.
-fn holds(alloc: Global, ctx: &mut Ctx) -> Result<bool, Fail> {
-    let op = root(ctx, "builtin.module @m {}").ok_or("refused")?;
-    let inside = alive(ctx, op) && isolated(alloc, ctx)? && keeps(alloc)?;
+fn holds(rt: &impl Abort, alloc: Global, ctx: &mut Ctx) -> bool {
+    let op = root(ctx, "builtin.module @m {}").expect(rt, "refused");
+    let inside = alive(ctx, op) && isolated(rt, alloc, ctx) && keeps(rt, alloc);
     let kept = key(ctx, "b").is_some() && key(ctx, "b") == key(ctx, "b");
-    Ok(inside && kept && erased(ctx, op) && unlocated(alloc, ctx)?)
+    inside && kept && erased(ctx, op) && unlocated(rt, alloc, ctx)
 }
 
 #[test]
-fn objects_by_the_paths_of_this_layer(rt: HostRuntime) -> Result<(), Fail> {
-    assert!(rt; with_demo(rt.alloc(), holds)?);
-    Ok(())
+fn objects_by_the_paths_of_this_layer(rt: HostRuntime) {
+    let true_of_it = with_demo(rt.alloc(), |alloc, ctx| Ok(holds(&rt, alloc, ctx)));
+    assert!(rt; value_of(&rt, true_of_it, "no context"));
 }
 
 /// The texts of the small errors.
@@ -129,13 +135,12 @@ Basic block \"c\" has no parent operation
 d";
 
 #[test]
-fn readings_and_errors_by_the_paths_of_this_layer(rt: HostRuntime) -> Result<(), Fail> {
-    let mut stream = TextStream::new(rt.alloc(), "ab")?;
+fn readings_and_errors_by_the_paths_of_this_layer(rt: HostRuntime) {
+    let mut stream = TextStream::new(rt.alloc(), "ab").expect(&rt, "out of memory");
     assert_eq!(rt; passed(&mut stream).column, 2);
     assert!(rt; matches!(fault(), Some(fault) if fault.committed));
     assert_eq!(rt; OUTLINED_ATTR_MARKER, "!outlined");
     let checked: Result<(), FormatFault> = check_format(&OpFormat::Canonical);
     assert_eq!(rt; checked, Ok(()));
-    assert_eq!(rt; errors(rt.alloc())?.as_str(), ERRORS);
-    Ok(())
+    assert_eq!(rt; errors(&rt, rt.alloc()).as_str(), ERRORS);
 }

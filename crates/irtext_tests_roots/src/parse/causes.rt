@@ -1,5 +1,6 @@
 //! The texts of causes and of the small error types.
 use crate::parse::errors::{at, error};
+use crate::value::{to_text, value_of};
 use irtext_base::base::{Identifier, OpId};
 use irtext_base::format::FormatFault;
 use irtext_base::location::Location;
@@ -10,7 +11,7 @@ use irtext_print_ir::ir::verify::{BasicBlockVerifyErr, DefUseVerifyErr};
 use irtext_tests_common::contexts::named;
 use irtext_tokens::irfmt::parsers::held;
 use std::alloc::Global;
-use std::test::Fail;
+use std::process::Abort;
 
 /// The texts of causes.
 const CAUSES: &[&str] = &[
@@ -129,55 +130,59 @@ fn with_id(number: usize, id: OpId, dialect: Identifier) -> Cause<DemoAttr> {
 }
 
 /// A cause with the operation's id `test.z`.
-fn of_operation(alloc: Global, number: usize) -> Result<Cause<DemoAttr>, Fail> {
-    let dialect = named(alloc, "test")?;
-    let name = named(alloc, "z")?;
-    let other = named(alloc, "builtin")?;
-    Ok(with_id(number, OpId { dialect, name }, other))
+fn of_operation(rt: &impl Abort, alloc: Global, number: usize) -> Cause<DemoAttr> {
+    let dialect = value_of(rt, named(alloc, "test"), "no identifier");
+    let name = value_of(rt, named(alloc, "z"), "no identifier");
+    let other = value_of(rt, named(alloc, "builtin"), "no identifier");
+    with_id(number, OpId { dialect, name }, other)
 }
 
 /// A cause that holds others.
-fn nested(alloc: Global) -> Result<Cause<DemoAttr>, Fail> {
+fn nested(rt: &impl Abort, alloc: Global) -> Cause<DemoAttr> {
     let inner = error(ErrorKind::InvalidArgument, Location::Unknown, Cause::Memory);
-    let nested: Cause<DemoAttr> = Cause::Nested(Box::new(alloc, inner)?);
-    Ok(Cause::Parse {
+    let inner = Box::new(alloc, inner).expect(rt, "out of memory");
+    let nested: Cause<DemoAttr> = Cause::Nested(inner);
+    Cause::Parse {
         at: SourcePosition { line: 1, column: 1 },
-        cause: Box::new(alloc, nested)?,
-    })
+        cause: Box::new(alloc, nested).expect(rt, "out of memory"),
+    }
 }
 
 /// A cause that expects a fixed text.
-fn fixed_text(alloc: Global) -> Result<Cause<DemoAttr>, Fail> {
-    Ok(Cause::Unexpected {
+fn fixed_text(rt: &impl Abort, alloc: Global) -> Cause<DemoAttr> {
+    Cause::Unexpected {
         found: Some('x'),
-        expected: held(alloc, "->")?,
-    })
+        expected: held(alloc, "->").expect(rt, "out of memory"),
+    }
+}
+
+/// The text of the causes that have one.
+fn digits(rt: &impl Abort, alloc: Global) -> String {
+    String::from_str(alloc, "110000").expect(rt, "out of memory")
 }
 
 /// The cause of a line.
-fn cause(alloc: Global, number: usize) -> Result<Cause<DemoAttr>, Fail> {
+fn cause(rt: &impl Abort, alloc: Global, number: usize) -> Cause<DemoAttr> {
     match number {
-        3 => fixed_text(alloc),
-        0..=23 => Ok(plain(number)),
-        24..=28 => Ok(with_name(number, named(alloc, "x")?)),
-        29..=33 => Ok(with_text(number, String::from_str(alloc, "110000")?)),
-        34..=35 => of_operation(alloc, number),
-        _ => nested(alloc),
+        3 => fixed_text(rt, alloc),
+        0..=23 => plain(number),
+        24..=28 => with_name(number, value_of(rt, named(alloc, "x"), "no identifier")),
+        29..=33 => with_text(number, digits(rt, alloc)),
+        34..=35 => of_operation(rt, alloc, number),
+        _ => nested(rt, alloc),
     }
 }
 
 /// The text of the cause of a line.
-fn text_of(alloc: Global, number: usize) -> Result<String, Fail> {
-    let cause = cause(alloc, number)?;
-    Ok(format!(in alloc; "{cause}")?)
+fn text_of(rt: &impl Abort, alloc: Global, number: usize) -> String {
+    to_text(rt, alloc, cause(rt, alloc, number))
 }
 
 #[test]
-fn texts_of_causes(rt: HostRuntime) -> Result<(), Fail> {
+fn texts_of_causes(rt: HostRuntime) {
     for (number, wanted) in CAUSES.iter().enumerate() {
-        assert_eq!(rt; text_of(rt.alloc(), number)?.as_str(), *wanted);
+        assert_eq!(rt; text_of(&rt, rt.alloc(), number).as_str(), *wanted);
     }
-    Ok(())
 }
 
 /// The texts of the small error types, and of an error without its location, which its `Display` doesn't show.
@@ -205,50 +210,50 @@ fn refused_block(number: usize, block: String) -> BasicBlockVerifyErr {
 }
 
 /// The text of the error of a block.
-fn of_block(alloc: Global, number: usize) -> Result<String, Fail> {
-    let error = refused_block(number, String::from_str(alloc, "b")?);
-    Ok(format!(in alloc; "{error}")?)
+fn of_block(rt: &impl Abort, alloc: Global, number: usize) -> String {
+    let block = String::from_str(alloc, "b").expect(rt, "out of memory");
+    to_text(rt, alloc, refused_block(number, block))
 }
 
 /// The text of the error of a name that has no definition, or a late one.
-fn of_name(alloc: Global, number: usize) -> Result<String, Fail> {
-    let name = named(alloc, "b")?;
+fn of_name(rt: &impl Abort, alloc: Global, number: usize) -> String {
+    let name = value_of(rt, named(alloc, "b"), "no identifier");
     if number == 0 {
-        let lost = UnresolvedReference(name);
-        return Ok(format!(in alloc; "{lost}")?);
+        return to_text(rt, alloc, UnresolvedReference(name));
     }
-    let late = DefUseVerifyErr::UseNotDominatedByDef(name);
-    Ok(format!(in alloc; "{late}")?)
+    to_text(rt, alloc, DefUseVerifyErr::UseNotDominatedByDef(name))
 }
 
 /// An error whose location is set after it is made.
-fn of_error(alloc: Global) -> Result<String, Fail> {
+fn of_error(rt: &impl Abort, alloc: Global) -> String {
     let mut error = error(ErrorKind::InvalidInput, Location::Unknown, Cause::EmptyItem);
     let before = error.loc().is_unknown();
     error.set_loc(at(4, 2));
     let following = error.loc().is_unknown();
-    Ok(format!(in alloc; "{before} {following} {error}\n{error:?}")?)
+    format!(in alloc; "{before} {following} {error}\n{error:?}").expect(rt, "out of memory")
 }
 
 /// The text of the small error of a line.
-fn small(alloc: Global, number: usize) -> Result<String, Fail> {
-    let isolated = ParserNameTrackerError::TopLevelOpRegionNotIsolatedFromAbove;
+fn small(rt: &impl Abort, alloc: Global, number: usize) -> String {
     match number {
-        0 | 8 => of_name(alloc, number),
-        1 => Ok(format!(in alloc; "{isolated}")?),
-        2 => Ok(format!(in alloc; "{}", ErrorKind::InvalidArgument)?),
-        3 => Ok(format!(in alloc; "{}", ErrorKind::VerificationFailed)?),
-        4 => Ok(format!(in alloc; "{}", FormatFault::LiteralNotPrintable)?),
-        5..=7 => of_block(alloc, number),
-        9 => Ok(format!(in alloc; "{}", DefUseVerifyErr::OperandNotUseOfDef)?),
-        _ => of_error(alloc),
+        0 | 8 => of_name(rt, alloc, number),
+        1 => to_text(
+            rt,
+            alloc,
+            ParserNameTrackerError::TopLevelOpRegionNotIsolatedFromAbove,
+        ),
+        2 => to_text(rt, alloc, ErrorKind::InvalidArgument),
+        3 => to_text(rt, alloc, ErrorKind::VerificationFailed),
+        4 => to_text(rt, alloc, FormatFault::LiteralNotPrintable),
+        5..=7 => of_block(rt, alloc, number),
+        9 => to_text(rt, alloc, DefUseVerifyErr::OperandNotUseOfDef),
+        _ => of_error(rt, alloc),
     }
 }
 
 #[test]
-fn texts_of_small_error_types(rt: HostRuntime) -> Result<(), Fail> {
+fn texts_of_small_error_types(rt: HostRuntime) {
     for (number, wanted) in SMALL.iter().enumerate() {
-        assert_eq!(rt; small(rt.alloc(), number)?.as_str(), *wanted);
+        assert_eq!(rt; small(&rt, rt.alloc(), number).as_str(), *wanted);
     }
-    Ok(())
 }

@@ -1,4 +1,5 @@
 //! Errors in errors, and errors as faults of a parser.
+use crate::value::value_of;
 use irtext_base::location::{Location, Source};
 use irtext_base::parsable::{ParseResult, SourcePosition};
 use irtext_base::result::{Cause, Error, ErrorKind};
@@ -10,7 +11,7 @@ use irtext_tests_common::tables::differing_alone;
 use irtext_tokens::parsable::IntoParseResult;
 use std::alloc::Global;
 use std::fmt;
-use std::test::Fail;
+use std::process::Abort;
 
 /// What a call returns here: an error either way.
 type Answer = Result<Error<DemoAttr>, Error<DemoAttr>>;
@@ -33,8 +34,8 @@ pub(crate) fn error(
 }
 
 /// The text of a result, with the locations of its error.
-fn shown(alloc: Global, ctx: &Ctx, answer: &Answer) -> Result<String, Fail> {
-    Ok(format!(in alloc; "{}", answer.disp(ctx))?)
+fn shown(rt: &impl Abort, alloc: Global, ctx: &Ctx, answer: &Answer) -> String {
+    format!(in alloc; "{}", answer.disp(ctx)).expect(rt, "out of memory")
 }
 
 /// The texts of errors that hold others, with their locations.
@@ -45,32 +46,34 @@ const INNER: &[&str] = &[
 ];
 
 /// An error in an error in another.
-fn third(alloc: Global) -> Result<Error<DemoAttr>, Fail> {
+fn third(rt: &impl Abort, alloc: Global) -> Error<DemoAttr> {
     let first = error(ErrorKind::InvalidInput, at(1, 2), Cause::EmptyItem);
-    let second = Cause::Nested(Box::new(alloc, first)?);
+    let first = Box::new(alloc, first).expect(rt, "out of memory");
+    let second = Cause::Nested(first);
     let second = error(ErrorKind::VerificationFailed, Location::Unknown, second);
-    let third = Cause::Nested(Box::new(alloc, second)?);
-    Ok(error(ErrorKind::InvalidArgument, at(1, 1), third))
+    let second = Box::new(alloc, second).expect(rt, "out of memory");
+    error(ErrorKind::InvalidArgument, at(1, 1), Cause::Nested(second))
 }
 
 /// An error of a formatter in another.
-fn formatted(alloc: Global) -> Result<Error<DemoAttr>, Fail> {
+fn formatted(rt: &impl Abort, alloc: Global) -> Error<DemoAttr> {
     let inner: Error<DemoAttr> = Error::from(fmt::Error);
-    Ok(Error {
-        kind: ErrorKind::VerificationFailed,
-        err: Cause::Nested(Box::new(alloc, inner)?),
-        loc: at(4, 2),
-    })
+    let inner = Box::new(alloc, inner).expect(rt, "out of memory");
+    error(
+        ErrorKind::VerificationFailed,
+        at(4, 2),
+        Cause::Nested(inner),
+    )
 }
 
 /// The text of the error of a line.
-fn shown_inner(alloc: Global, ctx: &mut Ctx, number: usize) -> Result<String, Fail> {
+fn shown_inner(rt: &impl Abort, alloc: Global, ctx: &Ctx, number: usize) -> String {
     let answer: Answer = match number {
-        0 => Ok(third(alloc)?),
+        0 => Ok(third(rt, alloc)),
         1 => Ok(Error::from(fmt::Error)),
-        _ => Ok(formatted(alloc)?),
+        _ => Ok(formatted(rt, alloc)),
     };
-    shown(alloc, ctx, &answer)
+    shown(rt, alloc, ctx, &answer)
 }
 
 /// The results of a parser for errors, a value and a result.
@@ -116,16 +119,20 @@ fn of_reading(number: usize) -> ParseResult<u8, DemoAttr> {
 }
 
 /// The text of the result of a line.
-fn said(alloc: Global, number: usize) -> Result<String, Fail> {
+fn said(rt: &impl Abort, alloc: Global, number: usize) -> String {
     let answer = of_reading(number);
-    line(alloc, &answer)
+    value_of(rt, line(alloc, &answer), "out of memory")
 }
 
 #[test]
-fn errors_in_errors_and_in_readings(rt: HostRuntime) -> Result<(), Fail> {
-    assert_eq!(rt; differing_alone(rt.alloc(), INNER, shown_inner)?, None);
+fn errors_in_errors_and_in_readings(rt: HostRuntime) {
+    let differing = differing_alone(
+        rt.alloc(),
+        INNER,
+        |alloc, ctx, number| Ok(shown_inner(&rt, alloc, ctx, number)),
+    );
+    assert_eq!(rt; value_of(&rt, differing, "no texts"), None);
     for (number, wanted) in FAULTS.iter().enumerate() {
-        assert_eq!(rt; said(rt.alloc(), number)?.as_str(), *wanted);
+        assert_eq!(rt; said(&rt, rt.alloc(), number).as_str(), *wanted);
     }
-    Ok(())
 }

@@ -1,4 +1,5 @@
 //! Locations of each kind and their parser, and the errors of other texts.
+use crate::value::value_of;
 use irtext_base::location::{Location, Source};
 use irtext_base::result::{Error, Result as Answer};
 use irtext_demo::DemoAttr;
@@ -8,7 +9,7 @@ use irtext_tests_common::contexts::{Ctx, with_context};
 use irtext_tests_common::nesting::between;
 use irtext_tests_common::tables::failing_demo;
 use std::alloc::Global;
-use std::test::Fail;
+use std::process::Abort;
 
 /// Texts of locations, which are printed unchanged.
 const SAME: &[&str] = &[
@@ -64,13 +65,13 @@ const FRONT: &str = "name: \"a\", loc: (callsite(callsite(? at fused[?, ";
 const BACK: &str = ", <in-memory>: line: 1, column: 1]) at ?))";
 
 /// The printed text of a location.
-fn printed(alloc: Global, ctx: &Ctx, location: &Location<DemoAttr>) -> Result<String, Fail> {
-    Ok(format!(in alloc; "{}", location.disp(ctx))?)
+fn printed(rt: &impl Abort, alloc: Global, ctx: &Ctx, location: &Location<DemoAttr>) -> String {
+    format!(in alloc; "{}", location.disp(ctx)).expect(rt, "out of memory")
 }
 
 /// The error for a text.
-fn refused(alloc: Global, error: &Error<DemoAttr>) -> Result<String, Fail> {
-    Ok(format!(in alloc; "{}", error.err)?)
+fn refused(rt: &impl Abort, alloc: Global, error: &Error<DemoAttr>) -> String {
+    format!(in alloc; "{}", error.err).expect(rt, "out of memory")
 }
 
 /// The location that a text is parsed as.
@@ -79,51 +80,49 @@ fn location(ctx: &mut Ctx, text: &str) -> Answer<Location<DemoAttr>, DemoAttr> {
 }
 
 /// The printed text of the location that a text is parsed as, or the error.
-fn read(alloc: Global, ctx: &mut Ctx, text: &str) -> Result<String, Fail> {
+fn read(rt: &impl Abort, alloc: Global, ctx: &mut Ctx, text: &str) -> String {
     match location(ctx, text) {
-        Ok(location) => printed(alloc, ctx, &location),
-        Err(error) => refused(alloc, &error),
+        Ok(location) => printed(rt, alloc, ctx, &location),
+        Err(error) => refused(rt, alloc, &error),
     }
 }
 
 /// The same with a context of its own.
-fn again(alloc: Global, text: &str) -> Result<String, Fail> {
-    with_context(alloc, |alloc, ctx| read(alloc, ctx, text))
+fn again(rt: &impl Abort, alloc: Global, text: &str) -> String {
+    let said = with_context(alloc, |alloc, ctx| Ok(read(rt, alloc, ctx, text)));
+    value_of(rt, said, "no context")
 }
 
 #[test]
-fn locations_of_a_text(rt: HostRuntime) -> Result<(), Fail> {
+fn locations_of_a_text(rt: HostRuntime) {
     for text in SAME {
-        assert_eq!(rt; again(rt.alloc(), text)?.as_str(), *text);
+        assert_eq!(rt; again(&rt, rt.alloc(), text).as_str(), *text);
     }
-    Ok(())
 }
 
 /// Whether a text is parsed as a location.
-fn is_read(ctx: &mut Ctx, text: &str) -> bool {
-    location(ctx, text).is_ok()
+fn is_read(rt: &impl Abort, alloc: Global, text: &str) -> bool {
+    let found = with_context(alloc, |_, ctx| Ok(location(ctx, text).is_ok()));
+    value_of(rt, found, "no context")
 }
 
 #[test]
-fn locations_deep_in_one_another(rt: HostRuntime) -> Result<(), Fail> {
-    let text = between(rt.alloc(), DEPTH, FRONT, "?", BACK)?;
-    assert!(rt; with_context(rt.alloc(), |_, ctx| Ok(is_read(ctx, text.as_str())))?);
-    Ok(())
+fn locations_deep_in_one_another(rt: HostRuntime) {
+    let text = between(rt.alloc(), DEPTH, FRONT, "?", BACK).expect(&rt, "out of memory");
+    assert!(rt; is_read(&rt, rt.alloc(), text.as_str()));
 }
 
 #[test]
-fn a_fault_deep_in_locations(rt: HostRuntime) -> Result<(), Fail> {
-    let text = between(rt.alloc(), DEPTH, FRONT, "x", "")?;
-    assert!(rt; !with_context(rt.alloc(), |_, ctx| Ok(is_read(ctx, text.as_str())))?);
-    Ok(())
+fn a_fault_deep_in_locations(rt: HostRuntime) {
+    let text = between(rt.alloc(), DEPTH, FRONT, "x", "").expect(&rt, "out of memory");
+    assert!(rt; !is_read(&rt, rt.alloc(), text.as_str()));
 }
 
 #[test]
-fn white_space_and_faults_in_locations(rt: HostRuntime) -> Result<(), Fail> {
+fn white_space_and_faults_in_locations(rt: HostRuntime) {
     for row in OTHERS {
-        assert_eq!(rt; again(rt.alloc(), row.0)?.as_str(), row.1);
+        assert_eq!(rt; again(&rt, rt.alloc(), row.0).as_str(), row.1);
     }
-    Ok(())
 }
 
 /// A file's name, and the printed text of its first place.
@@ -138,18 +137,18 @@ fn is_parsed_as(ctx: &mut Ctx, text: &str, wanted: &Location<DemoAttr>) -> bool 
 }
 
 /// Whether the first place of the file has this text, and is parsed back.
-fn comes_back(alloc: Global, ctx: &mut Ctx) -> Result<bool, Fail> {
-    let src = Source::new_from_file(ctx, FILE.0).ok().ok_or("refused")?;
+fn comes_back(rt: &impl Abort, alloc: Global, ctx: &mut Ctx) -> bool {
+    let src = Source::new_from_file(ctx, FILE.0).expect(rt, "refused");
     let pos = SourcePosition { line: 1, column: 1 };
     let place = Location::SrcPos { src, pos };
-    let text = printed(alloc, ctx, &place)?;
-    Ok(text.as_str() == FILE.1 && is_parsed_as(ctx, text.as_str(), &place))
+    let text = printed(rt, alloc, ctx, &place);
+    text.as_str() == FILE.1 && is_parsed_as(ctx, text.as_str(), &place)
 }
 
 #[test]
-fn a_file_with_quotation_marks_in_its_name(rt: HostRuntime) -> Result<(), Fail> {
-    assert!(rt; with_context(rt.alloc(), comes_back)?);
-    Ok(())
+fn a_file_with_quotation_marks_in_its_name(rt: HostRuntime) {
+    let same = with_context(rt.alloc(), |alloc, ctx| Ok(comes_back(&rt, alloc, ctx)));
+    assert!(rt; value_of(&rt, same, "no context"));
 }
 
 /// The source that a text is parsed as.
@@ -164,26 +163,31 @@ fn position(ctx: &mut Ctx, text: &str) -> Option<SourcePosition> {
 
 /// The printed texts of a source and a position.
 fn shown(
+    rt: &impl Abort,
     alloc: Global,
     ctx: &Ctx,
     source: &Source,
     position: &SourcePosition,
-) -> Result<String, Fail> {
-    Ok(format!(in alloc; "{} {}", source.disp(ctx), position.disp(ctx))?)
+) -> String {
+    format!(in alloc; "{} {}", source.disp(ctx), position.disp(ctx)).expect(rt, "out of memory")
 }
 
 /// Texts of a source and a position, and the printed texts of what they are parsed as.
 const PLACES: &[(&str, &str, &str)] = &[("\"b\"", "line : 3,column:4", "\"b\" line: 3, column: 4")];
 
 /// Whether a source and a position are parsed and printed so.
-fn holds(alloc: Global, ctx: &mut Ctx, row: &(&str, &str, &str)) -> Result<bool, Fail> {
-    let source = source(ctx, row.0).ok_or("refused")?;
-    let position = position(ctx, row.1).ok_or("refused")?;
-    Ok(shown(alloc, ctx, &source, &position)?.as_str() == row.2)
+fn holds(rt: &impl Abort, alloc: Global, ctx: &mut Ctx, row: &(&str, &str, &str)) -> bool {
+    let source = source(ctx, row.0).expect(rt, "no source");
+    let position = position(ctx, row.1).expect(rt, "no position");
+    shown(rt, alloc, ctx, &source, &position).as_str() == row.2
 }
 
 #[test]
-fn sources_and_positions_of_a_text(rt: HostRuntime) -> Result<(), Fail> {
-    assert_eq!(rt; failing_demo(rt.alloc(), PLACES, holds)?, None);
-    Ok(())
+fn sources_and_positions_of_a_text(rt: HostRuntime) {
+    let failing = failing_demo(
+        rt.alloc(),
+        PLACES,
+        |alloc, ctx, row| Ok(holds(&rt, alloc, ctx, row)),
+    );
+    assert_eq!(rt; value_of(&rt, failing, "no context"), None);
 }

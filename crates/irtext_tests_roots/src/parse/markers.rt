@@ -1,11 +1,12 @@
 //! Items with white space around them, and the marker that may be in place of one.
+use crate::value::value_of;
 use irtext_base::parsable::{ParseResult, TextStream};
 use irtext_demo::DemoAttr;
 use irtext_parse_root::irfmt::outlined::outlined_marker_or;
 use irtext_tests_common::answers::{left, with_next};
 use irtext_tokens::irfmt::parsers::{bool_parse, int_parse, spaced};
 use std::alloc::Global;
-use std::test::Fail;
+use std::process::Abort;
 
 /// The results for the items with white space around them in ` 7 x`, one after the other.
 const SPACED: &[&str] = &[
@@ -30,46 +31,54 @@ const MARKED: &[(&str, &str)] = &[
 ];
 
 /// The result for an item with white space around it.
-fn read_spaced(alloc: Global, stream: &mut TextStream) -> Result<String, Fail> {
+fn read_spaced(rt: &impl Abort, alloc: Global, stream: &mut TextStream) -> String {
     let answer: ParseResult<i32, DemoAttr> = spaced(stream, int_parse);
-    with_next(alloc, &answer, stream.peek())
+    value_of(
+        rt,
+        with_next(alloc, &answer, stream.peek()),
+        "out of memory",
+    )
 }
 
 /// The result for a boolean with white space around it.
-fn read_truth(alloc: Global, text: &str) -> Result<String, Fail> {
-    let mut stream = TextStream::new(alloc, text)?;
+fn read_truth(rt: &impl Abort, alloc: Global, text: &str) -> String {
+    let mut stream = TextStream::new(alloc, text).expect(rt, "out of memory");
     let answer: ParseResult<bool, DemoAttr> = spaced(&mut stream, bool_parse);
-    with_next(alloc, &answer, stream.peek())
+    value_of(
+        rt,
+        with_next(alloc, &answer, stream.peek()),
+        "out of memory",
+    )
 }
 
 /// The result for an item or the marker in its place.
-fn read_marked(alloc: Global, text: &str) -> Result<String, Fail> {
-    let mut stream = TextStream::new(alloc, text)?;
+fn read_marked(rt: &impl Abort, alloc: Global, text: &str) -> String {
+    let mut stream = TextStream::new(alloc, text).expect(rt, "out of memory");
     let answer: ParseResult<Option<i32>, DemoAttr> = outlined_marker_or(&mut stream, int_parse);
-    marked(alloc, &answer, stream.peek())
+    marked(rt, alloc, &answer, stream.peek())
 }
 
 /// The text of a result for an item or the marker in its place.
 fn marked(
+    rt: &impl Abort,
     alloc: Global,
     answer: &ParseResult<Option<i32>, DemoAttr>,
     next: Option<char>,
-) -> Result<String, Fail> {
+) -> String {
     match answer {
-        Ok(found) => Ok(format!(in alloc; "{found:?}|{next:?}")?),
-        Err(fault) => left(alloc, fault, next),
+        Ok(found) => format!(in alloc; "{found:?}|{next:?}").expect(rt, "out of memory"),
+        Err(fault) => value_of(rt, left(alloc, fault, next), "out of memory"),
     }
 }
 
 #[test]
-fn items_and_the_marker(rt: HostRuntime) -> Result<(), Fail> {
-    let mut stream = TextStream::new(rt.alloc(), " 7 x")?;
+fn items_and_the_marker(rt: HostRuntime) {
+    let mut stream = TextStream::new(rt.alloc(), " 7 x").expect(&rt, "out of memory");
     for wanted in SPACED {
-        assert_eq!(rt; read_spaced(rt.alloc(), &mut stream)?.as_str(), *wanted);
+        assert_eq!(rt; read_spaced(&rt, rt.alloc(), &mut stream).as_str(), *wanted);
     }
-    assert_eq!(rt; read_truth(rt.alloc(), TRUTH.0)?.as_str(), TRUTH.1);
+    assert_eq!(rt; read_truth(&rt, rt.alloc(), TRUTH.0).as_str(), TRUTH.1);
     for row in MARKED {
-        assert_eq!(rt; read_marked(rt.alloc(), row.0)?.as_str(), row.1);
+        assert_eq!(rt; read_marked(&rt, rt.alloc(), row.0).as_str(), row.1);
     }
-    Ok(())
 }

@@ -1,4 +1,5 @@
 //! Numbers, booleans, identifiers and texts that are parsed with a context.
+use crate::value::value_of;
 use irtext_base::base::Identifier;
 use irtext_demo::{DemoAttr, DemoType};
 use irtext_parse_root::parsable::Parsable;
@@ -41,9 +42,14 @@ fn values(alloc: Global, s: &mut Stream<'_>) -> Result<String, Fail> {
 }
 
 #[test]
-fn values_are_read_with_a_context(rt: HostRuntime) -> Result<(), Fail> {
+fn values_are_read_with_a_context(rt: HostRuntime) {
     let text = "+1+18446744073709551615+3+00065535+255true-1-0-3-9223372036854775808_a1";
-    assert_eq!(rt; in_context(rt.alloc(), text, values)?.as_str(), "_a1");
-    assert_eq!(rt; in_context(rt.alloc(), "\"a\"", quoted)?.as_str(), "a");
-    Ok(())
+    let name = value_of(&rt, in_context(rt.alloc(), text, values), "another value");
+    assert_eq!(rt; name.as_str(), "_a1");
+    let text = value_of(
+        &rt,
+        in_context(rt.alloc(), "\"a\"", quoted),
+        "out of memory",
+    );
+    assert_eq!(rt; text.as_str(), "a");
 }

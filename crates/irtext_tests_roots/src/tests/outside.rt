@@ -1,5 +1,6 @@
 //! Results that are named outside of every region: no scope is open there, so each is an error.
 use crate::reading::root;
+use crate::value::value_of;
 use irtext_demo::DemoAttr;
 use irtext_tests_common::answers::result_text;
 use irtext_tests_common::contexts::{Ctx, named, with_demo};
@@ -8,7 +9,7 @@ use pliron_text::irfmt::parsers::process_parsed_ssa_defs;
 use pliron_text::location::{Location, Source};
 use pliron_text::parsable::{CharStream, SourcePosition, State, StateStream, TextStream};
 use std::alloc::Global;
-use std::test::Fail;
+use std::process::Abort;
 
 /// A root with an operation without results and one with a result.
 const ROOT: &str = "builtin.module @m { ^a(): test.nop; x = test.make: test.ptr }";
@@ -41,9 +42,10 @@ const RESULTS: &[(usize, &[(&str, Option<(i32, i32)>)], &str)] = &[
 
 /// Names with their locations.
 fn names(
+    rt: &impl Abort,
     alloc: Global,
     row: &[(&str, Option<(i32, i32)>)],
-) -> Result<Vec<(Identifier, Location<DemoAttr>)>, Fail> {
+) -> Vec<(Identifier, Location<DemoAttr>)> {
     let mut names = Vec::new(alloc);
     for (name, at) in row {
         let loc = match at {
@@ -56,60 +58,64 @@ fn names(
             },
             None => Location::Unknown,
         };
-        names.push((named(alloc, name)?, loc))?;
+        let name = value_of(rt, named(alloc, name), "no identifier");
+        names.push((name, loc)).expect(rt, "out of memory");
     }
-    Ok(names)
+    names
 }
 
 /// The first block of an operation's first region.
-fn first_block(ctx: &Ctx, op: Ptr<Operation>) -> Result<Ptr<BasicBlock>, Fail> {
+fn first_block(rt: &impl Abort, ctx: &Ctx, op: Ptr<Operation>) -> Ptr<BasicBlock> {
     if !ctx.contains_operation(op) || op.num_regions(ctx) == 0 {
-        return Err(Fail::from("no such region"));
+        rt.panic("no such region");
     }
     let region = op.get_region(ctx, 0);
     if !ctx.contains_region(region) || region.num_blocks(ctx) == 0 {
-        return Err(Fail::from("no such block"));
+        rt.panic("no such block");
     }
-    Ok(region.get_block(ctx, 0))
+    region.get_block(ctx, 0)
 }
 
 /// The operation of an index in a block.
-fn operation(ctx: &Ctx, block: Ptr<BasicBlock>, index: usize) -> Result<Ptr<Operation>, Fail> {
+fn operation(rt: &impl Abort, ctx: &Ctx, block: Ptr<BasicBlock>, index: usize) -> Ptr<Operation> {
     if !ctx.contains_block(block) || index >= block.num_operations(ctx) {
-        return Err(Fail::from("no such operation"));
+        rt.panic("no such operation");
     }
-    Ok(block.get_operation(ctx, index))
+    block.get_operation(ctx, index)
 }
 
 /// The result for the names of an operation's results, with the stream in its third column.
 fn results(
+    rt: &impl Abort,
     alloc: Global,
     ctx: &mut Ctx,
     index: usize,
     row: &[(&str, Option<(i32, i32)>)],
-) -> Result<String, Fail> {
-    let root = root(ctx, ROOT).ok_or("refused")?;
-    let op = operation(ctx, first_block(ctx, root)?, index)?;
+) -> String {
+    let root = root(ctx, ROOT).expect(rt, "refused");
+    let op = operation(rt, ctx, first_block(rt, ctx, root), index);
     if !ctx.contains_operation(op) {
-        return Err(Fail::from("no such operation"));
+        rt.panic("no such operation");
     }
-    let names = names(alloc, row)?;
-    let mut stream = TextStream::new(alloc, "ab")?;
+    let names = names(rt, alloc, row);
+    let mut stream = TextStream::new(alloc, "ab").expect(rt, "out of memory");
     stream.take();
     stream.take();
     let state = State::new(ctx, Source::InMemory, ());
     let mut s = StateStream { stream, state };
     match process_parsed_ssa_defs(&mut s, names.as_slice(), op) {
-        Ok(()) => Ok(String::from_str(alloc, "named")?),
-        Err(fault) => result_text(alloc, &fault),
+        Ok(()) => String::from_str(alloc, "named").expect(rt, "out of memory"),
+        Err(fault) => value_of(rt, result_text(alloc, &fault), "out of memory"),
     }
 }
 
 #[test]
-fn results_are_named_inside_of_regions_alone(rt: HostRuntime) -> Result<(), Fail> {
+fn results_are_named_inside_of_regions_alone(rt: HostRuntime) {
     for row in RESULTS {
-        let said = with_demo(rt.alloc(), |alloc, ctx| results(alloc, ctx, row.0, row.1))?;
-        assert_eq!(rt; said.as_str(), row.2);
+        let said = with_demo(
+            rt.alloc(),
+            |alloc, ctx| Ok(results(&rt, alloc, ctx, row.0, row.1)),
+        );
+        assert_eq!(rt; value_of(&rt, said, "no context").as_str(), row.2);
     }
-    Ok(())
 }
