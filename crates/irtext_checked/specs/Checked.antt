@@ -4,7 +4,7 @@ use Rattle.irtext_base.specs.declared.base.identifier.OpId.{OpId}
 use Rattle.irtext_base.specs.Text.{Text}
 use Rattle.irtext_base.specs.declared.base.attributes.AttrObj.{AttrObj}
 use Rattle.irtext_base.specs.declared.result.Cause.{Cause, Memory, ReservedKey, Text as IsText}
-use Rattle.irtext_dict.specs.Dictionary.{is_reserved_for}
+use Rattle.irtext_context.specs.Dictionary.{is_reserved_for}
 use Rattle.irtext_context.specs.Context.{ContextView}
 use Rattle.irtext_context.specs.Made.{AreLiveBlocks, IsUnregistered}
 use Rattle.irtext_checked.specs.Types.{AreContainedValues}

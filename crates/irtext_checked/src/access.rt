@@ -1,7 +1,7 @@
 //! Access to operations and blocks that need not be known to be in the context.
 ghost use Rattle.std.specs.Prelude.{◌≡◌, ◌↔◌, ℕ, Some, None, false, IsSome, IsTrue, IfOk, IfErr, OnOk, OnErr, slice_get, option_map};
 ghost use Rattle.irtext_base.specs.declared.location.Location.{Unknown};
-ghost use Rattle.irtext_dict.specs.Dictionary.{is_reserved_for};
+ghost use Rattle.irtext_context.specs.Dictionary.{is_reserved_for};
 ghost use Rattle.irtext_graph.specs.Parts.{regions};
 ghost use Rattle.irtext_graph.specs.Store.{before};
 ghost use Rattle.irtext_context.specs.Context.{block, operation, with_attribute, with_block_attribute, EditsBlock, EditsOperation, KeepsOlder};

@@ -1,3 +1,9 @@
+pub mod Dictionaries
+pub mod Drops
+pub mod KeptKeys
+pub mod Spliced
+pub mod FewEntries
+pub mod Copies
 pub mod Contexts
 pub mod Kept
 pub mod Attributes

@@ -5,7 +5,7 @@ use Rattle.std.specs.contracts.option.Option as option
 use Rattle.std.specs.Borrow.{Lends, Fml, RattleType, MutBor}
 use Rattle.irtext_base.specs.Text.{Text}
 use Rattle.irtext_base.specs.declared.base.attributes.AttrObj.{AttrObj}
-use Rattle.irtext_dict.specs.contracts.base.attributes.AttributeDict as dictionary
+use Rattle.irtext_context.specs.contracts.base.attributes.AttributeDict as dictionary
 use Rattle.irtext_graph.specs.declared.arena.Ptr.{Ptr}
 use Rattle.irtext_graph.specs.declared.object.BasicBlock.{BasicBlock}
 use Rattle.irtext_graph.specs.declared.object.Operation.{Operation}

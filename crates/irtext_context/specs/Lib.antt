@@ -1,3 +1,6 @@
+pub mod Dictionary
+pub mod Others
+pub mod Entries
 pub mod Dialects
 pub mod Named
 pub mod Context

@@ -1,11 +1,13 @@
 //! The context and its objects: a graph of operations, blocks and regions.
 
+pub mod attributes;
 pub mod block;
 pub mod context;
 pub mod item;
 pub mod operation;
-mod types;
+pub(crate) mod types;
 
+pub use attributes::{AttributeDict, is_outlined};
 pub use block::{BlockAccess, BlockData, NewBlock};
 pub use context::Context;
 pub use irtext_graph::arena::Ptr;

@@ -20,6 +20,7 @@ mod named;
 mod operation;
 mod table;
 
+use crate::base::types::failed;
 use crate::dialect::key::{SymNameKey, key_for};
 use indexmap::{Equivalent, IndexMap};
 use irtext_base::base::{Identifier, OpId};
@@ -214,23 +215,41 @@ fn kept(name: &DialectName, alloc: Global, id: &OpId, index: usize) -> Result<Op
 }
 
 /// Inserts an operation of this dialect into the dialect's table. If an allocation fails, the entries are unchanged.
-fn put<A>(
+fn put(
     ops: &mut IndexMap<OpId, OpInfo>,
     name: &DialectName,
-    id: OpId,
+    id: &OpId,
     info: OpInfo,
-) -> Result<(), Cause<A>>
-    requires { id.dialect ≡ name.now }
-    ensures ok { OnOk result (ops.new.entries ≡ insert_entry same_id ops.old.entries id info) }
+) -> Result<(), AllocError>
+    requires { id.now.dialect ≡ name.now }
+    ensures ok { OnOk result (ops.new.entries ≡ insert_entry same_id ops.old.entries id.now info) }
     ensures err { OnErr result (ops.new.entries ≡ ops.old.entries) }
-    ensures memory { IfErr result (λ cause. cause ≡ Cause.Memory) }
 {
     let alloc = *ops.allocator();
-    let Ok(key) = kept(name, alloc, &id, ops.len()) else {
-        return Err(Cause::Memory);
-    };
-    match ops.insert(key, info) {
-        Ok(_) => Ok(()),
+    match kept(name, alloc, id, ops.len()) {
+        Ok(key) => {
+            ops.insert(key, info)?;
+            Ok(())
+        }
+        Err(error) => failed(info, error),
+    }
+}
+
+/// What a dialect records of an operation with this format, which has to be accepted.
+fn info_of<A>(alloc: Global, format: OpFormat, isolated: bool) -> Result<OpInfo, Cause<A>>
+    ensures ok { IfOk result (λ info. known_of info ≡ record { format = format_of format; isolated = isolated }) }
+    ensures accepted { OnOk result (Accepted (format_of format)) }
+    ensures refused { IfErr result (λ cause. (own : _) (id : _) → id.dialect ≡ own → IsRefusedBy own id format cause) }
+{
+    if let Err(fault) = format::check_format(&format) {
+        return Err(Cause::FormatFault(fault));
+    }
+    match key_for(alloc, &format) {
+        Ok(sym_name_key) => Ok(OpInfo {
+            format,
+            isolated,
+            sym_name_key,
+        }),
         Err(_) => Err(Cause::Memory),
     }
 }
@@ -279,19 +298,11 @@ impl Dialect {
         if !self.name.is_of(&id) {
             return Err(invalid(wrong_dialect(id, &self.name)));
         }
-        if let Err(fault) = format::check_format(&format) {
-            return Err(invalid(Cause::FormatFault(fault)));
-        }
-        let Ok(sym_name_key) = key_for(*self.ops.allocator(), &format) else {
-            return Err(invalid(Cause::Memory));
-        };
-        let info = OpInfo {
-            format,
-            isolated,
-            sym_name_key,
-        };
-        match put(&mut self.ops, &self.name, id, info) {
-            Ok(()) => Ok(()),
+        match info_of(*self.ops.allocator(), format, isolated) {
+            Ok(info) => match put(&mut self.ops, &self.name, &id, info) {
+                Ok(()) => Ok(()),
+                Err(_) => Err(invalid(Cause::Memory)),
+            },
             Err(cause) => Err(invalid(cause)),
         }
     }

@@ -1,4 +1,4 @@
-//! The context: operations, blocks and regions, and dialects with the formats of their operations.
+//! The context: operations, blocks and regions with their dictionaries of attributes, and dialects with the formats of their operations.
 #![tactic(auto)]
 
 pub mod base;

@@ -7,7 +7,7 @@ use Rattle.irtext_base.specs.declared.base.attributes.AttrObj.{AttrObj}
 use Rattle.irtext_base.specs.declared.base.attributes.Refusal.{Refusal}
 use Rattle.irtext_base.specs.declared.base.attributes.Refusal.TheVariants as entry
 use Rattle.irtext_stream.specs.declared.position.Place.{Place}
-use Rattle.irtext_dict.specs.Dictionary.{RefusesEntry}
+use Rattle.irtext_context.specs.Dictionary.{RefusesEntry}
 use Rattle.irtext_parse_pieces.specs.declared.entries.Key.{Key}
 use Rattle.irtext_parse_nested.specs.declared.operation_parts.NotGathered.{NotGathered}
 use Rattle.irtext_parse_nested.specs.declared.operation_parts.NotGathered.TheVariants as refusal

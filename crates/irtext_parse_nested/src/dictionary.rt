@@ -11,7 +11,7 @@ ghost use Rattle.irtext_parse_nested.specs.Gathered.{entry_read, AreAllowed, For
 
 use crate::given::names_stored;
 use crate::operation_parts::{NotGathered, entry_stored};
-use irtext_dict::base::AttributeDict;
+use irtext_context::base::AttributeDict;
 use irtext_few::{Few, Items};
 use irtext_parse_objects::keys::is_label_key;
 use irtext_parse_objects::memory::ended;

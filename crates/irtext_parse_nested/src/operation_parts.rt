@@ -17,7 +17,7 @@ use crate::uses::names_used;
 use irtext_base::base::{AttrObj, Identifier, Refusal};
 use irtext_base::parsable::Place;
 use irtext_context::base::block::BlockData;
-use irtext_dict::base::AttributeDict;
+use irtext_context::base::AttributeDict;
 use irtext_few::Few;
 use irtext_names::kinds::{Blank, Referent};
 use irtext_parse_objects::gathered::{Gathered, Objects, Placed};

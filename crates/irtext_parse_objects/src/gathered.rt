@@ -4,8 +4,7 @@ ghost use Rattle.irtext_parse_objects.specs.Gathered.{IsNothing};
 
 use irtext_context::base::block::BlockData;
 use irtext_context::base::operation::OperationData;
-use irtext_context::base::{BasicBlock, Ptr};
-use irtext_dict::base::AttributeDict;
+use irtext_context::base::{AttributeDict, BasicBlock, Ptr};
 use irtext_few::Few;
 use irtext_graph::graph::Graph;
 use irtext_graph::object::Value;

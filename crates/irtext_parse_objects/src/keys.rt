@@ -4,16 +4,15 @@ ghost use Rattle.std.specs.Prelude.{◌≡◌, ◌∷◌, [], true, IfOk, IfErr,
 ghost use Rattle.std.specs.Str.{bytes_eq};
 ghost use Rattle.irtext_base.specs.Format.{block_label_key, given_names_key, sym_name_key};
 ghost use Rattle.irtext_context.specs.Context.{operation};
-ghost use Rattle.irtext_dict.specs.Dictionary.{RefusesEntry};
+ghost use Rattle.irtext_context.specs.Dictionary.{RefusesEntry};
 ghost use Rattle.irtext_grammar.specs.Contexts.Held.{attribute_of, entries_of};
 ghost use Rattle.irtext_grammar.specs.Graphs.Build.{put_all};
 ghost use Rattle.irtext_grammar.specs.Names.Acts.{may_hold};
 
 use irtext_base::base::{AttrObj, GIVEN_NAMES_KEY, Identifier, Refusal};
 use irtext_base::text::{AttrText, IrText};
-use irtext_context::base::{Context, Operation, OperationAccess, Ptr};
+use irtext_context::base::{AttributeDict, Context, Operation, OperationAccess, Ptr};
 use irtext_context::dialect::OpInfo;
-use irtext_dict::base::AttributeDict;
 use std::alloc::{AllocError, Global};
 
 /// Stores an attribute under a key. On an error nothing changes.

@@ -12,8 +12,7 @@ use irtext_base::base::OpId;
 use irtext_base::location::Location;
 use irtext_base::text::{AttrText, IrText};
 use irtext_context::base::context::making::Making;
-use irtext_context::base::{BasicBlock, Context, Operation, Ptr, Value};
-use irtext_dict::base::AttributeDict;
+use irtext_context::base::{AttributeDict, BasicBlock, Context, Operation, Ptr, Value};
 use irtext_few::Few;
 use std::alloc::{AllocError, Global};
 

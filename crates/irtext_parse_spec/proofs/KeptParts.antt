@@ -9,7 +9,7 @@ use Rattle.std.specs.Borrow.{Bor}
 use Rattle.std.specs.Option.{option_map}
 use Rattle.std.specs.Prelude.{IfSome}
 use Rattle.std.specs.Str.{bytes_eq}
-use Rattle.irtext_dict.specs.Dictionary.{is_reserved_for, are_given_names}
+use Rattle.irtext_context.specs.Dictionary.{is_reserved_for, are_given_names}
 use Rattle.irtext_base.specs.Faults.{id_of}
 use Rattle.irtext_base.specs.Format.{Accepted, distinct, has, same_text, given_names_key}
 use Rattle.irtext_base.specs.Locations.{LocationsOf}

@@ -18,8 +18,7 @@ use irtext_base::base::{AttrObj, Identifier, OpId};
 use irtext_base::location::{Location, Source};
 use irtext_base::parsable::SourcePosition;
 use irtext_base::text::{AttrText, IrText};
-use irtext_context::base::Context;
-use irtext_dict::base::AttributeDict;
+use irtext_context::base::{AttributeDict, Context};
 
 /// The text of an `Identifier` is an identifier.
 fn identifier_kept(name: &Identifier)

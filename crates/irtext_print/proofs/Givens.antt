@@ -3,7 +3,7 @@ use Rattle.std.proofs.Common.{◌≡◌, ◌∙◌, Bool, true, false, cond, Lis
 use Rattle.irtext_base.specs.Text.{Text}
 use Rattle.irtext_base.specs.declared.base.attributes.AttrObj.{AttrObj}
 use Rattle.irtext_base.specs.declared.base.attributes.AttrObj.TheVariants.{GivenNames, Ident, Own}
-use Rattle.irtext_dict.specs.Dictionary as dictionary
+use Rattle.irtext_context.specs.Dictionary as dictionary
 use Rattle.irtext_grammar.specs.Contexts.Held.{attribute_of, entries_of}
 use Rattle.irtext_grammar.specs.Graphs.Graph.{outlined, outlined_entries}
 use Rattle.irtext_print.specs.Printers.PieceText.{outlining}

@@ -8,8 +8,8 @@ use Rattle.irtext_base.specs.declared.location.Location.{Location, Unknown}
 use Rattle.irtext_base.specs.declared.text.AttrText as attr_text
 use Rattle.irtext_base.specs.declared.text.IrText as ir_text
 use Rattle.irtext_context.specs.Context.{ContextView}
-use Rattle.irtext_dict.specs.Entries.{entries_left}
-use Rattle.irtext_dict.specs.declared.base.attributes.Iter.{Iter}
+use Rattle.irtext_context.specs.Entries.{entries_left}
+use Rattle.irtext_context.specs.declared.base.attributes.Iter.{Iter}
 use Rattle.irtext_grammar.specs.Contexts.Held.{attribute_of, entries_of}
 use Rattle.irtext_grammar.specs.Contexts.Nested.{printing_over, seen_own, seen_head}
 use Rattle.irtext_grammar.specs.Grammar.Tree.{Attribute, ident}

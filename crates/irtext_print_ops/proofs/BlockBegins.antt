@@ -7,7 +7,7 @@ use Rattle.irtext_base.specs.declared.text.AttrText as attr_text
 use Rattle.irtext_base.specs.declared.text.IrText as ir_text
 use Rattle.irtext_context.specs.Context.{ContextView, operation}
 use Rattle.irtext_context.specs.declared.base.item.Item.{Item}
-use Rattle.irtext_dict.proofs.Drops.{one_left}
+use Rattle.irtext_context.proofs.Drops.{one_left}
 use Rattle.irtext_graph.specs.Graph.{IsLive, children, parent}
 use Rattle.irtext_graph.specs.Nested.{Nested}
 use Rattle.irtext_graph.specs.Parts.{operations_in}

@@ -29,7 +29,7 @@ use Rattle.irtext_print.specs.declared.printable.state.RegionPrintDepthLimit.{Re
 use Rattle.irtext_print.specs.declared.printable.state.RegionPrintDepthLimit.TheVariants.{Unlimited, Max}
 use Rattle.irtext_print_ops.specs.Opened.{a_block}
 use Rattle.irtext_print_ops.proofs.Depths.{inside_is}
-use Rattle.irtext_dict.proofs.Drops.{one_left}
+use Rattle.irtext_context.proofs.Drops.{one_left}
 use Rattle.irtext_print_ops.specs.Faults.{OperationFault, RegionsFault, BlocksFault, OpenFault}
 use Rattle.irtext_print_ops.specs.Steps.{NextTooDeep}
 use Rattle.irtext_print_ops.specs.Walk.{seen_at, inside_of, regions_left, blocks_left, operations_left, open_of}

@@ -40,7 +40,7 @@ use Rattle.irtext_print_ops.proofs.Turns.{goes_on, operation_ends, no_region_tur
 use Rattle.irtext_print_ops.specs.Walk.{is_canonical, AreDirectives, IsBegun, directives_in, or_nothing, pieces_text, after_pieces, parts_left, seen_at, inside_of, regions_left, blocks_left, operations_left, marked_own, open_of, AllFit, FrameFits, marked_operation, marked_block, items_in_regions, items_in_blocks, items_in_operations, items_left, directive_count, turns_of_regions, turns_of_blocks, turns_of_operations, turns_left, Steps}
 use Rattle.irtext_print_ops.specs.Steps.{region_front, region_frames, region_turn_text, region_turn_frames}
 use Rattle.irtext_print_ops.proofs.Tests.{none_left}
-use Rattle.irtext_dict.proofs.Drops.{one_left}
+use Rattle.irtext_context.proofs.Drops.{one_left}
 use Rattle.irtext_grammar.specs.Contexts.Formats.{isolated}
 use Rattle.irtext_print.specs.declared.printable.refusal.Refusal.TheVariants.{Misfit}
 use Rattle.irtext_print_ops.specs.Faults.{OpenFault, AnyFault, RegionsFault}

@@ -15,7 +15,7 @@ pub use irtext_context::base::{
     BasicBlock, BlockAccess, Context, NewBareOperation, NewBlock, NewOperation, Operation,
     OperationAccess, Ptr, Region,
 };
-pub use irtext_dict::base::AttributeDict;
+pub use irtext_context::base::AttributeDict;
 pub use irtext_few::Few;
 pub use irtext_grammar::UniqueName;
 pub use irtext_graph::object::{Site, Value};

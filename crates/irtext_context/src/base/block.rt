@@ -2,18 +2,17 @@
 ghost use Rattle.std.specs.Prelude.{◌≡◌, ◌≤◌, ℕ, List, [], Some, None, false, IsSome, IfErr, OnOk, OnErr, option_map, option_copied};
 ghost use Rattle.std.specs.Borrow.{sem};
 ghost use Rattle.irtext_base.specs.Text.{Text};
-ghost use Rattle.irtext_dict.specs.Dictionary.{is_reserved_for, RefusesEntry};
+ghost use Rattle.irtext_context.specs.Dictionary.{is_reserved_for, RefusesEntry};
 ghost use Rattle.irtext_graph.specs.Parts.{block_at};
 ghost use Rattle.irtext_graph.specs.Store.{before};
 ghost use Rattle.irtext_context.specs.Context.{block, with_label, with_block_attribute, with_block_attributes, with_block_loc, with_changed_block, EditsBlock, KeepsOlder};
 
 mod make;
 
-use crate::base::{BasicBlock, Context, Ptr};
+use crate::base::{AttributeDict, BasicBlock, Context, Ptr};
 use irtext_base::base::{AttrObj, Identifier, Refusal};
 use irtext_base::location::Location;
 use irtext_base::text::{AttrText, IrText};
-use irtext_dict::base::AttributeDict;
 pub use make::NewBlock;
 use std::alloc::Global;
 

@@ -2,7 +2,7 @@
 ghost use Rattle.std.specs.Prelude.{◌≡◌, ◌≤◌, ℕ, List, Some, None, false, IsSome, IfOk, IfErr, OnOk, OnErr, option_map, option_and_then};
 ghost use Rattle.std.specs.Borrow.{sem};
 ghost use Rattle.irtext_base.specs.Text.{Text};
-ghost use Rattle.irtext_dict.specs.Dictionary.{is_reserved_for, RefusesEntry};
+ghost use Rattle.irtext_context.specs.Dictionary.{is_reserved_for, RefusesEntry};
 ghost use Rattle.irtext_graph.specs.Parts.{operation_at};
 ghost use Rattle.irtext_graph.specs.Store.{before};
 ghost use Rattle.irtext_context.specs.Context.{operation, with_attribute, with_attributes, with_changed_operation, with_loc, AddsRegion, EditsOperation, KeepsOlder};
@@ -12,12 +12,11 @@ mod bare;
 mod make;
 
 use crate::base::context::making::Making;
-use crate::base::{Context, Operation, Ptr, Region};
+use crate::base::{AttributeDict, Context, Operation, Ptr, Region};
 pub use bare::NewBareOperation;
 use irtext_base::base::{AttrObj, Identifier, OpId, Refusal};
 use irtext_base::location::Location;
 use irtext_base::text::{AttrText, IrText};
-use irtext_dict::base::AttributeDict;
 pub use make::{NewOperation, add_regions};
 use std::alloc::AllocError;
 

@@ -1,5 +1,5 @@
 //! The types of values as the graph stores them, as `Option`: `None` is the type of a placeholder, which is not known.
-ghost use Rattle.std.specs.Prelude.{◌≡◌, IfOk};
+ghost use Rattle.std.specs.Prelude.{◌≡◌, IfOk, Err};
 ghost use Rattle.irtext_context.specs.Context.{known};
 
 use irtext_few::{Few, Items};
@@ -31,4 +31,12 @@ pub(crate) fn known_types<T: Drop>(
         Items::Two(first, second) => Ok(Few::two(Some(first), Some(second))),
         Items::Many(types) => Ok(Few::from_vec(many_known_types(alloc, types)?)),
     }
+}
+
+/// Returns the error of a call whose other argument is not used. It drops the value: a function with many parts of a value at its exits
+/// takes long to be proved.
+pub(crate) fn failed<X: Drop, Y>(_unused: X, error: AllocError) -> Result<Y, AllocError>
+    ensures { result ≡ Err error }
+{
+    Err(error)
 }

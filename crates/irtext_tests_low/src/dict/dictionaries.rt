@@ -3,7 +3,7 @@
 use crate::dict::pairs::{differing_step, put};
 use irtext_base::base::{AttrObj, GIVEN_NAMES_KEY, Identifier};
 use irtext_demo::DemoAttr;
-use irtext_dict::base::AttributeDict;
+use irtext_context::base::AttributeDict;
 use irtext_tests_common::answers::named;
 use irtext_tests_common::building::attribute;
 use std::alloc::Global;

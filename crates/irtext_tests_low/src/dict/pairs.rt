@@ -1,7 +1,7 @@
 //! Identifiers, and a dictionary with them, one call of each kind.
 use irtext_base::base::{AttrObj, Identifier, Refusal};
 use irtext_base::result::Result as Answer;
-use irtext_dict::base::AttributeDict;
+use irtext_context::base::AttributeDict;
 use irtext_tests_common::answers::{named, value_or_cause};
 use irtext_tests_common::tables::differing;
 use std::alloc::Global;

@@ -1,9 +1,8 @@
 //! Attributes that are borrowed mutably from a context: an inserted key is there, a reserved one is rejected, other objects are unchanged.
 use crate::tests::locations::make;
 use irtext_base::base::{AttrObj, GIVEN_NAMES_KEY, SYM_NAME_KEY};
-use irtext_context::base::{BlockAccess, Item, OperationAccess};
+use irtext_context::base::{AttributeDict, BlockAccess, Item, OperationAccess};
 use irtext_demo::DemoAttr;
-use irtext_dict::base::AttributeDict;
 use irtext_few::Few;
 use irtext_tests_common::building::{block, live, live_block};
 use irtext_tests_common::contexts::{Ctx, named, with_context};

@@ -2,8 +2,7 @@
 use crate::nested::steps::give_letter;
 use irtext_base::location::Location;
 use irtext_context::base::context::making::Making;
-use irtext_context::base::{BasicBlock, Item, Operation, Ptr, Value};
-use irtext_dict::base::AttributeDict;
+use irtext_context::base::{AttributeDict, BasicBlock, Item, Operation, Ptr, Value};
 use irtext_print_ops::fits::{FitFault, check_fits};
 use irtext_tests_common::building::{block, id, live, operation, register, types};
 use irtext_tests_common::contexts::Ctx;

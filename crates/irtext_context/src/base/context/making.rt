@@ -11,12 +11,11 @@ ghost use Rattle.irtext_context.specs.Context.{KeepsOlder, RollsBack, MakesOpera
 
 use crate::base::block::BlockData;
 use crate::base::operation::OperationData;
-use crate::base::types::known_types;
-use crate::base::{BasicBlock, Context, Operation, Ptr, Region, Value};
+use crate::base::types::{failed, known_types};
+use crate::base::{AttributeDict, BasicBlock, Context, Operation, Ptr, Region, Value};
 use irtext_base::base::{Identifier, OpId};
 use irtext_base::location::{Location, PathKey};
 use irtext_base::text::{AttrText, IrText};
-use irtext_dict::base::AttributeDict;
 use irtext_few::Few;
 use std::alloc::AllocError;
 
@@ -154,9 +153,13 @@ impl<T: IrText<A>, A: AttrText<A>> Making<T, A> for Context<T, A> {
             attributes,
             loc,
         };
-        let types = known_types(self.alloc, result_types)?;
-        self.graph
-            .make_operation(Some(held), types, operands, successors)
+        match known_types(self.alloc, result_types) {
+            Ok(types) => {
+                self.graph
+                    .make_operation(Some(held), types, operands, successors)
+            }
+            Err(error) => failed(held, error),
+        }
     }
 
     fn make_block(
@@ -176,8 +179,10 @@ impl<T: IrText<A>, A: AttrText<A>> Making<T, A> for Context<T, A> {
             attributes,
             loc,
         };
-        let types = known_types(self.alloc, arg_types)?;
-        self.graph.make_block(held, types)
+        match known_types(self.alloc, arg_types) {
+            Ok(types) => self.graph.make_block(held, types),
+            Err(error) => failed(held, error),
+        }
     }
 
     fn add_region(&mut self, op: Ptr<Operation>) -> Result<Ptr<Region>, AllocError> {

@@ -10,14 +10,13 @@ ghost use Rattle.irtext_context.specs.Made.{bare, AddsRegions, AreLiveBlocks, Is
 use crate::base::context::making::Making;
 use crate::base::operation::OperationData;
 use crate::base::types::known_types;
-use crate::base::{BasicBlock, Context, Operation, Ptr, Value};
+use crate::base::{AttributeDict, BasicBlock, Context, Operation, Ptr, Value};
 use crate::dialect::invalid;
 use irtext_base::base::OpId;
 use irtext_base::location::Location;
 use irtext_base::result;
 use irtext_base::result::Cause;
 use irtext_base::text::{AttrText, IrText};
-use irtext_dict::base::AttributeDict;
 use irtext_few::Few;
 use std::alloc::AllocError;
 

@@ -1,6 +1,6 @@
 use Rattle.std.proofs.Common.{◌∙◌, ◌==◌, ℕ, Bool, sym, ap, Some}
-use Rattle.irtext_dict.proofs.FewEntries.{absent_from_place, lookup-first, remove-first}
-use Rattle.irtext_dict.proofs.Spliced.{lookup-absent, first_at}
+use Rattle.irtext_context.proofs.FewEntries.{absent_from_place, lookup-first, remove-first}
+use Rattle.irtext_context.proofs.Spliced.{lookup-absent, first_at}
 use Rattle.irtext_grammar.specs.Grammar.Tree.{at_place}
 use Rattle.irtext_parse_objects.proofs.Ordering.{place_looked_up, others_stay}
 use Rattle.irtext_parse_objects.proofs.making.taken.Goals as goal

@@ -1,4 +1,4 @@
-use Rattle.irtext_dict.specs.Entries.{entries_left}
+use Rattle.irtext_context.specs.Entries.{entries_left}
 use Rattle.irtext_grammar.specs.Contexts.Held.{entries_of}
 use Rattle.irtext_grammar.specs.Graphs.Identifiers.{EntryHasIdentifiers}
 use Rattle.irtext_grammar.specs.Spelling.Spellable.{Each}

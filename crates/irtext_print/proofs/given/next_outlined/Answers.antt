@@ -1,5 +1,5 @@
 use Rattle.std.proofs.Common.{◌∙◌, sym, rules}
-use Rattle.irtext_dict.specs.Entries.{entries_left}
+use Rattle.irtext_context.specs.Entries.{entries_left}
 use Rattle.irtext_print.proofs.Givens.{outlined_found, outlined_passed}
 use Rattle.irtext_print.proofs.given.next_outlined.Goals as goal
 

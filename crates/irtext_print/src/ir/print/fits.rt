@@ -8,7 +8,7 @@ use crate::ir::print::pieces::attribute_under;
 use irtext_base::base::Identifier;
 use irtext_base::format::Directive;
 use irtext_base::text::AttrText;
-use irtext_dict::base::AttributeDict;
+use irtext_context::base::AttributeDict;
 
 /// Returns the key that a directive names, if no attribute has it.
 fn lacking_key<'d, A: AttrText<A>>(

@@ -15,8 +15,8 @@ use crate::printable::attributes::fmt_attr;
 use irtext_base::base::{AttrObj, Identifier};
 use irtext_base::format::Directive;
 use irtext_base::text::AttrText;
-use irtext_dict::base;
-use irtext_dict::base::AttributeDict;
+use irtext_context::base;
+use irtext_context::base::AttributeDict;
 use std::fmt;
 
 /// Whether there is no space before a word that begins with this character.

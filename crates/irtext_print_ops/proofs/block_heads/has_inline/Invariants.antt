@@ -1,5 +1,5 @@
 use Rattle.std.proofs.Common.{◌≡◌}
-use Rattle.irtext_dict.specs.Entries.{entries_left}
+use Rattle.irtext_context.specs.Entries.{entries_left}
 use Rattle.irtext_grammar.specs.Contexts.Held.{entries_of}
 use Rattle.irtext_print_ops.specs.Inline.{has_inline}
 use Rattle.irtext_print_ops.proofs.block_heads.has_inline.Given as goal

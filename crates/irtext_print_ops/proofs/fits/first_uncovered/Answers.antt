@@ -1,6 +1,6 @@
 use Rattle.std.proofs.Common.{◌∙◌, not, sym, ap}
 use Rattle.irtext_base.specs.FormatViews.{directives_of}
-use Rattle.irtext_dict.specs.Entries.{entries_left}
+use Rattle.irtext_context.specs.Entries.{entries_left}
 use Rattle.irtext_grammar.specs.Contexts.Held.{entries_of}
 use Rattle.irtext_print.proofs.Printers.FitFaults.{key_found, key_later}
 use Rattle.irtext_print_ops.specs.Fits.{is_covered, first_uncovered}

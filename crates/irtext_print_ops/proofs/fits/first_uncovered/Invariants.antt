@@ -1,6 +1,6 @@
 use Rattle.std.proofs.Common.{◌≡◌}
 use Rattle.irtext_base.specs.FormatViews.{directives_of}
-use Rattle.irtext_dict.specs.Entries.{entries_left}
+use Rattle.irtext_context.specs.Entries.{entries_left}
 use Rattle.irtext_grammar.specs.Contexts.Held.{entries_of}
 use Rattle.irtext_print_ops.specs.Fits.{first_uncovered}
 use Rattle.irtext_print_ops.proofs.fits.first_uncovered.Given as goal

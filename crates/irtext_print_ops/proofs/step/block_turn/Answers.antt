@@ -1,6 +1,6 @@
 use Rattle.std.proofs.Common.{◌∷◌, [], ◌+◌, append-nil, refl, sym, subst, string_bytes, arith, false}
 use Rattle.irtext_context.specs.Context.{operation}
-use Rattle.irtext_dict.proofs.Drops.{one_left}
+use Rattle.irtext_context.proofs.Drops.{one_left}
 use Rattle.irtext_graph.specs.Graph.{children, parent}
 use Rattle.irtext_graph.specs.Nested.{Nested}
 use Rattle.irtext_graph.specs.Parts.{operations_in}

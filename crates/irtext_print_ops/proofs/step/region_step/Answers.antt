@@ -1,5 +1,5 @@
 use Rattle.std.proofs.Common.{◌∷◌, [], refl, sym, subst, string_bytes, arith, true, false, ◌≤◌, ◌+◌, ◌^◌}
-use Rattle.irtext_dict.proofs.Drops.{one_left}
+use Rattle.irtext_context.proofs.Drops.{one_left}
 use Rattle.irtext_graph.specs.Graph.{children, parent}
 use Rattle.irtext_graph.specs.Nested.{Nested}
 use Rattle.irtext_graph.specs.Parts.{blocks}

@@ -8,5 +8,5 @@ make_operation-requires-clause-operands g c = subst (λ ctx. AreDefinedValues ct
 pub make_operation-requires-clause-successors : goal.make_operation-requires-clause-successors
 make_operation-requires-clause-successors g c = subst (λ ctx. AreLiveBlocks ctx c.args.successors.now) (sym c.self.view_is) c.requires.successors
 
-pub returns-clause-kept : goal.returns-clause-kept
-returns-clause-kept g c = rw (← c.self.view_is) (λ mark up. record { graph = c.make_operation.ensures.kept mark up; paths = λ i path h. h; dialects = refl })
+pub returns-in-Ok-clause-kept : goal.returns-in-Ok-clause-kept
+returns-in-Ok-clause-kept g c = rw (← c.self.view_is) (λ mark up. record { graph = c.make_operation.ensures.kept mark up; paths = λ i path h. h; dialects = refl })

@@ -1,7 +1,7 @@
 use Rattle.std.proofs.Common.{◌++◌, ◌∙◌, sym, ap, string_bytes}
 use Rattle.std.specs.Str.{encode_utf8_all}
 use Rattle.irtext_base.specs.FormatViews.{directives_of}
-use Rattle.irtext_dict.specs.Entries.{entries_left}
+use Rattle.irtext_context.specs.Entries.{entries_left}
 use Rattle.irtext_print.specs.Printers.PieceText.{rows_text, dictionary_entries}
 use Rattle.irtext_grammar.specs.Contexts.Held.{entries_of}
 use Rattle.irtext_print.proofs.Printers.PieceTexts.{row_more, row_same, rows_end}

@@ -1,7 +1,7 @@
 use Rattle.std.proofs.Common.{◌≡◌, ◌++◌, map, string_bytes}
 use Rattle.std.specs.Str.{encode_utf8_all}
 use Rattle.irtext_base.specs.FormatViews.{directives_of}
-use Rattle.irtext_dict.specs.Entries.{entries_left}
+use Rattle.irtext_context.specs.Entries.{entries_left}
 use Rattle.irtext_print.specs.Printers.PieceText.{entry_text, dictionary_entries, rows_text}
 use Rattle.irtext_grammar.specs.Contexts.Held.{entries_of}
 use Rattle.irtext_print.proofs.Printers.Locations.{left_text}

@@ -1,0 +1,11 @@
+use Rattle.std.proofs.Common.{◌≤◌, length, sym, subst, arith}
+use Rattle.std.specs.Str.{bytes_eq}
+use Rattle.irtext_context.proofs.FewEntries.{length-removed}
+use Rattle.irtext_context.specs.Others.{IsFew}
+use Rattle.irtext_context.proofs.base.attributes.others.take.Goals as goal
+
+pub returns-in-Few-clause-few : goal.returns-in-Few-clause-few
+returns-in-Few-clause-few g c few =
+    let less = length-removed (bytes_eq c.as_str.result.now) c.in-Few.few.items in
+    let before : length c.in-Few.few.items ≤ 8 = subst IsFew c.in-Few.is few in
+    subst (λ es. length es ≤ 8) (sym c.take_out.ensures.entries) (omega (arith, less, before))

@@ -1,0 +1,265 @@
+//! The entries of a dictionary beside the given names: a few are in a vector, which is searched, and more are in a map.
+ghost use Rattle.std.specs.Prelude.{◌≡◌, ◌+◌, ◌<◌, ◌≤◌, [], true, IfOk, OnOk, OnErr, IfSome, option_copied, length, slice_get, position};
+ghost use Rattle.std.specs.Map.{lookup, keys_of};
+ghost use Rattle.std.specs.Map.Iter.{deref_pair};
+ghost use Rattle.std.specs.Option.{option_map};
+ghost use Rattle.std.specs.Str.{bytes_eq};
+ghost use Rattle.indexmap.specs.IndexMap.{insert_entry, insert_all, shift_remove_entry, spare};
+ghost use Rattle.irtext_base.specs.Format.{distinct};
+ghost use Rattle.irtext_context.specs.Others.{entries_of, IsFew};
+
+use indexmap::IndexMap;
+use irtext_base::base::{AttrObj, Identifier};
+use std::alloc::{AllocError, Global};
+use std::marker::Model;
+
+/// The largest number of entries that are kept in a vector. With one more they are moved to a map.
+const FEW: usize = 8;
+
+type Entry<A> = (Identifier, AttrObj<A>);
+
+type Table<A> = IndexMap<Identifier, AttrObj<A>>;
+
+#[derive(Drop)]
+enum Stored<A> {
+    Few(Vec<Entry<A>>),
+    Many(Box<Table<A>>),
+}
+
+/// Entries in the order in which their keys were inserted. No key comes twice.
+#[derive(Drop)]
+pub(crate) struct Others<A> {
+    stored: Stored<A>,
+}
+
+impl<A> Model for Others<A> {
+    ghost use Rattle.std.specs.Prelude.{◌≡◌, List, true};
+    ghost use Rattle.std.specs.Map.{keys_of};
+    ghost use Rattle.std.specs.Str.{bytes_eq};
+    ghost use Rattle.irtext_base.specs.Text.{Text};
+    ghost use Rattle.irtext_base.specs.Format.{distinct};
+    ghost use Rattle.irtext_context.specs.Others.{entries_of, IsFew};
+    ghost use Rattle.irtext_base.specs.declared.base.attributes.AttrObj.{AttrObj};
+
+    ghost Value = { List (Text × AttrObj A) };
+
+    ghost view = { λ o. entries_of o.stored };
+
+    ghost invariant = { λ o. IsFew o.stored × (distinct bytes_eq (keys_of (entries_of o.stored)) ≡ true) };
+}
+
+fn place_of<A>(few: &Vec<Entry<A>>, key: &str) -> Option<usize>
+    ensures { result ≡ position (bytes_eq key.now) (keys_of few.now.items) }
+{
+    few.iter().position(|entry| key == entry.0.as_str())
+}
+
+fn attr_of<'a, A>(few: &'a Vec<Entry<A>>, key: &str) -> Option<&'a AttrObj<A>>
+    ensures { option_copied result ≡ lookup (bytes_eq key.now) few.now.items }
+{
+    let place = place_of(few, key)?;
+    Some(&few[place].1)
+}
+
+fn entry_at<A>(few: &Vec<Entry<A>>, i: usize) -> Option<(&Identifier, &AttrObj<A>)>
+    ensures { option_map deref_pair result ≡ slice_get few.now.items i }
+{
+    let entry = few.get(i)?;
+    Some((&entry.0, &entry.1))
+}
+
+fn take_out<A: Drop>(few: &mut Vec<Entry<A>>, key: &str) -> Option<(usize, AttrObj<A>)>
+    ensures entries { few.new.items ≡ shift_remove_entry (bytes_eq key.now) few.old.items }
+    ensures value { option_map (λ p. p.1) result ≡ lookup (bytes_eq key.now) few.old.items }
+    ensures index { IfSome result (λ p. position (bytes_eq key.now) (keys_of few.old.items) ≡ Some p.0) }
+{
+    let place = place_of(few, key)?;
+    let (_, attr) = few.remove(place);
+    Some((place, attr))
+}
+
+fn put_in<A: Drop>(map: &mut Table<A>, key: Identifier, attr: AttrObj<A>) -> Result<(), AllocError>
+    ensures ok { OnOk result (map.new.entries ≡ insert_entry bytes_eq map.old.entries key attr) }
+    ensures err { OnErr result (map.new.entries ≡ map.old.entries) }
+{
+    map.insert(key, attr)?;
+    Ok(())
+}
+
+/// Puts an entry into a map that has room for it.
+fn put_within<A: Drop>(map: &mut Table<A>, key: Identifier, attr: AttrObj<A>)
+    requires { 0 < spare map.old }
+    ensures entries { map.new.entries ≡ insert_entry bytes_eq map.old.entries key attr }
+    ensures spare { spare map.old ≤ spare map.new + 1 }
+{
+    match map.insert(key, attr) {
+        Ok(_) => {}
+        Err(_) => unreachable!(),
+    }
+}
+
+/// Returns an empty map with room for one entry more than `FEW`.
+fn roomy<A: Drop>(alloc: Global) -> Result<Box<Table<A>>, AllocError>
+    ensures empty { IfOk result (λ map. map.value.entries ≡ []) }
+    ensures spare { IfOk result (λ map. 9 ≤ spare map.value) }
+{
+    let map = IndexMap::with_capacity(alloc, FEW + 1)?;
+    Ok(Box::new(alloc, map)?)
+}
+
+/// Puts all entries into a map that has room for them and for one more.
+fn put_all<A: Drop>(map: &mut Table<A>, entries: Vec<Entry<A>>)
+    requires { length entries.items < spare map.old }
+    ensures entries { map.new.entries ≡ insert_all bytes_eq map.old.entries entries.items }
+    ensures spare { spare map.old ≤ spare map.new + length entries.items }
+{
+    for (key, attr) in entries {
+        put_within(map, key, attr);
+    }
+}
+
+/// Moves the entries to a map, and puts one more into it. When out of memory, the entries are unchanged.
+fn widened<A: Drop>(
+    few: &mut Vec<Entry<A>>,
+    alloc: Global,
+    key: Identifier,
+    attr: AttrObj<A>,
+) -> Result<Box<Table<A>>, AllocError>
+    requires few { length few.old.items ≤ 8 }
+    requires differ { distinct bytes_eq (keys_of few.old.items) ≡ true }
+    ensures ok { IfOk result (λ map. map.value.entries ≡ insert_entry bytes_eq few.old.items key attr) }
+    ensures err { OnErr result (few.new.items ≡ few.old.items) }
+{
+    let mut map = roomy(alloc)?;
+    put_all(&mut map, std::mem::replace(few, Vec::new(alloc)));
+    put_within(&mut map, key, attr);
+    Ok(map)
+}
+
+/// Replaces the attribute of the entry at an index.
+fn replace<A: Drop>(few: &mut Vec<Entry<A>>, place: usize, key: &Identifier, attr: AttrObj<A>)
+    requires { position (bytes_eq key.now) (keys_of few.old.items) ≡ Some place }
+    ensures entries { few.new.items ≡ insert_entry bytes_eq few.old.items key.now attr }
+    ensures len { length few.new.items ≡ length few.old.items }
+{
+    few[place].1 = attr;
+}
+
+fn put<A: Drop>(
+    stored: &mut Stored<A>,
+    alloc: Global,
+    key: Identifier,
+    attr: AttrObj<A>,
+) -> Result<(), AllocError>
+    requires few { IsFew stored.old }
+    requires differ { distinct bytes_eq (keys_of (entries_of stored.old)) ≡ true }
+    ensures ok { OnOk result (entries_of stored.new ≡ insert_entry bytes_eq (entries_of stored.old)
+        key attr) }
+    ensures err { OnErr result (entries_of stored.new ≡ entries_of stored.old) }
+    ensures few { IsFew stored.new }
+{
+    let few = match stored {
+        Stored::Many(map) => return put_in(map, key, attr),
+        Stored::Few(few) => few,
+    };
+    if let Some(place) = place_of(few, key.as_str()) {
+        replace(few, place, &key, attr);
+        return Ok(());
+    }
+    if few.len() < FEW {
+        few.push((key, attr))?;
+        return Ok(());
+    }
+    let map = widened(few, alloc, key, attr)?;
+    *stored = Stored::Many(map);
+    Ok(())
+}
+
+fn take<A: Drop>(stored: &mut Stored<A>, key: &Identifier) -> Option<(usize, AttrObj<A>)>
+    ensures entries { entries_of stored.new ≡ shift_remove_entry (bytes_eq key.now) (entries_of stored.old) }
+    ensures value { option_map (λ p. p.1) result ≡ lookup (bytes_eq key.now) (entries_of stored.old) }
+    ensures index { IfSome result (λ p. position (bytes_eq key.now) (keys_of (entries_of stored.old)) ≡
+        Some p.0) }
+    ensures few { IsFew stored.old → IsFew stored.new }
+{
+    match stored {
+        Stored::Few(few) => take_out(few, key.as_str()),
+        Stored::Many(map) => {
+            let (index, _, attr) = map.shift_remove_full(key)?;
+            Some((index, attr))
+        }
+    }
+}
+
+impl<A: Drop> Others<A> {
+    /// Returns an empty list of entries. It allocates nothing yet.
+    pub(crate) fn new(alloc: Global) -> Self
+        ensures { result ≡ [] }
+    {
+        Others {
+            stored: Stored::Few(Vec::new(alloc)),
+        }
+    }
+
+    /// Puts an attribute under a key: in place of the one that is there, or else as the last entry. When out of memory, it fails and the
+    /// entries are unchanged.
+    pub(crate) fn put(
+        &mut self,
+        alloc: Global,
+        key: Identifier,
+        attr: AttrObj<A>,
+    ) -> Result<(), AllocError>
+        ensures ok { OnOk result (self.new ≡ insert_entry bytes_eq self.old key attr) }
+        ensures err { OnErr result (self.new ≡ self.old) }
+    {
+        put(&mut self.stored, alloc, key, attr)
+    }
+
+    /// Returns the attribute under the key with this text, or `None` if there is none.
+    pub(crate) fn get(&self, key: &str) -> Option<&AttrObj<A>>
+        ensures { option_copied result ≡ lookup (bytes_eq key.now) self.now }
+    {
+        match &self.stored {
+            Stored::Few(few) => attr_of(few, key),
+            Stored::Many(map) => map.get(key),
+        }
+    }
+
+    /// Returns the number of entries.
+    pub(crate) fn len(&self) -> usize
+        ensures len { result ≡ length self.now }
+        ensures small { result < 9223372036854775808 }
+    {
+        match &self.stored {
+            Stored::Few(few) => few.len(),
+            Stored::Many(map) => map.len(),
+        }
+    }
+
+    /// Returns the entry at an index, from 0, or `None` if there are fewer.
+    pub(crate) fn at(&self, i: usize) -> Option<(&Identifier, &AttrObj<A>)>
+        ensures { option_map deref_pair result ≡ slice_get self.now i }
+    {
+        match &self.stored {
+            Stored::Few(few) => entry_at(few, i),
+            Stored::Many(map) => map.get_index(i),
+        }
+    }
+
+    /// Removes the attribute under the key and returns it with the index of its entry, or returns `None` if there is none. The order of the
+    /// other entries is unchanged.
+    pub(crate) fn take(&mut self, key: &Identifier) -> Option<(usize, AttrObj<A>)>
+        ensures entries { self.new ≡ shift_remove_entry (bytes_eq key.now) self.old }
+        ensures value { option_map (λ p. p.1) result ≡ lookup (bytes_eq key.now) self.old }
+        ensures index { IfSome result (λ p. position (bytes_eq key.now) (keys_of self.old) ≡ Some p.0) }
+    {
+        take(&mut self.stored, key)
+    }
+
+    /// No key comes twice. The call does nothing: its contract says this of the entries.
+    pub(crate) fn keeps_keys(&self)
+        ensures { distinct bytes_eq (keys_of self.now) ≡ true }
+    {
+        let _stored = &self.stored;
+    }
+}

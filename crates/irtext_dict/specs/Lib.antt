@@ -1,3 +1,0 @@
-pub mod Dictionary
-pub mod Others
-pub mod Entries
