@@ -1,7 +1,2 @@
 pub mod MadeLive
 mod TypesListed
-mod Preds
-mod Unions
-mod FirstResults
-pub mod Gathered
-mod NestedOperations

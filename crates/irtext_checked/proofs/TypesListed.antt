@@ -11,8 +11,8 @@ use Rattle.irtext_graph.specs.declared.arena.Ptr.{Ptr}
 use Rattle.irtext_graph.specs.declared.object.Operation.{Operation}
 use Rattle.irtext_graph.specs.declared.object.Value.{Value}
 use Rattle.irtext_graph.specs.declared.object.Value.TheVariants.{Result}
-use Rattle.irtext_checked.specs.Lists.{each}
-use Rattle.irtext_checked.proofs.Gathered.{seen_each}
+use Rattle.irtext_graph_queries.specs.Lists.{each}
+use Rattle.irtext_graph_queries.proofs.Gathered.{seen_each}
 use Rattle.irtext_checked.specs.Types.{value_type, result_values, AreContainedValues, ListsTypes}
 
 -- what there is among the images of a list

@@ -6,7 +6,7 @@ use Rattle.irtext_graph.specs.declared.arena.Ptr.{Ptr}
 use Rattle.irtext_graph.specs.declared.object.Operation.{Operation}
 use Rattle.irtext_graph.specs.declared.object.Value.{Value}
 use Rattle.irtext_graph.specs.declared.object.Value.TheVariants.{Result}
-use Rattle.irtext_checked.specs.Lists.{each}
+use Rattle.irtext_graph_queries.specs.Lists.{each}
 
 module _ {T A : Type 0} where
   -- the type of a value; `None` if the value is not defined, or is a placeholder

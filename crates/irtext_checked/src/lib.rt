@@ -10,7 +10,6 @@ pub mod access;
 pub mod contains;
 pub mod insert;
 pub mod make;
-pub mod queries;
 pub mod types;
 
 use irtext_base::location::Location;

@@ -7,11 +7,11 @@ ghost use Rattle.irtext_graph.specs.declared.object.Object.TheVariants.{TheOpera
 ghost use Rattle.irtext_graph.specs.declared.object.Value.TheVariants.{Result};
 ghost use Rattle.irtext_checked.specs.Types.{value_type, result_values, IsContainedValue, ListsTypes};
 
-use crate::queries::types::GraphTypes;
 use irtext_base::text::{AttrText, IrText};
 use irtext_context::base::{Context, Operation, Ptr};
 use irtext_graph::held::HasGraph;
 use irtext_graph::object::Value;
+use irtext_graph_queries::types::GraphTypes;
 use std::alloc::{AllocError, Global};
 
 /// The type of a value of a context. Allocates nothing.

@@ -2,7 +2,7 @@
 use crate::calls::Call::{
     Define, DefineLabel, Enter, EnterIsolated, Exit, ExitIsolated, Use, UseLabel,
 };
-use crate::random::Random;
+use irtext_tests_graph::random::Random;
 
 /// The kinds of calls on names.
 #[derive(Clone, Copy)]

@@ -1,5 +1,5 @@
 //! What the tests share: results as texts, tables of such texts, formats, deeply nested texts and locations, and operations and blocks; contexts of the demo types and
-//! streams over them; and for random scripts pseudo-random numbers, the calls of a script on names, and which names were mentioned.
+//! streams over them; and for random scripts the calls of a script on names, and which names were mentioned.
 #![tactic(auto)]
 
 pub mod answers;
@@ -9,5 +9,4 @@ pub mod contexts;
 pub mod formats;
 pub mod mentioned;
 pub mod nesting;
-pub mod random;
 pub mod tables;

@@ -5,7 +5,7 @@ use crate::held::holds_all;
 use crate::model::{Model, Referred};
 use crate::steps::{Kind, Made, Names, Tested, step};
 use irtext_tests_common::calls::{Call, NAMES, next_call};
-use irtext_tests_common::random::Random;
+use irtext_tests_graph::random::Random;
 use std::alloc::{AllocError, Global};
 
 // the number of calls, and then of regions that are left

@@ -5,11 +5,6 @@ pub use irtext_checked::access::{TryAccess, TryBlockAccess};
 pub use irtext_checked::contains::ContainsParts;
 pub use irtext_checked::insert::TryInsert;
 pub use irtext_checked::make::TryNewOperation;
-pub use irtext_checked::queries::block::BlockParts;
-pub use irtext_checked::queries::nested::NestedOperations;
-pub use irtext_checked::queries::operation::OperationParts;
-pub use irtext_checked::queries::region::RegionParts;
-pub use irtext_checked::queries::value::{UseSite, ValueUses};
 pub use irtext_checked::types::{OperationTypes, ValueType};
 pub use irtext_context::base::{
     BasicBlock, BlockAccess, Context, NewBareOperation, NewBlock, NewOperation, Operation,
@@ -19,3 +14,8 @@ pub use irtext_context::base::AttributeDict;
 pub use irtext_few::Few;
 pub use irtext_grammar::UniqueName;
 pub use irtext_graph::object::{Site, Value};
+pub use irtext_graph_queries::block::BlockParts;
+pub use irtext_graph_queries::nested::NestedOperations;
+pub use irtext_graph_queries::operation::OperationParts;
+pub use irtext_graph_queries::region::RegionParts;
+pub use irtext_graph_queries::value::{UseSite, ValueUses};

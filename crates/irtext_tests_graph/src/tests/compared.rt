@@ -2,12 +2,12 @@
 ghost use Rattle.std.specs.Prelude.{◌↔◌, IsTrue};
 ghost use Rattle.irtext_graph.specs.Used.{IsDefined};
 
+use crate::random::Random;
 use crate::tests::checks::Numbers;
 use crate::tests::model::{Item, Model};
 use crate::tests::nesting::is_child_at;
 use crate::tests::parts::{has_own, is_value};
 use irtext_graph::object::{Defined, Object, Site, Value};
-use irtext_tests_common::random::Random;
 use std::alloc::AllocError;
 
 /// The type of the value of a number.

@@ -1,8 +1,8 @@
 //! A plain model of a graph: its objects in one vector, in the order in which they were made, and its uses in another. Everything is
 //! found by searching these two; objects have no lists of their children or of their uses.
+use crate::random::Random;
 use irtext_graph::arena::Ptr;
 use irtext_graph::object::{BasicBlock, Defined, Object, Operation, Site, Value};
-use irtext_tests_common::random::Random;
 use std::alloc::{AllocError, Global};
 
 /// What an object is made of: its data, how many results or arguments it has, and what it uses. Parts that its kind does not have are

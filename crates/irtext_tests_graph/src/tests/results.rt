@@ -1,11 +1,11 @@
 //! The uses of an operation's results, and the types of its operands, over a type that holds a graph: each call once.
 use crate::tests::held::Holder;
 use crate::tests::script::make_using;
-use irtext_checked::queries::operation::OperationParts;
-use irtext_checked::queries::types::GraphTypes;
 use irtext_few::Few;
 use irtext_graph::arena::Ptr;
 use irtext_graph::object::{Object, Operation, Site, Value};
+use irtext_graph_queries::operation::OperationParts;
+use irtext_graph_queries::types::GraphTypes;
 use std::alloc::AllocError;
 
 /// Whether the operation is live, and uses values of these types in this order.

@@ -4,6 +4,7 @@ ghost use Rattle.irtext_graph.specs.Graph.{KeepsOlder};
 ghost use Rattle.irtext_graph.specs.Objects.{Fits};
 ghost use Rattle.irtext_graph.specs.Used.{AreAlike};
 
+use crate::random::Random;
 use crate::tests::checks::Numbers;
 use crate::tests::compared::{agree, is_defined, type_of};
 use crate::tests::model::{Model, Parts};
@@ -11,7 +12,6 @@ use crate::tests::nesting::put;
 use irtext_few::Few;
 use irtext_graph::arena::Ptr;
 use irtext_graph::object::{BasicBlock, Defined, Object, Operation, Value};
-use irtext_tests_common::random::Random;
 use std::alloc::{AllocError, Global};
 
 // the number of calls

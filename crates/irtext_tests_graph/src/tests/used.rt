@@ -7,14 +7,14 @@ use crate::tests::checks::Numbers;
 use crate::tests::held::Holder;
 use crate::tests::nesting::put;
 use crate::tests::script::make_using;
-use irtext_checked::queries::block::BlockParts;
-use irtext_checked::queries::operation::OperationParts;
-use irtext_checked::queries::region::RegionParts;
-use irtext_checked::queries::types::GraphTypes;
-use irtext_checked::queries::value::{UseSite, ValueUses};
 use irtext_few::Few;
 use irtext_graph::arena::Ptr;
 use irtext_graph::object::{BasicBlock, Object, Operation, Region, Site, Value};
+use irtext_graph_queries::block::BlockParts;
+use irtext_graph_queries::operation::OperationParts;
+use irtext_graph_queries::region::RegionParts;
+use irtext_graph_queries::types::GraphTypes;
+use irtext_graph_queries::value::{UseSite, ValueUses};
 use std::alloc::AllocError;
 
 /// An operation with a region of two blocks, the first of which has two arguments and two operations: one with two results, and

@@ -2,7 +2,7 @@
 use crate::scopes::model::Model;
 use crate::scopes::steps::{Tracker, step};
 use irtext_tests_common::calls::{NAMES, next_call};
-use irtext_tests_common::random::Random;
+use irtext_tests_graph::random::Random;
 use std::alloc::{AllocError, Global};
 
 // the number of calls

@@ -1,7 +1,0 @@
-use Rattle.std.proofs.Common.{rules}
-use Rattle.irtext_graph.specs.Parts.{operands}
-use Rattle.irtext_checked.proofs.Gathered.{gathered}
-use Rattle.irtext_checked.proofs.queries.operation.PtrOperationOperationParts.operands.Goals as goal
-
-pub returns : goal.returns
-returns g c = gathered (λ all. all.items) c.get_num_operands-count.result (operands (g.C.HasGraph.graph c.args.ctx.now) c.args.self) c.gather.result c.gather.ensures c.get_num_operands-count.ensures (λ i x less e. search rules)

@@ -1,9 +1,0 @@
-//! The parts of operations, blocks, regions and values, by their pointers, in any holder of a graph: what they use, define and contain, as
-//! numbers, one by one, and as lists.
-pub mod block;
-mod gather;
-pub mod nested;
-pub mod operation;
-pub mod region;
-pub mod types;
-pub mod value;

@@ -1,0 +1,5 @@
+mod Preds
+mod Unions
+mod FirstResults
+pub mod Gathered
+mod NestedOperations

@@ -1,0 +1,13 @@
+use Rattle.std.proofs.Common.{arith}
+use Rattle.irtext_graph_queries.proofs.FirstResults.{next_unused}
+use Rattle.irtext_graph_queries.proofs.operation.PtrOperationOperationParts.has_use.Goals as goal
+
+pub loop-i-preserved : goal.loop-i-preserved
+loop-i-preserved g c =
+    let v = g.C.HasGraph.graph c.args.ctx.now in
+    record {
+      unused = next_unused v c.args.self c.loop-i.i c.loop-i.invariant.unused (λ u e. absurd (let met = c.has_use.ensures.1 (u, rw c.graph.ensures e) in let not_met = c.if-has_use.false in cc));
+    }
+
+pub returns : goal.returns
+returns g c = (λ e. absurd (cc), λ m. absurd (c.loop-i.invariant.unused m.0 (m.1.0, (let less = c.count_results-i-end.ensures.used m.1.0 m.0 m.1.1 in let end = c.loop-i-test.false in omega (arith, less, end)), m.1.1)))

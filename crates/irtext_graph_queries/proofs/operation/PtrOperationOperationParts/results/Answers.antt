@@ -1,0 +1,8 @@
+use Rattle.std.proofs.Common.{rules, length}
+use Rattle.irtext_graph.specs.declared.object.Value.TheVariants.{Result}
+use Rattle.irtext_graph.specs.Parts.{results}
+use Rattle.irtext_graph_queries.proofs.Gathered.{gathered_each}
+use Rattle.irtext_graph_queries.proofs.operation.PtrOperationOperationParts.results.Goals as goal
+
+pub returns : goal.returns
+returns g c = gathered_each (λ all. all.items) c.get_num_results-count.result (Result c.args.self) (length (results (g.C.HasGraph.graph c.args.ctx.now) c.args.self)) c.gather.result c.gather.ensures c.get_num_results-count.ensures (λ i x e. search rules)

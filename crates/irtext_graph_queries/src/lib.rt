@@ -1,0 +1,11 @@
+//! The parts of operations, blocks, regions and values, by their pointers, in any holder of a graph: what they use, define and contain, as
+//! numbers, one by one, and as lists.
+#![tactic(auto)]
+
+pub mod block;
+mod gather;
+pub mod nested;
+pub mod operation;
+pub mod region;
+pub mod types;
+pub mod value;

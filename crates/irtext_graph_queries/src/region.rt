@@ -1,0 +1,46 @@
+//! The blocks of a region.
+ghost use Rattle.std.specs.Prelude.{◌≡◌, IfOk, slice_get};
+ghost use Rattle.irtext_graph.specs.declared.object.Object.TheVariants.{TheRegion};
+ghost use Rattle.irtext_graph.specs.Graph.{IsLive};
+ghost use Rattle.irtext_graph.specs.Parts.{blocks};
+
+use crate::gather::gather;
+use irtext_graph::arena::Ptr;
+use irtext_graph::held::HasGraph;
+use irtext_graph::object::{BasicBlock, Region};
+use std::alloc::AllocError;
+
+/// The blocks of a region, by the region's pointer, in any holder of a graph. The region must be live in the graph.
+pub trait RegionParts: Sized {
+    ghost use Rattle.irtext_graph.specs.declared.arena.Ptr.{Ptr};
+    ghost use Rattle.irtext_graph.specs.declared.object.Region.{Region};
+
+    // the pointer
+    ghost pointer: { Self → Ptr Region };
+
+    /// Returns the blocks of the region, in order. Fails only when out of memory.
+    fn blocks<C: HasGraph>(self, ctx: &C) -> Result<Vec<Ptr<BasicBlock>>, AllocError>
+        requires { IsLive (C.graph ctx.now) (TheRegion (pointer self)) }
+        ensures { IfOk result (λ all. all.items ≡ blocks (C.graph ctx.now) (pointer self)) };
+
+    /// Returns the first block of the region, or `None` if it has no block.
+    fn get_entry_block<C: HasGraph>(self, ctx: &C) -> Option<Ptr<BasicBlock>>
+        requires { IsLive (C.graph ctx.now) (TheRegion (pointer self)) }
+        ensures { result ≡ slice_get (blocks (C.graph ctx.now) (pointer self)) 0 };
+}
+
+impl RegionParts for Ptr<Region> {
+    ghost pointer = { λ p. p };
+
+    fn blocks<C: HasGraph>(self, ctx: &C) -> Result<Vec<Ptr<BasicBlock>>, AllocError> {
+        let count = self.num_blocks(ctx);
+        gather(ctx.graph().allocator(), count, |i| self.get_block(ctx, i))
+    }
+
+    fn get_entry_block<C: HasGraph>(self, ctx: &C) -> Option<Ptr<BasicBlock>> {
+        if self.num_blocks(ctx) == 0 {
+            return None;
+        }
+        Some(self.get_block(ctx, 0))
+    }
+}
