@@ -52,7 +52,7 @@ impl Task {
 }
 
 /// Returns the task that the first argument selects.
-fn task(rt: &HostRuntime) -> io::Result<Option<Task>> {
+fn selected(rt: &HostRuntime) -> io::Result<Option<Task>> {
     let mut words = env::args(rt)?.skip(1);
     match words.next() {
         Some(word) => Ok(Task::of(word.as_str())),
@@ -69,7 +69,7 @@ fn status(rt: &HostRuntime, task: Task) -> ExitCode {
 }
 
 fn main(rt: HostRuntime) -> ExitCode {
-    match task(&rt) {
+    match selected(&rt) {
         Ok(Some(task)) => status(&rt, task),
         Ok(None) => {
             let _ = eprintln!(rt;

@@ -166,7 +166,7 @@ pub(crate) struct Outcome {
 }
 
 /// The outcome of what is asked.
-fn outcome(alloc: Global, s: &mut Stream<'_>, asked: Asked<'_>) -> Result<Outcome, Fail> {
+fn result_of(alloc: Global, s: &mut Stream<'_>, asked: Asked<'_>) -> Result<Outcome, Fail> {
     let said = said(alloc, s, asked)?;
     Ok(Outcome {
         said,
@@ -184,7 +184,7 @@ pub(crate) fn on_stream(
 ) -> Result<Outcome, Fail> {
     let state = State::new(ctx, Source::InMemory, ());
     let mut s = state_stream_from_iterator(text.chars(), state)?;
-    outcome(alloc, &mut s, asked)
+    result_of(alloc, &mut s, asked)
 }
 
 /// Whether a region is the last of an operation, as a word.
