@@ -8,7 +8,9 @@ ghost use Rattle.irtext_grammar.specs.UniqueNames.{given_at, given_name, value_n
 
 use irtext_base::base::{AttrObj, Identifier};
 use irtext_base::text::{AttrText, IrText};
-use irtext_context::base::{AttributeDict, BasicBlock, BlockAccess, Context, Operation, OperationAccess, Ptr};
+use irtext_context::base::{
+    AttributeDict, BasicBlock, BlockAccess, Context, Operation, OperationAccess, Ptr,
+};
 use irtext_graph::held::HasGraph;
 use irtext_graph::object::Value;
 use std::alloc::{AllocError, Global};

@@ -25,10 +25,10 @@ use irtext_context::base::{BasicBlock, Operation, Ptr, Region};
 use irtext_parse_nested::beginning::operation_begin;
 use irtext_parse_nested::blocks::block_begin;
 use irtext_parse_nested::frame::{BegunBlock, BegunOperation, BegunRegion};
-use irtext_parse_objects::names::Names;
 use irtext_parse_nested::later::operation_piece;
 use irtext_parse_nested::operation_end::operation_end;
 use irtext_parse_nested::regions::{region_begin, region_end};
+use irtext_parse_objects::names::Names;
 use irtext_parse_pieces::keys::Keys;
 use irtext_parse_state::parsable::StateStream;
 

@@ -17,7 +17,9 @@ use crate::said::{GivenAttr, ItemEntry, Once, ReadPair};
 use irtext_base::base::{AttrObj, Identifier};
 use irtext_base::location::Location;
 use irtext_base::text::{AttrText, IrText};
-use irtext_context::base::{AttributeDict, BasicBlock, BlockAccess, Context, Item, Operation, OperationAccess, Ptr};
+use irtext_context::base::{
+    AttributeDict, BasicBlock, BlockAccess, Context, Item, Operation, OperationAccess, Ptr,
+};
 use std::alloc::{AllocError, Global};
 
 /// Returns the given attribute: the one in the entry, or a copy of the print-once attribute that it refers to; `None` if there is no such

@@ -16,7 +16,9 @@ use crate::said::{ItemEntry, Once, ReadPair};
 use irtext_base::base::{AttrObj, Identifier};
 use irtext_base::location::Location;
 use irtext_base::text::{AttrText, IrText};
-use irtext_context::base::{AttributeDict, BasicBlock, BlockAccess, Context, Item, Operation, OperationAccess, Ptr};
+use irtext_context::base::{
+    AttributeDict, BasicBlock, BlockAccess, Context, Item, Operation, OperationAccess, Ptr,
+};
 use std::alloc::{AllocError, Global};
 
 /// An entry whose attributes have been stored: the attributes that its item had before, if the item is live, and what the item still has

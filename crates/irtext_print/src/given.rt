@@ -9,8 +9,8 @@ use crate::ir::print::pieces::is_outlined;
 use irtext_base::base::{AttrObj, Identifier};
 use irtext_base::location::Location;
 use irtext_base::text::{AttrText, IrText};
-use irtext_context::base::{AttributeDict, BlockAccess, Context, Item, OperationAccess};
 use irtext_context::base::attributes::Iter;
+use irtext_context::base::{AttributeDict, BlockAccess, Context, Item, OperationAccess};
 
 /// What the section contains for an item.
 #[derive_where(Clone, Copy)]

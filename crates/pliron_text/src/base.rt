@@ -7,10 +7,9 @@ pub use irtext_checked::insert::TryInsert;
 pub use irtext_checked::make::TryNewOperation;
 pub use irtext_checked::types::{OperationTypes, ValueType};
 pub use irtext_context::base::{
-    BasicBlock, BlockAccess, Context, NewBareOperation, NewBlock, NewOperation, Operation,
-    OperationAccess, Ptr, Region,
+    AttributeDict, BasicBlock, BlockAccess, Context, NewBareOperation, NewBlock, NewOperation,
+    Operation, OperationAccess, Ptr, Region,
 };
-pub use irtext_context::base::AttributeDict;
 pub use irtext_few::Few;
 pub use irtext_grammar::UniqueName;
 pub use irtext_graph::object::{Site, Value};

@@ -2,8 +2,8 @@
 //! they were inserted. A copy without the outlined attributes keeps that order.
 use crate::dict::pairs::{differing_step, put};
 use irtext_base::base::{AttrObj, GIVEN_NAMES_KEY, Identifier};
-use irtext_demo::DemoAttr;
 use irtext_context::base::AttributeDict;
+use irtext_demo::DemoAttr;
 use irtext_tests_common::answers::named;
 use irtext_tests_common::building::attribute;
 use std::alloc::Global;
