@@ -2,10 +2,10 @@
 use crate::fault::{Fault, checked};
 use irtext_demo::dialects::register_demo;
 pub(crate) use irtext_tests_common::contexts::{Ctx, Stream};
-pub(crate) use irtext_tests_roots::reading::{
+pub(crate) use irtext_tests_print::reading::{
     alone, appended, concrete, laid_out, location, printed, read_root, root, two, whole,
 };
-pub(crate) use irtext_tests_roots::registering::register;
+pub(crate) use irtext_tests_print::registering::register;
 use pliron_text::base::{Operation, Ptr};
 
 /// Registers the demo dialects with a context.

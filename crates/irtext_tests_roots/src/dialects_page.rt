@@ -17,9 +17,9 @@ fn register_make(ctx: &mut Context<DemoType, DemoAttr>) -> Answer<(), DemoAttr> 
     ctx.register_op("mine", "make", format, false)
 }
 
-use crate::reading::{root, whole};
 use crate::value::value_of;
 use irtext_tests_common::contexts::with_demo;
+use irtext_tests_print::reading::{root, whole};
 use std::test::Fail;
 
 /// The printed text of a module with one such operation.

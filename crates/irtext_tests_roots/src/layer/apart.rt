@@ -5,14 +5,14 @@ ghost use Rattle.irtext_base.specs.Format as format;
 ghost use Rattle.irtext_base.specs.FormatViews.{directive_of, format_of};
 ghost use Rattle.irtext_tests_roots.specs.Apart.{lab_dialects, lab_format, lab_id};
 
-use crate::reading::concrete;
-use crate::registering::register_operation;
 use crate::value::value_of;
 use irtext_context::base::context::making::Making;
 use irtext_demo::DemoAttr;
 use irtext_tests_common::answers::result_text;
 use irtext_tests_common::building::live;
 use irtext_tests_common::contexts::{Ctx, named};
+use irtext_tests_print::reading::concrete;
+use irtext_tests_print::registering::register_operation;
 use pliron_text::base::{AttributeDict, Context, NewBareOperation, OpId, Operation, Ptr};
 use pliron_text::dialect::DialectName;
 use pliron_text::format::{Directive, OpFormat};

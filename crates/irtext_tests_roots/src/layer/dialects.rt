@@ -1,11 +1,11 @@
 //! The dialects of a context: how they are registered and looked up, and how their names are parsed and printed.
-use crate::registering::register;
 use crate::value::value_of;
 use irtext_demo::{DemoAttr, DemoType};
 use irtext_tests_common::answers::printed;
 use irtext_tests_common::building::id;
 use irtext_tests_common::contexts::{Ctx, named};
 use irtext_tests_common::tables::differing_alone;
+use irtext_tests_print::registering::register;
 use pliron_text::base::{NewBareOperation, OpId, Operation, Ptr};
 use pliron_text::dialect::{Dialect, DialectName};
 use pliron_text::parsable::{Parsable, parse_from_str};

@@ -1,12 +1,12 @@
 //! Graphs with blocks and values that a caller makes, and their printed texts.
-use crate::reading::{concrete, whole};
-use crate::registering::register;
 use crate::value::value_of;
 use irtext_context::base::Item;
 use irtext_tests_common::building::{
     block_inside, give, id, into_block, module, note, one_name, operation, place, types,
 };
 use irtext_tests_common::contexts::{Ctx, with_counters, with_demo};
+use irtext_tests_print::reading::{concrete, whole};
+use irtext_tests_print::registering::register;
 use pliron_text::base::{BasicBlock, Few, GIVEN_NAMES_KEY, Operation, Ptr, Value};
 use pliron_text::ir::print_root;
 use pliron_text::printable::State;

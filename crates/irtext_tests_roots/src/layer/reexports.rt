@@ -1,9 +1,9 @@
 //! What `pliron_text` re-exports from the crates below, by its own paths, unless another row names it.
-use crate::reading::root;
 use crate::value::value_of;
 use irtext_demo::DemoAttr;
 use irtext_tests_common::building::id;
 use irtext_tests_common::contexts::{Ctx, named, with_demo};
+use irtext_tests_print::reading::root;
 use pliron_text::base::{
     AttrObj, AttributeDict, BasicBlock, BlockAccess, Few, Identifier, NewBlock, NewOperation, OpId,
     Operation, OperationAccess, Ptr, Region,

@@ -1,9 +1,9 @@
 //! Results that are named outside of every region: no scope is open there, so each is an error.
-use crate::reading::root;
 use crate::value::value_of;
 use irtext_demo::DemoAttr;
 use irtext_tests_common::answers::result_text;
 use irtext_tests_common::contexts::{Ctx, named, with_demo};
+use irtext_tests_print::reading::root;
 use pliron_text::base::{BasicBlock, Identifier, Operation, Ptr};
 use pliron_text::irfmt::parsers::process_parsed_ssa_defs;
 use pliron_text::location::{Location, Source};
