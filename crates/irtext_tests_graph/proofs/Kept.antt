@@ -1,7 +1,11 @@
 -- Calls in a row keep what was made before any mark.
-use Rattle.std.proofs.Common.{◌≤◌, ℕ, arith}
+use Rattle.std.proofs.Common.{◌≡◌, ◌≤◌, ℕ, arith, subst, Result, Ok, IfOk}
 use Rattle.irtext_graph.specs.Graph.{GraphView, KeepsOlder}
 use Rattle.irtext_graph.proofs.Closed.{older_on}
+
+-- what holds of the value of a result that is `Ok`
+pub got : {X E : Type 0} (P : X → Type 0) (r : Result X E) (x : X) → r ≡ Ok x → IfOk r P → P x
+got P r x e k = subst (λ r. IfOk r P) e k
 
 module _ {O B T : Type 0} where
   -- what was made before any mark so far is unchanged

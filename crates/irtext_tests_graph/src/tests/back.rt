@@ -12,7 +12,7 @@ use crate::tests::nesting::is_child_at;
 use irtext_few::Few;
 use irtext_graph::arena::Ptr;
 use irtext_graph::object::{Object, Operation, Region};
-use std::alloc::AllocError;
+use std::process::Abort;
 
 /// The objects of each kind that were made, in that order: an operation, a block and a region.
 #[derive(Clone, Copy)]
@@ -23,17 +23,25 @@ struct Three {
 }
 
 /// Makes an object of each kind.
-fn makes_three(graph: &mut Numbers, data: u32) -> Result<Three, AllocError>
+fn makes_three(rt: &impl Abort, graph: &mut Numbers, data: u32) -> Three
     ensures kept { (m : ℕ) → m ≤ graph.old.made → KeepsOlder m graph.old graph.new }
 {
-    let operation = Object::TheOperation(graph.make_operation(data, Few::none(), &[], &[])?);
-    let block = Object::TheBlock(graph.make_block(data, Few::none())?);
-    let region = Object::TheRegion(graph.make_region()?);
-    Ok(Three {
+    let operation = Object::TheOperation(
+        graph
+            .make_operation(data, Few::none(), &[], &[])
+            .expect(rt, "out of memory"),
+    );
+    let block = Object::TheBlock(
+        graph
+            .make_block(data, Few::none())
+            .expect(rt, "out of memory"),
+    );
+    let region = Object::TheRegion(graph.make_region().expect(rt, "out of memory"));
+    Three {
         operation,
         block,
         region,
-    })
+    }
 }
 
 /// Whether three objects are live.
@@ -57,20 +65,22 @@ fn has_only(graph: &Numbers, older: &Three, newer: &Three) -> bool {
 }
 
 /// Makes the seventh object, and returns whether it is an operation at the second place, with the next generation there.
-fn goes_on(graph: &mut Numbers) -> Result<bool, AllocError> {
-    let again = graph.make_operation(3, Few::none(), &[], &[])?;
-    Ok(again.place() == 2 && again.generation() == 2 && graph.made() == 7)
+fn goes_on(rt: &impl Abort, graph: &mut Numbers) -> bool {
+    let again = graph
+        .make_operation(3, Few::none(), &[], &[])
+        .expect(rt, "out of memory");
+    again.place() == 2 && again.generation() == 2 && graph.made() == 7
 }
 
 /// Whether what was made after a mark is removed, older objects are live, and places are used again with their next generation.
-pub(crate) fn gives_back(graph: &mut Numbers) -> Result<bool, AllocError> {
-    let older = makes_three(graph, 1)?;
+pub(crate) fn gives_back(rt: &impl Abort, graph: &mut Numbers) -> bool {
+    let older = makes_three(rt, graph, 1);
     let mark = graph.made();
-    let newer = makes_three(graph, 2)?;
+    let newer = makes_three(rt, graph, 2);
     let before = has_six(graph, &newer);
     graph.roll_back(mark);
     let gone = has_only(graph, &older, &newer);
-    Ok(goes_on(graph)? & before & gone)
+    goes_on(rt, graph) & before & gone
 }
 
 /// Whether an operation has two regions in this order, and there is no other object.
@@ -84,31 +94,33 @@ fn has_two(graph: &Numbers, op: Ptr<Operation>, first: Ptr<Region>, second: Ptr<
 }
 
 /// Adds two regions to the only object, an operation, and returns whether they are in it in the order in which they were added.
-fn adds_two(graph: &mut Numbers, op: Ptr<Operation>) -> Result<bool, AllocError>
+fn adds_two(rt: &impl Abort, graph: &mut Numbers, op: Ptr<Operation>) -> bool
     requires { IsLive graph.old (TheOperation op) }
     ensures kept { (m : ℕ) → m ≤ graph.old.made → before m graph.old.operations op ≡ None
         → KeepsOlder m graph.old graph.new }
 {
-    let first = graph.add_region(op)?;
-    let second = graph.add_region(op)?;
-    Ok(has_two(graph, op, first, second))
+    let first = graph.add_region(op).expect(rt, "out of memory");
+    let second = graph.add_region(op).expect(rt, "out of memory");
+    has_two(graph, op, first, second)
 }
 
 /// Makes an operation with two regions, and returns whether they are in it.
-fn makes_with_two(graph: &mut Numbers) -> Result<bool, AllocError>
+fn makes_with_two(rt: &impl Abort, graph: &mut Numbers) -> bool
     ensures kept { (m : ℕ) → m ≤ graph.old.made → KeepsOlder m graph.old graph.new }
 {
-    let op = graph.make_operation(1, Few::none(), &[], &[])?;
-    adds_two(graph, op)
+    let op = graph
+        .make_operation(1, Few::none(), &[], &[])
+        .expect(rt, "out of memory");
+    adds_two(rt, graph, op)
 }
 
 /// Whether an operation with two regions is made and rolled back.
-pub(crate) fn gives_regions_back(graph: &mut Numbers) -> Result<bool, AllocError>
+pub(crate) fn gives_regions_back(rt: &impl Abort, graph: &mut Numbers) -> bool
     ensures operations { (p : Ptr Operation) → get graph.new.operations p ≡ get graph.old.operations p }
     ensures regions { (p : Ptr Region) → get graph.new.regions p ≡ get graph.old.regions p }
 {
     let mark = graph.made();
-    let made = makes_with_two(graph);
+    let made = makes_with_two(rt, graph);
     graph.roll_back(mark);
     made
 }

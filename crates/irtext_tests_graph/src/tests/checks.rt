@@ -6,8 +6,8 @@ use crate::tests::parts::{has_any_number, has_parts, writes};
 use crate::tests::using::{uses, uses_often};
 use crate::tests::walks::{goes_deep, goes_through};
 use irtext_graph::graph::Graph;
-use std::alloc::{AllocError, Global};
-use std::test::Fail;
+use std::alloc::Global;
+use std::process::Abort;
 
 /// A graph with a number for each operation, each block and each type.
 pub(crate) type Numbers = Graph<u32, u32, u8>;
@@ -48,34 +48,34 @@ const FEW: &[Check] = &[
 const MANY: &[Check] = &[Check::HoldsMany, Check::UsesOften];
 
 /// The result of a check.
-fn result(graph: &mut Numbers, alloc: Global, check: Check) -> Result<bool, AllocError> {
+fn result(rt: &impl Abort, graph: &mut Numbers, alloc: Global, check: Check) -> bool {
     match check {
-        Check::GivesBack => gives_back(graph),
-        Check::GivesRegionsBack => gives_regions_back(graph),
-        Check::NumbersAreApart => numbers_are_apart(graph),
-        Check::NumbersEnd => numbers_end(graph),
-        Check::Nests => nests(graph),
-        Check::HasParts => has_parts(graph),
-        Check::HasAnyNumber => has_any_number(graph, alloc),
-        Check::Writes => writes(graph),
-        Check::Uses => uses(graph),
-        Check::GoesThrough => goes_through(graph),
-        Check::HoldsMany => holds_many(graph),
-        Check::UsesOften => uses_often(graph, alloc, 100000),
-        Check::GoesDeep => goes_deep(graph),
-        Check::NestsDeep => nests_deep(graph),
+        Check::GivesBack => gives_back(rt, graph),
+        Check::GivesRegionsBack => gives_regions_back(rt, graph),
+        Check::NumbersAreApart => numbers_are_apart(rt, graph),
+        Check::NumbersEnd => numbers_end(rt, graph),
+        Check::Nests => nests(rt, graph),
+        Check::HasParts => has_parts(rt, graph),
+        Check::HasAnyNumber => has_any_number(rt, graph, alloc),
+        Check::Writes => writes(rt, graph),
+        Check::Uses => uses(rt, graph),
+        Check::GoesThrough => goes_through(rt, graph),
+        Check::HoldsMany => holds_many(rt, graph),
+        Check::UsesOften => uses_often(rt, graph, alloc, 100000),
+        Check::GoesDeep => goes_deep(rt, graph),
+        Check::NestsDeep => nests_deep(rt, graph),
     }
 }
 
 /// Whether a check of this graph succeeds.
-fn holds(mut graph: Numbers, alloc: Global, check: Check) -> bool {
-    result(&mut graph, alloc, check).unwrap_or(false)
+fn holds(rt: &impl Abort, mut graph: Numbers, alloc: Global, check: Check) -> bool {
+    result(rt, &mut graph, alloc, check)
 }
 
 /// The number of the first check that does not succeed with an empty graph of its own.
-fn failing(alloc: Global, checks: &[Check]) -> Option<usize> {
+fn failing(rt: &impl Abort, alloc: Global, checks: &[Check]) -> Option<usize> {
     for (number, check) in checks.iter().enumerate() {
-        if !holds(Graph::new(alloc), alloc, *check) {
+        if !holds(rt, Graph::new(alloc), alloc, *check) {
             return Some(number);
         }
     }
@@ -83,32 +83,29 @@ fn failing(alloc: Global, checks: &[Check]) -> Option<usize> {
 }
 
 #[test]
-fn few_objects(rt: HostRuntime) -> Result<(), Fail> {
-    assert_eq!(rt; failing(rt.alloc(), FEW), None);
+fn few_objects(rt: HostRuntime) {
+    assert_eq!(rt; failing(&rt, rt.alloc(), FEW), None);
     assert!(rt;
         holds(
+            &rt,
             Graph::with_counters(rt.alloc(), u64::MAX - 1, 1),
             rt.alloc(),
             Check::NumbersEnd
         )
     );
-    Ok(())
 }
 
 #[test]
-fn a_hundred_thousand_objects(rt: HostRuntime) -> Result<(), Fail> {
-    assert_eq!(rt; failing(rt.alloc(), MANY), None);
-    Ok(())
+fn a_hundred_thousand_objects(rt: HostRuntime) {
+    assert_eq!(rt; failing(&rt, rt.alloc(), MANY), None);
 }
 
 #[test]
-fn a_million_are_met(rt: HostRuntime) -> Result<(), Fail> {
-    assert!(rt; holds(Graph::new(rt.alloc()), rt.alloc(), Check::GoesDeep));
-    Ok(())
+fn a_million_are_met(rt: HostRuntime) {
+    assert!(rt; holds(&rt, Graph::new(rt.alloc()), rt.alloc(), Check::GoesDeep));
 }
 
 #[test]
-fn a_million_levels(rt: HostRuntime) -> Result<(), Fail> {
-    assert!(rt; holds(Graph::new(rt.alloc()), rt.alloc(), Check::NestsDeep));
-    Ok(())
+fn a_million_levels(rt: HostRuntime) {
+    assert!(rt; holds(&rt, Graph::new(rt.alloc()), rt.alloc(), Check::NestsDeep));
 }

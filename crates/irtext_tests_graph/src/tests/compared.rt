@@ -8,7 +8,7 @@ use crate::tests::model::{Item, Model};
 use crate::tests::nesting::is_child_at;
 use crate::tests::parts::{has_own, is_value};
 use irtext_graph::object::{Defined, Object, Site, Value};
-use std::alloc::AllocError;
+use std::process::Abort;
 
 /// The type of the value of a number.
 pub(crate) fn type_of(number: u64) -> u8 {
@@ -107,24 +107,24 @@ fn has_values(graph: &Numbers, item: &Item) -> bool {
 }
 
 /// Whether the uses of d are those that the model finds, each once.
-pub(crate) fn has_uses(graph: &Numbers, model: &Model, d: Defined) -> Result<bool, AllocError> {
+pub(crate) fn has_uses(rt: &impl Abort, graph: &Numbers, model: &Model, d: Defined) -> bool {
     if !is_defined(graph, d) {
-        return Ok(false);
+        return false;
     }
-    let listed = graph.uses(d)?;
+    let listed = graph.uses(d).expect(rt, "out of memory");
     let counted = graph.num_uses(d) == listed.len() && graph.has_use(d) == !listed.is_empty();
-    Ok(counted && model.has_uses(d, &listed))
+    counted && model.has_uses(d, &listed)
 }
 
 /// Whether the graph allows what the model allows: that k is erased, and that c is put into k.
-fn allows(graph: &Numbers, model: &Model, k: Object, c: Object) -> Result<bool, AllocError> {
+fn allows(rt: &impl Abort, graph: &Numbers, model: &Model, k: Object, c: Object) -> bool {
     if !graph.contains(k) || !graph.contains(c) {
-        return Ok(false);
+        return false;
     }
-    let nested = graph.is_inside(k, c) == model.is_inside(k, c)?;
-    let erased = graph.can_erase(k) == model.can_erase(k)?;
-    let put = graph.can_insert_at_back(k, c) == model.can_insert(k, c)?;
-    Ok(nested & erased & put)
+    let nested = graph.is_inside(k, c) == model.is_inside(rt, k, c);
+    let erased = graph.can_erase(k) == model.can_erase(rt, k);
+    let put = graph.can_insert_at_back(k, c) == model.can_insert(rt, k, c);
+    nested & erased & put
 }
 
 /// Whether an object is the same in both.
@@ -146,21 +146,17 @@ fn has_as_many(graph: &Numbers, model: &Model, random: &mut Random) -> bool {
 }
 
 /// Whether the two agree at objects that the random numbers choose.
-pub(crate) fn agree(
-    graph: &Numbers,
-    model: &Model,
-    random: &mut Random,
-) -> Result<bool, AllocError> {
+pub(crate) fn agree(rt: &impl Abort, graph: &Numbers, model: &Model, random: &mut Random) -> bool {
     if !has_as_many(graph, model, random) {
-        return Ok(false);
+        return false;
     }
     let (Some(item), Some(other)) = (model.any(random), model.any(random)) else {
-        return Ok(true);
+        return true;
     };
     let alike = is_alike(graph, model, &item);
     let used = match model.any_defined(random) {
-        Some(d) => has_uses(graph, model, d)?,
+        Some(d) => has_uses(rt, graph, model, d),
         None => true,
     };
-    Ok(allows(graph, model, item.object, other.object)? & alike & used)
+    allows(rt, graph, model, item.object, other.object) & alike & used
 }

@@ -11,8 +11,8 @@ use irtext_graph::arena::Ptr;
 use irtext_graph::graph::Graph;
 use irtext_graph::held::HasGraph;
 use irtext_graph::object::{BasicBlock, Object, Operation, Region};
-use std::alloc::{AllocError, Global};
-use std::test::Fail;
+use std::alloc::Global;
+use std::process::Abort;
 
 /// A graph and a number.
 #[derive(Drop)]
@@ -68,20 +68,26 @@ fn all_live_in(holder: &Holder, chain: Chain) -> bool
 }
 
 /// Puts each object of the chain last into the one before it if that is allowed, and returns whether it was.
-fn put_together(holder: &mut Holder, c: Chain) -> Result<bool, AllocError> {
+fn put_together(rt: &impl Abort, holder: &mut Holder, c: Chain) -> bool {
     if !all_live_in(holder, c) || !c.region.can_insert_at_back(c.op, holder) {
-        return Ok(false);
+        return false;
     }
-    c.region.insert_at_back(c.op, holder)?;
+    c.region
+        .insert_at_back(c.op, holder)
+        .expect(rt, "out of memory");
     if !all_live_in(holder, c) || !c.block.can_insert_at_back(c.region, holder) {
-        return Ok(false);
+        return false;
     }
-    c.block.insert_at_back(c.region, holder)?;
+    c.block
+        .insert_at_back(c.region, holder)
+        .expect(rt, "out of memory");
     if !all_live_in(holder, c) || !c.inner.can_insert_at_back(c.block, holder) {
-        return Ok(false);
+        return false;
     }
-    c.inner.insert_at_back(c.block, holder)?;
-    Ok(true)
+    c.inner
+        .insert_at_back(c.block, holder)
+        .expect(rt, "out of memory");
+    true
 }
 
 /// Whether each object of the chain names those around it.
@@ -130,17 +136,26 @@ fn comes_apart(holder: &mut Holder, c: Chain) -> bool {
 }
 
 /// Makes a chain, looks at it from both ends, and takes it apart.
-fn goes_round(holder: &mut Holder) -> Result<bool, AllocError> {
+fn goes_round(rt: &impl Abort, holder: &mut Holder) -> bool {
     let chain = Chain {
-        op: holder.graph.make_operation(1, Few::none(), &[], &[])?,
-        region: holder.graph.make_region()?,
-        block: holder.graph.make_block(2, Few::none())?,
-        inner: holder.graph.make_operation(3, Few::none(), &[], &[])?,
+        op: holder
+            .graph
+            .make_operation(1, Few::none(), &[], &[])
+            .expect(rt, "out of memory"),
+        region: holder.graph.make_region().expect(rt, "out of memory"),
+        block: holder
+            .graph
+            .make_block(2, Few::none())
+            .expect(rt, "out of memory"),
+        inner: holder
+            .graph
+            .make_operation(3, Few::none(), &[], &[])
+            .expect(rt, "out of memory"),
     };
-    let put = put_together(holder, chain)?;
+    let put = put_together(rt, holder, chain);
     let seen = looks_up(holder, chain) && looks_down(holder, chain);
     let apart = comes_apart(holder, chain);
-    Ok(put && seen && apart)
+    put && seen && apart
 }
 
 /// A check of a holder.
@@ -154,27 +169,26 @@ enum Check {
 const CHECKS: &[Check] = &[Check::Pointers, Check::UsesAndLists, Check::UsesOfResults];
 
 /// The result of a check.
-fn result(holder: &mut Holder, check: Check) -> Result<bool, AllocError> {
+fn result(rt: &impl Abort, holder: &mut Holder, check: Check) -> bool {
     match check {
-        Check::Pointers => goes_round(holder),
-        Check::UsesAndLists => uses_and_lists(holder),
-        Check::UsesOfResults => uses_of_results(holder),
+        Check::Pointers => goes_round(rt, holder),
+        Check::UsesAndLists => uses_and_lists(rt, holder),
+        Check::UsesOfResults => uses_of_results(rt, holder),
     }
 }
 
 /// Whether a check of an empty graph beside a number succeeds, and leaves the number.
-fn holds_held(alloc: Global, check: Check) -> bool {
+fn holds_held(rt: &impl Abort, alloc: Global, check: Check) -> bool {
     let mut holder = Holder {
         graph: Graph::new(alloc),
         number: 7,
     };
-    result(&mut holder, check).unwrap_or(false) & (holder.number == 7)
+    result(rt, &mut holder, check) & (holder.number == 7)
 }
 
 #[test]
-fn each_call_over_a_holder(rt: HostRuntime) -> Result<(), Fail> {
+fn each_call_over_a_holder(rt: HostRuntime) {
     for check in CHECKS {
-        assert!(rt; holds_held(rt.alloc(), *check));
+        assert!(rt; holds_held(&rt, rt.alloc(), *check));
     }
-    Ok(())
 }

@@ -1,8 +1,8 @@
 //! Lists whose first item is held in place.
 
 use irtext_few::{Few, Growing, Lone};
-use std::alloc::{AllocError, Global};
-use std::test::Fail;
+use std::alloc::Global;
+use std::process::Abort;
 
 /// The items of a list, as a number with a digit for each.
 fn digits(list: &Growing<u8>) -> u64 {
@@ -14,59 +14,58 @@ fn digits(list: &Growing<u8>) -> u64 {
 }
 
 /// Three items are put into a list, the first is removed, and two more are added at the end.
-fn grows(alloc: Global) -> Result<bool, AllocError> {
+fn grows(rt: &impl Abort, alloc: Global) -> bool {
     let mut list: Growing<u8> = Growing::new(alloc);
     let empty = list.len() == 0;
-    list.push(1)?;
-    list.push(2)?;
-    list.push(3)?;
+    list.push(1).expect(rt, "out of memory");
+    list.push(2).expect(rt, "out of memory");
+    list.push(3).expect(rt, "out of memory");
     let three = digits(&list) == 123;
     list.remove(0);
     let two = digits(&list) == 23;
-    list.make_room()?;
+    list.make_room().expect(rt, "out of memory");
     list.push_reserved(4);
     list.remove(1);
-    Ok(empty && three && two && digits(&list) == 24)
+    empty && three && two && digits(&list) == 24
 }
 
 /// The only item of a list is changed.
-fn changes_one(alloc: Global) -> Result<bool, AllocError> {
-    let mut one: Lone<u8> = Lone::from_few(alloc, Few::one(5))?;
+fn changes_one(rt: &impl Abort, alloc: Global) -> bool {
+    let mut one: Lone<u8> = Lone::from_few(alloc, Few::one(5)).expect(rt, "out of memory");
     one[0] = 6;
-    Ok(one.len() == 1 && one[0] == 6)
+    one.len() == 1 && one[0] == 6
 }
 
 /// One of two items of a list is changed, and then both are removed.
-fn changes_two(alloc: Global) -> Result<bool, AllocError> {
-    let mut two: Lone<u8> = Lone::from_few(alloc, Few::two(7, 8))?;
+fn changes_two(rt: &impl Abort, alloc: Global) -> bool {
+    let mut two: Lone<u8> = Lone::from_few(alloc, Few::two(7, 8)).expect(rt, "out of memory");
     two[1] = 9;
     let items = two.len() == 2 && two[0] == 7 && two[1] == 9;
     two.clear();
-    Ok(items & (two.len() == 0))
+    items & (two.len() == 0)
 }
 
 /// Lists that are made from none, from one and from several items have these.
-fn is_of_items(alloc: Global) -> Result<bool, AllocError> {
+fn is_of_items(rt: &impl Abort, alloc: Global) -> bool {
     let mut many = Vec::new(alloc);
-    many.push(1)?;
-    many.push(2)?;
+    many.push(1).expect(rt, "out of memory");
+    many.push(2).expect(rt, "out of memory");
     let many: Lone<u8> = Lone::many(many);
     let none: Lone<u8> = Lone::none();
     let one: Lone<u8> = Lone::one(3);
-    Ok(none.len() == 0 && one[0] == 3 && many.len() == 2 && many[1] == 2)
+    none.len() == 0 && one[0] == 3 && many.len() == 2 && many[1] == 2
 }
 
 /// The only item, and one of two, of lists that are made from short ones, and lists that are made from their items.
-fn alone(alloc: Global) -> Result<bool, AllocError> {
-    let one = changes_one(alloc)?;
-    let two = changes_two(alloc)?;
-    Ok(is_of_items(alloc)? & one & two)
+fn alone(rt: &impl Abort, alloc: Global) -> bool {
+    let one = changes_one(rt, alloc);
+    let two = changes_two(rt, alloc);
+    is_of_items(rt, alloc) & one & two
 }
 
 #[test]
-fn lists_grow(rt: HostRuntime) -> Result<(), Fail> {
-    let grown = grows(rt.alloc()).ok() == Some(true);
-    let lone = alone(rt.alloc()).ok() == Some(true);
+fn lists_grow(rt: HostRuntime) {
+    let grown = grows(&rt, rt.alloc());
+    let lone = alone(&rt, rt.alloc());
     assert!(rt; grown && lone);
-    Ok(())
 }

@@ -3,7 +3,8 @@
 use crate::random::Random;
 use irtext_graph::arena::Ptr;
 use irtext_graph::object::{BasicBlock, Defined, Object, Operation, Site, Value};
-use std::alloc::{AllocError, Global};
+use std::alloc::Global;
+use std::process::Abort;
 
 /// What an object is made of: its data, how many results or arguments it has, and what it uses. Parts that its kind does not have are
 /// empty.
@@ -126,37 +127,41 @@ impl Model {
     }
 
     /// Adds an object that was made of these parts.
-    pub(crate) fn add(&mut self, object: Object, parts: &Parts) -> Result<(), AllocError> {
+    pub(crate) fn add(&mut self, rt: &impl Abort, object: Object, parts: &Parts) {
         let (born, first) = (self.made, self.values);
         self.made = born.wrapping_add(1);
         self.values = first.wrapping_add(parts.count as u64);
-        self.items.push(Item {
-            object,
-            born,
-            value: parts.value,
-            count: parts.count,
-            first,
-            parent: None,
-            seat: 0,
-        })?;
+        self.items
+            .push(Item {
+                object,
+                born,
+                value: parts.value,
+                count: parts.count,
+                first,
+                parent: None,
+                seat: 0,
+            })
+            .expect(rt, "out of memory");
         if let Object::TheOperation(p) = object {
-            self.add_uses(p, parts)?;
+            self.add_uses(rt, p, parts);
         }
-        Ok(())
     }
 
     /// Adds the uses by an operation that was made of these parts.
-    fn add_uses(&mut self, p: Ptr<Operation>, parts: &Parts) -> Result<(), AllocError> {
+    fn add_uses(&mut self, rt: &impl Abort, p: Ptr<Operation>, parts: &Parts) {
         let user = Object::TheOperation(p);
         for (i, v) in parts.operands.iter().enumerate() {
             let (site, used) = (Site::AtOperand(p, i), Defined::OfValue(*v));
-            self.uses.push(Use { user, site, used })?;
+            self.uses
+                .push(Use { user, site, used })
+                .expect(rt, "out of memory");
         }
         for (i, b) in parts.successors.iter().enumerate() {
             let (site, used) = (Site::AtSuccessor(p, i), Defined::OfBlock(*b));
-            self.uses.push(Use { user, site, used })?;
+            self.uses
+                .push(Use { user, site, used })
+                .expect(rt, "out of memory");
         }
-        Ok(())
     }
 
     /// How many objects are in one.
@@ -182,42 +187,41 @@ impl Model {
     }
 
     /// An object and everything nested in it.
-    pub(crate) fn inside(&self, o: Object) -> Result<Vec<Object>, AllocError> {
+    pub(crate) fn inside(&self, rt: &impl Abort, o: Object) -> Vec<Object> {
         let mut found = Vec::new(self.alloc);
-        found.push(o)?;
+        found.push(o).expect(rt, "out of memory");
         for i in 0..self.items.len() {
             let Some(q) = found.get(i).copied() else {
                 break;
             };
-            self.add_children(q, &mut found)?;
+            self.add_children(rt, q, &mut found);
         }
-        Ok(found)
+        found
     }
 
     /// Adds the objects that are in one to a list.
-    fn add_children(&self, o: Object, found: &mut Vec<Object>) -> Result<(), AllocError> {
+    fn add_children(&self, rt: &impl Abort, o: Object, found: &mut Vec<Object>) {
         for item in &self.items {
             if item.parent == Some(o) {
-                found.push(item.object)?;
+                found.push(item.object).expect(rt, "out of memory");
             }
         }
-        Ok(())
     }
 
     /// Whether nothing outside of an object uses it or anything nested in it.
-    pub(crate) fn can_erase(&self, o: Object) -> Result<bool, AllocError> {
-        let inside = self.inside(o)?;
+    pub(crate) fn can_erase(&self, rt: &impl Abort, o: Object) -> bool {
+        let inside = self.inside(rt, o);
         for u in &self.uses {
             if inside.contains(&owner(u.used)) && !inside.contains(&u.user) {
-                return Ok(false);
+                return false;
             }
         }
-        Ok(true)
+        true
     }
 
     /// Whether an object is nested in another, or is it.
-    pub(crate) fn is_inside(&self, o: Object, q: Object) -> Result<bool, AllocError> {
-        Ok(self.inside(o)?.contains(&q))
+    pub(crate) fn is_inside(&self, rt: &impl Abort, o: Object, q: Object) -> bool {
+        self.inside(rt, o).contains(&q)
     }
 
     /// Whether the operands and the successors that are d are at these places and nowhere else.
@@ -235,12 +239,12 @@ impl Model {
     }
 
     /// Whether c is detached and k is not nested in it.
-    pub(crate) fn can_insert(&self, k: Object, c: Object) -> Result<bool, AllocError> {
+    pub(crate) fn can_insert(&self, rt: &impl Abort, k: Object, c: Object) -> bool {
         let detached = match self.find(c) {
             Some(item) => item.parent.is_none(),
             None => false,
         };
-        Ok(detached & !self.is_inside(c, k)?)
+        detached & !self.is_inside(rt, c, k)
     }
 
     /// Puts an object last into another, or detaches it.
@@ -265,52 +269,50 @@ impl Model {
     }
 
     /// Drops the uses by these objects.
-    fn drop_uses(&mut self, users: &[Object]) -> Result<(), AllocError> {
+    fn drop_uses(&mut self, rt: &impl Abort, users: &[Object]) {
         let mut left = Vec::new(self.alloc);
         for u in &self.uses {
             if !users.contains(&u.user) {
-                left.push(*u)?;
+                left.push(*u).expect(rt, "out of memory");
             }
         }
         self.uses = left;
-        Ok(())
     }
 
     /// Drops the uses by an object and by the operations nested in it.
-    pub(crate) fn drop_inside(&mut self, o: Object) -> Result<(), AllocError> {
-        let users = self.inside(o)?;
-        self.drop_uses(&users)
+    pub(crate) fn drop_inside(&mut self, rt: &impl Abort, o: Object) {
+        let users = self.inside(rt, o);
+        self.drop_uses(rt, &users)
     }
 
     /// Removes these objects, and their uses.
-    fn take_out(&mut self, objects: &[Object]) -> Result<(), AllocError> {
-        self.drop_uses(objects)?;
+    fn take_out(&mut self, rt: &impl Abort, objects: &[Object]) {
+        self.drop_uses(rt, objects);
         let mut left = Vec::new(self.alloc);
         for item in &self.items {
             if objects.contains(&item.object) {
-                self.gone.push(item.object)?;
+                self.gone.push(item.object).expect(rt, "out of memory");
             } else {
-                left.push(*item)?;
+                left.push(*item).expect(rt, "out of memory");
             }
         }
         self.items = left;
-        Ok(())
     }
 
     /// Removes an object and everything nested in it.
-    pub(crate) fn erase(&mut self, o: Object) -> Result<(), AllocError> {
-        let inside = self.inside(o)?;
-        self.take_out(&inside)
+    pub(crate) fn erase(&mut self, rt: &impl Abort, o: Object) {
+        let inside = self.inside(rt, o);
+        self.take_out(rt, &inside)
     }
 
     /// Removes the objects before which at least this many were made.
-    pub(crate) fn roll_back(&mut self, mark: u64) -> Result<(), AllocError> {
+    pub(crate) fn roll_back(&mut self, rt: &impl Abort, mark: u64) {
         let mut newer = Vec::new(self.alloc);
         for item in &self.items {
             if item.born >= mark {
-                newer.push(item.object)?;
+                newer.push(item.object).expect(rt, "out of memory");
             }
         }
-        self.take_out(&newer)
+        self.take_out(rt, &newer)
     }
 }

@@ -5,20 +5,20 @@ use crate::tests::checks::Numbers;
 use irtext_few::Few;
 use irtext_graph::arena::Ptr;
 use irtext_graph::object::{BasicBlock, Object, Operation, Region};
-use std::alloc::AllocError;
+use std::process::Abort;
 
 /// Puts c last into k if that is allowed, and returns whether it was.
-pub(crate) fn put(graph: &mut Numbers, k: Object, c: Object) -> Result<bool, AllocError>
+pub(crate) fn put(rt: &impl Abort, graph: &mut Numbers, k: Object, c: Object) -> bool
     requires { Fits k c }
 {
     if !graph.contains(k) || !graph.contains(c) {
-        return Ok(false);
+        return false;
     }
     if !graph.can_insert_at_back(k, c) {
-        return Ok(false);
+        return false;
     }
-    graph.insert_at_back(k, c)?;
-    Ok(true)
+    graph.insert_at_back(k, c).expect(rt, "out of memory");
+    true
 }
 
 /// Whether c is a child of k, at an index.
@@ -56,30 +56,36 @@ struct Nest {
 }
 
 /// Makes the five objects, not yet put into one another.
-fn make_nest(graph: &mut Numbers) -> Result<Nest, AllocError> {
-    Ok(Nest {
-        outer: graph.make_operation(1, Few::none(), &[], &[])?,
-        region: graph.make_region()?,
-        block: graph.make_block(2, Few::none())?,
-        first: graph.make_operation(3, Few::none(), &[], &[])?,
-        second: graph.make_operation(4, Few::none(), &[], &[])?,
-    })
+fn make_nest(rt: &impl Abort, graph: &mut Numbers) -> Nest {
+    Nest {
+        outer: graph
+            .make_operation(1, Few::none(), &[], &[])
+            .expect(rt, "out of memory"),
+        region: graph.make_region().expect(rt, "out of memory"),
+        block: graph.make_block(2, Few::none()).expect(rt, "out of memory"),
+        first: graph
+            .make_operation(3, Few::none(), &[], &[])
+            .expect(rt, "out of memory"),
+        second: graph
+            .make_operation(4, Few::none(), &[], &[])
+            .expect(rt, "out of memory"),
+    }
 }
 
 /// Puts the objects into one another, and returns whether that succeeds, and fails for an object around the block and for one that is in
 /// it already.
-fn puts_in(graph: &mut Numbers, nest: Nest) -> Result<bool, AllocError> {
+fn puts_in(rt: &impl Abort, graph: &mut Numbers, nest: Nest) -> bool {
     let (module, body) = (
         Object::TheOperation(nest.outer),
         Object::TheBlock(nest.block),
     );
-    let one = put(graph, Object::TheRegion(nest.region), body)?;
-    let two = put(graph, module, Object::TheRegion(nest.region))?;
-    let three = put(graph, body, Object::TheOperation(nest.first))?;
-    let four = put(graph, body, Object::TheOperation(nest.second))?;
-    let into_itself = put(graph, body, module)?;
-    let twice = put(graph, body, Object::TheOperation(nest.first))?;
-    Ok(one & two & three & four & !into_itself & !twice)
+    let one = put(rt, graph, Object::TheRegion(nest.region), body);
+    let two = put(rt, graph, module, Object::TheRegion(nest.region));
+    let three = put(rt, graph, body, Object::TheOperation(nest.first));
+    let four = put(rt, graph, body, Object::TheOperation(nest.second));
+    let into_itself = put(rt, graph, body, module);
+    let twice = put(rt, graph, body, Object::TheOperation(nest.first));
+    one & two & three & four & !into_itself & !twice
 }
 
 /// Whether both operations are in the block, and the second in the outermost one, but not in the first.
@@ -121,13 +127,13 @@ fn erases_block(graph: &mut Numbers, nest: Nest) -> bool {
 }
 
 /// Each call once, on such objects, of which the first operation is left in the end.
-pub(crate) fn nests(graph: &mut Numbers) -> Result<bool, AllocError> {
-    let nest = make_nest(graph)?;
+pub(crate) fn nests(rt: &impl Abort, graph: &mut Numbers) -> bool {
+    let nest = make_nest(rt, graph);
     let (second, block) = (nest.second, nest.block);
     let places = second.place() == 3 && second.generation() == 1 && block.place() == 1;
-    let all = puts_in(graph, nest)? & holds_both(graph, nest);
+    let all = puts_in(rt, graph, nest) & holds_both(graph, nest);
     let loose = lets_go(graph, nest);
-    Ok(erases_block(graph, nest) & places & all & loose)
+    erases_block(graph, nest) & places & all & loose
 }
 
 /// The outermost operation of a chain, and the innermost one.
@@ -139,34 +145,39 @@ pub(crate) struct Ends {
 
 /// Makes a block, a region and an operation around an operation, each in the next.
 fn make_around(
+    rt: &impl Abort,
     graph: &mut Numbers,
     inner: Ptr<Operation>,
-) -> Result<Option<Ptr<Operation>>, AllocError> {
-    let block = Object::TheBlock(graph.make_block(0, Few::none())?);
-    let region = Object::TheRegion(graph.make_region()?);
-    let outer = graph.make_operation(0, Few::none(), &[], &[])?;
-    let one = put(graph, block, Object::TheOperation(inner))?;
-    let two = put(graph, region, block)?;
-    if put(graph, Object::TheOperation(outer), region)? & one & two {
-        return Ok(Some(outer));
+) -> Option<Ptr<Operation>> {
+    let block = Object::TheBlock(graph.make_block(0, Few::none()).expect(rt, "out of memory"));
+    let region = Object::TheRegion(graph.make_region().expect(rt, "out of memory"));
+    let outer = graph
+        .make_operation(0, Few::none(), &[], &[])
+        .expect(rt, "out of memory");
+    let one = put(rt, graph, block, Object::TheOperation(inner));
+    let two = put(rt, graph, region, block);
+    if put(rt, graph, Object::TheOperation(outer), region) & one & two {
+        return Some(outer);
     }
-    Ok(None)
+    None
 }
 
 /// A chain of operations, regions and blocks, each in the next; the inner ones are made first.
-pub(crate) fn chain(graph: &mut Numbers, depth: usize) -> Result<Option<Ends>, AllocError> {
-    let inner = graph.make_operation(0, Few::none(), &[], &[])?;
+pub(crate) fn chain(rt: &impl Abort, graph: &mut Numbers, depth: usize) -> Option<Ends> {
+    let inner = graph
+        .make_operation(0, Few::none(), &[], &[])
+        .expect(rt, "out of memory");
     let mut last = inner;
     for _ in 0..depth {
-        let Some(outer) = make_around(graph, last)? else {
-            return Ok(None);
+        let Some(outer) = make_around(rt, graph, last) else {
+            return None;
         };
         last = outer;
     }
-    Ok(Some(Ends {
+    Some(Ends {
         outer: Object::TheOperation(last),
         inner: Object::TheOperation(inner),
-    }))
+    })
 }
 
 /// Whether the innermost is nested in the outermost, which can be erased.
@@ -179,23 +190,25 @@ fn is_chained(graph: &Numbers, ends: Ends) -> bool {
 }
 
 /// A chain of a million levels, which is erased with its outermost operation, and another, which is released without being erased.
-pub(crate) fn nests_deep(graph: &mut Numbers) -> Result<bool, AllocError> {
-    let Some(ends) = chain(graph, 333334)? else {
-        return Ok(false);
+pub(crate) fn nests_deep(rt: &impl Abort, graph: &mut Numbers) -> bool {
+    let Some(ends) = chain(rt, graph, 333334) else {
+        return false;
     };
     let chained = is_chained(graph, ends) && graph.num_live() == graph.made();
     let gone = erased(graph, ends.outer) && graph.made() == 1000003 && graph.num_live() == 0;
-    let left = chain(graph, 333334)?;
-    Ok(chained && gone && left.is_some())
+    let left = chain(rt, graph, 333334);
+    chained && gone && left.is_some()
 }
 
 /// A block with a hundred thousand operations, which is erased with them.
-pub(crate) fn holds_many(graph: &mut Numbers) -> Result<bool, AllocError> {
-    let block = Object::TheBlock(graph.make_block(0, Few::none())?);
+pub(crate) fn holds_many(rt: &impl Abort, graph: &mut Numbers) -> bool {
+    let block = Object::TheBlock(graph.make_block(0, Few::none()).expect(rt, "out of memory"));
     let mut all = true;
     for _ in 0..100000 {
-        let p = graph.make_operation(0, Few::none(), &[], &[])?;
-        all = put(graph, block, Object::TheOperation(p))? && all;
+        let p = graph
+            .make_operation(0, Few::none(), &[], &[])
+            .expect(rt, "out of memory");
+        all = put(rt, graph, block, Object::TheOperation(p)) && all;
     }
-    Ok(all && erased(graph, block) && graph.num_live() == 0)
+    all && erased(graph, block) && graph.num_live() == 0
 }

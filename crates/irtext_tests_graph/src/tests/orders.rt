@@ -3,7 +3,7 @@ use crate::tests::compared::has_uses;
 use crate::tests::model::Parts;
 use crate::tests::script::{Kind, Script};
 use irtext_graph::object::{Defined, Object, Value};
-use std::alloc::AllocError;
+use std::process::Abort;
 
 const USERS: usize = 5;
 
@@ -18,84 +18,85 @@ struct Both {
 }
 
 /// Makes an operation with a result, and a block.
-fn make_both(script: &mut Script) -> Result<Option<Both>, AllocError> {
-    let op = script.make(Kind::Operation, &Parts::new(script.alloc, 1, 1))?;
-    let block = script.make(Kind::Block, &Parts::new(script.alloc, 2, 0))?;
+fn make_both(rt: &impl Abort, script: &mut Script) -> Option<Both> {
+    let op = script.make(rt, Kind::Operation, &Parts::new(script.alloc, 1, 1));
+    let block = script.make(rt, Kind::Block, &Parts::new(script.alloc, 2, 0));
     if let (Some(Object::TheOperation(p)), Some(Object::TheBlock(b))) = (op, block) {
         let value = Defined::OfValue(Value::Result(p, 0));
         let block = Defined::OfBlock(b);
-        return Ok(Some(Both { value, block }));
+        return Some(Both { value, block });
     }
-    Ok(None)
+    None
 }
 
 /// Makes an operation that uses the value once and the block twice.
-fn make_user(script: &mut Script, both: Both) -> Result<Option<Object>, AllocError> {
+fn make_user(rt: &impl Abort, script: &mut Script, both: Both) -> Option<Object> {
     let mut parts = Parts::new(script.alloc, 3, 0);
     if let (Defined::OfValue(v), Defined::OfBlock(b)) = (both.value, both.block) {
-        parts.operands.push(v)?;
-        parts.successors.push(b)?;
-        parts.successors.push(b)?;
+        parts.operands.push(v).expect(rt, "out of memory");
+        parts.successors.push(b).expect(rt, "out of memory");
+        parts.successors.push(b).expect(rt, "out of memory");
     }
-    script.make(Kind::Operation, &parts)
+    script.make(rt, Kind::Operation, &parts)
 }
 
 /// Makes five users.
-fn make_users(script: &mut Script, both: Both) -> Result<Vec<Object>, AllocError> {
+fn make_users(rt: &impl Abort, script: &mut Script, both: Both) -> Vec<Object> {
     let mut users = Vec::new(script.alloc);
     for _ in 0..USERS {
-        if let Some(user) = make_user(script, both)? {
-            users.push(user)?;
+        if let Some(user) = make_user(rt, script, both) {
+            users.push(user).expect(rt, "out of memory");
         }
     }
-    Ok(users)
+    users
 }
 
 /// Erases a user, or drops its uses, and returns whether the uses are those of the others after that.
-fn goes(script: &mut Script, both: Both, user: Object, drops: bool) -> Result<bool, AllocError> {
+fn goes(rt: &impl Abort, script: &mut Script, both: Both, user: Object, drops: bool) -> bool {
     let gone = if drops {
-        script.loosen(user, true)?
+        script.loosen(rt, user, true)
     } else {
-        script.erase(user)?
+        script.erase(rt, user)
     };
-    let values = has_uses(&script.graph, &script.model, both.value)?;
-    Ok(has_uses(&script.graph, &script.model, both.block)? & gone & values)
+    let values = has_uses(rt, &script.graph, &script.model, both.value);
+    has_uses(rt, &script.graph, &script.model, both.block) & gone & values
 }
 
 /// Makes five users, which are erased in the order of a number, or drop their uses, and returns whether the uses are those of the others
 /// after each.
 fn go_in_order(
+    rt: &impl Abort,
     script: &mut Script,
     both: Both,
     order: usize,
     drops: bool,
-) -> Result<bool, AllocError> {
-    let mut users = make_users(script, both)?;
+) -> bool {
+    let mut users = make_users(rt, script, both);
     let mut code = order;
     let mut all = true;
     for _ in 0..USERS {
         let left = users.len();
         if left == 0 {
-            return Ok(false);
+            return false;
         }
         let user = users.remove(code % left);
         code /= left;
-        all = goes(script, both, user, drops)? & all;
+        all = goes(rt, script, both, user, drops) & all;
     }
-    Ok(all)
+    all
 }
 
 /// The number of the first order with a wrong result.
-pub(crate) fn differing_order(script: &mut Script) -> Result<Option<usize>, AllocError> {
-    let Some(both) = make_both(script)? else {
-        return Ok(Some(0));
+pub(crate) fn differing_order(rt: &impl Abort, script: &mut Script) -> Option<usize> {
+    let Some(both) = make_both(rt, script) else {
+        return Some(0);
     };
     for order in 0..ORDERS {
-        let erased = go_in_order(script, both, order, false)?;
-        let dropped = go_in_order(script, both, order, true)?;
+        let erased = go_in_order(rt, script, both, order, false);
+        let dropped = go_in_order(rt, script, both, order, true);
         if !erased || !dropped {
-            return Ok(Some(order));
+            return Some(order);
         }
     }
-    Ok(None)
+    None
 }

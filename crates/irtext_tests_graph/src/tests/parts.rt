@@ -5,7 +5,8 @@ use crate::tests::script::make_using;
 use irtext_few::Few;
 use irtext_graph::arena::Ptr;
 use irtext_graph::object::{BasicBlock, Object, Operation, Value};
-use std::alloc::{AllocError, Global};
+use std::alloc::Global;
+use std::process::Abort;
 
 /// Whether the value is live, with this type and this number.
 pub(crate) fn is_value(graph: &Numbers, v: Value, of_type: u8, number: u64) -> bool {
@@ -51,14 +52,18 @@ pub(crate) fn uses(
 }
 
 /// A block with two arguments, an operation with a result, and one that uses all of these, and the block twice.
-pub(crate) fn has_parts(graph: &mut Numbers) -> Result<bool, AllocError> {
-    let block = graph.make_block(7, Few::two(10, 11))?;
-    let first = graph.make_operation(8, Few::one(12), &[], &[])?;
+pub(crate) fn has_parts(rt: &impl Abort, graph: &mut Numbers) -> bool {
+    let block = graph
+        .make_block(7, Few::two(10, 11))
+        .expect(rt, "out of memory");
+    let first = graph
+        .make_operation(8, Few::one(12), &[], &[])
+        .expect(rt, "out of memory");
     let operands = used_values(block, first);
-    let Some(second) = make_using(graph, 9, Few::none(), &operands, &[block, block])? else {
-        return Ok(false);
+    let Some(second) = make_using(rt, graph, 9, Few::none(), &operands, &[block, block]) else {
+        return false;
     };
-    Ok(shows_own(graph, block, first) & shows_uses(graph, block, first, second))
+    shows_own(graph, block, first) & shows_uses(graph, block, first, second)
 }
 
 /// The values that the last of these operations uses.
@@ -104,64 +109,73 @@ fn has_results(graph: &Numbers, op: Ptr<Operation>, count: u8) -> bool {
 }
 
 /// The types of so many results: their indices.
-fn types(alloc: Global, count: u8) -> Result<Few<u8>, AllocError> {
+fn types(rt: &impl Abort, alloc: Global, count: u8) -> Few<u8> {
     let mut types = Vec::new(alloc);
     for i in 0..count {
-        types.push(i)?;
+        types.push(i).expect(rt, "out of memory");
     }
-    Ok(Few::from_vec(types))
+    Few::from_vec(types)
 }
 
 /// So many results of an operation.
-fn results(alloc: Global, op: Ptr<Operation>, count: u8) -> Result<Vec<Value>, AllocError> {
+fn results(rt: &impl Abort, alloc: Global, op: Ptr<Operation>, count: u8) -> Vec<Value> {
     let mut values = Vec::new(alloc);
     for i in 0..count {
-        values.push(Value::Result(op, i as usize))?;
+        values
+            .push(Value::Result(op, i as usize))
+            .expect(rt, "out of memory");
     }
-    Ok(values)
+    values
 }
 
 /// Makes an operation that uses all results of another, which is erased after it, and not before it if it has results.
 fn is_used_up(
+    rt: &impl Abort,
     graph: &mut Numbers,
     op: Ptr<Operation>,
     values: &[Value],
     count: u8,
-) -> Result<bool, AllocError> {
-    let Some(user) = make_using(graph, 0, Few::none(), values, &[])? else {
-        return Ok(false);
+) -> bool {
+    let Some(user) = make_using(rt, graph, 0, Few::none(), values, &[]) else {
+        return false;
     };
     let all = has_results(graph, op, count) & uses(graph, user, values, &[]);
     let too_early = count > 0 && erased(graph, Object::TheOperation(op));
     let gone = erased(graph, Object::TheOperation(user));
     let rest = count == 0 || erased(graph, Object::TheOperation(op));
-    Ok(all & !too_early & gone & rest)
+    all & !too_early & gone & rest
 }
 
 /// An operation with so many results, from a vector of types, and one that uses them all; the first is erased after the second.
-fn has_so_many(graph: &mut Numbers, alloc: Global, count: u8) -> Result<bool, AllocError> {
-    let types = types(alloc, count)?;
-    let op = graph.make_operation(0, types, &[], &[])?;
-    let values = results(alloc, op, count)?;
-    is_used_up(graph, op, &values, count)
+fn has_so_many(rt: &impl Abort, graph: &mut Numbers, alloc: Global, count: u8) -> bool {
+    let types = types(rt, alloc, count);
+    let op = graph
+        .make_operation(0, types, &[], &[])
+        .expect(rt, "out of memory");
+    let values = results(rt, alloc, op, count);
+    is_used_up(rt, graph, op, &values, count)
 }
 
 /// The same for none and for up to four results.
-pub(crate) fn has_any_number(graph: &mut Numbers, alloc: Global) -> Result<bool, AllocError> {
+pub(crate) fn has_any_number(rt: &impl Abort, graph: &mut Numbers, alloc: Global) -> bool {
     let mut all = true;
     for count in 0..5 {
-        all = has_so_many(graph, alloc, count)? & all;
+        all = has_so_many(rt, graph, alloc, count) & all;
     }
-    Ok(all)
+    all
 }
 
 /// Writes the data of an operation and of a block, and returns whether they are there and everything else is unchanged.
-pub(crate) fn writes(graph: &mut Numbers) -> Result<bool, AllocError> {
-    let block = graph.make_block(1, Few::one(10))?;
-    let op = graph.make_operation(2, Few::one(11), &[Value::Argument(block, 0)], &[block])?;
+pub(crate) fn writes(rt: &impl Abort, graph: &mut Numbers) -> bool {
+    let block = graph
+        .make_block(1, Few::one(10))
+        .expect(rt, "out of memory");
+    let op = graph
+        .make_operation(2, Few::one(11), &[Value::Argument(block, 0)], &[block])
+        .expect(rt, "out of memory");
     *graph.operation_mut(op) = 20;
     *graph.block_mut(block) = 10;
     let data = has_own(graph, Object::TheOperation(op), 20, 1)
         && has_own(graph, Object::TheBlock(block), 10, 1);
-    Ok(data && uses(graph, op, &[Value::Argument(block, 0)], &[block]))
+    data && uses(graph, op, &[Value::Argument(block, 0)], &[block])
 }

@@ -3,9 +3,10 @@ use crate::tests::checks::Numbers;
 use crate::tests::model::Parts;
 use crate::tests::places::Call::{Clear, Erase, Make, Refuse};
 use crate::tests::script::{Kind, Script};
+use irtext_few::Few;
 use irtext_graph::arena::Ptr;
 use irtext_graph::object::Object;
-use std::alloc::AllocError;
+use std::process::Abort;
 
 /// A call: an object is made, and gets this place and generation; none is made, since no place is left; one is erased, by its number among
 /// those made; or all are.
@@ -87,86 +88,93 @@ struct Places {
 
 /// Makes an object, and returns whether it has this place and generation.
 fn makes(
+    rt: &impl Abort,
     script: &mut Script,
     objects: &mut Vec<Object>,
     places: Places,
     at: (u64, u32),
-) -> Result<bool, AllocError> {
-    let made = script.make(places.kind, &Parts::new(script.alloc, 0, 0))?;
+) -> bool {
+    let made = script.make(rt, places.kind, &Parts::new(script.alloc, 0, 0));
     let Some(o) = made else {
-        return Ok(false);
+        return false;
     };
-    objects.push(o)?;
-    Ok(has_place(&script.graph, places.first, o, at))
+    objects.push(o).expect(rt, "out of memory");
+    has_place(&script.graph, places.first, o, at)
 }
 
-/// Whether no object can be made, and one is live, the only one that was made.
-fn refuses(script: &mut Script, kind: Kind) -> bool {
-    let refused = script.make(kind, &Parts::new(script.alloc, 0, 0)).is_err();
-    refused && script.graph.made() == 1 && script.graph.num_live() == 1
+/// Whether no object of a kind can be made, and one is live, the only one that was made.
+fn refuses(graph: &mut Numbers, kind: Kind) -> bool {
+    let refused = match kind {
+        Kind::Operation => graph.make_operation(0, Few::none(), &[], &[]).is_err(),
+        Kind::Block => graph.make_block(0, Few::none()).is_err(),
+        Kind::Region => graph.make_region().is_err(),
+    };
+    refused && graph.made() == 1 && graph.num_live() == 1
 }
 
 /// Makes a call, and returns whether it succeeded, and whether what was made is where the call says.
 fn does(
+    rt: &impl Abort,
     script: &mut Script,
     objects: &mut Vec<Object>,
     places: Places,
     call: Call,
-) -> Result<bool, AllocError> {
+) -> bool {
     match call {
-        Make(place, generation) => makes(script, objects, places, (place, generation)),
-        Refuse => Ok(refuses(script, places.kind)),
+        Make(place, generation) => makes(rt, script, objects, places, (place, generation)),
+        Refuse => refuses(&mut script.graph, places.kind),
         Erase(number) => match objects.get(number) {
-            Some(o) => script.erase(*o),
-            None => Ok(false),
+            Some(o) => script.erase(rt, *o),
+            None => false,
         },
-        Clear => script.clear(),
+        Clear => script.clear(rt),
     }
 }
 
 /// The number of the first call with another result than the table has.
 fn differing(
+    rt: &impl Abort,
     script: &mut Script,
     places: Places,
     calls: &[Call],
-) -> Result<Option<usize>, AllocError> {
+) -> Option<usize> {
     let mut objects = Vec::new(script.alloc);
     for (number, call) in calls.iter().enumerate() {
-        if !does(script, &mut objects, places, *call)? {
-            return Ok(Some(number));
+        if !does(rt, script, &mut objects, places, *call) {
+            return Some(number);
         }
     }
-    Ok(None)
+    None
 }
 
 /// The same for the objects of each kind, in one graph.
-pub(crate) fn differing_place(script: &mut Script) -> Result<Option<usize>, AllocError> {
+pub(crate) fn differing_place(rt: &impl Abort, script: &mut Script) -> Option<usize> {
     for kind in &[Kind::Operation, Kind::Block, Kind::Region] {
         let places = Places {
             kind: *kind,
             first: 1,
         };
-        if let Some(number) = differing(script, places, CALLS)? {
-            return Ok(Some(number));
+        if let Some(number) = differing(rt, script, places, CALLS) {
+            return Some(number);
         }
     }
-    Ok(None)
+    None
 }
 
 /// The same for regions alone.
-pub(crate) fn differing_region(script: &mut Script) -> Result<Option<usize>, AllocError> {
+pub(crate) fn differing_region(rt: &impl Abort, script: &mut Script) -> Option<usize> {
     let places = Places {
         kind: Kind::Region,
         first: 1,
     };
-    differing(script, places, REGIONS)
+    differing(rt, script, places, REGIONS)
 }
 
 /// The same for regions in a graph with one place.
-pub(crate) fn differing_last(script: &mut Script) -> Result<Option<usize>, AllocError> {
+pub(crate) fn differing_last(rt: &impl Abort, script: &mut Script) -> Option<usize> {
     let places = Places {
         kind: Kind::Region,
         first: 4294967294,
     };
-    differing(script, places, LAST)
+    differing(rt, script, places, LAST)
 }

@@ -6,74 +6,75 @@ use irtext_graph::arena::Ptr;
 use irtext_graph::object::{Object, Operation, Site, Value};
 use irtext_graph_queries::operation::OperationParts;
 use irtext_graph_queries::types::GraphTypes;
-use std::alloc::AllocError;
+use std::process::Abort;
 
 /// Whether the operation is live, and uses values of these types in this order.
-fn has_operand_types(
-    holder: &Holder,
-    op: Ptr<Operation>,
-    types: &[u8],
-) -> Result<bool, AllocError> {
+fn has_operand_types(rt: &impl Abort, holder: &Holder, op: Ptr<Operation>, types: &[u8]) -> bool {
     if !holder.graph.contains(Object::TheOperation(op)) {
-        return Ok(false);
+        return false;
     }
-    let all = op.operand_types(holder)?;
+    let all = op.operand_types(holder).expect(rt, "out of memory");
     let mut same = all.len() == types.len();
     for (of_type, wanted) in all.iter().zip(types) {
         same = same && **of_type == *wanted;
     }
-    Ok(same)
+    same
 }
 
 /// Whether the operation is live, and its results are used at these places and nowhere else, by each of the three calls.
-fn has_uses(holder: &Holder, op: Ptr<Operation>, places: &[Site]) -> Result<bool, AllocError> {
+fn has_uses(rt: &impl Abort, holder: &Holder, op: Ptr<Operation>, places: &[Site]) -> bool {
     if !holder.graph.contains(Object::TheOperation(op)) {
-        return Ok(false);
+        return false;
     }
-    let uses = op.uses(holder)?;
+    let uses = op.uses(holder).expect(rt, "out of memory");
     let mut all = uses.len() == places.len();
     for place in places {
         all = all && uses.contains(place);
     }
     let count = op.num_uses(holder);
-    Ok(all && count == places.len() && op.has_use(holder) == (count > 0))
+    all && count == places.len() && op.has_use(holder) == (count > 0)
 }
 
 /// Whether the results of one operation are used by two others, which have operands of these types.
 fn are_used(
+    rt: &impl Abort,
     holder: &Holder,
     maker: Ptr<Operation>,
     one: Ptr<Operation>,
     two: Ptr<Operation>,
-) -> Result<bool, AllocError> {
+) -> bool {
     let places = [
         Site::AtOperand(one, 0),
         Site::AtOperand(one, 1),
         Site::AtOperand(one, 2),
         Site::AtOperand(two, 0),
     ];
-    let used = has_uses(holder, maker, &places)? & has_uses(holder, one, &[])?;
-    let typed = has_operand_types(holder, one, &[7, 8, 7])?
-        & has_operand_types(holder, two, &[8])?
-        & has_operand_types(holder, maker, &[])?;
-    Ok(used & typed)
+    let used = has_uses(rt, holder, maker, &places) & has_uses(rt, holder, one, &[]);
+    let typed = has_operand_types(rt, holder, one, &[7, 8, 7])
+        & has_operand_types(rt, holder, two, &[8])
+        & has_operand_types(rt, holder, maker, &[]);
+    used & typed
 }
 
 /// Two results, the first used twice by one operation, and the second once by that and once by another.
-pub(crate) fn uses_of_results(holder: &mut Holder) -> Result<bool, AllocError> {
-    let maker = holder.graph.make_operation(0, Few::two(7, 8), &[], &[])?;
+pub(crate) fn uses_of_results(rt: &impl Abort, holder: &mut Holder) -> bool {
+    let maker = holder
+        .graph
+        .make_operation(0, Few::two(7, 8), &[], &[])
+        .expect(rt, "out of memory");
     let (first, second) = (Value::Result(maker, 0), Value::Result(maker, 1));
-    let unused = has_uses(holder, maker, &[])?;
+    let unused = has_uses(rt, holder, maker, &[]);
     let one = make_using(
+        rt,
         &mut holder.graph,
         0,
         Few::none(),
         &[first, second, first],
         &[],
-    )?;
-    let two = make_using(&mut holder.graph, 0, Few::none(), &[second], &[])?;
+    );
+    let two = make_using(rt, &mut holder.graph, 0, Few::none(), &[second], &[]);
     match (one, two) {
-        (Some(one), Some(two)) => Ok(are_used(holder, maker, one, two)? & unused),
-        _ => Ok(false),
+        (Some(one), Some(two)) => are_used(rt, holder, maker, one, two) & unused,
+        _ => false,
     }
 }

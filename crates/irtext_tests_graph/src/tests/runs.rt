@@ -4,8 +4,8 @@ use crate::tests::orders::differing_order;
 use crate::tests::places::{differing_last, differing_place, differing_region};
 use crate::tests::script::{Script, differing_call};
 use irtext_graph::graph::Graph;
-use std::alloc::{AllocError, Global};
-use std::test::Fail;
+use std::alloc::Global;
+use std::process::Abort;
 
 /// What the calls of a run are.
 #[derive(Clone, Copy)]
@@ -21,31 +21,33 @@ enum Run {
 const RUNS: &[Run] = &[Run::Random, Run::Orders, Run::Places, Run::Regions];
 
 /// The number of the first call of a run with a wrong result.
-fn differing(script: &mut Script, run: Run) -> Result<Option<usize>, AllocError> {
+fn differing(rt: &impl Abort, script: &mut Script, run: Run) -> Option<usize> {
     match run {
-        Run::Random => differing_call(script),
-        Run::Orders => differing_order(script),
-        Run::Places => differing_place(script),
-        Run::Regions => differing_region(script),
-        Run::LastPlace => differing_last(script),
+        Run::Random => differing_call(rt, script),
+        Run::Orders => differing_order(rt, script),
+        Run::Places => differing_place(rt, script),
+        Run::Regions => differing_region(rt, script),
+        Run::LastPlace => differing_last(rt, script),
     }
 }
 
 /// The same for a script that begins with this graph.
-fn differing_from(alloc: Global, graph: Numbers, run: Run) -> Result<Option<usize>, AllocError> {
+fn differing_from(rt: &impl Abort, alloc: Global, graph: Numbers, run: Run) -> Option<usize> {
     let mut script = Script::new(alloc, graph);
-    differing(&mut script, run)
+    differing(rt, &mut script, run)
 }
 
 #[test]
-fn the_graph_and_its_model_agree(rt: HostRuntime) -> Result<(), Fail> {
+fn the_graph_and_its_model_agree(rt: HostRuntime) {
     for run in RUNS {
         assert_eq!(rt;
-            differing_from(rt.alloc(), Graph::new(rt.alloc()), *run)?,
+            differing_from(&rt, rt.alloc(), Graph::new(rt.alloc()), *run),
             None
         );
     }
     let graph = Graph::with_counters(rt.alloc(), 0, u32::MAX - 1);
-    assert_eq!(rt; differing_from(rt.alloc(), graph, Run::LastPlace)?, None);
-    Ok(())
+    assert_eq!(rt;
+        differing_from(&rt, rt.alloc(), graph, Run::LastPlace),
+        None
+    );
 }

@@ -12,7 +12,8 @@ use crate::tests::nesting::put;
 use irtext_few::Few;
 use irtext_graph::arena::Ptr;
 use irtext_graph::object::{BasicBlock, Defined, Object, Operation, Value};
-use std::alloc::{AllocError, Global};
+use std::alloc::Global;
+use std::process::Abort;
 
 // the number of calls
 const STEPS: usize = 10000;
@@ -51,12 +52,14 @@ fn are_alike(d: Defined, e: Defined) -> bool
 }
 
 /// The types of so many values, by their numbers.
-fn types(alloc: Global, first: u64, count: usize) -> Result<Few<u8>, AllocError> {
+fn types(rt: &impl Abort, alloc: Global, first: u64, count: usize) -> Few<u8> {
     let mut types = Vec::new(alloc);
     for i in 0..count {
-        types.push(type_of(first.wrapping_add(i as u64)))?;
+        types
+            .push(type_of(first.wrapping_add(i as u64)))
+            .expect(rt, "out of memory");
     }
-    Ok(Few::from_vec(types))
+    Few::from_vec(types)
 }
 
 /// The kinds of objects.
@@ -85,64 +88,67 @@ fn any_count(random: &mut Random, kind: Kind) -> usize {
 }
 
 /// Adds some of the live values and blocks as uses to the parts of an operation.
-fn use_some(
-    model: &Model,
-    random: &mut Random,
-    kind: Kind,
-    parts: &mut Parts,
-) -> Result<(), AllocError> {
+fn use_some(rt: &impl Abort, model: &Model, random: &mut Random, kind: Kind, parts: &mut Parts) {
     if !matches!(kind, Kind::Operation) {
-        return Ok(());
+        return;
     }
     for _ in 0..random.below(6) {
         match model.any_defined(random) {
-            Some(Defined::OfValue(v)) => parts.operands.push(v)?,
-            Some(Defined::OfBlock(b)) => parts.successors.push(b)?,
+            Some(Defined::OfValue(v)) => parts.operands.push(v).expect(rt, "out of memory"),
+            Some(Defined::OfBlock(b)) => parts.successors.push(b).expect(rt, "out of memory"),
             None => {}
         }
     }
-    Ok(())
 }
 
 /// Makes an operation that uses these values and blocks, if they are live.
 pub(crate) fn make_using(
+    rt: &impl Abort,
     graph: &mut Numbers,
     value: u32,
     types: Few<u8>,
     operands: &[Value],
     successors: &[Ptr<BasicBlock>],
-) -> Result<Option<Ptr<Operation>>, AllocError>
+) -> Option<Ptr<Operation>>
     ensures kept { (m : ℕ) → m ≤ graph.old.made → KeepsOlder m graph.old graph.new }
 {
     if !graph.contains_values(operands) || !graph.contains_blocks(successors) {
-        return Ok(None);
+        return None;
     }
-    let p = graph.make_operation(value, types, operands, successors)?;
-    Ok(Some(p))
+    let p = graph
+        .make_operation(value, types, operands, successors)
+        .expect(rt, "out of memory");
+    Some(p)
 }
 
 /// Makes an object of these parts, if everything that it uses is live.
 fn make(
+    rt: &impl Abort,
     graph: &mut Numbers,
     kind: Kind,
     parts: &Parts,
     types: Few<u8>,
-) -> Result<Option<Object>, AllocError>
+) -> Option<Object>
     ensures kept { (m : ℕ) → m ≤ graph.old.made → KeepsOlder m graph.old graph.new }
 {
     match kind {
-        Kind::Region => Ok(Some(Object::TheRegion(graph.make_region()?))),
-        Kind::Block => Ok(Some(Object::TheBlock(graph.make_block(parts.value, types)?))),
+        Kind::Region => Some(Object::TheRegion(graph.make_region().expect(rt, "out of memory"))),
+        Kind::Block => Some(Object::TheBlock(
+            graph
+                .make_block(parts.value, types)
+                .expect(rt, "out of memory"),
+        )),
         Kind::Operation => {
             match make_using(
+                rt,
                 graph,
                 parts.value,
                 types,
                 &parts.operands,
                 &parts.successors,
-            )? {
-                Some(p) => Ok(Some(Object::TheOperation(p))),
-                None => Ok(None),
+            ) {
+                Some(p) => Some(Object::TheOperation(p)),
+                None => None,
             }
         }
     }
@@ -160,76 +166,76 @@ impl Script {
     }
 
     /// Makes an object of these parts, if everything that it uses is live.
-    pub(crate) fn make(&mut self, kind: Kind, parts: &Parts) -> Result<Option<Object>, AllocError>
+    pub(crate) fn make(&mut self, rt: &impl Abort, kind: Kind, parts: &Parts) -> Option<Object>
         ensures kept { (m : ℕ) → m ≤ self.old.graph.made → KeepsOlder m self.old.graph self.new.graph }
     {
-        let types = types(self.alloc, self.model.values, parts.count)?;
-        let Some(object) = make(&mut self.graph, kind, parts, types)? else {
-            return Ok(None);
+        let types = types(rt, self.alloc, self.model.values, parts.count);
+        let Some(object) = make(rt, &mut self.graph, kind, parts, types) else {
+            return None;
         };
-        self.model.add(object, parts)?;
-        Ok(Some(object))
+        self.model.add(rt, object, parts);
+        Some(object)
     }
 
     /// Makes an object of up to three results or arguments, and returns whether the graph had everything that it was to use.
-    fn make_one(&mut self) -> Result<bool, AllocError>
+    fn make_one(&mut self, rt: &impl Abort) -> bool
         ensures kept { (m : ℕ) → m ≤ self.old.graph.made → KeepsOlder m self.old.graph self.new.graph }
     {
         let kind = any_kind(&mut self.random);
         let count = any_count(&mut self.random, kind);
         let mut parts = Parts::new(self.alloc, (self.model.made % 1000) as u32, count);
-        use_some(&self.model, &mut self.random, kind, &mut parts)?;
-        Ok(self.make(kind, &parts)?.is_some())
+        use_some(rt, &self.model, &mut self.random, kind, &mut parts);
+        self.make(rt, kind, &parts).is_some()
     }
 
     /// Makes three objects, and returns whether each could be made.
-    fn make_three(&mut self) -> bool
+    fn make_three(&mut self, rt: &impl Abort) -> bool
         ensures kept { (m : ℕ) → m ≤ self.old.graph.made → KeepsOlder m self.old.graph self.new.graph }
     {
-        let first = self.make_one().unwrap_or(false);
-        let second = self.make_one().unwrap_or(false);
-        let third = self.make_one().unwrap_or(false);
+        let first = self.make_one(rt);
+        let second = self.make_one(rt);
+        let third = self.make_one(rt);
         first & second & third
     }
 
     /// Makes nine objects, and returns whether each could be made.
-    fn make_nine(&mut self) -> bool
+    fn make_nine(&mut self, rt: &impl Abort) -> bool
         ensures kept { (m : ℕ) → m ≤ self.old.graph.made → KeepsOlder m self.old.graph self.new.graph }
     {
-        let first = self.make_three();
-        let second = self.make_three();
-        let third = self.make_three();
+        let first = self.make_three(rt);
+        let second = self.make_three(rt);
+        let third = self.make_three(rt);
         first & second & third
     }
 
     /// Makes nine objects, compares, and rolls them back.
-    fn make_and_give_back(&mut self) -> Result<bool, AllocError> {
+    fn make_and_give_back(&mut self, rt: &impl Abort) -> bool {
         let mark = self.graph.made();
-        let made = self.make_nine();
-        let same = agree(&self.graph, &self.model, &mut self.random)?;
+        let made = self.make_nine(rt);
+        let same = agree(rt, &self.graph, &self.model, &mut self.random);
         self.graph.roll_back(mark);
-        self.model.roll_back(mark)?;
-        Ok(made & same)
+        self.model.roll_back(rt, mark);
+        made & same
     }
 
     /// Rolls all objects back.
-    pub(crate) fn clear(&mut self) -> Result<bool, AllocError> {
+    pub(crate) fn clear(&mut self, rt: &impl Abort) -> bool {
         self.graph.roll_back(0);
-        self.model.roll_back(0)?;
-        Ok(self.graph.num_live() == 0)
+        self.model.roll_back(rt, 0);
+        self.graph.num_live() == 0
     }
 
     /// Puts an object into another if their kinds fit, and returns whether the graph allows it exactly if the model does.
-    fn insert(&mut self, k: Object, c: Object) -> Result<bool, AllocError> {
+    fn insert(&mut self, rt: &impl Abort, k: Object, c: Object) -> bool {
         if !fits(k, c) {
-            return Ok(true);
+            return true;
         }
-        let can = self.model.can_insert(k, c)?;
-        let done = put(&mut self.graph, k, c)?;
+        let can = self.model.can_insert(rt, k, c);
+        let done = put(rt, &mut self.graph, k, c);
         if done {
             self.model.place(c, Some(k));
         }
-        Ok(done == can)
+        done == can
     }
 
     /// Makes each use of one value or block one of another.
@@ -250,71 +256,71 @@ impl Script {
     }
 
     /// Erases an object with everything nested in it, and returns whether the graph allows it exactly if the model does.
-    pub(crate) fn erase(&mut self, o: Object) -> Result<bool, AllocError> {
-        let can = self.model.can_erase(o)?;
+    pub(crate) fn erase(&mut self, rt: &impl Abort, o: Object) -> bool {
+        let can = self.model.can_erase(rt, o);
         if !self.graph.contains(o) {
-            return Ok(false);
+            return false;
         }
         if !self.graph.can_erase(o) {
-            return Ok(!can);
+            return !can;
         }
         self.graph.erase(o);
-        self.model.erase(o)?;
-        Ok(can)
+        self.model.erase(rt, o);
+        can
     }
 
     /// Detaches an object from its parent, or drops the uses by the operations nested in it.
-    pub(crate) fn loosen(&mut self, o: Object, drops: bool) -> Result<bool, AllocError> {
+    pub(crate) fn loosen(&mut self, rt: &impl Abort, o: Object, drops: bool) -> bool {
         if !self.graph.contains(o) {
-            return Ok(false);
+            return false;
         }
         if drops {
             self.graph.drop_all_uses(o);
-            self.model.drop_inside(o)?;
+            self.model.drop_inside(rt, o);
         } else {
             self.graph.unlink(o);
             self.model.place(o, None);
         }
-        Ok(true)
+        true
     }
 
     /// Changes the graph at one or two objects.
-    fn change(&mut self, o: Object, p: Object) -> Result<bool, AllocError> {
+    fn change(&mut self, rt: &impl Abort, o: Object, p: Object) -> bool {
         match self.random.below(24) {
-            0..=10 => self.insert(o, p),
-            11..=13 => Ok(self.replace()),
-            14 => self.loosen(o, true),
-            15 => self.loosen(o, false),
-            _ => self.erase(o),
+            0..=10 => self.insert(rt, o, p),
+            11..=13 => self.replace(),
+            14 => self.loosen(rt, o, true),
+            15 => self.loosen(rt, o, false),
+            _ => self.erase(rt, o),
         }
     }
 
     /// Makes the next call.
-    fn step(&mut self) -> Result<bool, AllocError> {
+    fn step(&mut self, rt: &impl Abort) -> bool {
         let objects = (
             self.model.any(&mut self.random),
             self.model.any(&mut self.random),
         );
         let (Some(one), Some(other)) = objects else {
-            return self.make_one();
+            return self.make_one(rt);
         };
         let (o, p) = (one.object, other.object);
         match self.random.below(2000) {
-            0 => self.clear(),
-            1..=20 => self.make_and_give_back(),
-            21..=800 if self.model.items.len() < MOST => self.make_one(),
-            _ => self.change(o, p),
+            0 => self.clear(rt),
+            1..=20 => self.make_and_give_back(rt),
+            21..=800 if self.model.items.len() < MOST => self.make_one(rt),
+            _ => self.change(rt, o, p),
         }
     }
 }
 
 /// The number of the first call after which the graph and its model differ. To look at the call, let the script end there.
-pub(crate) fn differing_call(script: &mut Script) -> Result<Option<usize>, AllocError> {
+pub(crate) fn differing_call(rt: &impl Abort, script: &mut Script) -> Option<usize> {
     for number in 0..STEPS {
-        let done = script.step()?;
-        if !done || !agree(&script.graph, &script.model, &mut script.random)? {
-            return Ok(Some(number));
+        let done = script.step(rt);
+        if !done || !agree(rt, &script.graph, &script.model, &mut script.random) {
+            return Some(number);
         }
     }
-    Ok(None)
+    None
 }

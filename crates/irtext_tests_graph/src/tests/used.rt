@@ -15,7 +15,7 @@ use irtext_graph_queries::operation::OperationParts;
 use irtext_graph_queries::region::RegionParts;
 use irtext_graph_queries::types::GraphTypes;
 use irtext_graph_queries::value::{UseSite, ValueUses};
-use std::alloc::AllocError;
+use std::process::Abort;
 
 /// An operation with a region of two blocks, the first of which has two arguments and two operations: one with two results, and
 /// one that uses the first of these twice, an argument, and the second block.
@@ -31,31 +31,39 @@ struct Scene {
 
 /// An operation that uses the first result of another twice, an argument of a block, and a block.
 fn make_user(
+    rt: &impl Abort,
     graph: &mut Numbers,
     maker: Ptr<Operation>,
     first: Ptr<BasicBlock>,
     second: Ptr<BasicBlock>,
-) -> Result<Ptr<Operation>, AllocError> {
+) -> Ptr<Operation> {
     let result = Value::Result(maker, 0);
     let argument = Value::Argument(first, 1);
     let user = make_using(
+        rt,
         graph,
         3,
         Few::none(),
         &[result, argument, result],
         &[second],
-    )?;
-    Ok(user.unwrap_or(maker))
+    );
+    user.unwrap_or(maker)
 }
 
 /// Makes all of a scene and puts it together.
-fn make_scene(graph: &mut Numbers) -> Result<Scene, AllocError> {
-    let root = graph.make_operation(1, Few::none(), &[], &[])?;
-    let region = graph.make_region()?;
-    let first = graph.make_block(4, Few::two(10, 11))?;
-    let second = graph.make_block(5, Few::none())?;
-    let maker = graph.make_operation(2, Few::two(12, 13), &[], &[])?;
-    let user = make_user(graph, maker, first, second)?;
+fn make_scene(rt: &impl Abort, graph: &mut Numbers) -> Scene {
+    let root = graph
+        .make_operation(1, Few::none(), &[], &[])
+        .expect(rt, "out of memory");
+    let region = graph.make_region().expect(rt, "out of memory");
+    let first = graph
+        .make_block(4, Few::two(10, 11))
+        .expect(rt, "out of memory");
+    let second = graph.make_block(5, Few::none()).expect(rt, "out of memory");
+    let maker = graph
+        .make_operation(2, Few::two(12, 13), &[], &[])
+        .expect(rt, "out of memory");
+    let user = make_user(rt, graph, maker, first, second);
     let scene = Scene {
         root,
         region,
@@ -64,23 +72,23 @@ fn make_scene(graph: &mut Numbers) -> Result<Scene, AllocError> {
         maker,
         user,
     };
-    put_together(graph, scene)?;
-    Ok(scene)
+    put_together(rt, graph, scene);
+    scene
 }
 
 /// Puts the objects of a scene into one another.
-fn put_together(graph: &mut Numbers, s: Scene) -> Result<(), AllocError> {
+fn put_together(rt: &impl Abort, graph: &mut Numbers, s: Scene) {
     let (region, first) = (Object::TheRegion(s.region), Object::TheBlock(s.first));
     put(
+        rt,
         graph,
         Object::TheOperation(s.root),
         Object::TheRegion(s.region),
-    )?;
-    put(graph, region, Object::TheBlock(s.first))?;
-    put(graph, region, Object::TheBlock(s.second))?;
-    put(graph, first, Object::TheOperation(s.maker))?;
-    put(graph, first, Object::TheOperation(s.user))?;
-    Ok(())
+    );
+    put(rt, graph, region, Object::TheBlock(s.first));
+    put(rt, graph, region, Object::TheBlock(s.second));
+    put(rt, graph, first, Object::TheOperation(s.maker));
+    put(rt, graph, first, Object::TheOperation(s.user));
 }
 
 /// Whether all of a scene is live.
@@ -107,15 +115,24 @@ fn are<X: PartialEq + Drop>(list: Vec<X>, items: &[X]) -> bool {
 }
 
 /// The children of each object, as lists.
-fn lists_children(holder: &Holder, s: Scene) -> Result<bool, AllocError> {
+fn lists_children(rt: &impl Abort, holder: &Holder, s: Scene) -> bool {
     if !alive(holder, s) {
-        return Ok(false);
+        return false;
     }
-    let regions = are(s.root.regions(holder)?, &[s.region]);
-    let blocks = are(s.region.blocks(holder)?, &[s.first, s.second]);
-    let operations = are(s.first.operations(holder)?, &[s.maker, s.user]);
+    let regions = are(
+        s.root.regions(holder).expect(rt, "out of memory"),
+        &[s.region],
+    );
+    let blocks = are(
+        s.region.blocks(holder).expect(rt, "out of memory"),
+        &[s.first, s.second],
+    );
+    let operations = are(
+        s.first.operations(holder).expect(rt, "out of memory"),
+        &[s.maker, s.user],
+    );
     let entry = s.region.get_entry_block(holder) == Some(s.first);
-    Ok(entry & regions & blocks & operations)
+    entry & regions & blocks & operations
 }
 
 /// The index of a region in its operation, if it is in one.
@@ -166,55 +183,61 @@ fn finds(holder: &Holder, s: Scene) -> bool {
 }
 
 /// The operands and the successors, one by one and as lists.
-fn lists_uses(holder: &Holder, s: Scene) -> Result<bool, AllocError> {
+fn lists_uses(rt: &impl Abort, holder: &Holder, s: Scene) -> bool {
     if !alive(holder, s) {
-        return Ok(false);
+        return false;
     }
     let result = Value::Result(s.maker, 0);
     let operands = are(
-        s.user.operands(holder)?,
+        s.user.operands(holder).expect(rt, "out of memory"),
         &[result, Value::Argument(s.first, 1), result],
     );
-    let successors = are(s.user.successors(holder)?, &[s.second]);
+    let successors = are(
+        s.user.successors(holder).expect(rt, "out of memory"),
+        &[s.second],
+    );
     if s.user.get_num_operands(holder) != 3 || s.user.get_num_successors(holder) != 1 {
-        return Ok(false);
+        return false;
     }
     let each = s.user.get_operand(holder, 2) == result
         && s.user.get_successor(holder, 0) == s.second;
-    Ok(each & operands & successors)
+    each & operands & successors
 }
 
 /// The results with their types, one by one and as lists.
-fn lists_results(holder: &Holder, s: Scene) -> Result<bool, AllocError> {
+fn lists_results(rt: &impl Abort, holder: &Holder, s: Scene) -> bool {
     if !alive(holder, s) || s.maker.get_num_results(holder) != 2 {
-        return Ok(false);
+        return false;
     }
-    let results = s.maker.results(holder)?;
-    let types = s.maker.result_types(holder)?;
+    let results = s.maker.results(holder).expect(rt, "out of memory");
+    let types = s.maker.result_types(holder).expect(rt, "out of memory");
     let mut sum: u8 = 0;
     for of_type in &types {
         sum = sum.wrapping_add(**of_type);
     }
     let second = s.maker.get_result(holder, 1);
     let typed = *holder.graph.type_of(second) == 13;
-    Ok(typed && sum == 25 && results.as_slice() == [Value::Result(s.maker, 0), second].as_slice())
+    typed && sum == 25 && results.as_slice() == [Value::Result(s.maker, 0), second].as_slice()
 }
 
 /// The arguments, one by one and as a list, and the predecessors of a block.
-fn lists_arguments(holder: &Holder, s: Scene) -> Result<bool, AllocError> {
+fn lists_arguments(rt: &impl Abort, holder: &Holder, s: Scene) -> bool {
     if !alive(holder, s) || s.first.get_num_arguments(holder) != 2 {
-        return Ok(false);
+        return false;
     }
     let one = s.first.get_argument(holder, 0);
     let arguments = are(
-        s.first.arguments(holder)?,
+        s.first.arguments(holder).expect(rt, "out of memory"),
         &[one, Value::Argument(s.first, 1)],
     );
-    let preds = are(s.second.preds(holder)?, &[s.first]);
+    let preds = are(
+        s.second.preds(holder).expect(rt, "out of memory"),
+        &[s.first],
+    );
     let counted = s.second.has_pred(holder)
         & (s.second.num_preds(holder) == 1)
         & !s.first.has_pred(holder);
-    Ok(counted & preds & arguments)
+    counted & preds & arguments
 }
 
 /// Whether these uses are by one operation.
@@ -228,29 +251,25 @@ fn are_by(uses: &[Site], user: Ptr<Operation>) -> bool {
 }
 
 /// Whether a value is live and has so many uses, all by one operation.
-fn is_used(
-    holder: &Holder,
-    v: Value,
-    count: usize,
-    user: Ptr<Operation>,
-) -> Result<bool, AllocError> {
+fn is_used(rt: &impl Abort, holder: &Holder, v: Value, count: usize, user: Ptr<Operation>) -> bool {
     if !holder.graph.contains_value(v) {
-        return Ok(false);
+        return false;
     }
     let counted = v.num_uses(holder) == count && v.has_use(holder) == (count > 0);
-    let uses = v.uses(holder)?;
-    Ok(counted && uses.len() == count && are_by(&uses, user))
+    let uses = v.uses(holder).expect(rt, "out of memory");
+    counted && uses.len() == count && are_by(&uses, user)
 }
 
 /// Whether one value has so many uses, and another so many, all by one operation.
 fn are_used(
+    rt: &impl Abort,
     holder: &Holder,
     one: (Value, usize),
     two: (Value, usize),
     user: Ptr<Operation>,
-) -> Result<bool, AllocError> {
-    let first = is_used(holder, one.0, one.1, user)?;
-    Ok(is_used(holder, two.0, two.1, user)? & first)
+) -> bool {
+    let first = is_used(rt, holder, one.0, one.1, user);
+    is_used(rt, holder, two.0, two.1, user) & first
 }
 
 /// Replaces one value by another, if both are live.
@@ -263,12 +282,12 @@ fn replace(holder: &mut Holder, v: Value, w: Value) -> bool {
 }
 
 /// The uses of a result before and after the other replaces it.
-fn changes_hands(holder: &mut Holder, s: Scene) -> Result<bool, AllocError> {
+fn changes_hands(rt: &impl Abort, holder: &mut Holder, s: Scene) -> bool {
     let (one, two) = (Value::Result(s.maker, 0), Value::Result(s.maker, 1));
-    let before = are_used(holder, (one, 2), (two, 0), s.user)?;
+    let before = are_used(rt, holder, (one, 2), (two, 0), s.user);
     let done = replace(holder, one, two);
-    let after = are_used(holder, (one, 0), (two, 2), s.user)?;
-    Ok(before & done & after)
+    let after = are_used(rt, holder, (one, 0), (two, 2), s.user);
+    before & done & after
 }
 
 /// Erases an operation if that is allowed, and returns whether it was.
@@ -292,15 +311,15 @@ fn goes(holder: &mut Holder, s: Scene) -> bool {
 }
 
 /// All lists.
-fn lists_all(holder: &Holder, s: Scene) -> Result<bool, AllocError> {
-    let parts = lists_uses(holder, s)? & lists_results(holder, s)?;
-    Ok(lists_children(holder, s)? & lists_arguments(holder, s)? & parts)
+fn lists_all(rt: &impl Abort, holder: &Holder, s: Scene) -> bool {
+    let parts = lists_uses(rt, holder, s) & lists_results(rt, holder, s);
+    lists_children(rt, holder, s) & lists_arguments(rt, holder, s) & parts
 }
 
 /// All of it, over one scene.
-pub(crate) fn uses_and_lists(holder: &mut Holder) -> Result<bool, AllocError> {
-    let s = make_scene(&mut holder.graph)?;
-    let listed = lists_all(holder, s)? & finds(holder, s);
-    let changed = changes_hands(holder, s)?;
-    Ok(goes(holder, s) & listed & changed)
+pub(crate) fn uses_and_lists(rt: &impl Abort, holder: &mut Holder) -> bool {
+    let s = make_scene(rt, &mut holder.graph);
+    let listed = lists_all(rt, holder, s) & finds(holder, s);
+    let changed = changes_hands(rt, holder, s);
+    goes(holder, s) & listed & changed
 }

@@ -8,7 +8,7 @@ use crate::tests::nesting::{chain, put};
 use irtext_few::Few;
 use irtext_graph::arena::Ptr;
 use irtext_graph::object::{BasicBlock, Object, Operation};
-use std::alloc::AllocError;
+use std::process::Abort;
 
 /// The data of an object, and 0 for a region.
 fn data_of(graph: &Numbers, o: Object) -> u32
@@ -71,22 +71,29 @@ struct Level {
 }
 
 /// Makes an operation with a region with a block, with these data.
-fn make_level(graph: &mut Numbers, outer: u32, inner: u32) -> Result<Option<Level>, AllocError> {
-    let op = graph.make_operation(outer, Few::none(), &[], &[])?;
-    let region = Object::TheRegion(graph.make_region()?);
-    let block = graph.make_block(inner, Few::none())?;
-    let one = put(graph, Object::TheOperation(op), region)?;
-    let two = put(graph, region, Object::TheBlock(block))?;
+fn make_level(rt: &impl Abort, graph: &mut Numbers, outer: u32, inner: u32) -> Option<Level> {
+    let op = graph
+        .make_operation(outer, Few::none(), &[], &[])
+        .expect(rt, "out of memory");
+    let region = Object::TheRegion(graph.make_region().expect(rt, "out of memory"));
+    let block = graph
+        .make_block(inner, Few::none())
+        .expect(rt, "out of memory");
+    let one = put(rt, graph, Object::TheOperation(op), region);
+    let two = put(rt, graph, region, Object::TheBlock(block));
     if one && two {
-        return Ok(Some(Level { op, block }));
+        return Some(Level { op, block });
     }
-    Ok(None)
+    None
 }
 
 /// Makes an operation with this data, last in a block.
-fn add_leaf(graph: &mut Numbers, level: Level, value: u32) -> Result<bool, AllocError> {
-    let op = graph.make_operation(value, Few::none(), &[], &[])?;
+fn add_leaf(rt: &impl Abort, graph: &mut Numbers, level: Level, value: u32) -> bool {
+    let op = graph
+        .make_operation(value, Few::none(), &[], &[])
+        .expect(rt, "out of memory");
     put(
+        rt,
         graph,
         Object::TheBlock(level.block),
         Object::TheOperation(op),
@@ -94,24 +101,25 @@ fn add_leaf(graph: &mut Numbers, level: Level, value: u32) -> Result<bool, Alloc
 }
 
 /// Two levels, one in the other, with an operation before the inner one, an operation in it, and an operation after it.
-fn make_nest(graph: &mut Numbers) -> Result<Option<(Level, Level)>, AllocError> {
-    let Some(outer) = make_level(graph, 1, 2)? else {
-        return Ok(None);
+fn make_nest(rt: &impl Abort, graph: &mut Numbers) -> Option<(Level, Level)> {
+    let Some(outer) = make_level(rt, graph, 1, 2) else {
+        return None;
     };
-    let Some(inner) = make_level(graph, 4, 5)? else {
-        return Ok(None);
+    let Some(inner) = make_level(rt, graph, 4, 5) else {
+        return None;
     };
-    let one = add_leaf(graph, outer, 3)?;
+    let one = add_leaf(rt, graph, outer, 3);
     let two = put(
+        rt,
         graph,
         Object::TheBlock(outer.block),
         Object::TheOperation(inner.op),
-    )?;
-    let three = add_leaf(graph, inner, 6)? && add_leaf(graph, outer, 8)?;
+    );
+    let three = add_leaf(rt, graph, inner, 6) && add_leaf(rt, graph, outer, 8);
     if one && two && three {
-        return Ok(Some((outer, inner)));
+        return Some((outer, inner));
     }
-    Ok(None)
+    None
 }
 
 /// Whether the walk from an object visits these data in this order, so many.
@@ -133,24 +141,24 @@ fn overwritten(graph: &mut Numbers, o: Object) -> bool {
 }
 
 /// Whether the walks over the nested objects have the expected order, and again after the data of the inner level are written.
-pub(crate) fn goes_through(graph: &mut Numbers) -> Result<bool, AllocError> {
-    let Some((outer, inner)) = make_nest(graph)? else {
-        return Ok(false);
+pub(crate) fn goes_through(rt: &impl Abort, graph: &mut Numbers) -> bool {
+    let Some((outer, inner)) = make_nest(rt, graph) else {
+        return false;
     };
     let all = meets(graph, Object::TheOperation(outer.op), 102340568, 9);
     let body = meets(graph, Object::TheBlock(outer.block), 2340568, 7);
     let part = meets(graph, Object::TheOperation(inner.op), 4056, 4);
     let wrote = overwritten(graph, Object::TheOperation(inner.op));
     let changed = meets(graph, Object::TheOperation(outer.op), 102370778, 9);
-    Ok(all && body && part && wrote && changed)
+    all && body && part && wrote && changed
 }
 
 /// A chain of a million objects that is walked from its ends, written and walked again.
-pub(crate) fn goes_deep(graph: &mut Numbers) -> Result<bool, AllocError> {
-    let Some(ends) = chain(graph, 333334)? else {
-        return Ok(false);
+pub(crate) fn goes_deep(rt: &impl Abort, graph: &mut Numbers) -> bool {
+    let Some(ends) = chain(rt, graph, 333334) else {
+        return false;
     };
     let before = meets(graph, ends.outer, 0, 1000003) && meets(graph, ends.inner, 0, 1);
     let wrote = overwritten(graph, ends.outer);
-    Ok(before && wrote && meets(graph, ends.inner, 7, 1))
+    before && wrote && meets(graph, ends.inner, 7, 1)
 }
