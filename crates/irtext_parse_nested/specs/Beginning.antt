@@ -47,7 +47,8 @@ use Rattle.irtext_parse_objects.specs.declared.gathered.Gathered.{Gathered}
 use Rattle.irtext_parse_nested.specs.declared.operation_parts.NotGathered.{NotGathered}
 use Rattle.irtext_parse_nested.specs.declared.operation_parts.NotGathered.TheVariants as refusal
 use Rattle.irtext_parse_nested.specs.Definitions.{IsFaultOf}
-use Rattle.irtext_parse_objects.specs.Gathered.{IsNothing}
+use Rattle.irtext_parse_objects.specs.Gathered.{IsNothing, types_made}
+use Rattle.irtext_parse_objects.specs.Placing.{PlacedIn}
 use Rattle.irtext_parse_objects.specs.Uses.{KeepsScopes}
 use Rattle.irtext_parse_nested.specs.Gathered.{Gathers, RefusesGathering}
 use Rattle.irtext_parse_objects.specs.Items.{Names}

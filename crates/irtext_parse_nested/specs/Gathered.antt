@@ -36,6 +36,7 @@ use Rattle.irtext_parse_pieces.specs.Named.{Represents, Each}
 use Rattle.irtext_parse_nested.specs.declared.dictionary.Holder.{Holder}
 use Rattle.irtext_parse_nested.specs.declared.dictionary.Holder.TheVariants as holder
 use Rattle.irtext_parse_objects.specs.declared.gathered.Gathered.{Gathered}
+use Rattle.irtext_parse_objects.specs.Gathered.{AllUsesLive}
 use Rattle.irtext_parse_nested.specs.declared.operation_parts.NotGathered.{NotGathered}
 use Rattle.irtext_parse_nested.specs.declared.operation_parts.NotGathered.TheVariants as refusal
 use Rattle.irtext_parse_objects.specs.declared.gathered.Placed.{Placed}
