@@ -5,6 +5,8 @@
 #[cfg(test)]
 mod dict;
 #[cfg(test)]
+mod passed;
+#[cfg(test)]
 mod read;
 #[cfg(test)]
 mod tests;

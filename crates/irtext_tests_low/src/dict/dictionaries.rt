@@ -1,13 +1,14 @@
 //! A dictionary of up to twenty keys and given names: they are inserted, replaced and removed, and are in the order in which
 //! they were inserted. A copy without the outlined attributes keeps that order.
-use crate::dict::pairs::{differing_step, put};
+use crate::dict::pairs::put;
+use crate::passed::passed;
 use irtext_base::base::{AttrObj, GIVEN_NAMES_KEY, Identifier};
 use irtext_context::base::AttributeDict;
 use irtext_demo::DemoAttr;
 use irtext_tests_common::answers::named;
 use irtext_tests_common::building::attribute;
 use std::alloc::Global;
-use std::test::Fail;
+use std::process::Abort;
 
 /// The edits, by keys of one letter: the key gets this attribute, or is removed if there is none. No letters denote the
 /// given names.
@@ -57,66 +58,67 @@ fn shown(attr: &AttrObj<()>) -> &str {
 }
 
 /// The entries of a dictionary, and then the attribute under `c`.
-fn listed(alloc: Global, dictionary: &AttributeDict<()>) -> Result<String, Fail> {
+fn listed(rt: &impl Abort, alloc: Global, dictionary: &AttributeDict<()>) -> String {
     let mut text = String::new(alloc);
     for (key, attr) in dictionary.iter() {
         if key.as_str() != GIVEN_NAMES_KEY {
-            text.push_str(key.as_str())?;
+            text.push_str(key.as_str()).expect(rt, "out of memory");
         }
-        text.push_str(shown(attr))?;
+        text.push_str(shown(attr)).expect(rt, "out of memory");
     }
     let found = match dictionary.get_str("c") {
         Some(attr) => shown(attr),
         None => "-",
     };
-    Ok(format!(in alloc; "{text}|{found}")?)
+    format!(in alloc; "{text}|{found}").expect(rt, "out of memory")
 }
 
 /// The attribute for a key: given names, or an identifier of this name.
-fn attr_for(alloc: Global, key: &str, name: &str) -> Result<AttrObj<()>, Fail> {
+fn attr_for(rt: &impl Abort, alloc: Global, key: &str, name: &str) -> AttrObj<()> {
     if key == GIVEN_NAMES_KEY {
-        return Ok(AttrObj::GivenNames(Vec::new(alloc)));
+        return AttrObj::GivenNames(Vec::new(alloc));
     }
-    Ok(AttrObj::Ident(named(alloc, name)?))
+    AttrObj::Ident(passed(rt, named(alloc, name)))
 }
 
 /// Inserts an attribute under a key, or removes the entry if there is no name.
-fn edit(
-    alloc: Global,
-    dictionary: &mut AttributeDict<()>,
-    key: Identifier,
-    name: &str,
-) -> Result<(), Fail> {
+fn edit(rt: &impl Abort, alloc: Global, dictionary: &mut AttributeDict<()>, key: &str, name: &str) {
+    let key = passed(rt, named(alloc, key));
     if name == "" {
         let _taken = dictionary.remove(&key);
-        return Ok(());
+        return;
     }
-    let attr = attr_for(alloc, key.as_str(), name)?;
-    if put(dictionary, key, attr) != "kept" {
-        return Err(Fail::from("refused"));
-    }
-    Ok(())
+    let attr = attr_for(rt, alloc, key.as_str(), name);
+    assert!(rt; put(dictionary, key, attr) == "kept");
 }
 
 /// The text after an edit.
-fn step(alloc: Global, dictionary: &mut AttributeDict<()>, number: usize) -> Result<String, Fail> {
-    let Some((letters, name)) = EDITS.get(number) else {
-        return Err(Fail::from("no edit"));
-    };
+fn step(
+    rt: &impl Abort,
+    alloc: Global,
+    dictionary: &mut AttributeDict<()>,
+    number: usize,
+) -> String {
+    let (letters, name) = EDITS.get(number).expect(rt, "no edit");
     if *letters == "" {
-        edit(alloc, dictionary, named(alloc, GIVEN_NAMES_KEY)?, name)?;
+        edit(rt, alloc, dictionary, GIVEN_NAMES_KEY, name);
     }
     for letter in letters.chars() {
-        let key = format!(in alloc; "{letter}")?;
-        edit(alloc, dictionary, named(alloc, key.as_str())?, name)?;
+        let key = format!(in alloc; "{letter}").expect(rt, "out of memory");
+        edit(rt, alloc, dictionary, key.as_str(), name);
     }
-    listed(alloc, dictionary)
+    listed(rt, alloc, dictionary)
 }
 
 #[test]
-fn keys_keep_their_order(rt: HostRuntime) -> Result<(), Fail> {
-    assert_eq!(rt; differing_step(rt.alloc(), LISTED, step)?, None);
-    Ok(())
+fn keys_keep_their_order(rt: HostRuntime) {
+    let mut dictionary = AttributeDict::new(rt.alloc());
+    for (number, wanted) in LISTED.iter().enumerate() {
+        assert_eq!(rt;
+            step(&rt, rt.alloc(), &mut dictionary, number).as_str(),
+            *wanted
+        );
+    }
 }
 
 /// Attributes in the order in which they are inserted, and those that are copied: `g` for given names, `n` for a debug note, `t` for a
@@ -130,27 +132,23 @@ const COPIED: &[(&str, &str)] = &[
 ];
 
 /// The key of the attribute for a letter, in a dictionary of this length.
-fn key_of(alloc: Global, letter: char, length: usize) -> Result<Identifier, Fail> {
+fn key_of(rt: &impl Abort, alloc: Global, letter: char, length: usize) -> Identifier {
     if letter == 'g' {
-        return named(alloc, GIVEN_NAMES_KEY);
+        return passed(rt, named(alloc, GIVEN_NAMES_KEY));
     }
-    let key = format!(in alloc; "key_{length}")?;
-    named(alloc, key.as_str())
+    let key = format!(in alloc; "key_{length}").expect(rt, "out of memory");
+    passed(rt, named(alloc, key.as_str()))
 }
 
 /// Inserts the attribute for a letter.
-fn insert(
-    alloc: Global,
-    dictionary: &mut AttributeDict<DemoAttr>,
-    letter: char,
-) -> Result<(), Fail> {
-    let key = key_of(alloc, letter, dictionary.len())?;
-    let attr = attribute(alloc, letter)?;
-    Ok(dictionary.insert(key, attr).ok().ok_or("refused")?)
+fn insert(rt: &impl Abort, alloc: Global, dictionary: &mut AttributeDict<DemoAttr>, letter: char) {
+    let key = key_of(rt, alloc, letter, dictionary.len());
+    let attr = passed(rt, attribute(alloc, letter));
+    dictionary.insert(key, attr).ok().expect(rt, "refused");
 }
 
 /// The letters of a dictionary's attributes.
-fn letters(alloc: Global, dictionary: &AttributeDict<DemoAttr>) -> Result<String, Fail> {
+fn letters(rt: &impl Abort, alloc: Global, dictionary: &AttributeDict<DemoAttr>) -> String {
     let mut text = String::new(alloc);
     for (_key, attr) in dictionary.iter() {
         let letter = match attr {
@@ -159,36 +157,34 @@ fn letters(alloc: Global, dictionary: &AttributeDict<DemoAttr>) -> Result<String
             AttrObj::Own(DemoAttr::Debug(_)) => "n",
             AttrObj::Own(_) => "t",
         };
-        text.push_str(letter)?;
+        text.push_str(letter).expect(rt, "out of memory");
     }
-    Ok(text)
+    text
 }
 
 /// The letters of a dictionary's copy.
-fn copied(alloc: Global, dictionary: &AttributeDict<DemoAttr>) -> Result<String, Fail> {
-    let copy = dictionary.clone_skip_outlined()?;
-    letters(alloc, &copy)
+fn copied(rt: &impl Abort, alloc: Global, dictionary: &AttributeDict<DemoAttr>) -> String {
+    let copy = dictionary.clone_skip_outlined().expect(rt, "out of memory");
+    letters(rt, alloc, &copy)
 }
 
-/// Whether a dictionary of a row's attributes, which begins empty, has the row's copy, and stays as it was.
-fn holds(
+/// Checks that a dictionary of a row's attributes, which begins empty, has the row's copy, and stays as it was.
+fn check(
+    rt: &impl Abort,
     alloc: Global,
     dictionary: &mut AttributeDict<DemoAttr>,
     row: &(&str, &str),
-) -> Result<bool, Fail> {
+) {
     for letter in row.0.chars() {
-        insert(alloc, dictionary, letter)?;
+        insert(rt, alloc, dictionary, letter);
     }
-    Ok(
-        copied(alloc, dictionary)?.as_str() == row.1
-            && letters(alloc, dictionary)?.as_str() == row.0,
-    )
+    assert_eq!(rt; copied(rt, alloc, dictionary).as_str(), row.1);
+    assert_eq!(rt; letters(rt, alloc, dictionary).as_str(), row.0);
 }
 
 #[test]
-fn outlined_attributes_are_not_copied(rt: HostRuntime) -> Result<(), Fail> {
+fn outlined_attributes_are_not_copied(rt: HostRuntime) {
     for row in COPIED {
-        assert!(rt; holds(rt.alloc(), &mut AttributeDict::new(rt.alloc()), row)?);
+        check(&rt, rt.alloc(), &mut AttributeDict::new(rt.alloc()), row);
     }
-    Ok(())
 }

@@ -1,9 +1,10 @@
 //! Ids of operations made of texts.
+use crate::passed::passed;
 use irtext_base::base::OpId;
 use irtext_base::result::Result as Answer;
 use irtext_tests_common::answers::value_or_cause;
 use std::alloc::Global;
-use std::test::Fail;
+use std::process::Abort;
 
 /// The texts of a dialect and of a name, and the id of these, or the error.
 const IDS: &[(&str, &str, &str)] = &[
@@ -14,15 +15,14 @@ const IDS: &[(&str, &str, &str)] = &[
 ];
 
 /// The id of two texts, or the error.
-fn id(alloc: Global, dialect: &str, name: &str) -> Result<String, Fail> {
+fn id(rt: &impl Abort, alloc: Global, dialect: &str, name: &str) -> String {
     let answer: Answer<OpId, ()> = OpId::try_new(alloc, dialect, name);
-    value_or_cause(alloc, &answer)
+    passed(rt, value_or_cause(alloc, &answer))
 }
 
 #[test]
-fn ids_are_made_of_texts(rt: HostRuntime) -> Result<(), Fail> {
+fn ids_are_made_of_texts(rt: HostRuntime) {
     for row in IDS {
-        assert_eq!(rt; id(rt.alloc(), row.0, row.1)?.as_str(), row.2);
+        assert_eq!(rt; id(&rt, rt.alloc(), row.0, row.1).as_str(), row.2);
     }
-    Ok(())
 }

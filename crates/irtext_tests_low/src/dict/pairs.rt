@@ -1,11 +1,11 @@
 //! Identifiers, and a dictionary with them, one call of each kind.
-use irtext_base::base::{AttrObj, Identifier, Refusal};
+use crate::passed::passed;
+use irtext_base::base::{AttrObj, GIVEN_NAMES_KEY, Identifier, Refusal};
 use irtext_base::result::Result as Answer;
 use irtext_context::base::AttributeDict;
 use irtext_tests_common::answers::{named, value_or_cause};
-use irtext_tests_common::tables::differing;
 use std::alloc::Global;
-use std::test::Fail;
+use std::process::Abort;
 
 /// Texts, and the identifier of each, or the error.
 const WORDS: &[(&str, &str)] = &[
@@ -16,31 +16,30 @@ const WORDS: &[(&str, &str)] = &[
 ];
 
 /// The identifier of a text, or the error.
-fn word(alloc: Global, text: &str) -> Result<String, Fail> {
+fn word(rt: &impl Abort, alloc: Global, text: &str) -> String {
     let answer: Answer<Identifier, ()> = Identifier::try_new(alloc, text);
-    value_or_cause(alloc, &answer)
+    passed(rt, value_or_cause(alloc, &answer))
+}
+
+/// The identifier of a text that is one.
+fn identifier(rt: &impl Abort, alloc: Global, text: &str) -> Identifier {
+    passed(rt, named(alloc, text))
 }
 
 /// Whether the copy of an identifier equals it.
-fn copied(alloc: Global) -> Result<bool, Fail> {
-    let name = named(alloc, "a_1")?;
-    let copy = name.clone()?;
-    Ok(copy == name)
+fn copied(rt: &impl Abort, alloc: Global) -> bool {
+    let name = identifier(rt, alloc, "a_1");
+    let copy = name.clone().expect(rt, "out of memory");
+    copy == name
 }
 
 #[test]
-fn identifiers_are_words(rt: HostRuntime) -> Result<(), Fail> {
+fn identifiers_are_words(rt: HostRuntime) {
     for row in WORDS {
-        assert_eq!(rt; word(rt.alloc(), row.0)?.as_str(), row.1);
+        assert_eq!(rt; word(&rt, rt.alloc(), row.0).as_str(), row.1);
     }
-    assert!(rt; copied(rt.alloc())?);
-    Ok(())
+    assert!(rt; copied(&rt, rt.alloc()));
 }
-
-/// The text of each step, one after the other, with one dictionary.
-const STEPS: &[&str] = &[
-    "reserved", "kept", "kept", "kept", "2", "y", "true", "true", "true", "1", "1",
-];
 
 /// Inserts an attribute into a dictionary.
 pub fn put(dictionary: &mut AttributeDict<()>, key: Identifier, attr: AttrObj<()>) -> &'static str {
@@ -53,38 +52,33 @@ pub fn put(dictionary: &mut AttributeDict<()>, key: Identifier, attr: AttrObj<()
 
 /// Inserts an identifier into a dictionary.
 fn insert(
+    rt: &impl Abort,
     alloc: Global,
     dictionary: &mut AttributeDict<()>,
     key: &str,
     name: &str,
-) -> Result<String, Fail> {
-    let key = named(alloc, key)?;
-    let attr = AttrObj::Ident(named(alloc, name)?);
-    let word = put(dictionary, key, attr);
-    Ok(String::from_str(alloc, word)?)
+) -> &'static str {
+    let key = identifier(rt, alloc, key);
+    let attr = AttrObj::Ident(identifier(rt, alloc, name));
+    put(dictionary, key, attr)
 }
 
 /// Inserts given names into a dictionary.
-fn insert_given(alloc: Global, dictionary: &mut AttributeDict<()>) -> Result<String, Fail> {
-    let key = named(alloc, "builtin_given_names")?;
-    let word = put(dictionary, key, AttrObj::GivenNames(Vec::new(alloc)));
-    Ok(String::from_str(alloc, word)?)
+fn insert_given(
+    rt: &impl Abort,
+    alloc: Global,
+    dictionary: &mut AttributeDict<()>,
+) -> &'static str {
+    let key = identifier(rt, alloc, GIVEN_NAMES_KEY);
+    put(dictionary, key, AttrObj::GivenNames(Vec::new(alloc)))
 }
 
-/// The identifier under `k`.
-fn get(alloc: Global, dictionary: &AttributeDict<()>) -> Result<String, Fail> {
-    let key = named(alloc, "k")?;
-    match dictionary.get(&key) {
-        Some(AttrObj::Ident(name)) => Ok(String::from_str(alloc, name.as_str())?),
-        _ => Err(Fail::from("no identifier")),
-    }
-}
-
-/// Whether `k` is at index 1.
-fn at_one(alloc: Global, dictionary: &AttributeDict<()>) -> Result<bool, Fail> {
-    let key = named(alloc, "k")?;
+/// Whether the identifier `y` is under `k`, and at index 1.
+fn at_one(rt: &impl Abort, alloc: Global, dictionary: &AttributeDict<()>) -> bool {
+    let key = identifier(rt, alloc, "k");
+    let found = matches!(dictionary.get(&key), Some(AttrObj::Ident(name)) if name.as_str() == "y");
     let there = dictionary.get_str("k").is_some();
-    Ok(there && matches!(dictionary.get_index(1), Some((name, _)) if *name == key))
+    found && there && matches!(dictionary.get_index(1), Some((name, _)) if *name == key)
 }
 
 /// Whether the dictionary has two pairs.
@@ -94,9 +88,9 @@ fn two_pairs(dictionary: &AttributeDict<()>) -> bool {
 }
 
 /// Removes the given names, and returns whether there were any.
-fn remove(alloc: Global, dictionary: &mut AttributeDict<()>) -> Result<bool, Fail> {
-    let given = named(alloc, "builtin_given_names")?;
-    Ok(dictionary.remove(&given).is_some())
+fn remove(rt: &impl Abort, alloc: Global, dictionary: &mut AttributeDict<()>) -> bool {
+    let given = identifier(rt, alloc, GIVEN_NAMES_KEY);
+    dictionary.remove(&given).is_some()
 }
 
 /// The number of pairs after the call of `keeps_keys`.
@@ -105,35 +99,20 @@ fn kept(dictionary: &AttributeDict<()>) -> usize {
     dictionary.len()
 }
 
-/// The text of a step.
-fn step(alloc: Global, dictionary: &mut AttributeDict<()>, number: usize) -> Result<String, Fail> {
-    match number {
-        0 => insert(alloc, dictionary, "builtin_given_names", "x"),
-        1 => insert_given(alloc, dictionary),
-        2 => insert(alloc, dictionary, "k", "x"),
-        3 => insert(alloc, dictionary, "k", "y"),
-        5 => get(alloc, dictionary),
-        6 => Ok(format!(in alloc; "{}", at_one(alloc, dictionary)?)?),
-        7 => Ok(format!(in alloc; "{}", two_pairs(dictionary))?),
-        8 => Ok(format!(in alloc; "{}", remove(alloc, dictionary)?)?),
-        10 => Ok(format!(in alloc; "{}", kept(dictionary))?),
-        _ => Ok(format!(in alloc; "{}", dictionary.len())?),
-    }
-}
-
-/// The number of the first line of a table whose text differs from the expected one, with an empty dictionary for all lines.
-pub fn differing_step<F: Fn(Global, &mut AttributeDict<()>, usize) -> Result<String, Fail>>(
-    alloc: Global,
-    wanted: &[&str],
-    said: F,
-) -> Result<Option<usize>, Fail>
-    requires { F.IsAlwaysCallable said }
-{
-    differing(alloc, wanted, &mut AttributeDict::new(alloc), said)
+/// Puts given names under the reserved key, which holds nothing else, and an identifier that is then replaced.
+fn fill(rt: &impl Abort, alloc: Global, dictionary: &mut AttributeDict<()>) {
+    assert!(rt; insert(rt, alloc, dictionary, GIVEN_NAMES_KEY, "x") == "reserved");
+    assert!(rt; insert_given(rt, alloc, dictionary) == "kept");
+    assert!(rt; insert(rt, alloc, dictionary, "k", "x") == "kept");
+    assert!(rt; insert(rt, alloc, dictionary, "k", "y") == "kept");
 }
 
 #[test]
-fn pairs_are_put_replaced_and_taken_out(rt: HostRuntime) -> Result<(), Fail> {
-    assert_eq!(rt; differing_step(rt.alloc(), STEPS, step)?, None);
-    Ok(())
+fn pairs_are_put_replaced_and_taken_out(rt: HostRuntime) {
+    let mut dictionary = AttributeDict::new(rt.alloc());
+    fill(&rt, rt.alloc(), &mut dictionary);
+    assert!(rt; dictionary.len() == 2);
+    assert!(rt; at_one(&rt, rt.alloc(), &dictionary) && two_pairs(&dictionary));
+    assert!(rt; remove(&rt, rt.alloc(), &mut dictionary));
+    assert!(rt; dictionary.len() == 1 && kept(&dictionary) == 1);
 }

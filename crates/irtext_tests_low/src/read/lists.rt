@@ -1,4 +1,5 @@
 //! Lists of items, with and without separators.
+use crate::passed::passed;
 use irtext_base::parsable::{CharStream, ParseResult, TextStream};
 use irtext_base::printable::ListSeparator;
 use irtext_tests_common::answers::listed;
@@ -6,7 +7,7 @@ use irtext_tokens::irfmt::parsers::{
     delimited_list_parser, int_parse, list_parser, list_with_sep_parser, zero_or_more_parser,
 };
 use std::alloc::Global;
-use std::test::Fail;
+use std::process::Abort;
 
 /// The parsers of lists.
 #[derive(Clone, Copy)]
@@ -95,40 +96,39 @@ fn items(stream: &mut TextStream, reader: Reader) -> ParseResult<Vec<i32>, ()> {
 }
 
 /// The text of the result of a list's parser.
-fn read(alloc: Global, stream: &mut TextStream, reader: Reader) -> Result<String, Fail> {
+fn read(rt: &impl Abort, alloc: Global, stream: &mut TextStream, reader: Reader) -> String {
     let answer = items(stream, reader);
     let at = stream.locate(stream.position());
-    listed(alloc, &answer, at, stream.peek())
+    passed(rt, listed(alloc, &answer, at, stream.peek()))
 }
 
 /// The same on a text of its own.
-fn read_text(alloc: Global, reader: Reader, text: &str) -> Result<String, Fail> {
-    let mut stream = TextStream::new(alloc, text)?;
-    read(alloc, &mut stream, reader)
+fn read_text(rt: &impl Abort, alloc: Global, reader: Reader, text: &str) -> String {
+    let mut stream = TextStream::new(alloc, text).expect(rt, "out of memory");
+    read(rt, alloc, &mut stream, reader)
 }
 
 #[test]
-fn lists_of_a_text(rt: HostRuntime) -> Result<(), Fail> {
+fn lists_of_a_text(rt: HostRuntime) {
     for row in LISTS {
-        assert_eq!(rt; read_text(rt.alloc(), row.0, row.1)?.as_str(), row.2);
+        assert_eq!(rt; read_text(&rt, rt.alloc(), row.0, row.1).as_str(), row.2);
     }
-    Ok(())
 }
 
 /// The texts of the results for two lists of a text, one line each.
-fn two(alloc: Global, first: Reader, second: Reader, text: &str) -> Result<String, Fail> {
-    let mut stream = TextStream::new(alloc, text)?;
-    let mut said = read(alloc, &mut stream, first)?;
-    said.push('\n')?;
-    let following = read(alloc, &mut stream, second)?;
-    said.push_str(following.as_str())?;
-    Ok(said)
+fn two(rt: &impl Abort, alloc: Global, first: Reader, second: Reader, text: &str) -> String {
+    let mut stream = TextStream::new(alloc, text).expect(rt, "out of memory");
+    let mut said = read(rt, alloc, &mut stream, first);
+    said.push('\n').expect(rt, "out of memory");
+    let following = read(rt, alloc, &mut stream, second);
+    said.push_str(following.as_str())
+        .expect(rt, "out of memory");
+    said
 }
 
 #[test]
-fn lists_that_follow_a_refusal(rt: HostRuntime) -> Result<(), Fail> {
+fn lists_that_follow_a_refusal(rt: HostRuntime) {
     for row in FOLLOWING {
-        assert_eq!(rt; two(rt.alloc(), row.0, row.1, row.2)?.as_str(), row.3);
+        assert_eq!(rt; two(&rt, rt.alloc(), row.0, row.1, row.2).as_str(), row.3);
     }
-    Ok(())
 }

@@ -1,18 +1,19 @@
 //! Numbers of every type, in decimal and hexadecimal digits and as their text, and booleans.
 ghost use Rattle.std.specs.Prelude.{◌≤◌};
 
+use crate::passed::passed;
 use crate::read::numbers::Kind::{
     HexI64, HexU8, HexU16, HexU32, HexU64, HexUsize, I8, I16, I32, I64, Isize, Text, Truth, U8,
     U16, U32, U64, Usize,
 };
-use irtext_base::parsable::{CharStream, TextStream};
-use irtext_tests_common::answers::{line, said, said_next};
+use irtext_base::parsable::{CharStream, ParseResult, TextStream};
+use irtext_tests_common::answers::line;
 use irtext_tokens::irfmt::parsers::{
     FromStrRadix, bool_parse, hex_int_parse, int_parse, number_as_string_parse,
 };
 use std::alloc::Global;
 use std::fmt;
-use std::test::Fail;
+use std::process::Abort;
 
 /// What is parsed: an integer of a type, one in hexadecimal digits, the text of a number, or a boolean.
 #[derive(Clone, Copy)]
@@ -116,108 +117,129 @@ const AFTER_SKIPPED: &[(u8, &str, &str)] = &[
     ),
 ];
 
+/// The text of the result of a parser.
+fn text_of<X: fmt::Display + Drop>(
+    rt: &impl Abort,
+    alloc: Global,
+    answer: ParseResult<X, ()>,
+) -> String {
+    passed(rt, line(alloc, &answer))
+}
+
 /// An integer of a type.
-fn int<N: FromStrRadix + fmt::Display + Drop>(alloc: Global, text: &str) -> Result<String, Fail> {
-    let mut stream = TextStream::new(alloc, text)?;
-    let answer = int_parse::<TextStream, N, ()>(&mut stream);
-    line(alloc, &answer)
+fn int<N: FromStrRadix + fmt::Display + Drop>(
+    rt: &impl Abort,
+    alloc: Global,
+    text: &str,
+) -> String {
+    let mut stream = TextStream::new(alloc, text).expect(rt, "out of memory");
+    text_of(rt, alloc, int_parse::<TextStream, N, ()>(&mut stream))
 }
 
 /// An integer of a type in hexadecimal digits.
-fn hex<N: FromStrRadix + fmt::Display + Drop>(alloc: Global, text: &str) -> Result<String, Fail> {
-    let mut stream = TextStream::new(alloc, text)?;
-    let answer = hex_int_parse::<TextStream, N, ()>(&mut stream);
-    line(alloc, &answer)
+fn hex<N: FromStrRadix + fmt::Display + Drop>(
+    rt: &impl Abort,
+    alloc: Global,
+    text: &str,
+) -> String {
+    let mut stream = TextStream::new(alloc, text).expect(rt, "out of memory");
+    text_of(rt, alloc, hex_int_parse::<TextStream, N, ()>(&mut stream))
 }
 
 /// The text of a number.
-fn text_of(alloc: Global, text: &str) -> Result<String, Fail> {
-    said(alloc, text, number_as_string_parse::<TextStream, ()>)
+fn digits(rt: &impl Abort, alloc: Global, text: &str) -> String {
+    let mut stream = TextStream::new(alloc, text).expect(rt, "out of memory");
+    text_of(
+        rt,
+        alloc,
+        number_as_string_parse::<TextStream, ()>(&mut stream),
+    )
 }
 
 /// A boolean.
-fn truth(alloc: Global, text: &str) -> Result<String, Fail> {
-    said(alloc, text, bool_parse::<TextStream, ()>)
+fn truth(rt: &impl Abort, alloc: Global, text: &str) -> String {
+    let mut stream = TextStream::new(alloc, text).expect(rt, "out of memory");
+    text_of(rt, alloc, bool_parse::<TextStream, ()>(&mut stream))
 }
 
 /// The result for a text that is parsed as this kind.
-fn read(alloc: Global, kind: Kind, text: &str) -> Result<String, Fail> {
+fn read(rt: &impl Abort, alloc: Global, kind: Kind, text: &str) -> String {
     match kind {
-        U8 => int::<u8>(alloc, text),
-        U16 => int::<u16>(alloc, text),
-        U32 => int::<u32>(alloc, text),
-        U64 => int::<u64>(alloc, text),
-        Usize => int::<usize>(alloc, text),
-        I8 => int::<i8>(alloc, text),
-        I16 => int::<i16>(alloc, text),
-        I32 => int::<i32>(alloc, text),
-        I64 => int::<i64>(alloc, text),
-        Isize => int::<isize>(alloc, text),
-        HexU8 => hex::<u8>(alloc, text),
-        HexU16 => hex::<u16>(alloc, text),
-        HexU32 => hex::<u32>(alloc, text),
-        HexU64 => hex::<u64>(alloc, text),
-        HexUsize => hex::<usize>(alloc, text),
-        HexI64 => hex::<i64>(alloc, text),
-        Text => text_of(alloc, text),
-        Truth => truth(alloc, text),
+        U8 => int::<u8>(rt, alloc, text),
+        U16 => int::<u16>(rt, alloc, text),
+        U32 => int::<u32>(rt, alloc, text),
+        U64 => int::<u64>(rt, alloc, text),
+        Usize => int::<usize>(rt, alloc, text),
+        I8 => int::<i8>(rt, alloc, text),
+        I16 => int::<i16>(rt, alloc, text),
+        I32 => int::<i32>(rt, alloc, text),
+        I64 => int::<i64>(rt, alloc, text),
+        Isize => int::<isize>(rt, alloc, text),
+        HexU8 => hex::<u8>(rt, alloc, text),
+        HexU16 => hex::<u16>(rt, alloc, text),
+        HexU32 => hex::<u32>(rt, alloc, text),
+        HexU64 => hex::<u64>(rt, alloc, text),
+        HexUsize => hex::<usize>(rt, alloc, text),
+        HexI64 => hex::<i64>(rt, alloc, text),
+        Text => digits(rt, alloc, text),
+        Truth => truth(rt, alloc, text),
     }
 }
 
 /// An integer of eight bits, and then a boolean.
-fn two(alloc: Global, stream: &mut TextStream) -> Result<String, Fail> {
-    let mut said = said_next(alloc, stream, int_parse::<TextStream, i8, ()>)?;
-    said.push(' ')?;
-    let truth = said_next(alloc, stream, bool_parse::<TextStream, ()>)?;
-    said.push_str(truth.as_str())?;
-    Ok(said)
+fn two(rt: &impl Abort, alloc: Global, stream: &mut TextStream) -> String {
+    let mut said = text_of(rt, alloc, int_parse::<TextStream, i8, ()>(stream));
+    said.push(' ').expect(rt, "out of memory");
+    let truth = text_of(rt, alloc, bool_parse::<TextStream, ()>(stream));
+    said.push_str(truth.as_str()).expect(rt, "out of memory");
+    said
 }
 
 /// The same after so many characters.
-fn following(alloc: Global, skipped: u8, text: &str) -> Result<String, Fail> {
-    let mut stream = TextStream::new(alloc, text)?;
+fn following(rt: &impl Abort, alloc: Global, skipped: u8, text: &str) -> String {
+    let mut stream = TextStream::new(alloc, text).expect(rt, "out of memory");
     for _ in 0..skipped {
         let _ = stream.take();
     }
-    two(alloc, &mut stream)
+    two(rt, alloc, &mut stream)
 }
 
 /// The error for a number that is out of range.
-fn out_of_range(alloc: Global, text: &str) -> Result<String, Fail> {
-    Ok(format!(in alloc; "line: 1, column: 1: Number out of range: {text}!")?)
+fn out_of_range(rt: &impl Abort, alloc: Global, text: &str) -> String {
+    let error = format!(in alloc; "line: 1, column: 1: Number out of range: {text}!");
+    error.expect(rt, "out of memory")
 }
 
 /// The error for a character in the first line that is not expected.
-fn not_expected(alloc: Global, column: u8, error: &str) -> Result<String, Fail> {
-    Ok(format!(in alloc; "line: 1, column: {column}: Unexpected {error}")?)
+fn not_expected(rt: &impl Abort, alloc: Global, column: u8, error: &str) -> String {
+    let error = format!(in alloc; "line: 1, column: {column}: Unexpected {error}");
+    error.expect(rt, "out of memory")
 }
 
 #[test]
-fn numbers_and_truth_values_of_a_text(rt: HostRuntime) -> Result<(), Fail> {
+fn numbers_and_truth_values_of_a_text(rt: HostRuntime) {
     for row in READ {
-        assert_eq!(rt; read(rt.alloc(), row.0, row.1)?.as_str(), row.2);
+        assert_eq!(rt; read(&rt, rt.alloc(), row.0, row.1).as_str(), row.2);
     }
     for row in OUT_OF_RANGE {
         assert_eq!(rt;
-            read(rt.alloc(), row.0, row.1)?,
-            out_of_range(rt.alloc(), row.1)?
+            read(&rt, rt.alloc(), row.0, row.1),
+            out_of_range(&rt, rt.alloc(), row.1)
         );
     }
     for row in UNEXPECTED {
         assert_eq!(rt;
-            read(rt.alloc(), row.0, row.1)?,
-            not_expected(rt.alloc(), row.2, row.3)?
+            read(&rt, rt.alloc(), row.0, row.1),
+            not_expected(&rt, rt.alloc(), row.2, row.3)
         );
     }
-    Ok(())
 }
 
 #[test]
-fn a_refused_number_leaves_the_stream_failed(rt: HostRuntime) -> Result<(), Fail> {
+fn a_refused_number_leaves_the_stream_failed(rt: HostRuntime) {
     for row in AFTER_SKIPPED {
-        assert_eq!(rt; following(rt.alloc(), row.0, row.1)?.as_str(), row.2);
+        assert_eq!(rt; following(&rt, rt.alloc(), row.0, row.1).as_str(), row.2);
     }
-    Ok(())
 }
 
 /// Types, radices and texts, and the number of each text, or `-` if it is none.
@@ -236,44 +258,45 @@ const RADICES: &[(Kind, u32, &str, &str)] = &[
 
 /// The number of a text in a radix, or `-` if it is none.
 fn number<N: FromStrRadix + fmt::Display + Drop>(
+    rt: &impl Abort,
     alloc: Global,
     text: &str,
     radix: u32,
-) -> Result<String, Fail>
+) -> String
     requires low { 2 ≤ radix }
     requires high { radix ≤ 36 }
 {
     match N::from_str_radix(text, radix) {
-        Ok(number) => Ok(format!(in alloc; "{number}")?),
-        Err(_) => Ok(String::from_str(alloc, "-")?),
+        Ok(number) => format!(in alloc; "{number}").expect(rt, "out of memory"),
+        Err(_) => String::from_str(alloc, "-").expect(rt, "out of memory"),
     }
 }
 
 /// The number of a text in a radix, for a type.
-fn in_radix(alloc: Global, kind: Kind, radix: u32, text: &str) -> Result<String, Fail> {
-    if radix < 2 || radix > 36 {
-        return Err(Fail::from("no radix"));
-    }
+fn in_radix(rt: &impl Abort, alloc: Global, kind: Kind, radix: u32, text: &str) -> String {
+    assert!(rt; 2 <= radix && radix <= 36);
     match kind {
-        U8 => number::<u8>(alloc, text, radix),
-        U16 => number::<u16>(alloc, text, radix),
-        U32 => number::<u32>(alloc, text, radix),
-        U64 => number::<u64>(alloc, text, radix),
-        Usize => number::<usize>(alloc, text, radix),
-        I8 => number::<i8>(alloc, text, radix),
-        I16 => number::<i16>(alloc, text, radix),
-        I32 => number::<i32>(alloc, text, radix),
-        I64 => number::<i64>(alloc, text, radix),
-        _ => number::<isize>(alloc, text, radix),
+        U8 => number::<u8>(rt, alloc, text, radix),
+        U16 => number::<u16>(rt, alloc, text, radix),
+        U32 => number::<u32>(rt, alloc, text, radix),
+        U64 => number::<u64>(rt, alloc, text, radix),
+        Usize => number::<usize>(rt, alloc, text, radix),
+        I8 => number::<i8>(rt, alloc, text, radix),
+        I16 => number::<i16>(rt, alloc, text, radix),
+        I32 => number::<i32>(rt, alloc, text, radix),
+        I64 => number::<i64>(rt, alloc, text, radix),
+        _ => number::<isize>(rt, alloc, text, radix),
     }
 }
 
 #[test]
-fn numbers_in_a_radix(rt: HostRuntime) -> Result<(), Fail> {
+fn numbers_in_a_radix(rt: HostRuntime) {
     for row in RADICES {
-        assert_eq!(rt; in_radix(rt.alloc(), row.0, row.1, row.2)?.as_str(), row.3);
+        assert_eq!(rt;
+            in_radix(&rt, rt.alloc(), row.0, row.1, row.2).as_str(),
+            row.3
+        );
     }
-    Ok(())
 }
 
 #[test]

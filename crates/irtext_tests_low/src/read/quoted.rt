@@ -1,9 +1,10 @@
 //! Quoted texts and their parser.
+use crate::passed::passed;
 use irtext_base::parsable::TextStream;
 use irtext_tests_common::answers::with_next;
 use irtext_tokens::irfmt::parsers::quoted_string_parse;
 use std::alloc::Global;
-use std::test::Fail;
+use std::process::Abort;
 
 /// Texts, and the result for the quoted text that each begins with.
 const QUOTED: &[(&str, &str)] = &[
@@ -45,16 +46,15 @@ const QUOTED: &[(&str, &str)] = &[
 ];
 
 /// The result of `quoted_string_parse` for a text: the characters, or the fault, and the next character.
-fn read(alloc: Global, text: &str) -> Result<String, Fail> {
-    let mut stream = TextStream::new(alloc, text)?;
+fn read(rt: &impl Abort, alloc: Global, text: &str) -> String {
+    let mut stream = TextStream::new(alloc, text).expect(rt, "out of memory");
     let answer = quoted_string_parse::<TextStream, ()>(&mut stream);
-    with_next(alloc, &answer, stream.peek())
+    passed(rt, with_next(alloc, &answer, stream.peek()))
 }
 
 #[test]
-fn texts_in_quotation_marks(rt: HostRuntime) -> Result<(), Fail> {
+fn texts_in_quotation_marks(rt: HostRuntime) {
     for row in QUOTED {
-        assert_eq!(rt; read(rt.alloc(), row.0)?.as_str(), row.1);
+        assert_eq!(rt; read(&rt, rt.alloc(), row.0).as_str(), row.1);
     }
-    Ok(())
 }

@@ -1,10 +1,10 @@
 //! The stream over a text, places, faults and tokens.
+use crate::passed::passed;
 use irtext_base::parsable::{
     CharStream, ParseFault, ParseResult, Place, SourcePosition, TextStream,
 };
 use irtext_base::result::{Cause, Expected};
 use irtext_tests_common::answers::{result_text, said, said_next};
-use irtext_tests_common::tables::differing;
 use irtext_tokens::irfmt::demanded::spaced_text_demanded;
 use irtext_tokens::irfmt::faults::{
     begins, commit, committed, fail_at, next_is, pass, refuse, refuse_at, unexpected,
@@ -13,7 +13,7 @@ use irtext_tokens::irfmt::parsers::{
     Class, id_parse, identifier_parse, skip_class, skip_white_space, text_parse,
 };
 use std::alloc::Global;
-use std::test::Fail;
+use std::process::Abort;
 
 /// The results for the words and fixed texts of ` \t_a1 builtin.module ->x`, one after the other.
 const WORDS: &[&str] = &[
@@ -75,9 +75,10 @@ const ARROWS: &[(&str, bool, &str)] = &[
 ];
 
 /// The position of a stream, the next character, and whether it has failed.
-fn state_text(alloc: Global, stream: &TextStream) -> Result<String, Fail> {
+fn state_text(rt: &impl Abort, alloc: Global, stream: &TextStream) -> String {
     let at = stream.locate(stream.position());
-    Ok(format!(in alloc; "{at} {:?} {}", stream.peek(), stream.has_failed())?)
+    let text = format!(in alloc; "{at} {:?} {}", stream.peek(), stream.has_failed());
+    text.expect(rt, "out of memory")
 }
 
 /// How many characters of `é\nb` are taken, the last of them, and the position of the stream then.
@@ -90,94 +91,97 @@ const TAKEN: &[(usize, &str)] = &[
 ];
 
 /// The last of so many characters, and the position of the stream after it.
-fn taken(alloc: Global, text: &str, number: usize) -> Result<String, Fail> {
-    let mut stream = TextStream::new(alloc, text)?;
+fn taken(rt: &impl Abort, alloc: Global, text: &str, number: usize) -> String {
+    let mut stream = TextStream::new(alloc, text).expect(rt, "out of memory");
     let mut last = None;
     for _ in 0..number {
         last = stream.take();
     }
-    let state_text = state_text(alloc, &stream)?;
-    Ok(format!(in alloc; "{last:?} {state_text}")?)
+    let state_text = state_text(rt, alloc, &stream);
+    format!(in alloc; "{last:?} {state_text}").expect(rt, "out of memory")
 }
 
 /// The text from the beginning of `é\nb` to the place after two characters, and the next character once the stream is reset to the start.
-fn given_back(alloc: Global) -> Result<String, Fail> {
-    let mut stream = TextStream::new(alloc, "é\nb")?;
+fn given_back(rt: &impl Abort, alloc: Global) -> String {
+    let mut stream = TextStream::new(alloc, "é\nb").expect(rt, "out of memory");
     let start = stream.position();
-    if stream.take() != Some('é') || stream.take() != Some('\n') {
-        return Err(Fail::from("another character"));
-    }
-    let text = String::from_str(alloc, stream.text_since(start))?;
+    assert!(rt; stream.take() == Some('é') && stream.take() == Some('\n'));
+    let text = String::from_str(alloc, stream.text_since(start)).expect(rt, "out of memory");
     stream.reset(start);
-    Ok(format!(in alloc; "{text:?} {:?}", stream.peek())?)
+    format!(in alloc; "{text:?} {:?}", stream.peek()).expect(rt, "out of memory")
 }
 
 /// Whether a stream has failed, before and after it is failed.
-fn failed(alloc: Global, text: &str) -> Result<String, Fail> {
-    let mut stream = TextStream::new(alloc, text)?;
+fn failed(rt: &impl Abort, alloc: Global) -> (bool, bool) {
+    let mut stream = TextStream::new(alloc, "").expect(rt, "out of memory");
     let before = stream.has_failed();
     stream.fail();
-    Ok(format!(in alloc; "{before} {}", stream.has_failed())?)
+    (before, stream.has_failed())
 }
 
 #[test]
-fn a_stream_counts_lines_and_characters(rt: HostRuntime) -> Result<(), Fail> {
+fn a_stream_counts_lines_and_characters(rt: HostRuntime) {
     assert!(rt; SourcePosition::default() == SourcePosition { line: 1, column: 1 });
     for row in TAKEN {
-        assert_eq!(rt; taken(rt.alloc(), "é\nb", row.0)?.as_str(), row.1);
+        assert_eq!(rt; taken(&rt, rt.alloc(), "é\nb", row.0).as_str(), row.1);
     }
-    assert_eq!(rt; given_back(rt.alloc())?.as_str(), "\"é\\n\" Some('é')");
-    assert_eq!(rt; failed(rt.alloc(), "")?.as_str(), "false true");
-    Ok(())
+    assert_eq!(rt; given_back(&rt, rt.alloc()).as_str(), "\"é\\n\" Some('é')");
+    assert!(rt; failed(&rt, rt.alloc()) == (false, true));
+}
+
+/// The text of a fault.
+fn text_of(rt: &impl Abort, alloc: Global, fault: ParseFault<()>) -> String {
+    passed(rt, result_text(alloc, &fault))
 }
 
 /// The result for a fixed text.
-fn fixed(alloc: Global, stream: &mut TextStream, text: &str) -> Result<String, Fail> {
+fn fixed(rt: &impl Abort, alloc: Global, stream: &mut TextStream, text: &str) -> String {
     match text_parse::<TextStream, ()>(stream, text) {
-        Ok(()) => Ok(String::from_str(alloc, "read")?),
-        Err(fault) => result_text(alloc, &fault),
+        Ok(()) => String::from_str(alloc, "read").expect(rt, "out of memory"),
+        Err(fault) => text_of(rt, alloc, fault),
     }
 }
 
 /// The result for the identifier after white space.
-fn identifier(alloc: Global, stream: &mut TextStream) -> Result<String, Fail> {
+fn identifier(rt: &impl Abort, alloc: Global, stream: &mut TextStream) -> String {
     skip_white_space(stream);
-    said_next(alloc, stream, identifier_parse::<TextStream, ()>)
+    passed(
+        rt,
+        said_next(alloc, stream, identifier_parse::<TextStream, ()>),
+    )
 }
 
 /// The result for the operation's id after white space.
-fn id(alloc: Global, stream: &mut TextStream) -> Result<String, Fail> {
+fn id(rt: &impl Abort, alloc: Global, stream: &mut TextStream) -> String {
     skip_class(stream, Class::WhiteSpace);
-    said_next(alloc, stream, id_parse::<TextStream, ()>)
+    passed(rt, said_next(alloc, stream, id_parse::<TextStream, ()>))
 }
 
 /// The result for the word or fixed text of a line.
-fn word(alloc: Global, stream: &mut TextStream, number: usize) -> Result<String, Fail> {
+fn word(rt: &impl Abort, alloc: Global, stream: &mut TextStream, number: usize) -> String {
     match number {
-        0 => identifier(alloc, stream),
-        1 => id(alloc, stream),
+        0 => identifier(rt, alloc, stream),
+        1 => id(rt, alloc, stream),
         2 => {
             skip_white_space(stream);
-            fixed(alloc, stream, "->")
+            fixed(rt, alloc, stream, "->")
         }
-        3 => fixed(alloc, stream, "a text of more than 24 bytes"),
-        4 => fixed(alloc, stream, "xy"),
-        _ => identifier(alloc, stream),
+        3 => fixed(rt, alloc, stream, "a text of more than 24 bytes"),
+        4 => fixed(rt, alloc, stream, "xy"),
+        _ => identifier(rt, alloc, stream),
     }
 }
 
-/// The number of the first word or fixed text with another result than expected.
-fn words(alloc: Global, text: &str) -> Result<String, Fail> {
-    let mut stream = TextStream::new(alloc, text)?;
-    let number = differing(alloc, WORDS, &mut stream, word)?;
-    Ok(format!(in alloc; "{number:?}")?)
-}
-
 #[test]
-fn words_and_fixed_texts(rt: HostRuntime) -> Result<(), Fail> {
-    let said = words(rt.alloc(), " \t_a1 builtin.module ->x")?;
-    assert_eq!(rt; said.as_str(), "None");
-    Ok(())
+fn words_and_fixed_texts(rt: HostRuntime) {
+    let stream = TextStream::new(rt.alloc(), " \t_a1 builtin.module ->x");
+    let mut stream = stream.expect(&rt, "out of memory");
+    for (number, wanted) in WORDS.iter().enumerate() {
+        assert_eq!(rt;
+            word(&rt, rt.alloc(), &mut stream, number).as_str(),
+            *wanted
+        );
+    }
 }
 
 /// The fault of a line, at the position of the stream, at its start or elsewhere.
@@ -199,22 +203,20 @@ fn fault(number: usize, stream: &mut TextStream, start: Place) -> ParseFault<()>
 }
 
 /// The text of the fault of a line, after a character, and whether the stream has failed then.
-fn refused(alloc: Global, text: &str, number: usize) -> Result<String, Fail> {
-    let mut stream = TextStream::new(alloc, text)?;
+fn refused(rt: &impl Abort, alloc: Global, text: &str, number: usize) -> String {
+    let mut stream = TextStream::new(alloc, text).expect(rt, "out of memory");
     let start = stream.position();
     let _ = stream.take();
-    let fault = fault(number, &mut stream, start);
-    let text = result_text(alloc, &fault)?;
-    Ok(format!(in alloc; "{text} {}", stream.has_failed())?)
+    let text = text_of(rt, alloc, fault(number, &mut stream, start));
+    format!(in alloc; "{text} {}", stream.has_failed()).expect(rt, "out of memory")
 }
 
-/// What begins at the start of a text, and after its first character.
-fn classes(alloc: Global, text: &str) -> Result<String, Fail> {
-    let mut stream = TextStream::new(alloc, text)?;
-    let (next, class) = (next_is(&stream, 'a'), begins(&stream, Class::Beginning));
+/// Checks what begins at the start of `ab`, and after its first character.
+fn check_classes(rt: &impl Abort, alloc: Global) {
+    let mut stream = TextStream::new(alloc, "ab").expect(rt, "out of memory");
+    assert!(rt; next_is(&stream, 'a') && begins(&stream, Class::Beginning));
     let _ = stream.take();
-    let (following, space) = (next_is(&stream, 'a'), begins(&stream, Class::WhiteSpace));
-    Ok(format!(in alloc; "{next} {class} {following} {space}")?)
+    assert!(rt; !next_is(&stream, 'a') && !begins(&stream, Class::WhiteSpace));
 }
 
 /// A value as the result of a parser.
@@ -223,26 +225,23 @@ fn value(stream: &mut TextStream) -> ParseResult<u8, ()> {
 }
 
 #[test]
-fn faults_are_committed_or_not(rt: HostRuntime) -> Result<(), Fail> {
-    assert_eq!(rt;
-        classes(rt.alloc(), "ab")?.as_str(),
-        "true true false false"
-    );
+fn faults_are_committed_or_not(rt: HostRuntime) {
+    check_classes(&rt, rt.alloc());
     for (number, wanted) in FAULTS.iter().enumerate() {
-        assert_eq!(rt; refused(rt.alloc(), "ab", number)?.as_str(), *wanted);
+        assert_eq!(rt; refused(&rt, rt.alloc(), "ab", number).as_str(), *wanted);
     }
-    assert_eq!(rt; said(rt.alloc(), "ab", value)?.as_str(), "7");
-    Ok(())
+    let said = passed(&rt, said(rt.alloc(), "ab", value));
+    assert_eq!(rt; said.as_str(), "7");
 }
 
 /// Whether two fixed texts are skipped after white space, and the position of the stream then.
-fn slices(alloc: Global, text: &str) -> Result<String, Fail> {
-    let mut stream = TextStream::new(alloc, text)?;
+fn slices(rt: &impl Abort, alloc: Global, text: &str) -> String {
+    let mut stream = TextStream::new(alloc, text).expect(rt, "out of memory");
     stream.skip(Class::WhiteSpace);
     let first = stream.accept("é!=");
     let second = stream.accept("ab");
-    let state_text = state_text(alloc, &stream)?;
-    Ok(format!(in alloc; "{first} {second} {state_text}")?)
+    let state_text = state_text(rt, alloc, &stream);
+    format!(in alloc; "{first} {second} {state_text}").expect(rt, "out of memory")
 }
 
 /// A text, and the result for it.
@@ -252,9 +251,8 @@ const SLICES: (&str, &str) = (
 );
 
 #[test]
-fn a_stream_goes_by_slices(rt: HostRuntime) -> Result<(), Fail> {
-    assert_eq!(rt; slices(rt.alloc(), SLICES.0)?.as_str(), SLICES.1);
-    Ok(())
+fn a_stream_goes_by_slices(rt: HostRuntime) {
+    assert_eq!(rt; slices(&rt, rt.alloc(), SLICES.0).as_str(), SLICES.1);
 }
 
 /// Fails the stream, or not.
@@ -265,50 +263,54 @@ fn fail_if(stream: &mut TextStream, failed: bool) {
 }
 
 /// Whether `->` is skipped after white space, the position of the stream then, and whether it has failed.
-fn accepted(alloc: Global, text: &str, failed: bool) -> Result<String, Fail> {
-    let mut stream = TextStream::new(alloc, text)?;
+fn accepted(rt: &impl Abort, alloc: Global, text: &str, failed: bool) -> String {
+    let mut stream = TextStream::new(alloc, text).expect(rt, "out of memory");
     fail_if(&mut stream, failed);
     let accepted = stream.accept_spaced("->");
     let at = stream.locate(stream.position());
-    Ok(format!(in alloc; "{accepted} {at} {}", stream.has_failed())?)
+    format!(in alloc; "{accepted} {at} {}", stream.has_failed()).expect(rt, "out of memory")
+}
+
+/// The position of a stream.
+fn position_text(rt: &impl Abort, alloc: Global, stream: &TextStream) -> String {
+    let at = stream.locate(stream.position());
+    format!(in alloc; "{at}").expect(rt, "out of memory")
 }
 
 /// The error for an expected `->` with white space around it, or the position of the stream after it.
-fn arrow(alloc: Global, text: &str, failed: bool) -> Result<String, Fail> {
-    let mut stream = TextStream::new(alloc, text)?;
+fn arrow(rt: &impl Abort, alloc: Global, text: &str, failed: bool) -> String {
+    let mut stream = TextStream::new(alloc, text).expect(rt, "out of memory");
     fail_if(&mut stream, failed);
     match spaced_text_demanded::<TextStream, ()>(&mut stream, "->") {
-        Ok(()) => Ok(format!(in alloc; "{}", stream.locate(stream.position()))?),
-        Err(fault) => result_text(alloc, &fault),
+        Ok(()) => position_text(rt, alloc, &stream),
+        Err(fault) => text_of(rt, alloc, fault),
     }
 }
 
 #[test]
-fn a_fixed_text_after_white_space(rt: HostRuntime) -> Result<(), Fail> {
+fn a_fixed_text_after_white_space(rt: HostRuntime) {
     for row in ACCEPTED {
-        assert_eq!(rt; accepted(rt.alloc(), row.0, row.1)?.as_str(), row.2);
+        assert_eq!(rt; accepted(&rt, rt.alloc(), row.0, row.1).as_str(), row.2);
     }
     for row in ARROWS {
-        assert_eq!(rt; arrow(rt.alloc(), row.0, row.1)?.as_str(), row.2);
+        assert_eq!(rt; arrow(&rt, rt.alloc(), row.0, row.1).as_str(), row.2);
     }
-    Ok(())
 }
 
 /// A line that begins after the first newline.
-fn long_line(alloc: Global) -> Result<String, Fail> {
-    let mut text = String::from_str(alloc, "\n")?;
+fn long_line(rt: &impl Abort, alloc: Global) -> String {
+    let mut text = String::from_str(alloc, "\n").expect(rt, "out of memory");
     for _ in 0..600 {
-        text.push_str("aé")?;
+        text.push_str("aé").expect(rt, "out of memory");
     }
-    Ok(text)
+    text
 }
 
 #[test]
-fn a_long_line_counts_characters(rt: HostRuntime) -> Result<(), Fail> {
-    let text = long_line(rt.alloc())?;
+fn a_long_line_counts_characters(rt: HostRuntime) {
+    let text = long_line(&rt, rt.alloc());
     assert_eq!(rt;
-        taken(rt.alloc(), text.as_str(), 1100)?.as_str(),
+        taken(&rt, rt.alloc(), text.as_str(), 1100).as_str(),
         "Some('a') line: 2, column: 1100 Some('é') false"
     );
-    Ok(())
 }

@@ -1,4 +1,5 @@
 //! Blocks of a context: how they are made, labelled and changed.
+use crate::passed::passed;
 use crate::tests::locations::{at, make};
 use irtext_base::base::{AttrObj, GIVEN_NAMES_KEY, SYM_NAME_KEY};
 use irtext_base::location::Source;
@@ -13,19 +14,19 @@ use irtext_few::Few;
 use irtext_graph::held::HasGraph;
 use irtext_graph::object::Value;
 use irtext_tests_common::answers::done_or_cause;
-use irtext_tests_common::building::{block_inside, into_block, live, live_block, place, types};
+use irtext_tests_common::building::{block_inside, into_block, place, types};
 use irtext_tests_common::contexts::{Ctx, named, with_context, with_counters};
-use irtext_tests_common::tables::failing;
 use std::alloc::Global;
-use std::test::Fail;
+use std::process::Abort;
 
 /// Makes a block without a label, and arguments of these types.
 fn made(
+    rt: &impl Abort,
     alloc: Global,
     ctx: &mut Ctx,
     letters: &str,
-) -> Result<Answer<Ptr<BasicBlock>, DemoAttr>, Fail> {
-    Ok(BasicBlock::new(ctx, None, types(alloc, letters)?))
+) -> Answer<Ptr<BasicBlock>, DemoAttr> {
+    BasicBlock::new(ctx, None, passed(rt, types(alloc, letters)))
 }
 
 /// Whether the first argument of a block is a pointer.
@@ -36,8 +37,8 @@ fn begins_with_pointer(ctx: &Ctx, block: Ptr<BasicBlock>) -> bool {
 }
 
 /// The text of a block: its label, how many arguments and attributes it has, and whether its location is unknown.
-fn shown(alloc: Global, ctx: &Ctx, block: Ptr<BasicBlock>) -> Result<String, Fail> {
-    live_block(ctx, block)?;
+fn shown(rt: &impl Abort, alloc: Global, ctx: &Ctx, block: Ptr<BasicBlock>) -> String {
+    assert!(rt; ctx.contains_block(block));
     let label = match block.label(ctx) {
         Some(label) => label.as_str(),
         None => "-",
@@ -45,7 +46,7 @@ fn shown(alloc: Global, ctx: &Ctx, block: Ptr<BasicBlock>) -> Result<String, Fai
     let arguments = ctx.graph().num_arguments(block);
     let attributes = block.attributes(ctx).len();
     let unknown = block.loc(ctx).is_unknown();
-    Ok(format!(in alloc; "{label} {arguments} {attributes} {unknown}")?)
+    format!(in alloc; "{label} {arguments} {attributes} {unknown}").expect(rt, "out of memory")
 }
 
 /// A change of a block.
@@ -59,32 +60,36 @@ enum Step {
 }
 
 /// Puts an identifier under a key of a block, and returns whether that was allowed.
-fn put(alloc: Global, ctx: &mut Ctx, block: Ptr<BasicBlock>, key: &str) -> Result<bool, Fail> {
-    live_block(ctx, block)?;
-    let key = named(alloc, key)?;
-    let attr = AttrObj::Ident(named(alloc, "main")?);
-    Ok(block.set_attribute(ctx, key, attr).is_ok())
+fn put(rt: &impl Abort, alloc: Global, ctx: &mut Ctx, block: Ptr<BasicBlock>, key: &str) -> bool {
+    assert!(rt; ctx.contains_block(block));
+    let key = passed(rt, named(alloc, key));
+    let attr = AttrObj::Ident(passed(rt, named(alloc, "main")));
+    block.set_attribute(ctx, key, attr).is_ok()
 }
 
 /// Gives a block a label.
-fn label(alloc: Global, ctx: &mut Ctx, block: Ptr<BasicBlock>) -> Result<bool, Fail> {
-    live_block(ctx, block)?;
-    let label = named(alloc, "entry")?;
-    block.set_label(ctx, Some(label));
-    Ok(true)
+fn label(rt: &impl Abort, alloc: Global, ctx: &mut Ctx, block: Ptr<BasicBlock>) {
+    assert!(rt; ctx.contains_block(block));
+    block.set_label(ctx, Some(passed(rt, named(alloc, "entry"))));
 }
 
 /// Changes a block, and returns whether that was allowed.
-fn write(alloc: Global, ctx: &mut Ctx, block: Ptr<BasicBlock>, step: Step) -> Result<bool, Fail> {
-    live_block(ctx, block)?;
+fn write(
+    rt: &impl Abort,
+    alloc: Global,
+    ctx: &mut Ctx,
+    block: Ptr<BasicBlock>,
+    step: Step,
+) -> bool {
+    assert!(rt; ctx.contains_block(block));
     match step {
-        Step::Label => return label(alloc, ctx, block),
+        Step::Label => label(rt, alloc, ctx, block),
         Step::NoLabel => block.set_label(ctx, None),
         Step::Place => block.set_loc(ctx, at(Source::InMemory)),
-        Step::Name => return put(alloc, ctx, block, SYM_NAME_KEY),
-        Step::GivenNames => return put(alloc, ctx, block, GIVEN_NAMES_KEY),
+        Step::Name => return put(rt, alloc, ctx, block, SYM_NAME_KEY),
+        Step::GivenNames => return put(rt, alloc, ctx, block, GIVEN_NAMES_KEY),
     }
-    Ok(true)
+    true
 }
 
 /// Changes, one after the other, whether each is allowed, and the text of the block after it.
@@ -96,53 +101,45 @@ const STEPS: &[(Step, bool, &str)] = &[
     (Step::NoLabel, true, "- 3 1 false"),
 ];
 
-/// Whether a step has this result, and leaves the block so.
-fn holds(
-    alloc: Global,
-    ctx: &mut Ctx,
-    block: Ptr<BasicBlock>,
-    row: &(Step, bool, &str),
-) -> Result<bool, Fail> {
-    Ok(write(alloc, ctx, block, row.0)? == row.1 && shown(alloc, ctx, block)?.as_str() == row.2)
-}
-
-/// The first step with another result than expected, for a block that begins with three arguments.
-fn differing(alloc: Global, ctx: &mut Ctx) -> Result<Option<usize>, Fail> {
-    let block = made(alloc, ctx, "ppp")?.ok().ok_or("refused")?;
-    if !begins_with_pointer(ctx, block) || shown(alloc, ctx, block)?.as_str() != "- 3 0 true" {
-        return Ok(Some(STEPS.len()));
+/// Checks the result of each step, and how it leaves a block that begins with three arguments.
+fn check_steps(rt: &impl Abort, alloc: Global, ctx: &mut Ctx) {
+    let block = made(rt, alloc, ctx, "ppp").ok().expect(rt, "refused");
+    assert!(rt; begins_with_pointer(ctx, block));
+    assert_eq!(rt; shown(rt, alloc, ctx, block).as_str(), "- 3 0 true");
+    for row in STEPS {
+        assert!(rt; write(rt, alloc, ctx, block, row.0) == row.1);
+        assert_eq!(rt; shown(rt, alloc, ctx, block).as_str(), row.2);
     }
-    failing(STEPS, ctx, |ctx, row| holds(alloc, ctx, block, row))
 }
 
 #[test]
-fn blocks_are_labelled_and_written(rt: HostRuntime) -> Result<(), Fail> {
-    assert_eq!(rt; with_context(rt.alloc(), differing)?, None);
-    Ok(())
+fn blocks_are_labelled_and_written(rt: HostRuntime) {
+    let done = with_context(rt.alloc(), |alloc, ctx| Ok(check_steps(&rt, alloc, ctx)));
+    passed(&rt, done);
 }
 
 /// The text of the result for a block with arguments of these types.
-fn said(alloc: Global, ctx: &mut Ctx, letters: &str) -> Result<String, Fail> {
-    let answer = made(alloc, ctx, letters)?;
-    done_or_cause(alloc, &answer, "made")
+fn said(rt: &impl Abort, alloc: Global, ctx: &mut Ctx, letters: &str) -> String {
+    let answer = made(rt, alloc, ctx, letters);
+    passed(rt, done_or_cause(alloc, &answer, "made"))
 }
 
-/// The result if one number is left for values: for a block of two arguments, the number of live objects then, and whether a block
-/// of one is made.
-fn filled(alloc: Global, ctx: &mut Ctx) -> Result<String, Fail> {
-    let two = said(alloc, ctx, "pp")?;
-    let live = ctx.num_live();
-    let one = said(alloc, ctx, "p")?.as_str() == "made";
-    Ok(format!(in alloc; "{two} {live} {one}")?)
+/// Checks that no block of two arguments is made if one number is left for values, and that one of one argument is.
+fn fill(rt: &impl Abort, alloc: Global, ctx: &mut Ctx) {
+    assert_eq!(rt; said(rt, alloc, ctx, "pp").as_str(), "Out of memory");
+    assert!(rt; ctx.num_live() == 0);
+    assert_eq!(rt; said(rt, alloc, ctx, "p").as_str(), "made");
 }
 
 #[test]
-fn arguments_end_at_the_greatest_number(rt: HostRuntime) -> Result<(), Fail> {
-    assert_eq!(rt;
-        with_counters(rt.alloc(), u64::MAX - 1, 1, filled)?.as_str(),
-        "Out of memory 0 true"
+fn arguments_end_at_the_greatest_number(rt: HostRuntime) {
+    let done = with_counters(
+        rt.alloc(),
+        u64::MAX - 1,
+        1,
+        |alloc, ctx| Ok(fill(&rt, alloc, ctx)),
     );
-    Ok(())
+    passed(&rt, done);
 }
 
 /// Whether the location of an operation or a block is known.
@@ -167,22 +164,22 @@ fn known(
     )
 }
 
-/// Whether locations are known in an operation with a block and an operation in it, and none once they are erased.
-fn erased_inside(alloc: Global, ctx: &mut Ctx) -> Result<bool, Fail> {
-    let (outer, inner) = (make(alloc, ctx)?, make(alloc, ctx)?);
-    live(ctx, outer)?;
-    ctx.add_region(outer)?;
-    let block = block_inside(alloc, ctx, outer, "", Few::none())?;
-    into_block(ctx, inner, block)?;
-    place(ctx, Item::Block(block), 2)?;
-    let before = known(ctx, outer, block, inner);
-    live(ctx, outer)?;
+/// Checks that locations are known in an operation with a block and an operation in it, and none once they are erased.
+fn erase_inside(rt: &impl Abort, alloc: Global, ctx: &mut Ctx) {
+    let (outer, inner) = (make(rt, alloc, ctx), make(rt, alloc, ctx));
+    assert!(rt; ctx.contains_operation(outer));
+    ctx.add_region(outer).expect(rt, "out of memory");
+    let block = passed(rt, block_inside(alloc, ctx, outer, "", Few::none()));
+    passed(rt, into_block(ctx, inner, block));
+    passed(rt, place(ctx, Item::Block(block), 2));
+    assert!(rt; known(ctx, outer, block, inner) == (true, true, true));
+    assert!(rt; ctx.contains_operation(outer));
     erase_locations(ctx, outer);
-    Ok(before == (true, true, true) && known(ctx, outer, block, inner) == (false, false, false))
+    assert!(rt; known(ctx, outer, block, inner) == (false, false, false));
 }
 
 #[test]
-fn inner_locations_are_erased(rt: HostRuntime) -> Result<(), Fail> {
-    assert!(rt; with_context(rt.alloc(), erased_inside)?);
-    Ok(())
+fn inner_locations_are_erased(rt: HostRuntime) {
+    let done = with_context(rt.alloc(), |alloc, ctx| Ok(erase_inside(&rt, alloc, ctx)));
+    passed(&rt, done);
 }

@@ -1,44 +1,52 @@
 //! Attributes that are borrowed mutably from a context: an inserted key is there, a reserved one is rejected, other objects are unchanged.
+use crate::passed::passed;
 use crate::tests::locations::make;
 use irtext_base::base::{AttrObj, GIVEN_NAMES_KEY, SYM_NAME_KEY};
-use irtext_context::base::{AttributeDict, BlockAccess, Item, OperationAccess};
+use irtext_context::base::{AttributeDict, BasicBlock, BlockAccess, Item, OperationAccess, Ptr};
 use irtext_demo::DemoAttr;
 use irtext_few::Few;
-use irtext_tests_common::building::{block, live, live_block};
+use irtext_tests_common::building::block;
 use irtext_tests_common::contexts::{Ctx, named, with_context};
 use std::alloc::Global;
-use std::test::Fail;
+use std::process::Abort;
 
 /// Puts an identifier under a key of a dictionary, and returns whether that was allowed.
-fn put(alloc: Global, attributes: &mut AttributeDict<DemoAttr>, key: &str) -> Result<bool, Fail> {
-    let attr = AttrObj::Ident(named(alloc, "main")?);
-    Ok(attributes.insert(named(alloc, key)?, attr).is_ok())
+fn put(
+    rt: &impl Abort,
+    alloc: Global,
+    attributes: &mut AttributeDict<DemoAttr>,
+    key: &str,
+) -> bool {
+    let attr = AttrObj::Ident(passed(rt, named(alloc, "main")));
+    attributes
+        .insert(passed(rt, named(alloc, key)), attr)
+        .is_ok()
 }
 
 /// Puts an identifier under a key of an item, and returns whether that was allowed.
-fn put_into(alloc: Global, ctx: &mut Ctx, item: Item, key: &str) -> Result<bool, Fail> {
+fn put_into(rt: &impl Abort, alloc: Global, ctx: &mut Ctx, item: Item, key: &str) -> bool {
     match item {
         Item::Operation(op) => {
-            live(ctx, op)?;
-            put(alloc, ctx.operation_attributes_mut(op), key)
+            assert!(rt; ctx.contains_operation(op));
+            put(rt, alloc, ctx.operation_attributes_mut(op), key)
         }
         Item::Block(block) => {
-            live_block(ctx, block)?;
-            put(alloc, ctx.block_attributes_mut(block), key)
+            assert!(rt; ctx.contains_block(block));
+            put(rt, alloc, ctx.block_attributes_mut(block), key)
         }
     }
 }
 
 /// How many attributes an item has, and whether its symbol's name is an identifier.
-fn shown(ctx: &Ctx, item: Item) -> Result<(usize, bool), Fail> {
+fn shown(rt: &impl Abort, ctx: &Ctx, item: Item) -> (usize, bool) {
     match item {
         Item::Operation(op) => {
-            live(ctx, op)?;
-            Ok(counted(op.attributes(ctx)))
+            assert!(rt; ctx.contains_operation(op));
+            counted(op.attributes(ctx))
         }
         Item::Block(block) => {
-            live_block(ctx, block)?;
-            Ok(counted(block.attributes(ctx)))
+            assert!(rt; ctx.contains_block(block));
+            counted(block.attributes(ctx))
         }
     }
 }
@@ -49,41 +57,50 @@ fn counted(attributes: &AttributeDict<DemoAttr>) -> (usize, bool) {
     (attributes.len(), is_named)
 }
 
-/// Whether of two items the first is named through its dictionary, and the reserved key is rejected.
-fn names_one(alloc: Global, ctx: &mut Ctx, item: Item, other: Item) -> Result<bool, Fail> {
-    let allowed = put_into(alloc, ctx, item, SYM_NAME_KEY)?;
-    let refused = !put_into(alloc, ctx, item, GIVEN_NAMES_KEY)?;
-    Ok(allowed && refused && shown(ctx, item)? == (1, true) && shown(ctx, other)? == (0, false))
+/// Checks that of two items the first is named through its dictionary, and the reserved key is rejected.
+fn name_one(rt: &impl Abort, alloc: Global, ctx: &mut Ctx, item: Item, other: Item) {
+    assert!(rt; put_into(rt, alloc, ctx, item, SYM_NAME_KEY));
+    assert!(rt; !put_into(rt, alloc, ctx, item, GIVEN_NAMES_KEY));
+    assert!(rt; shown(rt, ctx, item) == (1, true) && shown(rt, ctx, other) == (0, false));
 }
 
-/// Whether that is so for two operations.
-fn names_operation(alloc: Global, ctx: &mut Ctx) -> Result<bool, Fail> {
-    let (op, other) = (make(alloc, ctx)?, make(alloc, ctx)?);
-    names_one(alloc, ctx, Item::Operation(op), Item::Operation(other))
+/// Checks that for two operations.
+fn name_operation(rt: &impl Abort, alloc: Global, ctx: &mut Ctx) {
+    let (op, other) = (make(rt, alloc, ctx), make(rt, alloc, ctx));
+    name_one(rt, alloc, ctx, Item::Operation(op), Item::Operation(other));
 }
 
-/// Whether that is so for two blocks.
-fn names_block(alloc: Global, ctx: &mut Ctx) -> Result<bool, Fail> {
-    let first = block(alloc, ctx, "", Few::none())?;
-    let other = block(alloc, ctx, "", Few::none())?;
-    names_one(alloc, ctx, Item::Block(first), Item::Block(other))
+/// Makes a block without arguments.
+fn make_block(rt: &impl Abort, alloc: Global, ctx: &mut Ctx) -> Ptr<BasicBlock> {
+    passed(rt, block(alloc, ctx, "", Few::none()))
 }
 
-/// Whether an operation, its region and a block are in the context, and only the block once the operation was erased.
-fn contains_what_is_left(alloc: Global, ctx: &mut Ctx) -> Result<bool, Fail> {
-    let (op, other) = (make(alloc, ctx)?, block(alloc, ctx, "", Few::none())?);
-    live(ctx, op)?;
-    let region = op.add_region(ctx)?;
-    if ctx.contains(other) && ctx.contains(region) && ctx.contains(op) && op.can_erase(ctx) {
-        op.erase(ctx);
-    }
-    Ok(!ctx.contains(op) && !ctx.contains(region) && ctx.contains(other))
+/// Checks that for two blocks.
+fn name_block(rt: &impl Abort, alloc: Global, ctx: &mut Ctx) {
+    let (first, other) = (make_block(rt, alloc, ctx), make_block(rt, alloc, ctx));
+    name_one(rt, alloc, ctx, Item::Block(first), Item::Block(other));
+}
+
+/// Checks that an operation, its region and a block are in the context, and only the block once the operation was erased.
+fn contains_what_is_left(rt: &impl Abort, alloc: Global, ctx: &mut Ctx) {
+    let (op, other) = (make(rt, alloc, ctx), make_block(rt, alloc, ctx));
+    assert!(rt; ctx.contains_operation(op));
+    let region = op.add_region(ctx).expect(rt, "out of memory");
+    assert!(rt; ctx.contains(other) && ctx.contains(region));
+    assert!(rt; ctx.contains(op) && op.can_erase(ctx));
+    op.erase(ctx);
+    assert!(rt; !ctx.contains(op) && !ctx.contains(region) && ctx.contains(other));
 }
 
 #[test]
-fn attributes_of_operations_and_blocks(rt: HostRuntime) -> Result<(), Fail> {
-    assert!(rt; with_context(rt.alloc(), names_operation)?);
-    assert!(rt; with_context(rt.alloc(), names_block)?);
-    assert!(rt; with_context(rt.alloc(), contains_what_is_left)?);
-    Ok(())
+fn attributes_of_operations_and_blocks(rt: HostRuntime) {
+    let done = with_context(rt.alloc(), |alloc, ctx| Ok(name_operation(&rt, alloc, ctx)));
+    passed(&rt, done);
+    let done = with_context(rt.alloc(), |alloc, ctx| Ok(name_block(&rt, alloc, ctx)));
+    passed(&rt, done);
+    let done = with_context(
+        rt.alloc(),
+        |alloc, ctx| Ok(contains_what_is_left(&rt, alloc, ctx)),
+    );
+    passed(&rt, done);
 }

@@ -1,4 +1,5 @@
 //! The sources, copies and hashes of locations, and the paths that a context keeps.
+use crate::passed::passed;
 use crate::tests::nested;
 use irtext_base::base::AttrObj;
 use irtext_base::location::{CloneIntoContext, Location, Source};
@@ -11,11 +12,13 @@ use irtext_tests_common::building::id;
 use irtext_tests_common::contexts::{Ctx, named, with_context, with_contexts};
 use std::alloc::Global;
 use std::hash::{DefaultHasher, Hash, Hasher};
-use std::test::Fail;
+use std::process::Abort;
 
 /// The source of a file.
-pub fn file(ctx: &mut Ctx, path: &str) -> Result<Source, Fail> {
-    Ok(Source::new_from_file(ctx, path).ok().ok_or("refused")?)
+pub fn file(rt: &impl Abort, ctx: &mut Ctx, path: &str) -> Source {
+    Source::new_from_file(ctx, path)
+        .ok()
+        .expect(rt, "out of memory")
 }
 
 /// Line 1, column 2 of a source.
@@ -27,27 +30,32 @@ pub fn at(src: Source) -> Location<DemoAttr> {
 }
 
 /// The name `m`, as metadata.
-fn metadata(alloc: Global) -> Result<Option<AttrObj<DemoAttr>>, Fail> {
-    Ok(Some(AttrObj::Ident(named(alloc, "m")?)))
+fn metadata(rt: &impl Abort, alloc: Global) -> Option<AttrObj<DemoAttr>> {
+    Some(AttrObj::Ident(passed(rt, named(alloc, "m"))))
 }
 
 /// A location fused of these, with a name as metadata.
-fn fused_of(alloc: Global, locations: Vec<Location<DemoAttr>>) -> Result<Location<DemoAttr>, Fail> {
-    let locations = Box::new(alloc, locations)?;
-    let metadata = Box::new(alloc, metadata(alloc)?)?;
-    Ok(Location::Fused {
-        metadata,
-        locations,
-    })
+fn fused_of(
+    rt: &impl Abort,
+    alloc: Global,
+    locations: Vec<Location<DemoAttr>>,
+) -> Location<DemoAttr> {
+    let metadata: Result<_, _> = Box::new(alloc, metadata(rt, alloc));
+    Location::Fused {
+        metadata: metadata.expect(rt, "out of memory"),
+        locations: Box::new(alloc, locations).expect(rt, "out of memory"),
+    }
 }
 
 /// A location fused of two others, with a name as metadata.
 fn fused(
+    rt: &impl Abort,
     alloc: Global,
     first: Location<DemoAttr>,
     second: Location<DemoAttr>,
-) -> Result<Location<DemoAttr>, Fail> {
-    fused_of(alloc, Vec::from_array(alloc, [first, second])?)
+) -> Location<DemoAttr> {
+    let locations = Vec::from_array(alloc, [first, second]);
+    fused_of(rt, alloc, locations.expect(rt, "out of memory"))
 }
 
 /// The hash of a new hasher after a location of the context's paths is hashed.
@@ -59,15 +67,15 @@ fn hash_of(ctx: &Ctx, location: &Location<DemoAttr>) -> u64 {
     state.finish()
 }
 
-/// Whether a context keeps each path once.
-fn once(alloc: Global, ctx: &mut Ctx, other: &Ctx) -> Result<bool, Fail> {
-    let b = file(ctx, "b")?;
-    let c = file(ctx, "c")?;
-    let again = file(ctx, "b")?;
-    let kept = b != c && b == again && ctx.num_paths() == 2;
-    let known = b.is_of(ctx) && !b.is_of(other) && !other.contains_paths(&at(b));
-    let listed = has_single(alloc, b)? && in_order(alloc, b)? && lists_once(alloc, b)?;
-    Ok(kept && known && listed && path_of(ctx, b) == "b")
+/// Checks that a context keeps each path once.
+fn keep_once(rt: &impl Abort, alloc: Global, ctx: &mut Ctx, other: &Ctx) {
+    let b = file(rt, ctx, "b");
+    let c = file(rt, ctx, "c");
+    let again = file(rt, ctx, "b");
+    assert!(rt; b != c && b == again && ctx.num_paths() == 2);
+    assert!(rt; b.is_of(ctx) && !b.is_of(other) && !other.contains_paths(&at(b)));
+    assert!(rt; has_single(rt, alloc, b) && in_order(rt, alloc, b) && lists_once(rt, alloc, b));
+    assert!(rt; path_of(ctx, b) == "b");
 }
 
 /// The path of a source of the context.
@@ -82,156 +90,154 @@ fn path_of(ctx: &Ctx, source: Source) -> &str {
 
 /// Whether these are the sources of a location.
 fn has_sources(
+    rt: &impl Abort,
     alloc: Global,
     location: &Location<DemoAttr>,
     wanted: &[Source],
-) -> Result<bool, Fail> {
-    let sources = location.sources(alloc).ok().ok_or("refused")?;
-    Ok(sources.as_slice() == wanted)
+) -> bool {
+    let sources = location.sources(alloc).ok().expect(rt, "out of memory");
+    sources.as_slice() == wanted
 }
 
 /// Whether a location of one source has that alone.
-fn has_single(alloc: Global, b: Source) -> Result<bool, Fail> {
-    let one = fused(alloc, at(b), at(b))?;
-    Ok(one.source() == Some(b))
+fn has_single(rt: &impl Abort, alloc: Global, b: Source) -> bool {
+    let one = fused(rt, alloc, at(b), at(b));
+    one.source() == Some(b)
 }
 
 /// Whether the sources of a location in another are in the order of their first mention.
-fn in_order(alloc: Global, b: Source) -> Result<bool, Fail> {
-    let one = fused(alloc, at(b), at(b))?;
-    let all = fused(alloc, one, at(Source::InMemory))?;
-    Ok(all.source().is_none() && has_sources(alloc, &all, &[b, Source::InMemory])?)
+fn in_order(rt: &impl Abort, alloc: Global, b: Source) -> bool {
+    let one = fused(rt, alloc, at(b), at(b));
+    let all = fused(rt, alloc, one, at(Source::InMemory));
+    all.source().is_none() && has_sources(rt, alloc, &all, &[b, Source::InMemory])
 }
 
 /// Whether a source that is mentioned first and last is listed once, first.
-fn lists_once(alloc: Global, b: Source) -> Result<bool, Fail> {
-    let locations = Vec::from_array(alloc, [at(b), at(Source::InMemory), at(b)])?;
-    let all = fused_of(alloc, locations)?;
-    has_sources(alloc, &all, &[b, Source::InMemory])
+fn lists_once(rt: &impl Abort, alloc: Global, b: Source) -> bool {
+    let locations = Vec::from_array(alloc, [at(b), at(Source::InMemory), at(b)]);
+    let all = fused_of(rt, alloc, locations.expect(rt, "out of memory"));
+    has_sources(rt, alloc, &all, &[b, Source::InMemory])
 }
 
 /// Whether a copy equals its source.
-fn copied(alloc: Global) -> Result<bool, Fail> {
-    let location = fused(alloc, at(Source::InMemory), Location::Unknown)?;
-    equals_copy(alloc, &location)
+fn copied(rt: &impl Abort, alloc: Global) -> bool {
+    let location = fused(rt, alloc, at(Source::InMemory), Location::Unknown);
+    equals_copy(rt, alloc, &location)
 }
 
 /// Whether the copy of a location equals it.
-fn equals_copy(alloc: Global, location: &Location<DemoAttr>) -> Result<bool, Fail> {
-    let copy = location.try_clone(alloc).ok().ok_or("refused")?;
-    Ok(copy == *location)
+fn equals_copy(rt: &impl Abort, alloc: Global, location: &Location<DemoAttr>) -> bool {
+    let copy = location.try_clone(alloc).ok().expect(rt, "out of memory");
+    copy == *location
 }
 
 /// Whether the copy of an attribute equals it.
-fn attribute_copied(alloc: Global) -> Result<bool, Fail> {
-    let attribute: AttrObj<DemoAttr> = AttrObj::Ident(named(alloc, "x")?);
-    let copy = attribute.try_clone(alloc)?;
-    Ok(copy == attribute)
+fn attribute_copied(rt: &impl Abort, alloc: Global) -> bool {
+    let attribute: AttrObj<DemoAttr> = AttrObj::Ident(passed(rt, named(alloc, "x")));
+    let copy = attribute.try_clone(alloc).expect(rt, "out of memory");
+    copy == attribute
 }
 
 /// Whether the hash of a place is computed from its path.
-fn hashed(ctx: &mut Ctx) -> Result<bool, Fail> {
-    let place = at(file(ctx, "b")?);
+fn hashed(rt: &impl Abort, ctx: &mut Ctx) -> bool {
+    let place = at(file(rt, ctx, "b"));
     let mut wanted = DefaultHasher::new();
     wanted.write_u8(0);
     wanted.write_u8(0);
     "b".hash(&mut wanted);
     wanted.write_i32(1);
     wanted.write_i32(2);
-    Ok(hash_of(ctx, &place) == wanted.finish())
+    hash_of(ctx, &place) == wanted.finish()
 }
 
 /// Whether the hash of fused locations counts them.
-fn counted(alloc: Global, ctx: &Ctx) -> Result<bool, Fail> {
+fn counted(rt: &impl Abort, alloc: Global, ctx: &Ctx) -> bool {
+    let metadata: Result<_, _> = Box::new(alloc, None);
     let none: Location<DemoAttr> = Location::Fused {
-        metadata: Box::new(alloc, None)?,
-        locations: Box::new(alloc, Vec::new(alloc))?,
+        metadata: metadata.expect(rt, "out of memory"),
+        locations: Box::new(alloc, Vec::new(alloc)).expect(rt, "out of memory"),
     };
     let mut wanted = DefaultHasher::new();
     wanted.write_u8(1);
     wanted.write_u8(0);
     wanted.write_u64(0);
-    Ok(hash_of(ctx, &none) == wanted.finish())
+    hash_of(ctx, &none) == wanted.finish()
 }
 
-/// Whether a source moves to another context under the same path, and a place without a path stays the same.
-fn moved(from: &mut Ctx, to: &mut Ctx) -> Result<bool, Fail> {
-    let b = file(from, "b")?;
-    let a = file(to, "a")?;
-    if !b.is_of(from) {
-        return Ok(false);
-    }
-    let moved = b.clone_into_context(from, to).ok().ok_or("refused")?;
-    let same = moved == file(to, "b")?;
+/// Checks that a source moves to another context under the same path, and a place without a path stays the same.
+fn move_source(rt: &impl Abort, from: &mut Ctx, to: &mut Ctx) {
+    let b = file(rt, from, "b");
+    let a = file(rt, to, "a");
+    assert!(rt; b.is_of(from));
+    let moved = b
+        .clone_into_context(from, to)
+        .ok()
+        .expect(rt, "out of memory");
+    assert!(rt; a == b && moved != b && moved == file(rt, to, "b"));
     let position = SourcePosition { line: 3, column: 4 };
-    let place = position.clone_into_context(from, to).ok();
-    Ok(a == b && moved != b && same && place == Some(position))
+    assert!(rt; position.clone_into_context(from, to).ok() == Some(position));
 }
 
 /// Whether a location moves to another context with the same text.
-fn is_alike(location: &Location<DemoAttr>, from: &Ctx, to: &mut Ctx) -> Result<bool, Fail> {
-    if !from.contains_paths(location) {
-        return Ok(false);
-    }
-    let moved = location.clone_into_context(from, to);
-    let moved = moved.ok().ok_or("refused")?;
-    Ok(hash_of(to, &moved) == hash_of(from, location) && moved != *location)
+fn is_alike(rt: &impl Abort, location: &Location<DemoAttr>, from: &Ctx, to: &mut Ctx) -> bool {
+    assert!(rt; from.contains_paths(location));
+    let moved = location
+        .clone_into_context(from, to)
+        .ok()
+        .expect(rt, "out of memory");
+    hash_of(to, &moved) == hash_of(from, location) && moved != *location
 }
 
-/// Whether that is so for a location of two files, and adds only the path that is new there.
-fn carried(alloc: Global, from: &mut Ctx, to: &mut Ctx) -> Result<bool, Fail> {
-    let (d, a) = (file(from, "d")?, file(from, "a")?);
-    let location = fused(alloc, at(d), at(a))?;
-    Ok(is_alike(&location, from, to)? && to.num_paths() == 3)
+/// Checks that for a location of two files, of which one path is new in the other context.
+fn carry(rt: &impl Abort, alloc: Global, from: &mut Ctx, to: &mut Ctx) {
+    let (d, a) = (file(rt, from, "d"), file(rt, from, "a"));
+    let location = fused(rt, alloc, at(d), at(a));
+    assert!(rt; is_alike(rt, &location, from, to) && to.num_paths() == 3);
 }
 
 /// Makes a module with a place.
-pub(crate) fn make(alloc: Global, ctx: &mut Ctx) -> Result<Ptr<Operation>, Fail> {
-    let id = id(alloc, ("builtin", "module"))?;
+pub(crate) fn make(rt: &impl Abort, alloc: Global, ctx: &mut Ctx) -> Ptr<Operation> {
+    let id = passed(rt, id(alloc, ("builtin", "module")));
     let attributes = AttributeDict::new(alloc);
-    Ok(ctx.make_operation(id, attributes, at(Source::InMemory))?)
+    let made = ctx.make_operation(id, attributes, at(Source::InMemory));
+    made.expect(rt, "out of memory")
 }
 
-/// Whether a location that was there is erased.
-fn erased(alloc: Global, ctx: &mut Ctx) -> Result<bool, Fail> {
-    let op = make(alloc, ctx)?;
-    if !ctx.contains_operation(op) || op.loc(ctx).is_unknown() {
-        return Ok(false);
-    }
+/// Checks that a location that was there is erased.
+fn erase(rt: &impl Abort, alloc: Global, ctx: &mut Ctx) {
+    let op = make(rt, alloc, ctx);
+    assert!(rt; ctx.contains_operation(op) && !op.loc(ctx).is_unknown());
     erase_locations(ctx, op);
-    Ok(ctx.contains_operation(op) && op.loc(ctx).is_unknown())
+    assert!(rt; ctx.contains_operation(op) && op.loc(ctx).is_unknown());
 }
 
-/// Whether locations of a context are copied, hashed and erased.
-fn kept(alloc: Global, ctx: &mut Ctx) -> Result<bool, Fail> {
-    Ok(
-        copied(alloc)?
-            && attribute_copied(alloc)?
-            && hashed(ctx)?
-            && counted(alloc, ctx)?
-            && erased(alloc, ctx)?
-            && nested::copied(alloc)?,
-    )
+/// Checks that locations of a context are copied, hashed and erased.
+fn keep(rt: &impl Abort, alloc: Global, ctx: &mut Ctx) {
+    assert!(rt; copied(rt, alloc) && attribute_copied(rt, alloc));
+    assert!(rt; hashed(rt, ctx) && counted(rt, alloc, ctx));
+    erase(rt, alloc, ctx);
+    nested::check_copies(rt, alloc);
 }
 
 #[test]
-fn copies_and_hashes_of_locations(rt: HostRuntime) -> Result<(), Fail> {
-    assert!(rt; with_context(rt.alloc(), kept)?);
-    Ok(())
+fn copies_and_hashes_of_locations(rt: HostRuntime) {
+    let done = with_context(rt.alloc(), |alloc, ctx| Ok(keep(&rt, alloc, ctx)));
+    passed(&rt, done);
 }
 
-/// Whether two contexts keep each path once, and locations move from one to the other.
-fn exchanged(alloc: Global, ctx: &mut Ctx, other: &mut Ctx) -> Result<bool, Fail> {
-    Ok(
-        once(alloc, ctx, other)?
-            && moved(ctx, other)?
-            && carried(alloc, ctx, other)?
-            && nested::carried(alloc, ctx, other)?,
-    )
+/// Checks that two contexts keep each path once, and locations move from one to the other.
+fn exchange(rt: &impl Abort, alloc: Global, ctx: &mut Ctx, other: &mut Ctx) {
+    keep_once(rt, alloc, ctx, other);
+    move_source(rt, ctx, other);
+    carry(rt, alloc, ctx, other);
+    nested::check_moves(rt, alloc, ctx, other);
 }
 
 #[test]
-fn sources_and_locations_of_two_contexts(rt: HostRuntime) -> Result<(), Fail> {
-    assert!(rt; with_contexts(rt.alloc(), exchanged)?);
-    Ok(())
+fn sources_and_locations_of_two_contexts(rt: HostRuntime) {
+    let done = with_contexts(
+        rt.alloc(),
+        |alloc, ctx, other| Ok(exchange(&rt, alloc, ctx, other)),
+    );
+    passed(&rt, done);
 }

@@ -5,7 +5,7 @@ use irtext_demo::DemoAttr;
 use irtext_tests_common::contexts::Ctx;
 use irtext_tests_common::nesting::{NESTINGS, Nesting, inside, nested};
 use std::alloc::Global;
-use std::test::Fail;
+use std::process::Abort;
 
 /// The number of locations around the innermost one.
 const DEPTH: usize = 100_000;
@@ -29,67 +29,71 @@ fn is_nested(nesting: Nesting, location: &Location<DemoAttr>, source: Source) ->
 
 /// Whether a text in memory is the only source of a location.
 fn has_one_source(
+    rt: &impl Abort,
     alloc: Global,
     nesting: Nesting,
     location: &Location<DemoAttr>,
-) -> Result<bool, Fail> {
-    let sources = location.sources(alloc).ok().ok_or("refused")?;
+) -> bool {
+    let sources = location.sources(alloc).ok().expect(rt, "out of memory");
     let found = sources.len() == 1 && sources[0] == Source::InMemory;
-    let alone = !is_last_nested(nesting) || location.source() == Some(Source::InMemory);
-    Ok(found && alone)
+    found && (!is_last_nested(nesting) || location.source() == Some(Source::InMemory))
 }
 
-fn is_copied(alloc: Global, nesting: Nesting) -> Result<bool, Fail> {
-    let location = nested(alloc, nesting, DEPTH, at(Source::InMemory))?;
-    has_copy(alloc, nesting, &location)
+fn is_copied(rt: &impl Abort, alloc: Global, nesting: Nesting) -> bool {
+    let location = nested(alloc, nesting, DEPTH, at(Source::InMemory)).expect(rt, "out of memory");
+    has_copy(rt, alloc, nesting, &location)
 }
 
 /// Whether a nested location is copied, and its source found in the copy.
-fn has_copy(alloc: Global, nesting: Nesting, location: &Location<DemoAttr>) -> Result<bool, Fail> {
-    let copy = location.try_clone(alloc).ok().ok_or("refused")?;
+fn has_copy(
+    rt: &impl Abort,
+    alloc: Global,
+    nesting: Nesting,
+    location: &Location<DemoAttr>,
+) -> bool {
+    let copy = location.try_clone(alloc).ok().expect(rt, "out of memory");
     let same = !is_last_nested(nesting) || copy == *location;
-    Ok(
-        same && is_nested(nesting, &copy, Source::InMemory)
-            && has_one_source(alloc, nesting, &copy)?,
-    )
+    same && is_nested(nesting, &copy, Source::InMemory) && has_one_source(rt, alloc, nesting, &copy)
 }
 
-fn is_carried(alloc: Global, nesting: Nesting, from: &mut Ctx, to: &mut Ctx) -> Result<bool, Fail> {
-    let location = nested(alloc, nesting, DEPTH, at(file(from, "e")?))?;
-    comes_over(nesting, &location, from, to)
+fn is_carried(
+    rt: &impl Abort,
+    alloc: Global,
+    nesting: Nesting,
+    from: &mut Ctx,
+    to: &mut Ctx,
+) -> bool {
+    let place = at(file(rt, from, "e"));
+    let location = nested(alloc, nesting, DEPTH, place).expect(rt, "out of memory");
+    comes_over(rt, nesting, &location, from, to)
 }
 
 /// Whether a nested location moves to another context.
 fn comes_over(
+    rt: &impl Abort,
     nesting: Nesting,
     location: &Location<DemoAttr>,
     from: &Ctx,
     to: &mut Ctx,
-) -> Result<bool, Fail> {
-    if !from.contains_paths(location) {
-        return Ok(false);
-    }
-    let moved = location.clone_into_context(from, to);
-    let moved = moved.ok().ok_or("refused")?;
-    Ok(is_nested(nesting, &moved, file(to, "e")?))
+) -> bool {
+    assert!(rt; from.contains_paths(location));
+    let moved = location
+        .clone_into_context(from, to)
+        .ok()
+        .expect(rt, "out of memory");
+    is_nested(nesting, &moved, file(rt, to, "e"))
 }
 
-/// Whether locations nested in every way are copied, and their sources found.
-pub fn copied(alloc: Global) -> Result<bool, Fail> {
+/// Checks that locations nested in every way are copied, and their sources found.
+pub fn check_copies(rt: &impl Abort, alloc: Global) {
     for nesting in NESTINGS {
-        if !is_copied(alloc, *nesting)? {
-            return Ok(false);
-        }
+        assert!(rt; is_copied(rt, alloc, *nesting));
     }
-    Ok(true)
 }
 
-/// Whether locations move to another context, at any depth if each is the last in the one around it.
-pub fn carried(alloc: Global, from: &mut Ctx, to: &mut Ctx) -> Result<bool, Fail> {
+/// Checks that locations move to another context, at any depth if each is the last in the one around it.
+pub fn check_moves(rt: &impl Abort, alloc: Global, from: &mut Ctx, to: &mut Ctx) {
     for nesting in NESTINGS {
-        if is_last_nested(*nesting) && !is_carried(alloc, *nesting, from, to)? {
-            return Ok(false);
-        }
+        assert!(rt; !is_last_nested(*nesting) || is_carried(rt, alloc, *nesting, from, to));
     }
-    Ok(true)
 }

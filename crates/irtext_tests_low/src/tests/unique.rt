@@ -1,4 +1,5 @@
 //! The names under which values and blocks are printed.
+use crate::passed::passed;
 use crate::tests::locations::make;
 use irtext_base::base::{AttrObj, GIVEN_NAMES_KEY, Identifier};
 use irtext_context::base::{BasicBlock, Item, Operation, OperationData, Ptr};
@@ -7,136 +8,154 @@ use irtext_few::Few;
 use irtext_grammar::UniqueName;
 use irtext_graph::held::HasGraph;
 use irtext_graph::object::Value;
-use irtext_tests_common::building::{block, erase, give, live, types};
+use irtext_tests_common::building::{block, erase, give, types};
 use irtext_tests_common::contexts::{Ctx, named, with_counters};
 use std::alloc::Global;
-use std::test::Fail;
+use std::process::Abort;
 
 /// The name of a value, or `-` if it is not live.
-fn value_name(alloc: Global, ctx: &Ctx, v: Value) -> Result<String, Fail> {
+fn value_name(rt: &impl Abort, alloc: Global, ctx: &Ctx, v: Value) -> String {
     if !ctx.graph().contains_value(v) {
-        return Ok(String::from_str(alloc, "-")?);
+        return String::from_str(alloc, "-").expect(rt, "out of memory");
     }
-    Ok(v.unique_name(ctx)?)
+    v.unique_name(ctx).expect(rt, "out of memory")
 }
 
 /// The name of a block, or `-` if it is not live.
-fn block_name(alloc: Global, ctx: &Ctx, block: Ptr<BasicBlock>) -> Result<String, Fail> {
+fn block_name(rt: &impl Abort, alloc: Global, ctx: &Ctx, block: Ptr<BasicBlock>) -> String {
     if !ctx.contains_block(block) {
-        return Ok(String::from_str(alloc, "-")?);
+        return String::from_str(alloc, "-").expect(rt, "out of memory");
     }
-    Ok(block.unique_name(ctx)?)
+    block.unique_name(ctx).expect(rt, "out of memory")
+}
+
+/// Appends a name, and a space.
+fn append_name(rt: &impl Abort, name: &str, names: &mut String) {
+    names.push_str(name).expect(rt, "out of memory");
+    names.push(' ').expect(rt, "out of memory");
 }
 
 /// Appends the name of a block, and a space.
 fn append_block(
+    rt: &impl Abort,
     alloc: Global,
     ctx: &Ctx,
     block: Ptr<BasicBlock>,
     names: &mut String,
-) -> Result<(), Fail> {
-    let name = block_name(alloc, ctx, block)?;
-    names.push_str(name.as_str())?;
-    Ok(names.push(' ')?)
+) {
+    let name = block_name(rt, alloc, ctx, block);
+    append_name(rt, name.as_str(), names);
 }
 
 /// Appends the name of a value, and a space.
-fn append(alloc: Global, ctx: &Ctx, v: Value, names: &mut String) -> Result<(), Fail> {
-    let name = value_name(alloc, ctx, v)?;
-    names.push_str(name.as_str())?;
-    Ok(names.push(' ')?)
+fn append(rt: &impl Abort, alloc: Global, ctx: &Ctx, v: Value, names: &mut String) {
+    let name = value_name(rt, alloc, ctx, v);
+    append_name(rt, name.as_str(), names);
 }
 
 /// A name, if there is a text.
-fn name_of(alloc: Global, text: Option<&str>) -> Result<Option<Identifier>, Fail> {
+fn name_of(rt: &impl Abort, alloc: Global, text: Option<&str>) -> Option<Identifier> {
     match text {
-        Some(text) => Ok(Some(named(alloc, text)?)),
-        None => Ok(None),
+        Some(text) => Some(passed(rt, named(alloc, text))),
+        None => None,
     }
 }
 
 /// The attribute of these given names.
-fn given(alloc: Global, texts: &[Option<&str>]) -> Result<AttrObj<DemoAttr>, Fail> {
+fn given(rt: &impl Abort, alloc: Global, texts: &[Option<&str>]) -> AttrObj<DemoAttr> {
     let mut names = Vec::new(alloc);
     for text in texts {
-        names.push(name_of(alloc, *text)?)?;
+        names
+            .push(name_of(rt, alloc, *text))
+            .expect(rt, "out of memory");
     }
-    Ok(AttrObj::GivenNames(names))
+    AttrObj::GivenNames(names)
 }
 
 /// Appends the names of the first four arguments of a block.
 fn append_arguments(
+    rt: &impl Abort,
     alloc: Global,
     ctx: &Ctx,
     block: Ptr<BasicBlock>,
     names: &mut String,
-) -> Result<(), Fail> {
+) {
     for index in 0..4 {
-        append(alloc, ctx, Value::Argument(block, index), names)?;
+        append(rt, alloc, ctx, Value::Argument(block, index), names);
     }
-    Ok(())
 }
 
 /// Gives an item these given names.
-fn give_names(
+fn give_names(rt: &impl Abort, alloc: Global, ctx: &mut Ctx, item: Item, texts: &[Option<&str>]) {
+    let names = given(rt, alloc, texts);
+    passed(rt, give(alloc, ctx, item, GIVEN_NAMES_KEY, names));
+}
+
+/// Makes a block with this label, or none if it is empty, and an argument for each letter.
+fn make_block(
+    rt: &impl Abort,
     alloc: Global,
     ctx: &mut Ctx,
-    item: Item,
-    texts: &[Option<&str>],
-) -> Result<(), Fail> {
-    let names = given(alloc, texts)?;
-    give(alloc, ctx, item, GIVEN_NAMES_KEY, names)
+    label: &str,
+    letters: &str,
+) -> Ptr<BasicBlock> {
+    let types = passed(rt, types(alloc, letters));
+    passed(rt, block(alloc, ctx, label, types))
 }
 
 /// Appends the names of a block's three arguments, without given names and with two, of which one is left out.
-fn of_arguments(alloc: Global, ctx: &mut Ctx, names: &mut String) -> Result<(), Fail> {
-    let block = block(alloc, ctx, "entry", types(alloc, "ppp")?)?;
-    append_arguments(alloc, ctx, block, names)?;
-    names.push_str("| ")?;
-    give_names(alloc, ctx, Item::Block(block), &[None, Some("x")])?;
-    append_arguments(alloc, ctx, block, names)
+fn of_arguments(rt: &impl Abort, alloc: Global, ctx: &mut Ctx, names: &mut String) {
+    let block = make_block(rt, alloc, ctx, "entry", "ppp");
+    append_arguments(rt, alloc, ctx, block, names);
+    append_name(rt, "|", names);
+    give_names(rt, alloc, ctx, Item::Block(block), &[None, Some("x")]);
+    append_arguments(rt, alloc, ctx, block, names);
 }
 
 /// The data of a module whose first result has the name `c0`.
-fn named_data(alloc: Global, ctx: &mut Ctx) -> Result<Option<OperationData<DemoAttr>>, Fail> {
-    let op = make(alloc, ctx)?;
-    give_names(alloc, ctx, Item::Operation(op), &[Some("c0")])?;
-    live(ctx, op)?;
-    Ok(ctx.graph_mut().operation_mut(op).take())
+fn named_data(rt: &impl Abort, alloc: Global, ctx: &mut Ctx) -> Option<OperationData<DemoAttr>> {
+    let op = make(rt, alloc, ctx);
+    give_names(rt, alloc, ctx, Item::Operation(op), &[Some("c0")]);
+    assert!(rt; ctx.contains_operation(op));
+    ctx.graph_mut().operation_mut(op).take()
 }
 
 /// Makes an operation with this data and two results.
 fn with_results(
+    rt: &impl Abort,
     ctx: &mut Ctx,
     data: Option<OperationData<DemoAttr>>,
-) -> Result<Ptr<Operation>, Fail> {
+) -> Ptr<Operation> {
     let types = Few::two(Some(DemoType::Pointer), None);
-    Ok(ctx.graph_mut().make_operation(data, types, &[], &[])?)
+    let made = ctx.graph_mut().make_operation(data, types, &[], &[]);
+    made.expect(rt, "out of memory")
 }
 
 /// Appends the names of the results of an operation that has one given name, and of a placeholder.
-fn of_results(alloc: Global, ctx: &mut Ctx, names: &mut String) -> Result<(), Fail> {
-    let data = named_data(alloc, ctx)?;
-    let op = with_results(ctx, data)?;
-    let placeholder = with_results(ctx, None)?;
+fn of_results(rt: &impl Abort, alloc: Global, ctx: &mut Ctx, names: &mut String) {
+    let data = named_data(rt, alloc, ctx);
+    let op = with_results(rt, ctx, data);
+    let placeholder = with_results(rt, ctx, None);
     for index in 0..3 {
-        append(alloc, ctx, Value::Result(op, index), names)?;
+        append(rt, alloc, ctx, Value::Result(op, index), names);
     }
-    append(alloc, ctx, Value::Result(placeholder, 0), names)
+    append(rt, alloc, ctx, Value::Result(placeholder, 0), names);
 }
 
 /// Appends the names of two blocks, the second with a label, and of one that is at the place of the first.
-fn of_blocks(alloc: Global, ctx: &mut Ctx, names: &mut String) -> Result<(), Fail> {
-    let first = block(alloc, ctx, "", types(alloc, "p")?)?;
-    let second = block(alloc, ctx, "entry", types(alloc, "")?)?;
-    append_block(alloc, ctx, first, names)?;
-    erase(ctx, Item::Block(first))?;
-    let third = block(alloc, ctx, "", types(alloc, "p")?)?;
-    append_block(alloc, ctx, first, names)?;
-    append_block(alloc, ctx, second, names)?;
-    append_block(alloc, ctx, third, names)?;
-    let argument = value_name(alloc, ctx, Value::Argument(third, 0))?;
-    Ok(names.push_str(argument.as_str())?)
+fn of_blocks(rt: &impl Abort, alloc: Global, ctx: &mut Ctx, names: &mut String) {
+    let first = make_block(rt, alloc, ctx, "", "p");
+    let second = make_block(rt, alloc, ctx, "entry", "");
+    append_block(rt, alloc, ctx, first, names);
+    passed(rt, erase(ctx, Item::Block(first)));
+    let third = make_block(rt, alloc, ctx, "", "p");
+    for block in &[first, second, third] {
+        append_block(rt, alloc, ctx, *block, names);
+    }
+    let argument = value_name(rt, alloc, ctx, Value::Argument(third, 0));
+    names
+        .push_str(argument.as_str())
+        .expect(rt, "out of memory");
 }
 
 /// What is named.
@@ -161,31 +180,30 @@ const NAMES: &[(Kind, u64, u32, &str)] = &[
 ];
 
 /// Appends the names of what is made so.
-fn append_names(alloc: Global, ctx: &mut Ctx, kind: Kind, names: &mut String) -> Result<(), Fail> {
+fn append_names(rt: &impl Abort, alloc: Global, ctx: &mut Ctx, kind: Kind, names: &mut String) {
     match kind {
-        Kind::Arguments => of_arguments(alloc, ctx, names),
-        Kind::Results => of_results(alloc, ctx, names),
-        Kind::Blocks => of_blocks(alloc, ctx, names),
+        Kind::Arguments => of_arguments(rt, alloc, ctx, names),
+        Kind::Results => of_results(rt, alloc, ctx, names),
+        Kind::Blocks => of_blocks(rt, alloc, ctx, names),
     }
 }
 
 /// The names of what is made so.
-fn names_of(alloc: Global, ctx: &mut Ctx, kind: Kind) -> Result<String, Fail> {
+fn names_of(rt: &impl Abort, alloc: Global, ctx: &mut Ctx, kind: Kind) -> String {
     let mut names = String::new(alloc);
-    append_names(alloc, ctx, kind, &mut names)?;
-    Ok(names)
+    append_names(rt, alloc, ctx, kind, &mut names);
+    names
 }
 
 #[test]
-fn values_and_blocks_have_their_names(rt: HostRuntime) -> Result<(), Fail> {
+fn values_and_blocks_have_their_names(rt: HostRuntime) {
     for row in NAMES {
         let names = with_counters(
             rt.alloc(),
             row.1,
             row.2,
-            |alloc, ctx| names_of(alloc, ctx, row.0),
-        )?;
-        assert_eq!(rt; names.as_str(), row.3);
+            |alloc, ctx| Ok(names_of(&rt, alloc, ctx, row.0)),
+        );
+        assert_eq!(rt; passed(&rt, names).as_str(), row.3);
     }
-    Ok(())
 }
