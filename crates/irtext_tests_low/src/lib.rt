@@ -5,7 +5,7 @@
 #[cfg(test)]
 mod dict;
 #[cfg(test)]
-mod passed;
+mod must;
 #[cfg(test)]
 mod read;
 #[cfg(test)]

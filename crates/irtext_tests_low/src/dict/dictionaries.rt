@@ -1,7 +1,7 @@
 //! A dictionary of up to twenty keys and given names: they are inserted, replaced and removed, and are in the order in which
 //! they were inserted. A copy without the outlined attributes keeps that order.
 use crate::dict::pairs::put;
-use crate::passed::passed;
+use crate::must::must;
 use irtext_base::base::{AttrObj, GIVEN_NAMES_KEY, Identifier};
 use irtext_context::base::AttributeDict;
 use irtext_demo::DemoAttr;
@@ -78,12 +78,12 @@ fn attr_for(rt: &impl Abort, alloc: Global, key: &str, name: &str) -> AttrObj<()
     if key == GIVEN_NAMES_KEY {
         return AttrObj::GivenNames(Vec::new(alloc));
     }
-    AttrObj::Ident(passed(rt, named(alloc, name)))
+    AttrObj::Ident(must(rt, named(alloc, name)))
 }
 
 /// Inserts an attribute under a key, or removes the entry if there is no name.
 fn edit(rt: &impl Abort, alloc: Global, dictionary: &mut AttributeDict<()>, key: &str, name: &str) {
-    let key = passed(rt, named(alloc, key));
+    let key = must(rt, named(alloc, key));
     if name == "" {
         let _taken = dictionary.remove(&key);
         return;
@@ -134,16 +134,16 @@ const COPIED: &[(&str, &str)] = &[
 /// The key of the attribute for a letter, in a dictionary of this length.
 fn key_of(rt: &impl Abort, alloc: Global, letter: char, length: usize) -> Identifier {
     if letter == 'g' {
-        return passed(rt, named(alloc, GIVEN_NAMES_KEY));
+        return must(rt, named(alloc, GIVEN_NAMES_KEY));
     }
     let key = format!(in alloc; "key_{length}").expect(rt, "out of memory");
-    passed(rt, named(alloc, key.as_str()))
+    must(rt, named(alloc, key.as_str()))
 }
 
 /// Inserts the attribute for a letter.
 fn insert(rt: &impl Abort, alloc: Global, dictionary: &mut AttributeDict<DemoAttr>, letter: char) {
     let key = key_of(rt, alloc, letter, dictionary.len());
-    let attr = passed(rt, attribute(alloc, letter));
+    let attr = must(rt, attribute(alloc, letter));
     dictionary.insert(key, attr).ok().expect(rt, "refused");
 }
 

@@ -1,5 +1,5 @@
 //! Ids of operations made of texts.
-use crate::passed::passed;
+use crate::must::must;
 use irtext_base::base::OpId;
 use irtext_base::result::Result as Answer;
 use irtext_tests_common::answers::value_or_cause;
@@ -17,7 +17,7 @@ const IDS: &[(&str, &str, &str)] = &[
 /// The id of two texts, or the error.
 fn id(rt: &impl Abort, alloc: Global, dialect: &str, name: &str) -> String {
     let answer: Answer<OpId, ()> = OpId::try_new(alloc, dialect, name);
-    passed(rt, value_or_cause(alloc, &answer))
+    must(rt, value_or_cause(alloc, &answer))
 }
 
 #[test]

@@ -1,5 +1,5 @@
 //! Identifiers, and a dictionary with them, one call of each kind.
-use crate::passed::passed;
+use crate::must::must;
 use irtext_base::base::{AttrObj, GIVEN_NAMES_KEY, Identifier, Refusal};
 use irtext_base::result::Result as Answer;
 use irtext_context::base::AttributeDict;
@@ -18,12 +18,12 @@ const WORDS: &[(&str, &str)] = &[
 /// The identifier of a text, or the error.
 fn word(rt: &impl Abort, alloc: Global, text: &str) -> String {
     let answer: Answer<Identifier, ()> = Identifier::try_new(alloc, text);
-    passed(rt, value_or_cause(alloc, &answer))
+    must(rt, value_or_cause(alloc, &answer))
 }
 
 /// The identifier of a text that is one.
 fn identifier(rt: &impl Abort, alloc: Global, text: &str) -> Identifier {
-    passed(rt, named(alloc, text))
+    must(rt, named(alloc, text))
 }
 
 /// Whether the copy of an identifier equals it.

@@ -1,5 +1,5 @@
 //! Lists of items, with and without separators.
-use crate::passed::passed;
+use crate::must::must;
 use irtext_base::parsable::{CharStream, ParseResult, TextStream};
 use irtext_base::printable::ListSeparator;
 use irtext_tests_common::answers::listed;
@@ -99,7 +99,7 @@ fn items(stream: &mut TextStream, reader: Reader) -> ParseResult<Vec<i32>, ()> {
 fn read(rt: &impl Abort, alloc: Global, stream: &mut TextStream, reader: Reader) -> String {
     let answer = items(stream, reader);
     let at = stream.locate(stream.position());
-    passed(rt, listed(alloc, &answer, at, stream.peek()))
+    must(rt, listed(alloc, &answer, at, stream.peek()))
 }
 
 /// The same on a text of its own.

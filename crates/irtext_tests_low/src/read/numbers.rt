@@ -1,7 +1,7 @@
 //! Numbers of every type, in decimal and hexadecimal digits and as their text, and booleans.
 ghost use Rattle.std.specs.Prelude.{◌≤◌};
 
-use crate::passed::passed;
+use crate::must::must;
 use crate::read::numbers::Kind::{
     HexI64, HexU8, HexU16, HexU32, HexU64, HexUsize, I8, I16, I32, I64, Isize, Text, Truth, U8,
     U16, U32, U64, Usize,
@@ -123,7 +123,7 @@ fn text_of<X: fmt::Display + Drop>(
     alloc: Global,
     answer: ParseResult<X, ()>,
 ) -> String {
-    passed(rt, line(alloc, &answer))
+    must(rt, line(alloc, &answer))
 }
 
 /// An integer of a type.

@@ -1,5 +1,5 @@
 //! Quoted texts and their parser.
-use crate::passed::passed;
+use crate::must::must;
 use irtext_base::parsable::TextStream;
 use irtext_tests_common::answers::with_next;
 use irtext_tokens::irfmt::parsers::quoted_string_parse;
@@ -49,7 +49,7 @@ const QUOTED: &[(&str, &str)] = &[
 fn read(rt: &impl Abort, alloc: Global, text: &str) -> String {
     let mut stream = TextStream::new(alloc, text).expect(rt, "out of memory");
     let answer = quoted_string_parse::<TextStream, ()>(&mut stream);
-    passed(rt, with_next(alloc, &answer, stream.peek()))
+    must(rt, with_next(alloc, &answer, stream.peek()))
 }
 
 #[test]

@@ -1,5 +1,5 @@
 //! The stream over a text, places, faults and tokens.
-use crate::passed::passed;
+use crate::must::must;
 use irtext_base::parsable::{
     CharStream, ParseFault, ParseResult, Place, SourcePosition, TextStream,
 };
@@ -131,7 +131,7 @@ fn a_stream_counts_lines_and_characters(rt: HostRuntime) {
 
 /// The text of a fault.
 fn text_of(rt: &impl Abort, alloc: Global, fault: ParseFault<()>) -> String {
-    passed(rt, result_text(alloc, &fault))
+    must(rt, result_text(alloc, &fault))
 }
 
 /// The result for a fixed text.
@@ -145,7 +145,7 @@ fn fixed(rt: &impl Abort, alloc: Global, stream: &mut TextStream, text: &str) ->
 /// The result for the identifier after white space.
 fn identifier(rt: &impl Abort, alloc: Global, stream: &mut TextStream) -> String {
     skip_white_space(stream);
-    passed(
+    must(
         rt,
         said_next(alloc, stream, identifier_parse::<TextStream, ()>),
     )
@@ -154,7 +154,7 @@ fn identifier(rt: &impl Abort, alloc: Global, stream: &mut TextStream) -> String
 /// The result for the operation's id after white space.
 fn id(rt: &impl Abort, alloc: Global, stream: &mut TextStream) -> String {
     skip_class(stream, Class::WhiteSpace);
-    passed(rt, said_next(alloc, stream, id_parse::<TextStream, ()>))
+    must(rt, said_next(alloc, stream, id_parse::<TextStream, ()>))
 }
 
 /// The result for the word or fixed text of a line.
@@ -230,7 +230,7 @@ fn faults_are_committed_or_not(rt: HostRuntime) {
     for (number, wanted) in FAULTS.iter().enumerate() {
         assert_eq!(rt; refused(&rt, rt.alloc(), "ab", number).as_str(), *wanted);
     }
-    let said = passed(&rt, said(rt.alloc(), "ab", value));
+    let said = must(&rt, said(rt.alloc(), "ab", value));
     assert_eq!(rt; said.as_str(), "7");
 }
 

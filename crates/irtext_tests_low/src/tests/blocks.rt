@@ -1,5 +1,5 @@
 //! Blocks of a context: how they are made, labelled and changed.
-use crate::passed::passed;
+use crate::must::must;
 use crate::tests::locations::{at, make};
 use irtext_base::base::{AttrObj, GIVEN_NAMES_KEY, SYM_NAME_KEY};
 use irtext_base::location::Source;
@@ -26,7 +26,7 @@ fn made(
     ctx: &mut Ctx,
     letters: &str,
 ) -> Answer<Ptr<BasicBlock>, DemoAttr> {
-    BasicBlock::new(ctx, None, passed(rt, types(alloc, letters)))
+    BasicBlock::new(ctx, None, must(rt, types(alloc, letters)))
 }
 
 /// Whether the first argument of a block is a pointer.
@@ -62,15 +62,15 @@ enum Step {
 /// Puts an identifier under a key of a block, and returns whether that was allowed.
 fn put(rt: &impl Abort, alloc: Global, ctx: &mut Ctx, block: Ptr<BasicBlock>, key: &str) -> bool {
     assert!(rt; ctx.contains_block(block));
-    let key = passed(rt, named(alloc, key));
-    let attr = AttrObj::Ident(passed(rt, named(alloc, "main")));
+    let key = must(rt, named(alloc, key));
+    let attr = AttrObj::Ident(must(rt, named(alloc, "main")));
     block.set_attribute(ctx, key, attr).is_ok()
 }
 
 /// Gives a block a label.
 fn label(rt: &impl Abort, alloc: Global, ctx: &mut Ctx, block: Ptr<BasicBlock>) {
     assert!(rt; ctx.contains_block(block));
-    block.set_label(ctx, Some(passed(rt, named(alloc, "entry"))));
+    block.set_label(ctx, Some(must(rt, named(alloc, "entry"))));
 }
 
 /// Changes a block, and returns whether that was allowed.
@@ -115,13 +115,13 @@ fn check_steps(rt: &impl Abort, alloc: Global, ctx: &mut Ctx) {
 #[test]
 fn blocks_are_labelled_and_written(rt: HostRuntime) {
     let done = with_context(rt.alloc(), |alloc, ctx| Ok(check_steps(&rt, alloc, ctx)));
-    passed(&rt, done);
+    must(&rt, done);
 }
 
 /// The text of the result for a block with arguments of these types.
 fn said(rt: &impl Abort, alloc: Global, ctx: &mut Ctx, letters: &str) -> String {
     let answer = made(rt, alloc, ctx, letters);
-    passed(rt, done_or_cause(alloc, &answer, "made"))
+    must(rt, done_or_cause(alloc, &answer, "made"))
 }
 
 /// Checks that no block of two arguments is made if one number is left for values, and that one of one argument is.
@@ -139,7 +139,7 @@ fn arguments_end_at_the_greatest_number(rt: HostRuntime) {
         1,
         |alloc, ctx| Ok(fill(&rt, alloc, ctx)),
     );
-    passed(&rt, done);
+    must(&rt, done);
 }
 
 /// Whether the location of an operation or a block is known.
@@ -169,9 +169,9 @@ fn erase_inside(rt: &impl Abort, alloc: Global, ctx: &mut Ctx) {
     let (outer, inner) = (make(rt, alloc, ctx), make(rt, alloc, ctx));
     assert!(rt; ctx.contains_operation(outer));
     ctx.add_region(outer).expect(rt, "out of memory");
-    let block = passed(rt, block_inside(alloc, ctx, outer, "", Few::none()));
-    passed(rt, into_block(ctx, inner, block));
-    passed(rt, place(ctx, Item::Block(block), 2));
+    let block = must(rt, block_inside(alloc, ctx, outer, "", Few::none()));
+    must(rt, into_block(ctx, inner, block));
+    must(rt, place(ctx, Item::Block(block), 2));
     assert!(rt; known(ctx, outer, block, inner) == (true, true, true));
     assert!(rt; ctx.contains_operation(outer));
     erase_locations(ctx, outer);
@@ -181,5 +181,5 @@ fn erase_inside(rt: &impl Abort, alloc: Global, ctx: &mut Ctx) {
 #[test]
 fn inner_locations_are_erased(rt: HostRuntime) {
     let done = with_context(rt.alloc(), |alloc, ctx| Ok(erase_inside(&rt, alloc, ctx)));
-    passed(&rt, done);
+    must(&rt, done);
 }

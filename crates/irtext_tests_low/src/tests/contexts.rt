@@ -2,7 +2,7 @@
 ghost use Rattle.std.specs.Prelude.{◌≤◌, ℕ};
 ghost use Rattle.irtext_context.specs.Context.{KeepsOlder};
 
-use crate::passed::passed;
+use crate::must::must;
 use irtext_base::base::OpId;
 use irtext_base::location::Location;
 use irtext_context::base::context::making::Making;
@@ -16,7 +16,7 @@ use std::process::Abort;
 
 /// The id of modules.
 fn module_id(rt: &impl Abort, alloc: Global) -> OpId {
-    passed(rt, id(alloc, ("builtin", "module")))
+    must(rt, id(alloc, ("builtin", "module")))
 }
 
 /// Makes an operation without attributes, if there is a place for it.
@@ -86,7 +86,7 @@ fn rolls_back(rt: &impl Abort, alloc: Global, ctx: &mut Ctx) {
 #[test]
 fn objects_are_made_kept_and_given_back(rt: HostRuntime) {
     let done = with_context(rt.alloc(), |alloc, ctx| Ok(rolls_back(&rt, alloc, ctx)));
-    passed(&rt, done);
+    must(&rt, done);
 }
 
 /// Whether one operation is made, and then another, and the number of live objects.
@@ -104,5 +104,5 @@ fn places_end_below_the_greatest_number(rt: HostRuntime) {
         u32::MAX - 1,
         |alloc, ctx| Ok(filled(&rt, alloc, ctx)),
     );
-    assert!(rt; passed(&rt, filled) == (true, false, 1));
+    assert!(rt; must(&rt, filled) == (true, false, 1));
 }

@@ -1,5 +1,5 @@
 //! Attributes that are set on an operation, and `Refusal`s as errors.
-use crate::passed::passed;
+use crate::must::must;
 use irtext_base::base::{AttrObj, GIVEN_NAMES_KEY, Refusal, SYM_NAME_KEY};
 use irtext_base::location::Location;
 use irtext_base::result::{Error, Result as Answer};
@@ -33,15 +33,15 @@ const KEYS: &[(&str, &str)] = &[
 /// Sets an identifier under a key of an operation, and returns the text of the result.
 fn step(rt: &impl Abort, alloc: Global, ctx: &mut Ctx, op: Ptr<Operation>, key: &str) -> String {
     assert!(rt; ctx.contains_operation(op));
-    let key = passed(rt, named(alloc, key));
-    let attr = AttrObj::Ident(passed(rt, named(alloc, "main")));
+    let key = must(rt, named(alloc, key));
+    let attr = AttrObj::Ident(must(rt, named(alloc, "main")));
     let answer = answer(op.set_attribute(ctx, key, attr));
-    passed(rt, done_or_cause(alloc, &answer, "set"))
+    must(rt, done_or_cause(alloc, &answer, "set"))
 }
 
 /// Makes an operation without attributes.
 fn make(rt: &impl Abort, alloc: Global, ctx: &mut Ctx) -> Ptr<Operation> {
-    let id = passed(rt, id(alloc, ("builtin", "module")));
+    let id = must(rt, id(alloc, ("builtin", "module")));
     let made = ctx.make_operation(id, AttributeDict::new(alloc), Location::Unknown);
     made.expect(rt, "out of memory")
 }
@@ -70,7 +70,7 @@ fn no_memory(rt: &impl Abort, alloc: Global) -> String {
 #[test]
 fn attributes_are_set_and_refused(rt: HostRuntime) {
     let done = with_context(rt.alloc(), |alloc, ctx| Ok(check_keys(&rt, alloc, ctx)));
-    passed(&rt, done);
+    must(&rt, done);
     assert_eq!(rt;
         no_memory(&rt, rt.alloc()).as_str(),
         "Compilation error: invalid argument.\nOut of memory"

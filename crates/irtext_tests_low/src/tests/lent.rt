@@ -1,5 +1,5 @@
 //! Attributes that are borrowed mutably from a context: an inserted key is there, a reserved one is rejected, other objects are unchanged.
-use crate::passed::passed;
+use crate::must::must;
 use crate::tests::locations::make;
 use irtext_base::base::{AttrObj, GIVEN_NAMES_KEY, SYM_NAME_KEY};
 use irtext_context::base::{AttributeDict, BasicBlock, BlockAccess, Item, OperationAccess, Ptr};
@@ -17,10 +17,8 @@ fn put(
     attributes: &mut AttributeDict<DemoAttr>,
     key: &str,
 ) -> bool {
-    let attr = AttrObj::Ident(passed(rt, named(alloc, "main")));
-    attributes
-        .insert(passed(rt, named(alloc, key)), attr)
-        .is_ok()
+    let attr = AttrObj::Ident(must(rt, named(alloc, "main")));
+    attributes.insert(must(rt, named(alloc, key)), attr).is_ok()
 }
 
 /// Puts an identifier under a key of an item, and returns whether that was allowed.
@@ -72,7 +70,7 @@ fn name_operation(rt: &impl Abort, alloc: Global, ctx: &mut Ctx) {
 
 /// Makes a block without arguments.
 fn make_block(rt: &impl Abort, alloc: Global, ctx: &mut Ctx) -> Ptr<BasicBlock> {
-    passed(rt, block(alloc, ctx, "", Few::none()))
+    must(rt, block(alloc, ctx, "", Few::none()))
 }
 
 /// Checks that for two blocks.
@@ -95,12 +93,12 @@ fn contains_what_is_left(rt: &impl Abort, alloc: Global, ctx: &mut Ctx) {
 #[test]
 fn attributes_of_operations_and_blocks(rt: HostRuntime) {
     let done = with_context(rt.alloc(), |alloc, ctx| Ok(name_operation(&rt, alloc, ctx)));
-    passed(&rt, done);
+    must(&rt, done);
     let done = with_context(rt.alloc(), |alloc, ctx| Ok(name_block(&rt, alloc, ctx)));
-    passed(&rt, done);
+    must(&rt, done);
     let done = with_context(
         rt.alloc(),
         |alloc, ctx| Ok(contains_what_is_left(&rt, alloc, ctx)),
     );
-    passed(&rt, done);
+    must(&rt, done);
 }

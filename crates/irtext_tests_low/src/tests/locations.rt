@@ -1,5 +1,5 @@
 //! The sources, copies and hashes of locations, and the paths that a context keeps.
-use crate::passed::passed;
+use crate::must::must;
 use crate::tests::nested;
 use irtext_base::base::AttrObj;
 use irtext_base::location::{CloneIntoContext, Location, Source};
@@ -31,7 +31,7 @@ pub fn at(src: Source) -> Location<DemoAttr> {
 
 /// The name `m`, as metadata.
 fn metadata(rt: &impl Abort, alloc: Global) -> Option<AttrObj<DemoAttr>> {
-    Some(AttrObj::Ident(passed(rt, named(alloc, "m"))))
+    Some(AttrObj::Ident(must(rt, named(alloc, "m"))))
 }
 
 /// A location fused of these, with a name as metadata.
@@ -133,7 +133,7 @@ fn equals_copy(rt: &impl Abort, alloc: Global, location: &Location<DemoAttr>) ->
 
 /// Whether the copy of an attribute equals it.
 fn attribute_copied(rt: &impl Abort, alloc: Global) -> bool {
-    let attribute: AttrObj<DemoAttr> = AttrObj::Ident(passed(rt, named(alloc, "x")));
+    let attribute: AttrObj<DemoAttr> = AttrObj::Ident(must(rt, named(alloc, "x")));
     let copy = attribute.try_clone(alloc).expect(rt, "out of memory");
     copy == attribute
 }
@@ -197,7 +197,7 @@ fn carry(rt: &impl Abort, alloc: Global, from: &mut Ctx, to: &mut Ctx) {
 
 /// Makes a module with a place.
 pub(crate) fn make(rt: &impl Abort, alloc: Global, ctx: &mut Ctx) -> Ptr<Operation> {
-    let id = passed(rt, id(alloc, ("builtin", "module")));
+    let id = must(rt, id(alloc, ("builtin", "module")));
     let attributes = AttributeDict::new(alloc);
     let made = ctx.make_operation(id, attributes, at(Source::InMemory));
     made.expect(rt, "out of memory")
@@ -222,7 +222,7 @@ fn keep(rt: &impl Abort, alloc: Global, ctx: &mut Ctx) {
 #[test]
 fn copies_and_hashes_of_locations(rt: HostRuntime) {
     let done = with_context(rt.alloc(), |alloc, ctx| Ok(keep(&rt, alloc, ctx)));
-    passed(&rt, done);
+    must(&rt, done);
 }
 
 /// Checks that two contexts keep each path once, and locations move from one to the other.
@@ -239,5 +239,5 @@ fn sources_and_locations_of_two_contexts(rt: HostRuntime) {
         rt.alloc(),
         |alloc, ctx, other| Ok(exchange(&rt, alloc, ctx, other)),
     );
-    passed(&rt, done);
+    must(&rt, done);
 }

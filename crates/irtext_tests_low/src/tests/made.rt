@@ -1,5 +1,5 @@
 //! Operations of a context that are made with results, operands, successors and regions, or fail.
-use crate::passed::passed;
+use crate::must::must;
 use irtext_base::result::Result as Answer;
 use irtext_context::base::{
     BasicBlock, NewOperation, Operation, OperationAccess, Ptr, Region, Value,
@@ -27,7 +27,7 @@ fn answered(
 ) -> Answer<Ptr<Operation>, DemoAttr> {
     assert!(rt; ctx.graph().contains_values(operands) && ctx.graph().contains_blocks(successors));
     let types = Few::two(DemoType::Pointer, byte(rt));
-    let id = passed(rt, id(alloc, words));
+    let id = must(rt, id(alloc, words));
     Operation::new(ctx, id, types, operands, successors, 2)
 }
 
@@ -41,7 +41,7 @@ fn said(
     successors: &[Ptr<BasicBlock>],
 ) -> String {
     let answer = answered(rt, alloc, ctx, words, operands, successors);
-    passed(rt, done_or_cause(alloc, &answer, "made"))
+    must(rt, done_or_cause(alloc, &answer, "made"))
 }
 
 /// Makes such an operation of a demo dialect.
@@ -58,7 +58,7 @@ fn made(
 
 /// Makes a block with one argument.
 fn made_block(rt: &impl Abort, alloc: Global, ctx: &mut Ctx) -> Ptr<BasicBlock> {
-    passed(rt, block(alloc, ctx, "", Few::one(DemoType::Pointer)))
+    must(rt, block(alloc, ctx, "", Few::one(DemoType::Pointer)))
 }
 
 /// Whether an operation uses these three values and this block, and nothing else.
@@ -133,7 +133,7 @@ fn link(rt: &impl Abort, alloc: Global, ctx: &mut Ctx) {
 #[test]
 fn operations_are_made_with_all_that_they_have(rt: HostRuntime) {
     let done = with_demo(rt.alloc(), |alloc, ctx| Ok(link(&rt, alloc, ctx)));
-    passed(&rt, done);
+    must(&rt, done);
 }
 
 /// Ids that are not registered with the demo dialects, and the error for an operation of each.
@@ -154,7 +154,7 @@ fn refuse(rt: &impl Abort, alloc: Global, ctx: &mut Ctx, row: &(&str, &str, &str
 fn what_is_not_registered_is_not_made(rt: HostRuntime) {
     for row in UNREGISTERED {
         let done = with_demo(rt.alloc(), |alloc, ctx| Ok(refuse(&rt, alloc, ctx, row)));
-        passed(&rt, done);
+        must(&rt, done);
     }
 }
 
@@ -177,6 +177,6 @@ fn a_full_counter_leaves_all_as_it_was(rt: HostRuntime) {
             counters.1,
             |alloc, ctx| Ok(fill(&rt, alloc, ctx)),
         );
-        passed(&rt, done);
+        must(&rt, done);
     }
 }

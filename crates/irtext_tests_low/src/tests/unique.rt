@@ -1,5 +1,5 @@
 //! The names under which values and blocks are printed.
-use crate::passed::passed;
+use crate::must::must;
 use crate::tests::locations::make;
 use irtext_base::base::{AttrObj, GIVEN_NAMES_KEY, Identifier};
 use irtext_context::base::{BasicBlock, Item, Operation, OperationData, Ptr};
@@ -56,7 +56,7 @@ fn append(rt: &impl Abort, alloc: Global, ctx: &Ctx, v: Value, names: &mut Strin
 /// A name, if there is a text.
 fn name_of(rt: &impl Abort, alloc: Global, text: Option<&str>) -> Option<Identifier> {
     match text {
-        Some(text) => Some(passed(rt, named(alloc, text))),
+        Some(text) => Some(must(rt, named(alloc, text))),
         None => None,
     }
 }
@@ -88,7 +88,7 @@ fn append_arguments(
 /// Gives an item these given names.
 fn give_names(rt: &impl Abort, alloc: Global, ctx: &mut Ctx, item: Item, texts: &[Option<&str>]) {
     let names = given(rt, alloc, texts);
-    passed(rt, give(alloc, ctx, item, GIVEN_NAMES_KEY, names));
+    must(rt, give(alloc, ctx, item, GIVEN_NAMES_KEY, names));
 }
 
 /// Makes a block with this label, or none if it is empty, and an argument for each letter.
@@ -99,8 +99,8 @@ fn make_block(
     label: &str,
     letters: &str,
 ) -> Ptr<BasicBlock> {
-    let types = passed(rt, types(alloc, letters));
-    passed(rt, block(alloc, ctx, label, types))
+    let types = must(rt, types(alloc, letters));
+    must(rt, block(alloc, ctx, label, types))
 }
 
 /// Appends the names of a block's three arguments, without given names and with two, of which one is left out.
@@ -147,7 +147,7 @@ fn of_blocks(rt: &impl Abort, alloc: Global, ctx: &mut Ctx, names: &mut String) 
     let first = make_block(rt, alloc, ctx, "", "p");
     let second = make_block(rt, alloc, ctx, "entry", "");
     append_block(rt, alloc, ctx, first, names);
-    passed(rt, erase(ctx, Item::Block(first)));
+    must(rt, erase(ctx, Item::Block(first)));
     let third = make_block(rt, alloc, ctx, "", "p");
     for block in &[first, second, third] {
         append_block(rt, alloc, ctx, *block, names);
@@ -204,6 +204,6 @@ fn values_and_blocks_have_their_names(rt: HostRuntime) {
             row.2,
             |alloc, ctx| Ok(names_of(&rt, alloc, ctx, row.0)),
         );
-        assert_eq!(rt; passed(&rt, names).as_str(), row.3);
+        assert_eq!(rt; must(&rt, names).as_str(), row.3);
     }
 }
