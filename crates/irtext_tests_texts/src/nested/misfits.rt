@@ -130,10 +130,6 @@ fn holds(rt: &impl Abort, alloc: Global, ctx: &mut Ctx, row: &Row) -> bool {
 
 #[test]
 fn operations_fit_or_say_the_first_reason(rt: HostRuntime) {
-    let failing = failing_demo(
-        rt.alloc(),
-        ROWS,
-        |alloc, ctx, row| Ok(holds(&rt, alloc, ctx, row)),
-    );
+    let failing = failing_demo(rt.alloc(), ROWS, |a, ctx, row| Ok(holds(&rt, a, ctx, row)));
     assert_eq!(rt; must(&rt, failing), None);
 }

@@ -190,10 +190,6 @@ fn holds(rt: &impl Abort, alloc: Global, ctx: &mut Ctx, row: &Row) -> bool {
 
 #[test]
 fn operations_are_printed_with_all_that_nests_in_them(rt: HostRuntime) {
-    let failing = failing_demo(
-        rt.alloc(),
-        ROWS,
-        |alloc, ctx, row| Ok(holds(&rt, alloc, ctx, row)),
-    );
+    let failing = failing_demo(rt.alloc(), ROWS, |a, ctx, row| Ok(holds(&rt, a, ctx, row)));
     assert_eq!(rt; must(&rt, failing), None);
 }

@@ -122,10 +122,6 @@ fn holds(rt: &impl Abort, alloc: Global, ctx: &mut Ctx, row: &Row) -> bool {
 
 #[test]
 fn sections_give_each_marked_item_an_entry(rt: HostRuntime) {
-    let failing = failing_demo(
-        rt.alloc(),
-        ROWS,
-        |alloc, ctx, row| Ok(holds(&rt, alloc, ctx, row)),
-    );
+    let failing = failing_demo(rt.alloc(), ROWS, |a, ctx, row| Ok(holds(&rt, a, ctx, row)));
     assert_eq!(rt; must(&rt, failing), None);
 }

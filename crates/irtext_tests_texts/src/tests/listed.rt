@@ -49,10 +49,6 @@ fn listed(rt: &impl Abort, alloc: Global, ctx: &Ctx, number: usize) -> String {
 
 #[test]
 fn printable_items_print_themselves(rt: HostRuntime) {
-    let differing = differing_alone(
-        rt.alloc(),
-        LISTED,
-        |alloc, ctx, number| Ok(listed(&rt, alloc, ctx, number)),
-    );
+    let differing = differing_alone(rt.alloc(), LISTED, |a, ctx, n| Ok(listed(&rt, a, ctx, n)));
     assert_eq!(rt; must(&rt, differing), None);
 }

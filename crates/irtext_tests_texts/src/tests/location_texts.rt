@@ -41,8 +41,11 @@ const NESTED: &[(Nesting, &str, &str)] = &[
     (Nesting::Last, "fused[?, ", "]"),
 ];
 
+/// A location, with the demo attributes.
+type Place = Location<DemoAttr>;
+
 /// A place of a source.
-fn at(src: Source, line: i32, column: i32) -> Location<DemoAttr> {
+fn at(src: Source, line: i32, column: i32) -> Place {
     Location::SrcPos {
         src,
         pos: SourcePosition { line, column },
@@ -50,13 +53,7 @@ fn at(src: Source, line: i32, column: i32) -> Location<DemoAttr> {
 }
 
 /// A place of a file.
-fn in_file(
-    rt: &impl Abort,
-    ctx: &mut Ctx,
-    path: &str,
-    line: i32,
-    column: i32,
-) -> Location<DemoAttr> {
+fn in_file(rt: &impl Abort, ctx: &mut Ctx, path: &str, line: i32, column: i32) -> Place {
     let src = Source::new_from_file(ctx, path).ok().expect(rt, "refused");
     at(src, line, column)
 }
@@ -72,7 +69,7 @@ fn owned(rt: &impl Abort, alloc: Global, text: &str) -> String {
 }
 
 /// A name for an unknown location.
-fn named(rt: &impl Abort, alloc: Global, name: &str) -> Location<DemoAttr> {
+fn named(rt: &impl Abort, alloc: Global, name: &str) -> Place {
     Location::Named {
         name: boxed(rt, alloc, owned(rt, alloc, name)),
         child_loc: boxed(rt, alloc, Location::Unknown),
@@ -80,18 +77,12 @@ fn named(rt: &impl Abort, alloc: Global, name: &str) -> Location<DemoAttr> {
 }
 
 /// A place in memory and an unknown one as one location, with this attribute.
-fn fused(
-    rt: &impl Abort,
-    alloc: Global,
-    metadata: Option<AttrObj<DemoAttr>>,
-) -> Location<DemoAttr> {
-    let mut locations = Vec::new(alloc);
+fn fused(rt: &impl Abort, alloc: Global, metadata: Option<AttrObj<DemoAttr>>) -> Place {
+    let (mut locations, memory) = (Vec::new(alloc), "out of memory");
     locations
         .push(at(Source::InMemory, 3, 4))
-        .expect(rt, "out of memory");
-    locations
-        .push(Location::Unknown)
-        .expect(rt, "out of memory");
+        .expect(rt, memory);
+    locations.push(Location::Unknown).expect(rt, memory);
     Location::Fused {
         metadata: boxed(rt, alloc, metadata),
         locations: boxed(rt, alloc, locations),
@@ -101,9 +92,8 @@ fn fused(
 /// The names `m` and none.
 fn given(rt: &impl Abort, alloc: Global) -> AttrObj<DemoAttr> {
     let mut names = Vec::new(alloc);
-    names
-        .push(Some(word(rt, alloc)))
-        .expect(rt, "out of memory");
+    let pushed = names.push(Some(word(rt, alloc)));
+    pushed.expect(rt, "out of memory");
     names.push(None).expect(rt, "out of memory");
     AttrObj::GivenNames(names)
 }
@@ -120,7 +110,7 @@ fn text(rt: &impl Abort, alloc: Global, text: &str) -> AttrObj<DemoAttr> {
 }
 
 /// An unknown place that is called from another.
-fn called(rt: &impl Abort, alloc: Global) -> Location<DemoAttr> {
+fn called(rt: &impl Abort, alloc: Global) -> Place {
     Location::CallSite {
         callee: boxed(rt, alloc, Location::Unknown),
         caller: boxed(rt, alloc, Location::Unknown),
@@ -128,7 +118,7 @@ fn called(rt: &impl Abort, alloc: Global) -> Location<DemoAttr> {
 }
 
 /// The location of a line of the table.
-fn location(rt: &impl Abort, alloc: Global, ctx: &mut Ctx, line: usize) -> Location<DemoAttr> {
+fn location(rt: &impl Abort, alloc: Global, ctx: &mut Ctx, line: usize) -> Place {
     match line {
         0 => in_file(rt, ctx, "foo.mlir", 42, 7),
         1 => at(Source::InMemory, 1, 2),
@@ -183,12 +173,7 @@ fn shown(rt: &impl Abort, alloc: Global, ctx: &mut Ctx, line: usize) -> String {
 }
 
 /// The printed text of a location.
-fn location_text(
-    rt: &impl Abort,
-    alloc: Global,
-    ctx: &Ctx,
-    location: &Location<DemoAttr>,
-) -> String {
+fn location_text(rt: &impl Abort, alloc: Global, ctx: &Ctx, location: &Place) -> String {
     format!(in alloc; "{}", location.disp(ctx)).expect(rt, "out of memory")
 }
 
@@ -197,7 +182,7 @@ fn each_location_has_its_text(rt: HostRuntime) {
     let differing = differing_alone(
         rt.alloc(),
         TEXTS,
-        |alloc, ctx, line| Ok(shown(&rt, alloc, ctx, line)),
+        |a, ctx, line| Ok(shown(&rt, a, ctx, line)),
     );
     assert_eq!(rt; must(&rt, differing), None);
 }
@@ -219,7 +204,7 @@ fn deep_locations_are_printed(rt: HostRuntime) {
     let failing = failing_demo(
         rt.alloc(),
         NESTED,
-        |alloc, ctx, row| Ok(holds(&rt, alloc, ctx, row)),
+        |a, ctx, row| Ok(holds(&rt, a, ctx, row)),
     );
     assert_eq!(rt; must(&rt, failing), None);
 }

@@ -161,11 +161,7 @@ fn line(rt: &impl Abort, alloc: Global, ctx: &Ctx, number: usize) -> String {
 
 #[test]
 fn values_and_lists_print_themselves(rt: HostRuntime) {
-    let differing = differing_alone(
-        rt.alloc(),
-        LINES,
-        |alloc, ctx, number| Ok(line(&rt, alloc, ctx, number)),
-    );
+    let differing = differing_alone(rt.alloc(), LINES, |a, ctx, n| Ok(line(&rt, a, ctx, n)));
     assert_eq!(rt; must(&rt, differing), None);
 }
 
