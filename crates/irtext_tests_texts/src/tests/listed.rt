@@ -1,5 +1,6 @@
 //! Lists whose items are `Printable`.
 use crate::must::must;
+use irtext_context::base::Context;
 use irtext_print_ir::irfmt::printers::{iter_with_sep, list_with_sep};
 use irtext_print_ir::printable::{Disp, ListSeparator, State, fmt_iter};
 use irtext_tests_common::contexts::Ctx;
@@ -11,10 +12,11 @@ use std::process::Abort;
 const LISTED: &[&str] = &["1,2", "012", "1+ 2"];
 
 /// The items of a slice.
-fn of_slice(rt: &impl Abort, alloc: Global, ctx: &Ctx) -> String {
+fn of_slice(rt: &impl Abort, alloc: Global) -> String {
+    let ctx: Ctx = Context::new(alloc);
     let numbers = [1u64, 2];
     let list = list_with_sep(&numbers, ListSeparator::Char(','));
-    format!(in alloc; "{}", list.disp(ctx)).expect(rt, "out of memory")
+    format!(in alloc; "{}", list.disp(&ctx)).expect(rt, "out of memory")
 }
 
 /// The items of an iterator.
@@ -41,7 +43,7 @@ fn written(rt: &impl Abort, alloc: Global, ctx: &Ctx) -> String {
 /// The printed text for a line.
 fn listed(rt: &impl Abort, alloc: Global, ctx: &Ctx, number: usize) -> String {
     match number {
-        0 => of_slice(rt, alloc, ctx),
+        0 => of_slice(rt, alloc),
         1 => of_iterator(rt, alloc, ctx),
         _ => written(rt, alloc, ctx),
     }
