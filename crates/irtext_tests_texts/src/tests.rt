@@ -1,7 +1,6 @@
 //! The tests, a file for each subject.
 mod attributes;
 mod demo;
-mod excerpt;
 mod fits;
 mod formats;
 mod listed;

@@ -1,14 +1,16 @@
 //! Which operations fit their formats, and the first reason why the others do not.
+use crate::must::must;
 use crate::nested::steps::give_letter;
 use irtext_base::location::Location;
 use irtext_context::base::context::making::Making;
 use irtext_context::base::{AttributeDict, BasicBlock, Item, Operation, Ptr, Value};
+use irtext_few::Few;
 use irtext_print_ops::fits::{FitFault, check_fits};
-use irtext_tests_common::building::{block, id, live, operation, register, types};
+use irtext_tests_common::building::{block, id, operation, register, types};
 use irtext_tests_common::contexts::Ctx;
 use irtext_tests_common::tables::failing_demo;
 use std::alloc::Global;
-use std::test::Fail;
+use std::process::Abort;
 
 /// The id of the operations.
 const ID: (&str, &str) = ("lab", "d");
@@ -50,80 +52,83 @@ const ROWS: &[Row] = &[
 ];
 
 /// The text of a result.
-fn result_text(alloc: Global, answer: Result<(), FitFault<'_>>) -> Result<String, Fail> {
-    match answer {
-        Ok(()) => Ok(String::from_str(alloc, "fits")?),
-        Err(FitFault::NotRegistered) => Ok(String::from_str(alloc, "not registered")?),
-        Err(FitFault::OperandCount(count)) => Ok(format!(in alloc; "operands {count}")?),
-        Err(FitFault::SuccessorCount(count)) => Ok(format!(in alloc; "successors {count}")?),
-        Err(FitFault::ResultCount(count)) => Ok(format!(in alloc; "results {count}")?),
-        Err(FitFault::RegionCount(count)) => Ok(format!(in alloc; "regions {count}")?),
-        Err(FitFault::MissingAttribute(key)) => Ok(format!(in alloc; "no attribute {key}")?),
-        Err(FitFault::NoSymbol) => Ok(String::from_str(alloc, "no symbol")?),
-        Err(FitFault::UnwrittenAttribute(key)) => Ok(format!(in alloc; "{key} is not written")?),
-        Err(_) => Err(Fail::from("another reason")),
-    }
+fn result_text(rt: &impl Abort, alloc: Global, answer: Result<(), FitFault<'_>>) -> String {
+    let text = match answer {
+        Ok(()) => String::from_str(alloc, "fits"),
+        Err(FitFault::NotRegistered) => String::from_str(alloc, "not registered"),
+        Err(FitFault::OperandCount(count)) => format!(in alloc; "operands {count}"),
+        Err(FitFault::SuccessorCount(count)) => format!(in alloc; "successors {count}"),
+        Err(FitFault::ResultCount(count)) => format!(in alloc; "results {count}"),
+        Err(FitFault::RegionCount(count)) => format!(in alloc; "regions {count}"),
+        Err(FitFault::MissingAttribute(key)) => format!(in alloc; "no attribute {key}"),
+        Err(FitFault::NoSymbol) => String::from_str(alloc, "no symbol"),
+        Err(FitFault::UnwrittenAttribute(key)) => format!(in alloc; "{key} is not written"),
+        Err(_) => panic!(rt; "another reason"),
+    };
+    text.expect(rt, "out of memory")
 }
 
 /// Makes an operation that is not registered.
-fn unregistered(alloc: Global, ctx: &mut Ctx) -> Result<Ptr<Operation>, Fail> {
-    let id = id(alloc, ID)?;
-    Ok(ctx.make_operation(id, AttributeDict::new(alloc), Location::Unknown)?)
+fn unregistered(rt: &impl Abort, alloc: Global, ctx: &mut Ctx) -> Ptr<Operation> {
+    let id = must(rt, id(alloc, ID));
+    let made = ctx.make_operation(id, AttributeDict::new(alloc), Location::Unknown);
+    made.expect(rt, "out of memory")
 }
 
 /// Makes the operation of a row, which uses the first of the arguments of a block and the first of these blocks.
 fn made(
+    rt: &impl Abort,
     alloc: Global,
     ctx: &mut Ctx,
     row: &Row,
     blocks: [Ptr<BasicBlock>; 2],
-) -> Result<Ptr<Operation>, Fail> {
+) -> Ptr<Operation> {
     let (operands, successors, regions) = row.2;
-    if operands > 2 || successors > 2 {
-        return Err(Fail::from("too many parts"));
-    }
+    assert!(rt; operands <= 2 && successors <= 2, "too many parts");
     let values = [Value::Argument(blocks[0], 0), Value::Argument(blocks[0], 1)];
-    let (id, results) = (id(alloc, ID)?, types(alloc, row.1)?);
-    operation(
+    let (id, results) = (must(rt, id(alloc, ID)), must(rt, types(alloc, row.1)));
+    let made = operation(
         ctx,
         id,
         results,
         &values[..operands],
         &blocks[..successors],
         regions,
-    )
+    );
+    must(rt, made)
 }
 
 /// Makes the operation of a row that is registered.
-fn registered(alloc: Global, ctx: &mut Ctx, row: &Row) -> Result<Ptr<Operation>, Fail> {
-    register(alloc, ctx, ID, row.0)?;
-    let first = block(alloc, ctx, "", types(alloc, "pp")?)?;
-    let second = block(alloc, ctx, "", types(alloc, "")?)?;
-    let op = made(alloc, ctx, row, [first, second])?;
+fn registered(rt: &impl Abort, alloc: Global, ctx: &mut Ctx, row: &Row) -> Ptr<Operation> {
+    must(rt, register(alloc, ctx, ID, row.0));
+    let arguments = must(rt, types(alloc, "pp"));
+    let first = must(rt, block(alloc, ctx, "", arguments));
+    let second = must(rt, block(alloc, ctx, "", Few::none()));
+    let op = made(rt, alloc, ctx, row, [first, second]);
     for letter in row.3.chars() {
-        give_letter(alloc, ctx, Item::Operation(op), letter)?;
+        give_letter(rt, alloc, ctx, Item::Operation(op), letter);
     }
-    Ok(op)
+    op
 }
 
 /// The text of the result for an operation.
-fn checked(alloc: Global, ctx: &Ctx, op: Ptr<Operation>) -> Result<String, Fail> {
-    live(ctx, op)?;
-    result_text(alloc, check_fits(ctx, op))
+fn checked(rt: &impl Abort, alloc: Global, ctx: &Ctx, op: Ptr<Operation>) -> String {
+    assert!(rt; ctx.contains_operation(op));
+    result_text(rt, alloc, check_fits(ctx, op))
 }
 
 /// Whether the operation of a row has this result.
-fn holds(alloc: Global, ctx: &mut Ctx, row: &Row) -> Result<bool, Fail> {
+fn holds(rt: &impl Abort, alloc: Global, ctx: &mut Ctx, row: &Row) -> bool {
     let op = if row.0 == "?" {
-        unregistered(alloc, ctx)?
+        unregistered(rt, alloc, ctx)
     } else {
-        registered(alloc, ctx, row)?
+        registered(rt, alloc, ctx, row)
     };
-    Ok(checked(alloc, ctx, op)?.as_str() == row.4)
+    checked(rt, alloc, ctx, op).as_str() == row.4
 }
 
 #[test]
-fn operations_fit_or_say_the_first_reason(rt: HostRuntime) -> Result<(), Fail> {
-    assert_eq!(rt; failing_demo(rt.alloc(), ROWS, holds)?, None);
-    Ok(())
+fn operations_fit_or_say_the_first_reason(rt: HostRuntime) {
+    let failing = failing_demo(rt.alloc(), ROWS, |a, ctx, row| Ok(holds(&rt, a, ctx, row)));
+    assert_eq!(rt; must(&rt, failing), None);
 }

@@ -1,13 +1,12 @@
 //! Operations that are printed with everything nested in them, with the items (operations and blocks with a mark); or why they are not.
+use crate::must::must;
 use crate::nested::steps::{FUNCTION, Made, Part, Step, Used, built, operation_of};
 use irtext_context::base::Item;
 use irtext_print::printable::{RegionPrintDepthLimit, State};
 use irtext_print_ops::nested::print_nested;
-use irtext_tests_common::building::live;
-use irtext_tests_common::contexts::Ctx;
-use irtext_tests_common::tables::{failing, failing_demo};
+use irtext_tests_common::contexts::{Ctx, with_demo};
 use std::alloc::Global;
-use std::test::Fail;
+use std::process::Abort;
 
 /// The layout: the width of an indentation, the indentation, the limit on levels of regions, and whether with its own mark.
 type Layout = (u16, u16, RegionPrintDepthLimit, bool);
@@ -135,62 +134,66 @@ const ROWS: &[Row] = &[
 ];
 
 /// Appends the letter and the number of an item.
-fn fmt_item(made: &Made, item: Item, text: &mut String) -> Result<(), Fail> {
+fn fmt_item(rt: &impl Abort, made: &Made, item: Item, text: &mut String) {
     let (letter, number) = match item {
         Item::Operation(op) => ('o', made.operations.iter().position(|p| *p == op)),
         Item::Block(block) => ('b', made.blocks.iter().position(|p| *p == block)),
     };
-    match number {
-        Some(number) => Ok(write!(text, " {letter}{number}")?),
-        None => Err(Fail::from("not made")),
-    }
+    let number = number.expect(rt, "not made");
+    write!(text, " {letter}{number}").expect(rt, "out of memory");
 }
 
 /// The text with the letters and numbers of the items after it.
-fn with_items(made: &Made, items: &[Item], mut text: String) -> Result<String, Fail> {
-    text.push_str("|")?;
+fn with_items(rt: &impl Abort, made: &Made, items: &[Item], mut text: String) -> String {
+    text.push_str("|").expect(rt, "out of memory");
     for item in items {
-        fmt_item(made, *item, &mut text)?;
+        fmt_item(rt, made, *item, &mut text);
     }
-    Ok(text)
+    text
 }
 
 /// The printed text of the first operation, or the error.
-fn printed(alloc: Global, ctx: &Ctx, made: &Made, layout: Layout) -> Result<String, Fail> {
-    let op = operation_of(made, 0)?;
-    live(ctx, op)?;
+fn printed(rt: &impl Abort, alloc: Global, ctx: &Ctx, made: &Made, layout: Layout) -> String {
+    let op = operation_of(rt, made, 0);
+    assert!(rt; ctx.contains_operation(op));
     let state = State::with_layout(alloc, layout.0, layout.1, layout.2, ());
     let mut items = Vec::new(alloc);
     let mut text = String::new(alloc);
     match print_nested(ctx, op, layout.3, &state, &mut items, &mut text) {
-        Ok(()) => with_items(made, &items, text),
-        Err(refusal) => Ok(format!(in alloc; "{refusal:?}")?),
+        Ok(()) => with_items(rt, made, &items, text),
+        Err(refusal) => format!(in alloc; "{refusal:?}").expect(rt, "out of memory"),
     }
 }
 
-/// Whether the first operation is printed so in a layout.
+/// Whether the first operation is printed so in each layout.
 fn is_printed(
+    rt: &impl Abort,
     alloc: Global,
     ctx: &Ctx,
     made: &Made,
-    printing: &(Layout, &str),
-) -> Result<bool, Fail> {
-    Ok(printed(alloc, ctx, made, printing.0)?.as_str() == printing.1)
+    printings: &[(Layout, &str)],
+) -> bool {
+    for (layout, text) in printings {
+        if printed(rt, alloc, ctx, made, *layout).as_str() != *text {
+            return false;
+        }
+    }
+    true
 }
 
-/// Whether the first operation of a row is printed so in each layout.
-fn holds(alloc: Global, ctx: &mut Ctx, row: &Row) -> Result<bool, Fail> {
-    let made = built(alloc, ctx, row.0)?;
-    let differing = failing(
-        row.1,
-        ctx,
-        |ctx, printing| is_printed(alloc, ctx, &made, printing),
-    )?;
-    Ok(differing.is_none())
+/// Whether the first operation of the row at this index is printed so in each layout.
+fn holds(rt: &impl Abort, alloc: Global, ctx: &mut Ctx, number: usize) -> bool {
+    let Some(row) = ROWS.get(number) else {
+        return false;
+    };
+    let made = built(rt, alloc, ctx, row.0);
+    is_printed(rt, alloc, ctx, &made, row.1)
 }
 
 #[test]
-fn operations_are_printed_with_all_that_nests_in_them(rt: HostRuntime) -> Result<(), Fail> {
-    assert_eq!(rt; failing_demo(rt.alloc(), ROWS, holds)?, None);
-    Ok(())
+fn operations_are_printed_with_all_that_nests_in_them(rt: HostRuntime) {
+    for number in 0..ROWS.len() {
+        let holds = with_demo(rt.alloc(), |a, ctx| Ok(holds(&rt, a, ctx, number)));
+        assert!(rt; must(&rt, holds));
+    }
 }

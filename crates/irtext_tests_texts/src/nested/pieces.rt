@@ -1,4 +1,5 @@
 //! The pieces of the texts of operations and blocks, each by its own call; and which of these are marked, and fit their formats.
+use crate::must::must;
 use crate::nested::steps::{FUNCTION, Made, block_of, built, operation_of};
 use irtext_base::format::Directive;
 use irtext_context::base::{BasicBlock, Operation, OperationAccess, Ptr, Value};
@@ -11,11 +12,9 @@ use irtext_print_ops::marks::{is_block_marked, is_operation_marked};
 use irtext_print_ops::names::{fmt_block_label, fmt_value_name};
 use irtext_print_ops::pieces::fmt_piece;
 use irtext_print_ops::printer::Printer;
-use irtext_tests_common::building::{live, live_block};
 use irtext_tests_common::contexts::{Ctx, with_context};
-use irtext_tests_common::tables::failing;
 use std::alloc::Global;
-use std::test::Fail;
+use std::process::Abort;
 
 /// A call that prints a piece of an operation or a block, given by its number.
 #[derive(Clone, Copy)]
@@ -76,106 +75,115 @@ const CALLS: &[(Call, &str)] = &[
 ];
 
 /// Appends the name of a value.
-fn value_name(ctx: &Ctx, value: Value, text: &mut String) -> Result<(), Fail> {
-    if !ctx.graph().contains_value(value) {
-        return Err(Fail::from("no such value"));
-    }
-    Ok(fmt_value_name(ctx, value, text).ok().ok_or("refused")?)
+fn value_name(rt: &impl Abort, ctx: &Ctx, value: Value, text: &mut String) {
+    assert!(rt; ctx.graph().contains_value(value));
+    fmt_value_name(ctx, value, text).ok().expect(rt, "refused");
 }
 
 /// Appends the label of a block, or everything before its operations.
-fn of_block(ctx: &Ctx, block: Ptr<BasicBlock>, whole: bool, text: &mut String) -> Result<(), Fail> {
-    live_block(ctx, block)?;
+fn of_block(rt: &impl Abort, ctx: &Ctx, block: Ptr<BasicBlock>, whole: bool, text: &mut String) {
+    assert!(rt; ctx.contains_block(block));
     if whole {
-        return Ok(fmt_block_head(ctx, block, text).ok().ok_or("refused")?);
+        fmt_block_head(ctx, block, text).ok().expect(rt, "refused");
+    } else {
+        fmt_block_label(ctx, block, text).ok().expect(rt, "refused");
     }
-    Ok(fmt_block_label(ctx, block, text).ok().ok_or("refused")?)
 }
 
 /// Appends the text of a directive of an operation's format.
 fn of_directive(
+    rt: &impl Abort,
     ctx: &Ctx,
     op: Ptr<Operation>,
     directives: &[Directive],
     directive: &Directive,
     text: &mut String,
-) -> Result<(), Fail> {
-    live(ctx, op)?;
-    Ok(
-        fmt_piece(ctx, op, directives, directive, text)
-            .ok()
-            .ok_or("refused")?,
-    )
+) {
+    assert!(rt; ctx.contains_operation(op));
+    let answer = fmt_piece(ctx, op, directives, directive, text);
+    answer.ok().expect(rt, "refused");
 }
 
 /// Appends the text of the directive of an index.
-fn piece(ctx: &Ctx, op: Ptr<Operation>, index: usize, text: &mut String) -> Result<(), Fail> {
-    live(ctx, op)?;
-    let directives = directives_in(ctx, op.get_opid(ctx)).ok_or("no directives")?;
-    let directive = directives.get(index).ok_or("no such directive")?;
-    of_directive(ctx, op, directives, directive, text)
+fn piece(rt: &impl Abort, ctx: &Ctx, op: Ptr<Operation>, index: usize, text: &mut String) {
+    assert!(rt; ctx.contains_operation(op));
+    let directives = directives_in(ctx, op.get_opid(ctx)).expect(rt, "no directives");
+    let directive = directives.get(index).expect(rt, "no such directive");
+    of_directive(rt, ctx, op, directives, directive, text);
 }
 
 /// Appends the text of a call on an operation.
-fn of_operation(ctx: &Ctx, op: Ptr<Operation>, call: Call, text: &mut String) -> Result<(), Fail> {
-    live(ctx, op)?;
+fn of_operation(rt: &impl Abort, ctx: &Ctx, op: Ptr<Operation>, call: Call, text: &mut String) {
+    assert!(rt; ctx.contains_operation(op));
     let answer = match call {
         Call::Results(_) => Printer { ctx }.fmt_results(op, text),
         Call::Front(_) => begin_front(ctx, op, text).map(|_| ()),
         _ => Printer { ctx }.fmt_canonical_front(op, text),
     };
-    Ok(answer.ok().ok_or("refused")?)
+    answer.ok().expect(rt, "refused");
 }
 
 /// Appends whether an operation is marked, fits its format, and has the canonical form.
-fn known(ctx: &Ctx, op: Ptr<Operation>, text: &mut String) -> Result<(), Fail> {
-    live(ctx, op)?;
+fn known(rt: &impl Abort, ctx: &Ctx, op: Ptr<Operation>, text: &mut String) {
+    assert!(rt; ctx.contains_operation(op));
     let marked = is_operation_marked(ctx, op);
     let fits = check_fits(ctx, op).is_ok();
     let canonical = is_canonical(ctx, op);
-    Ok(write!(text, "{marked} {fits} {canonical}")?)
+    write!(text, "{marked} {fits} {canonical}").expect(rt, "out of memory");
 }
 
 /// Appends whether a block is marked.
-fn marked(ctx: &Ctx, block: Ptr<BasicBlock>, text: &mut String) -> Result<(), Fail> {
-    live_block(ctx, block)?;
+fn marked(rt: &impl Abort, ctx: &Ctx, block: Ptr<BasicBlock>, text: &mut String) {
+    assert!(rt; ctx.contains_block(block));
     let marked = is_block_marked(ctx, block);
-    Ok(write!(text, "{marked}")?)
+    write!(text, "{marked}").expect(rt, "out of memory");
 }
 
 /// Appends the text of a call.
-fn write(ctx: &Ctx, made: &Made, call: Call, text: &mut String) -> Result<(), Fail> {
+fn write(rt: &impl Abort, ctx: &Ctx, made: &Made, call: Call, text: &mut String) {
     match call {
-        Call::Result(op) => value_name(ctx, Value::Result(operation_of(made, op)?, 0), text),
-        Call::Argument(block) => {
-            value_name(ctx, Value::Argument(block_of(made, block)?, 0), text)
+        Call::Result(op) => {
+            value_name(rt, ctx, Value::Result(operation_of(rt, made, op), 0), text)
         }
-        Call::Label(block) => of_block(ctx, block_of(made, block)?, false, text),
-        Call::Head(block) => of_block(ctx, block_of(made, block)?, true, text),
-        Call::Marked(block) => marked(ctx, block_of(made, block)?, text),
-        Call::Known(op) => known(ctx, operation_of(made, op)?, text),
-        Call::Piece(op, index) => piece(ctx, operation_of(made, op)?, index, text),
+        Call::Argument(block) => {
+            value_name(rt, ctx, Value::Argument(block_of(rt, made, block), 0), text)
+        }
+        Call::Label(block) => of_block(rt, ctx, block_of(rt, made, block), false, text),
+        Call::Head(block) => of_block(rt, ctx, block_of(rt, made, block), true, text),
+        Call::Marked(block) => marked(rt, ctx, block_of(rt, made, block), text),
+        Call::Known(op) => known(rt, ctx, operation_of(rt, made, op), text),
+        Call::Piece(op, index) => piece(rt, ctx, operation_of(rt, made, op), index, text),
         Call::Results(op) | Call::Front(op) | Call::Canonical(op) => {
-            of_operation(ctx, operation_of(made, op)?, call, text)
+            of_operation(rt, ctx, operation_of(rt, made, op), call, text)
         }
     }
 }
 
 /// Whether a call prints this text.
-fn is_written(alloc: Global, ctx: &Ctx, made: &Made, row: &(Call, &str)) -> Result<bool, Fail> {
+fn is_written(rt: &impl Abort, alloc: Global, ctx: &Ctx, made: &Made, row: &(Call, &str)) -> bool {
     let mut text = String::new(alloc);
-    write(ctx, made, row.0, &mut text)?;
-    Ok(text.as_str() == row.1)
+    write(rt, ctx, made, row.0, &mut text);
+    text.as_str() == row.1
 }
 
 /// The number of the first call that prints another text.
-fn differing(alloc: Global, ctx: &mut Ctx) -> Result<Option<usize>, Fail> {
-    let made = built(alloc, ctx, FUNCTION)?;
-    failing(CALLS, ctx, |ctx, row| is_written(alloc, ctx, &made, row))
+fn differing(rt: &impl Abort, alloc: Global, ctx: &Ctx, made: &Made) -> Option<usize> {
+    for (number, row) in CALLS.iter().enumerate() {
+        if !is_written(rt, alloc, ctx, made, row) {
+            return Some(number);
+        }
+    }
+    None
+}
+
+/// The same in a context in which the function is made.
+fn differing_in(rt: &impl Abort, alloc: Global, ctx: &mut Ctx) -> Option<usize> {
+    let made = built(rt, alloc, ctx, FUNCTION);
+    differing(rt, alloc, ctx, &made)
 }
 
 #[test]
-fn pieces_and_marks_are_written_by_their_calls(rt: HostRuntime) -> Result<(), Fail> {
-    assert_eq!(rt; with_context(rt.alloc(), differing)?, None);
-    Ok(())
+fn pieces_and_marks_are_written_by_their_calls(rt: HostRuntime) {
+    let differing = with_context(rt.alloc(), |alloc, ctx| Ok(differing_in(&rt, alloc, ctx)));
+    assert_eq!(rt; must(&rt, differing), None);
 }

@@ -1,5 +1,6 @@
 //! The text of demo operations with everything nested in them, as users print it: roots, concrete texts, blocks, regions, and with regions
 //! elided.
+use crate::must::must;
 use irtext_base::base::{AttrObj, GIVEN_NAMES_KEY};
 use irtext_base::parsable::{ParseFault, TextStream};
 use irtext_base::text::IrText;
@@ -12,21 +13,20 @@ use irtext_print_ir::ir::print::debug::OpDbg;
 use irtext_print_ir::irfmt::printers::op::{region, symb_op_header, typed_symb_op_header};
 use irtext_print_ir::printable::{Disp, Printable};
 use irtext_tests_common::building::{
-    block_inside, erase, give, id, into_block, live, live_block, module, name, one_name, operation,
-    place, register, types,
+    block_inside, erase, give, id, into_block, module, name, one_name, operation, place, register,
+    types,
 };
 use irtext_tests_common::contexts::{Ctx, with_demo};
-use irtext_tests_common::tables::differing;
 use std::alloc::Global;
-use std::test::Fail;
+use std::process::Abort;
 
 /// The attribute with this text.
-fn attribute(alloc: Global, text: &str) -> Result<AttrObj<DemoAttr>, Fail> {
-    let mut stream = TextStream::new(alloc, text)?;
+fn attribute(rt: &impl Abort, alloc: Global, text: &str) -> AttrObj<DemoAttr> {
+    let mut stream = TextStream::new(alloc, text).expect(rt, "out of memory");
     let answer: Result<DemoAttr, ParseFault<DemoAttr>> = <DemoAttr as IrText<DemoAttr>>::read(
         &mut stream,
     );
-    Ok(AttrObj::Own(answer.ok().ok_or("no attribute")?))
+    AttrObj::Own(answer.ok().expect(rt, "no attribute"))
 }
 
 /// The text of a number as an attribute.
@@ -37,14 +37,15 @@ const FUNCTION_TYPE: &str = "builtin.function <()->(builtin.integer si64)>";
 
 /// Gives an operation the attribute with this text.
 fn give_text(
+    rt: &impl Abort,
     alloc: Global,
     ctx: &mut Ctx,
     op: Ptr<Operation>,
     key: &str,
     text: &str,
-) -> Result<(), Fail> {
-    let attr = attribute(alloc, text)?;
-    give(alloc, ctx, Item::Operation(op), key, attr)
+) {
+    let attr = attribute(rt, alloc, text);
+    must(rt, give(alloc, ctx, Item::Operation(op), key, attr));
 }
 
 /// The demo operations that use or define values and blocks, and the letters of their formats.
@@ -56,45 +57,47 @@ const FORMATS: &[(&str, &str)] = &[
 ];
 
 /// Registers these operations.
-fn register_all(alloc: Global, ctx: &mut Ctx) -> Result<(), Fail> {
+fn register_all(rt: &impl Abort, alloc: Global, ctx: &mut Ctx) {
     for (name, letters) in FORMATS {
-        register(alloc, ctx, ("test", name), letters)?;
+        must(rt, register(alloc, ctx, ("test", name), letters));
     }
-    Ok(())
 }
 
 /// Makes an operation with one result, signed integers of 64 bits or another type, which uses nothing.
 fn with_result(
+    rt: &impl Abort,
     alloc: Global,
     ctx: &mut Ctx,
     words: (&str, &str),
     letter: &str,
-) -> Result<Ptr<Operation>, Fail> {
-    let id = id(alloc, words)?;
-    operation(ctx, id, types(alloc, letter)?, &[], &[], 0)
+) -> Ptr<Operation> {
+    let id = must(rt, id(alloc, words));
+    let types = must(rt, types(alloc, letter));
+    must(rt, operation(ctx, id, types, &[], &[], 0))
 }
 
 /// The text of a value that is `Printable`, with a new state.
 fn shown<X: Printable<(), DemoType, DemoAttr>>(
+    rt: &impl Abort,
     alloc: Global,
     ctx: &Ctx,
     x: &X,
-) -> Result<String, Fail>
+) -> String
     requires { X.can_print x.now ctx.now }
 {
-    Ok(format!(in alloc; "{}", x.disp(ctx))?)
+    format!(in alloc; "{}", x.disp(ctx)).expect(rt, "out of memory")
 }
 
 /// The whole text of an operation.
-fn whole(alloc: Global, ctx: &Ctx, op: Ptr<Operation>) -> Result<String, Fail> {
-    live(ctx, op)?;
-    shown(alloc, ctx, &op)
+fn whole(rt: &impl Abort, alloc: Global, ctx: &Ctx, op: Ptr<Operation>) -> String {
+    assert!(rt; ctx.contains_operation(op));
+    shown(rt, alloc, ctx, &op)
 }
 
 /// The concrete text of an operation.
-fn concrete(alloc: Global, ctx: &Ctx, op: Ptr<Operation>) -> Result<String, Fail> {
-    live(ctx, op)?;
-    shown(alloc, ctx, &OpObj { op })
+fn concrete(rt: &impl Abort, alloc: Global, ctx: &Ctx, op: Ptr<Operation>) -> String {
+    assert!(rt; ctx.contains_operation(op));
+    shown(rt, alloc, ctx, &OpObj { op })
 }
 
 /// The printed texts of a module with one empty block, in this order: its concrete text, the module, its region by a pointer and by the
@@ -111,60 +114,68 @@ const MODULE: &[&str] = &[
 ];
 
 /// The text of an operation's first region.
-fn region_text(alloc: Global, ctx: &Ctx, op: Ptr<Operation>) -> Result<String, Fail> {
-    if !ctx.contains_operation(op) || op.num_regions(ctx) == 0 {
-        return Err(Fail::from("no such region"));
-    }
+fn region_text(rt: &impl Abort, alloc: Global, ctx: &Ctx, op: Ptr<Operation>) -> String {
+    assert!(rt; ctx.contains_operation(op) && op.num_regions(ctx) != 0);
     let inside = op.get_region(ctx, 0);
-    if !ctx.contains_region(inside) {
-        return Err(Fail::from("no such region"));
-    }
-    shown(alloc, ctx, &inside)
+    assert!(rt; ctx.contains_region(inside));
+    shown(rt, alloc, ctx, &inside)
 }
 
 /// The text of a block.
-fn block_text(alloc: Global, ctx: &Ctx, block: Ptr<BasicBlock>) -> Result<String, Fail> {
-    live_block(ctx, block)?;
-    shown(alloc, ctx, &block)
+fn block_text(rt: &impl Abort, alloc: Global, ctx: &Ctx, block: Ptr<BasicBlock>) -> String {
+    assert!(rt; ctx.contains_block(block));
+    shown(rt, alloc, ctx, &block)
+}
+
+/// The debug text of an operation.
+fn debug_text(rt: &impl Abort, alloc: Global, ctx: &Ctx, op: Ptr<Operation>) -> String {
+    assert!(rt; ctx.contains_operation(op));
+    format!(in alloc; "{}", OpDbg { op, ctx }).expect(rt, "out of memory")
 }
 
 /// The printed text of a part of the module, by its number.
 fn module_text(
+    rt: &impl Abort,
     alloc: Global,
     ctx: &Ctx,
     op: Ptr<Operation>,
     entry: Ptr<BasicBlock>,
     number: usize,
-) -> Result<String, Fail> {
-    live(ctx, op)?;
+) -> String {
+    assert!(rt; ctx.contains_operation(op));
     match number {
-        0 => concrete(alloc, ctx, op),
-        1 => whole(alloc, ctx, op),
-        2 => region_text(alloc, ctx, op),
-        3 => shown(alloc, ctx, &region(op)),
-        4 => block_text(alloc, ctx, entry),
-        5 => shown(alloc, ctx, &symb_op_header(op)),
-        6 => shown(alloc, ctx, &typed_symb_op_header(op, &DemoType::Pointer)),
-        _ => Ok(format!(in alloc; "{}", OpDbg { op, ctx })?),
+        0 => concrete(rt, alloc, ctx, op),
+        1 => whole(rt, alloc, ctx, op),
+        2 => region_text(rt, alloc, ctx, op),
+        3 => shown(rt, alloc, ctx, &region(op)),
+        4 => block_text(rt, alloc, ctx, entry),
+        5 => shown(rt, alloc, ctx, &symb_op_header(op)),
+        6 => shown(
+            rt,
+            alloc,
+            ctx,
+            &typed_symb_op_header(op, &DemoType::Pointer),
+        ),
+        _ => debug_text(rt, alloc, ctx, op),
     }
 }
 
 /// The number of the first part of a module with another text.
-fn modules(alloc: Global, ctx: &mut Ctx) -> Result<Option<usize>, Fail> {
-    let op = module(alloc, ctx, "bar")?;
-    let entry = block_inside(alloc, ctx, op, "", Few::none())?;
-    differing(
-        alloc,
-        MODULE,
-        ctx,
-        |alloc, ctx, number| module_text(alloc, ctx, op, entry, number),
-    )
+fn modules(rt: &impl Abort, alloc: Global, ctx: &mut Ctx) -> Option<usize> {
+    let op = must(rt, module(alloc, ctx, "bar"));
+    let entry = must(rt, block_inside(alloc, ctx, op, "", Few::none()));
+    for (number, wanted) in MODULE.iter().enumerate() {
+        if module_text(rt, alloc, ctx, op, entry, number).as_str() != *wanted {
+            return Some(number);
+        }
+    }
+    None
 }
 
 #[test]
-fn a_module_with_an_empty_block_is_printed(rt: HostRuntime) -> Result<(), Fail> {
-    assert_eq!(rt; with_demo(rt.alloc(), modules)?, None);
-    Ok(())
+fn a_module_with_an_empty_block_is_printed(rt: HostRuntime) {
+    let differing = with_demo(rt.alloc(), |alloc, ctx| Ok(modules(&rt, alloc, ctx)));
+    assert_eq!(rt; must(&rt, differing), None);
 }
 
 /// A module with a function that returns a constant: its concrete text, and its section.
@@ -174,55 +185,58 @@ const FUNCTION: (&str, &str) = (
 );
 
 /// Makes a constant whose result has a name, last in a block.
-fn constant(alloc: Global, ctx: &mut Ctx, entry: Ptr<BasicBlock>) -> Result<Value, Fail> {
-    let op = with_result(alloc, ctx, ("test", "constant"), "i")?;
-    give_text(alloc, ctx, op, "test_value", ZERO)?;
-    let names = one_name(alloc, "c0")?;
-    give(alloc, ctx, Item::Operation(op), GIVEN_NAMES_KEY, names)?;
-    into_block(ctx, op, entry)?;
-    Ok(Value::Result(op, 0))
+fn constant(rt: &impl Abort, alloc: Global, ctx: &mut Ctx, entry: Ptr<BasicBlock>) -> Value {
+    let op = with_result(rt, alloc, ctx, ("test", "constant"), "i");
+    give_text(rt, alloc, ctx, op, "test_value", ZERO);
+    let names = must(rt, one_name(alloc, "c0"));
+    must(
+        rt,
+        give(alloc, ctx, Item::Operation(op), GIVEN_NAMES_KEY, names),
+    );
+    must(rt, into_block(ctx, op, entry));
+    Value::Result(op, 0)
 }
 
 /// Makes an operation that returns a value, last in a block.
-fn returned(
-    alloc: Global,
-    ctx: &mut Ctx,
-    entry: Ptr<BasicBlock>,
-    value: Value,
-) -> Result<(), Fail> {
-    let id = id(alloc, ("test", "return"))?;
-    let op = operation(ctx, id, Few::none(), &[value], &[], 0)?;
-    into_block(ctx, op, entry)
+fn returned(rt: &impl Abort, alloc: Global, ctx: &mut Ctx, entry: Ptr<BasicBlock>, value: Value) {
+    let id = must(rt, id(alloc, ("test", "return")));
+    let op = must(rt, operation(ctx, id, Few::none(), &[value], &[], 0));
+    must(rt, into_block(ctx, op, entry));
 }
 
 /// Makes a function with one block, last in a block.
-fn function(alloc: Global, ctx: &mut Ctx, outer: Ptr<BasicBlock>) -> Result<(), Fail> {
-    let id = id(alloc, ("builtin", "func"))?;
-    let op = operation(ctx, id, Few::none(), &[], &[], 1)?;
-    name(alloc, ctx, op, "foo")?;
-    give_text(alloc, ctx, op, "builtin_func_type", FUNCTION_TYPE)?;
-    into_block(ctx, op, outer)?;
-    let entry = block_inside(alloc, ctx, op, "entry", Few::none())?;
-    let value = constant(alloc, ctx, entry)?;
-    returned(alloc, ctx, entry, value)
+fn function(rt: &impl Abort, alloc: Global, ctx: &mut Ctx, outer: Ptr<BasicBlock>) {
+    let id = must(rt, id(alloc, ("builtin", "func")));
+    let op = must(rt, operation(ctx, id, Few::none(), &[], &[], 1));
+    must(rt, name(alloc, ctx, op, "foo"));
+    give_text(rt, alloc, ctx, op, "builtin_func_type", FUNCTION_TYPE);
+    must(rt, into_block(ctx, op, outer));
+    let entry = must(rt, block_inside(alloc, ctx, op, "entry", Few::none()));
+    let value = constant(rt, alloc, ctx, entry);
+    returned(rt, alloc, ctx, entry, value);
+}
+
+/// Makes a module with a function.
+fn functions(rt: &impl Abort, alloc: Global, ctx: &mut Ctx) -> Ptr<Operation> {
+    register_all(rt, alloc, ctx);
+    let op = must(rt, module(alloc, ctx, "bar"));
+    let outer = must(rt, block_inside(alloc, ctx, op, "", Few::none()));
+    function(rt, alloc, ctx, outer);
+    op
 }
 
 /// Whether a module with a function is printed as its concrete text, and with its section.
-fn functions(alloc: Global, ctx: &mut Ctx) -> Result<bool, Fail> {
-    register_all(alloc, ctx)?;
-    let op = module(alloc, ctx, "bar")?;
-    let outer = block_inside(alloc, ctx, op, "", Few::none())?;
-    function(alloc, ctx, outer)?;
-    let text = concrete(alloc, ctx, op)?;
-    let with_section = whole(alloc, ctx, op)?;
-    let wanted = format!(in alloc; "{}{}", FUNCTION.0, FUNCTION.1)?;
-    Ok(text.as_str() == FUNCTION.0 && with_section.as_str() == wanted.as_str())
+fn is_printed(rt: &impl Abort, alloc: Global, ctx: &mut Ctx) -> bool {
+    let op = functions(rt, alloc, ctx);
+    let (text, section) = FUNCTION;
+    concrete(rt, alloc, ctx, op).as_str() == text
+        && whole(rt, alloc, ctx, op).strip_prefix(text) == Some(section)
 }
 
 #[test]
-fn a_module_with_a_function_is_printed(rt: HostRuntime) -> Result<(), Fail> {
-    assert!(rt; with_demo(rt.alloc(), functions)?);
-    Ok(())
+fn a_module_with_a_function_is_printed(rt: HostRuntime) {
+    let printed = with_demo(rt.alloc(), |alloc, ctx| Ok(is_printed(&rt, alloc, ctx)));
+    assert!(rt; must(&rt, printed));
 }
 
 /// An operation in the canonical form, whose result is the second value.
@@ -230,48 +244,49 @@ const GLOBAL: &str =
     "v1 = test.global () [] [builtin_sym_name: builtin.identifier global_0, test_global_op_const_val: builtin.integer <0: si64>]: <() -> (test.ptr )>";
 
 /// The printed text of this operation.
-fn globals(alloc: Global, ctx: &mut Ctx) -> Result<String, Fail> {
-    register_all(alloc, ctx)?;
-    with_result(alloc, ctx, ("test", "constant"), "i")?;
-    let op = with_result(alloc, ctx, ("test", "global"), "p")?;
-    name(alloc, ctx, op, "global_0")?;
-    give_text(alloc, ctx, op, "test_global_op_const_val", ZERO)?;
-    concrete(alloc, ctx, op)
+fn globals(rt: &impl Abort, alloc: Global, ctx: &mut Ctx) -> String {
+    register_all(rt, alloc, ctx);
+    with_result(rt, alloc, ctx, ("test", "constant"), "i");
+    let op = with_result(rt, alloc, ctx, ("test", "global"), "p");
+    must(rt, name(alloc, ctx, op, "global_0"));
+    give_text(rt, alloc, ctx, op, "test_global_op_const_val", ZERO);
+    concrete(rt, alloc, ctx, op)
 }
 
 #[test]
-fn an_operation_without_a_format_of_its_own_is_printed(rt: HostRuntime) -> Result<(), Fail> {
-    assert_eq!(rt; with_demo(rt.alloc(), globals)?.as_str(), GLOBAL);
-    Ok(())
+fn an_operation_without_a_format_of_its_own_is_printed(rt: HostRuntime) {
+    let printed = with_demo(rt.alloc(), |alloc, ctx| Ok(globals(&rt, alloc, ctx)));
+    assert_eq!(rt; must(&rt, printed).as_str(), GLOBAL);
 }
 
 /// Makes a branch with a place, last in a block.
 fn branch(
+    rt: &impl Abort,
     alloc: Global,
     ctx: &mut Ctx,
     from: Ptr<BasicBlock>,
     to: Ptr<BasicBlock>,
     column: i32,
-) -> Result<Ptr<Operation>, Fail> {
-    let id = id(alloc, ("test", "br"))?;
-    let op = operation(ctx, id, Few::none(), &[], &[to], 0)?;
-    place(ctx, Item::Operation(op), column)?;
-    into_block(ctx, op, from)?;
-    Ok(op)
+) -> Ptr<Operation> {
+    let id = must(rt, id(alloc, ("test", "br")));
+    let op = must(rt, operation(ctx, id, Few::none(), &[], &[to], 0));
+    must(rt, place(ctx, Item::Operation(op), column));
+    must(rt, into_block(ctx, op, from));
+    op
 }
 
 /// Makes a module of two blocks that branch to one another, with the first branch.
-fn branches(alloc: Global, ctx: &mut Ctx) -> Result<(Ptr<Operation>, Ptr<Operation>), Fail> {
-    register_all(alloc, ctx)?;
-    let root = module(alloc, ctx, "m")?;
-    place(ctx, Item::Operation(root), 1)?;
-    let a = block_inside(alloc, ctx, root, "a", Few::none())?;
-    place(ctx, Item::Block(a), 21)?;
-    let b = block_inside(alloc, ctx, root, "b", Few::none())?;
-    place(ctx, Item::Block(b), 38)?;
-    let first = branch(alloc, ctx, a, b, 27)?;
-    branch(alloc, ctx, b, a, 44)?;
-    Ok((root, first))
+fn branches(rt: &impl Abort, alloc: Global, ctx: &mut Ctx) -> (Ptr<Operation>, Ptr<Operation>) {
+    register_all(rt, alloc, ctx);
+    let root = must(rt, module(alloc, ctx, "m"));
+    must(rt, place(ctx, Item::Operation(root), 1));
+    let a = must(rt, block_inside(alloc, ctx, root, "a", Few::none()));
+    must(rt, place(ctx, Item::Block(a), 21));
+    let b = must(rt, block_inside(alloc, ctx, root, "b", Few::none()));
+    must(rt, place(ctx, Item::Block(b), 38));
+    let first = branch(rt, alloc, ctx, a, b, 27);
+    branch(rt, alloc, ctx, b, a, 44);
+    (root, first)
 }
 
 /// The printed texts of the module, in this order: the module; with its region elided; and, with one state, its first branch, a line below
@@ -283,67 +298,70 @@ const BRANCHES: &[&str] = &[
 ];
 
 /// The whole text of an operation, its regions elided.
-fn elided(alloc: Global, ctx: &Ctx, op: Ptr<Operation>) -> Result<String, Fail> {
-    live(ctx, op)?;
+fn elided(rt: &impl Abort, alloc: Global, ctx: &Ctx, op: Ptr<Operation>) -> String {
+    assert!(rt; ctx.contains_operation(op));
     let mut none: State<()> = State::new(alloc, ());
     none.set_region_print_depth_limit(RegionPrintDepthLimit::Max(0));
-    Ok(format!(in alloc; "{}", op.print(ctx, &none))?)
+    format!(in alloc; "{}", op.print(ctx, &none)).expect(rt, "out of memory")
 }
 
 /// Appends the text of an operation with this state.
 fn append(
+    rt: &impl Abort,
     ctx: &Ctx,
     op: Ptr<Operation>,
     state: &mut State<()>,
     text: &mut String,
-) -> Result<(), Fail> {
-    live(ctx, op)?;
-    Ok(op.fmt(ctx, state, text)?)
+) {
+    assert!(rt; ctx.contains_operation(op));
+    op.fmt(ctx, state, text).expect(rt, "refused");
 }
 
 /// With one state, the texts of an operation and, once it is erased, of the module around it.
 fn with_one_state(
+    rt: &impl Abort,
     alloc: Global,
     ctx: &mut Ctx,
     op: Ptr<Operation>,
     root: Ptr<Operation>,
-) -> Result<String, Fail> {
+) -> String {
     let mut state: State<()> = State::new(alloc, ());
     let mut text = String::new(alloc);
-    append(ctx, op, &mut state, &mut text)?;
-    text.push('\n')?;
-    erase(ctx, Item::Operation(op))?;
-    append(ctx, root, &mut state, &mut text)?;
-    Ok(text)
+    append(rt, ctx, op, &mut state, &mut text);
+    text.push('\n').expect(rt, "out of memory");
+    must(rt, erase(ctx, Item::Operation(op)));
+    append(rt, ctx, root, &mut state, &mut text);
+    text
 }
 
 /// The printed text of the module, by its number.
 fn branches_text(
+    rt: &impl Abort,
     alloc: Global,
     ctx: &mut Ctx,
     made: (Ptr<Operation>, Ptr<Operation>),
     number: usize,
-) -> Result<String, Fail> {
+) -> String {
     match number {
-        0 => whole(alloc, ctx, made.0),
-        1 => elided(alloc, ctx, made.0),
-        _ => with_one_state(alloc, ctx, made.1, made.0),
+        0 => whole(rt, alloc, ctx, made.0),
+        1 => elided(rt, alloc, ctx, made.0),
+        _ => with_one_state(rt, alloc, ctx, made.1, made.0),
     }
 }
 
 /// The number of the first text that differs.
-fn cycles(alloc: Global, ctx: &mut Ctx) -> Result<Option<usize>, Fail> {
-    let made = branches(alloc, ctx)?;
-    differing(
-        alloc,
-        BRANCHES,
-        ctx,
-        |alloc, ctx, number| branches_text(alloc, ctx, made, number),
-    )
+fn cycles(rt: &impl Abort, alloc: Global, ctx: &mut Ctx) -> Option<usize> {
+    let made = branches(rt, alloc, ctx);
+    for (number, wanted) in BRANCHES.iter().enumerate() {
+        if branches_text(rt, alloc, ctx, made, number).as_str() != *wanted {
+            return Some(number);
+        }
+    }
+    None
 }
 
 #[test]
-fn blocks_that_branch_to_one_another_are_printed(rt: HostRuntime) -> Result<(), Fail> {
-    assert_eq!(rt; with_demo(rt.alloc(), cycles)?, None);
-    Ok(())
+fn blocks_that_branch_to_one_another_are_printed(rt: HostRuntime) {
+    let differing = with_demo(rt.alloc(), |alloc, ctx| Ok(cycles(&rt, alloc, ctx)));
+    assert_eq!(rt; must(&rt, differing), None);
 }

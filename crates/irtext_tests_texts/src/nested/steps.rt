@@ -1,4 +1,5 @@
 //! The steps on a context, one after the other: operations and blocks are given by their number, in the order in which they were made.
+use crate::must::must;
 use irtext_base::base::{GIVEN_NAMES_KEY, SYM_NAME_KEY};
 use irtext_context::base::{BasicBlock, Item, Operation, Ptr, Value};
 use irtext_few::Few;
@@ -8,7 +9,7 @@ use irtext_tests_common::building::{
 };
 use irtext_tests_common::contexts::Ctx;
 use std::alloc::Global;
-use std::test::Fail;
+use std::process::Abort;
 
 /// A value: a result of an operation, or an argument of a block, by its index.
 #[derive(Clone, Copy)]
@@ -53,103 +54,112 @@ pub(crate) struct Made {
 }
 
 /// The operation of a number.
-pub(crate) fn operation_of(made: &Made, number: usize) -> Result<Ptr<Operation>, Fail> {
-    match made.operations.get(number) {
-        Some(op) => Ok(*op),
-        None => Err(Fail::from("no such operation")),
-    }
+pub(crate) fn operation_of(rt: &impl Abort, made: &Made, number: usize) -> Ptr<Operation> {
+    *made.operations.get(number).expect(rt, "no such operation")
 }
 
 /// The block of a number.
-pub(crate) fn block_of(made: &Made, number: usize) -> Result<Ptr<BasicBlock>, Fail> {
-    match made.blocks.get(number) {
-        Some(block) => Ok(*block),
-        None => Err(Fail::from("no such block")),
-    }
+pub(crate) fn block_of(rt: &impl Abort, made: &Made, number: usize) -> Ptr<BasicBlock> {
+    *made.blocks.get(number).expect(rt, "no such block")
 }
 
 /// The item of a part.
-fn item_of(made: &Made, part: Part) -> Result<Item, Fail> {
+fn item_of(rt: &impl Abort, made: &Made, part: Part) -> Item {
     match part {
-        Part::Operation(number) => Ok(Item::Operation(operation_of(made, number)?)),
-        Part::Block(number) => Ok(Item::Block(block_of(made, number)?)),
+        Part::Operation(number) => Item::Operation(operation_of(rt, made, number)),
+        Part::Block(number) => Item::Block(block_of(rt, made, number)),
     }
 }
 
 /// The value of an operation or a block.
-fn value_of(made: &Made, used: Used) -> Result<Value, Fail> {
+fn value_of(rt: &impl Abort, made: &Made, used: Used) -> Value {
     match used {
-        Used::Result(number, index) => Ok(Value::Result(operation_of(made, number)?, index)),
-        Used::Argument(number, index) => Ok(Value::Argument(block_of(made, number)?, index)),
+        Used::Result(number, index) => Value::Result(operation_of(rt, made, number), index),
+        Used::Argument(number, index) => Value::Argument(block_of(rt, made, number), index),
     }
 }
 
 /// The values of operations and blocks.
-fn values_of(alloc: Global, made: &Made, used: &[Used]) -> Result<Vec<Value>, Fail> {
+fn values_of(rt: &impl Abort, alloc: Global, made: &Made, used: &[Used]) -> Vec<Value> {
     let mut values = Vec::new(alloc);
     for used in used {
-        values.push(value_of(made, *used)?)?;
+        values
+            .push(value_of(rt, made, *used))
+            .expect(rt, "out of memory");
     }
-    Ok(values)
+    values
 }
 
 /// The blocks of numbers.
-fn blocks_of(alloc: Global, made: &Made, numbers: &[usize]) -> Result<Vec<Ptr<BasicBlock>>, Fail> {
+fn blocks_of(
+    rt: &impl Abort,
+    alloc: Global,
+    made: &Made,
+    numbers: &[usize],
+) -> Vec<Ptr<BasicBlock>> {
     let mut blocks = Vec::new(alloc);
     for number in numbers {
-        blocks.push(block_of(made, *number)?)?;
+        blocks
+            .push(block_of(rt, made, *number))
+            .expect(rt, "out of memory");
     }
-    Ok(blocks)
+    blocks
 }
 
 /// Makes an operation that uses nothing.
 fn make_root(
+    rt: &impl Abort,
     alloc: Global,
     ctx: &mut Ctx,
     made: &mut Made,
     name: &str,
     regions: usize,
-) -> Result<Ptr<Operation>, Fail> {
-    let id = id(alloc, ("lab", name))?;
-    let op = operation(ctx, id, Few::none(), &[], &[], regions)?;
-    made.operations.push(op)?;
-    Ok(op)
+) -> Ptr<Operation> {
+    let id = must(rt, id(alloc, ("lab", name)));
+    let op = must(rt, operation(ctx, id, Few::none(), &[], &[], regions));
+    made.operations.push(op).expect(rt, "out of memory");
+    op
 }
 
 /// Makes an operation without regions.
 fn make_using(
+    rt: &impl Abort,
     alloc: Global,
     ctx: &mut Ctx,
     made: &mut Made,
     name: (&str, &str),
     used: &[Used],
     successors: &[usize],
-) -> Result<Ptr<Operation>, Fail> {
-    let values = values_of(alloc, made, used)?;
-    let blocks = blocks_of(alloc, made, successors)?;
-    let id = id(alloc, ("lab", name.0))?;
-    let op = operation(ctx, id, types(alloc, name.1)?, &values, &blocks, 0)?;
-    made.operations.push(op)?;
-    Ok(op)
+) -> Ptr<Operation> {
+    let values = values_of(rt, alloc, made, used);
+    let blocks = blocks_of(rt, alloc, made, successors);
+    let id = must(rt, id(alloc, ("lab", name.0)));
+    let types = must(rt, types(alloc, name.1));
+    let op = must(rt, operation(ctx, id, types, &values, &blocks, 0));
+    made.operations.push(op).expect(rt, "out of memory");
+    op
 }
 
 /// Makes a block with this label or none, and arguments of these types.
 fn make_block(
+    rt: &impl Abort,
     alloc: Global,
     ctx: &mut Ctx,
     made: &mut Made,
     label: &str,
     letters: &str,
-) -> Result<Ptr<BasicBlock>, Fail> {
-    let block = block(alloc, ctx, label, types(alloc, letters)?)?;
-    made.blocks.push(block)?;
-    Ok(block)
+) -> Ptr<BasicBlock> {
+    let types = must(rt, types(alloc, letters));
+    let block = must(rt, block(alloc, ctx, label, types));
+    made.blocks.push(block).expect(rt, "out of memory");
+    block
 }
 
 /// Makes a placeholder last in a block.
-fn placeholder(ctx: &mut Ctx, block: Ptr<BasicBlock>) -> Result<(), Fail> {
-    let op = ctx.graph_mut().make_operation(None, Few::none(), &[], &[])?;
-    into_block(ctx, op, block)
+fn placeholder(rt: &impl Abort, ctx: &mut Ctx, block: Ptr<BasicBlock>) {
+    let made = ctx.graph_mut().make_operation(None, Few::none(), &[], &[]);
+    let op = made.expect(rt, "out of memory");
+    must(rt, into_block(ctx, op, block));
 }
 
 /// The key of the attribute for a letter.
@@ -163,59 +173,57 @@ fn key_of(letter: char) -> &'static str {
 }
 
 /// Gives an item the attribute for a letter.
-pub(crate) fn give_letter(
-    alloc: Global,
-    ctx: &mut Ctx,
-    item: Item,
-    letter: char,
-) -> Result<(), Fail> {
-    give(alloc, ctx, item, key_of(letter), attribute(alloc, letter)?)
+pub(crate) fn give_letter(rt: &impl Abort, alloc: Global, ctx: &mut Ctx, item: Item, letter: char) {
+    let attr = must(rt, attribute(alloc, letter));
+    must(rt, give(alloc, ctx, item, key_of(letter), attr));
 }
 
 /// Makes the step if it makes an object.
-fn make(alloc: Global, ctx: &mut Ctx, made: &mut Made, step: Step) -> Result<(), Fail> {
+fn make(rt: &impl Abort, alloc: Global, ctx: &mut Ctx, made: &mut Made, step: Step) {
     match step {
         Step::Root(name, regions) => {
-            make_root(alloc, ctx, made, name, regions)?;
-            Ok(())
+            make_root(rt, alloc, ctx, made, name, regions);
         }
         Step::Inner(block, name, regions) => {
-            let op = make_root(alloc, ctx, made, name, regions)?;
-            into_block(ctx, op, block_of(made, block)?)
+            let op = make_root(rt, alloc, ctx, made, name, regions);
+            must(rt, into_block(ctx, op, block_of(rt, made, block)));
         }
         Step::Using(block, name, results, used, successors) => {
-            let op = make_using(alloc, ctx, made, (name, results), used, successors)?;
-            into_block(ctx, op, block_of(made, block)?)
+            let op = make_using(rt, alloc, ctx, made, (name, results), used, successors);
+            must(rt, into_block(ctx, op, block_of(rt, made, block)));
         }
         Step::Block(op, region, label, letters) => {
-            let block = make_block(alloc, ctx, made, label, letters)?;
-            into_region(ctx, block, operation_of(made, op)?, region)
+            let block = make_block(rt, alloc, ctx, made, label, letters);
+            must(
+                rt,
+                into_region(ctx, block, operation_of(rt, made, op), region),
+            );
         }
-        _ => change(alloc, ctx, made, step),
+        _ => change(rt, alloc, ctx, made, step),
     }
 }
 
 /// Makes the step if it changes an object.
-fn change(alloc: Global, ctx: &mut Ctx, made: &Made, step: Step) -> Result<(), Fail> {
+fn change(rt: &impl Abort, alloc: Global, ctx: &mut Ctx, made: &Made, step: Step) {
     match step {
-        Step::Register(name, letters) => register(alloc, ctx, ("lab", name), letters),
-        Step::Placeholder(block) => placeholder(ctx, block_of(made, block)?),
-        Step::Give(part, letter) => give_letter(alloc, ctx, item_of(made, part)?, letter),
-        Step::Place(part) => place(ctx, item_of(made, part)?, 1),
-        _ => Ok(()),
+        Step::Register(name, letters) => must(rt, register(alloc, ctx, ("lab", name), letters)),
+        Step::Placeholder(block) => placeholder(rt, ctx, block_of(rt, made, block)),
+        Step::Give(part, letter) => give_letter(rt, alloc, ctx, item_of(rt, made, part), letter),
+        Step::Place(part) => must(rt, place(ctx, item_of(rt, made, part), 1)),
+        _ => {}
     }
 }
 
 /// Makes steps, one after the other, and returns what was made.
-pub(crate) fn built(alloc: Global, ctx: &mut Ctx, steps: &[Step]) -> Result<Made, Fail> {
+pub(crate) fn built(rt: &impl Abort, alloc: Global, ctx: &mut Ctx, steps: &[Step]) -> Made {
     let mut made = Made {
         operations: Vec::new(alloc),
         blocks: Vec::new(alloc),
     };
     for step in steps {
-        make(alloc, ctx, &mut made, *step)?;
+        make(rt, alloc, ctx, &mut made, *step);
     }
-    Ok(made)
+    made
 }
 
 /// A function of two blocks, the first with a constant that has a given name, a sum, and a branch that has a location.

@@ -1,11 +1,14 @@
 //! The steps on a context, one after the other: operations and blocks are given by their number, in the order in which they were made.
-use irtext_base::base::{AttrObj, GIVEN_NAMES_KEY};
+use crate::must::must;
+use irtext_base::base::GIVEN_NAMES_KEY;
 use irtext_context::base::Item;
 use irtext_few::Few;
-use irtext_tests_common::building::{block, erase, give, id, note, one_name, operation, place};
-use irtext_tests_common::contexts::{Ctx, named};
+use irtext_tests_common::building::{
+    attribute, block, erase, give, id, note, one_name, operation, place,
+};
+use irtext_tests_common::contexts::Ctx;
 use std::alloc::Global;
-use std::test::Fail;
+use std::process::Abort;
 
 /// One step.
 #[derive(Clone, Copy)]
@@ -25,61 +28,57 @@ pub(crate) enum Step {
 }
 
 /// The item of a number.
-fn item_of(items: &[Item], number: usize) -> Result<Item, Fail> {
-    match items.get(number) {
-        Some(item) => Ok(*item),
-        None => Err(Fail::from("no such item")),
-    }
+fn item_of(rt: &impl Abort, items: &[Item], number: usize) -> Item {
+    *items.get(number).expect(rt, "no such item")
 }
 
 /// Makes a `test.nop`.
-fn nop(alloc: Global, ctx: &mut Ctx) -> Result<Item, Fail> {
-    let id = id(alloc, ("test", "nop"))?;
-    let op = operation(ctx, id, Few::none(), &[], &[], 0)?;
-    Ok(Item::Operation(op))
+fn nop(rt: &impl Abort, alloc: Global, ctx: &mut Ctx) -> Item {
+    let id = must(rt, id(alloc, ("test", "nop")));
+    Item::Operation(must(rt, operation(ctx, id, Few::none(), &[], &[], 0)))
 }
 
 /// Appends an item, and gives it its place, if it has one.
-fn add(ctx: &mut Ctx, items: &mut Vec<Item>, item: Item, column: i32) -> Result<(), Fail> {
-    items.push(item)?;
-    if column == 0 {
-        return Ok(());
+fn add(rt: &impl Abort, ctx: &mut Ctx, items: &mut Vec<Item>, item: Item, column: i32) {
+    items.push(item).expect(rt, "out of memory");
+    if column != 0 {
+        must(rt, place(ctx, item, column));
     }
-    place(ctx, item, column)
 }
 
 /// Makes one step, and appends the item that it makes.
-fn do_step(alloc: Global, ctx: &mut Ctx, items: &mut Vec<Item>, step: Step) -> Result<(), Fail> {
+fn do_step(rt: &impl Abort, alloc: Global, ctx: &mut Ctx, items: &mut Vec<Item>, step: Step) {
     match step {
         Step::Nop(column) => {
-            let nop = nop(alloc, ctx)?;
-            add(ctx, items, nop, column)
+            let nop = nop(rt, alloc, ctx);
+            add(rt, ctx, items, nop, column);
         }
         Step::Block(label, column) => {
-            let block = block(alloc, ctx, label, Few::none())?;
-            add(ctx, items, Item::Block(block), column)
+            let block = must(rt, block(alloc, ctx, label, Few::none()));
+            add(rt, ctx, items, Item::Block(block), column);
         }
-        Step::Erase(number) => erase(ctx, item_of(items, number)?),
-        _ => do_attribute(alloc, ctx, items, step),
+        Step::Erase(number) => must(rt, erase(ctx, item_of(rt, items, number))),
+        _ => do_attribute(rt, alloc, ctx, items, step),
     }
 }
 
 /// Makes one step if it gives an item an attribute.
-fn do_attribute(alloc: Global, ctx: &mut Ctx, items: &[Item], step: Step) -> Result<(), Fail> {
+fn do_attribute(rt: &impl Abort, alloc: Global, ctx: &mut Ctx, items: &[Item], step: Step) {
     let (number, key, attr) = match step {
-        Step::Name(number, name) => (number, GIVEN_NAMES_KEY, one_name(alloc, name)?),
-        Step::Note(number, key, text) => (number, key, note(alloc, text)?),
-        Step::Ident(number, key) => (number, key, AttrObj::Ident(named(alloc, "x")?)),
-        _ => return Ok(()),
+        Step::Name(number, name) => (number, GIVEN_NAMES_KEY, one_name(alloc, name)),
+        Step::Note(number, key, text) => (number, key, note(alloc, text)),
+        Step::Ident(number, key) => (number, key, attribute(alloc, 'x')),
+        _ => return,
     };
-    give(alloc, ctx, item_of(items, number)?, key, attr)
+    let attr = must(rt, attr);
+    must(rt, give(alloc, ctx, item_of(rt, items, number), key, attr));
 }
 
 /// Makes steps, one after the other, and returns the items that were made.
-pub(crate) fn built(alloc: Global, ctx: &mut Ctx, steps: &[Step]) -> Result<Vec<Item>, Fail> {
+pub(crate) fn built(rt: &impl Abort, alloc: Global, ctx: &mut Ctx, steps: &[Step]) -> Vec<Item> {
     let mut items = Vec::new(alloc);
     for one in steps {
-        do_step(alloc, ctx, &mut items, *one)?;
+        do_step(rt, alloc, ctx, &mut items, *one);
     }
-    Ok(items)
+    items
 }

@@ -1,4 +1,5 @@
 //! The sections of items (operations and blocks), and which of these have a mark.
+use crate::must::must;
 use crate::sections::building::Step::{Block, Erase, Ident, Name, Nop, Note};
 use crate::sections::building::{Step, built};
 use irtext_context::base::Item;
@@ -7,7 +8,7 @@ use irtext_print::section::print_section;
 use irtext_tests_common::contexts::Ctx;
 use irtext_tests_common::tables::failing_demo;
 use std::alloc::Global;
-use std::test::Fail;
+use std::process::Abort;
 
 /// The steps that make the items, the section of all of them, and which have a mark: `!` for each that has one, else `.`.
 type Row = (&'static [Step], &'static str, &'static str);
@@ -94,34 +95,33 @@ const ROWS: &[Row] = &[
 ];
 
 /// The section of all items.
-fn section(alloc: Global, ctx: &Ctx, items: &[Item]) -> Result<String, Fail> {
+fn section(rt: &impl Abort, alloc: Global, ctx: &Ctx, items: &[Item]) -> String {
     let mut text = String::new(alloc);
-    match print_section(ctx, items, &mut text) {
-        Ok(()) => Ok(text),
-        Err(_) => Err(Fail::from("refused")),
-    }
+    print_section(ctx, items, &mut text)
+        .ok()
+        .expect(rt, "refused");
+    text
 }
 
 /// For each item whether it has a mark.
-fn marks(alloc: Global, ctx: &Ctx, items: &[Item]) -> Result<String, Fail> {
+fn marks(rt: &impl Abort, alloc: Global, ctx: &Ctx, items: &[Item]) -> String {
     let mut text = String::new(alloc);
     for item in items {
-        text.push_str(if is_marked(ctx, *item) { "!" } else { "." })?;
+        let mark = if is_marked(ctx, *item) { "!" } else { "." };
+        text.push_str(mark).expect(rt, "out of memory");
     }
-    Ok(text)
+    text
 }
 
 /// Whether the items of a row have this section, and these marks.
-fn holds(alloc: Global, ctx: &mut Ctx, row: &Row) -> Result<bool, Fail> {
-    let items = built(alloc, ctx, row.0)?;
-    Ok(
-        section(alloc, ctx, &items)?.as_str() == row.1
-            && marks(alloc, ctx, &items)?.as_str() == row.2,
-    )
+fn holds(rt: &impl Abort, alloc: Global, ctx: &mut Ctx, row: &Row) -> bool {
+    let items = built(rt, alloc, ctx, row.0);
+    section(rt, alloc, ctx, &items).as_str() == row.1
+        && marks(rt, alloc, ctx, &items).as_str() == row.2
 }
 
 #[test]
-fn sections_give_each_marked_item_an_entry(rt: HostRuntime) -> Result<(), Fail> {
-    assert_eq!(rt; failing_demo(rt.alloc(), ROWS, holds)?, None);
-    Ok(())
+fn sections_give_each_marked_item_an_entry(rt: HostRuntime) {
+    let failing = failing_demo(rt.alloc(), ROWS, |a, ctx, row| Ok(holds(&rt, a, ctx, row)));
+    assert_eq!(rt; must(&rt, failing), None);
 }

@@ -1,4 +1,5 @@
 //! Attributes and types as they are parsed and printed.
+use crate::must::must;
 use irtext_base::base::AttrObj;
 use irtext_base::parsable::{CharStream, ParseResult};
 use irtext_context::base::Context;
@@ -72,11 +73,20 @@ fn printed(
     answer: &ParseResult<AttrObj<DemoAttr>, DemoAttr>,
     next: Option<char>,
 ) -> Result<String, Fail> {
-    let ctx: Ctx = Context::new(alloc);
     match answer {
-        Ok(attr) => Ok(format!(in alloc; "{}|{next:?}", attr.disp(&ctx))?),
+        Ok(attr) => with_empty(alloc, &Context::new(alloc), attr, next),
         Err(fault) => left(alloc, fault, next),
     }
+}
+
+/// The text of an attribute in this context, and the next character.
+fn with_empty(
+    alloc: Global,
+    ctx: &Ctx,
+    attr: &AttrObj<DemoAttr>,
+    next: Option<char>,
+) -> Result<String, Fail> {
+    Ok(format!(in alloc; "{}|{next:?}", attr.disp(ctx))?)
 }
 
 /// The result for the attribute that is parsed.
@@ -94,12 +104,17 @@ fn type_of(alloc: Global, s: &mut Stream<'_>) -> Result<String, Fail> {
 }
 
 #[test]
-fn attributes_and_types_of_a_text(rt: HostRuntime) -> Result<(), Fail> {
+fn attributes_of_a_text(rt: HostRuntime) {
     for row in ATTRIBUTES {
-        assert_eq!(rt; in_context(rt.alloc(), row.0, attribute)?.as_str(), row.1);
+        let said = must(&rt, in_context(rt.alloc(), row.0, attribute));
+        assert_eq!(rt; said.as_str(), row.1);
     }
+}
+
+#[test]
+fn types_of_a_text(rt: HostRuntime) {
     for row in TYPES {
-        assert_eq!(rt; in_context(rt.alloc(), row.0, type_of)?.as_str(), row.1);
+        let said = must(&rt, in_context(rt.alloc(), row.0, type_of));
+        assert_eq!(rt; said.as_str(), row.1);
     }
-    Ok(())
 }

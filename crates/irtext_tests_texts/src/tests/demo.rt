@@ -1,10 +1,11 @@
 //! The demo types and attributes, as they are parsed and printed.
+use crate::must::must;
 use irtext_base::parsable::{ParseResult, TextStream};
 use irtext_base::text::IrText;
 use irtext_demo::{DemoAttr, DemoType};
 use irtext_tests_common::answers::result_text;
 use std::alloc::Global;
-use std::test::Fail;
+use std::process::Abort;
 
 /// Texts of types, and the printed text of the parsed type, or the fault.
 const TYPES: &[(&str, &str)] = &[
@@ -80,34 +81,44 @@ const ATTRIBUTES: &[(&str, &str)] = &[
 ];
 
 /// The printed text of the value that is parsed, or the fault.
-fn again<X: IrText<DemoAttr>>(alloc: Global, text: &str) -> Result<String, Fail> {
-    let mut stream = TextStream::new(alloc, text)?;
+fn again<X: IrText<DemoAttr>, R: Abort>(rt: &R, alloc: Global, text: &str) -> String {
+    let mut stream = TextStream::new(alloc, text).expect(rt, "out of memory");
     let answer = X::read(&mut stream);
-    written(alloc, &answer)
+    written(rt, alloc, &answer)
 }
 
 /// The text of a parsed value, or the fault.
 fn written<X: IrText<DemoAttr>>(
+    rt: &impl Abort,
     alloc: Global,
     answer: &ParseResult<X, DemoAttr>,
-) -> Result<String, Fail> {
+) -> String {
     match answer {
         Ok(value) => {
             let mut printed = String::new(alloc);
-            value.write_text(&mut printed)?;
-            Ok(printed)
+            value.write_text(&mut printed).expect(rt, "out of memory");
+            printed
         }
-        Err(fault) => result_text(alloc, fault),
+        Err(fault) => must(rt, result_text(alloc, fault)),
     }
 }
 
 #[test]
-fn types_and_attributes(rt: HostRuntime) -> Result<(), Fail> {
+fn types(rt: HostRuntime) {
     for row in TYPES {
-        assert_eq!(rt; again::<DemoType>(rt.alloc(), row.0)?.as_str(), row.1);
+        assert_eq!(rt;
+            again::<DemoType, _>(&rt, rt.alloc(), row.0).as_str(),
+            row.1
+        );
     }
+}
+
+#[test]
+fn attributes(rt: HostRuntime) {
     for row in ATTRIBUTES {
-        assert_eq!(rt; again::<DemoAttr>(rt.alloc(), row.0)?.as_str(), row.1);
+        assert_eq!(rt;
+            again::<DemoAttr, _>(&rt, rt.alloc(), row.0).as_str(),
+            row.1
+        );
     }
-    Ok(())
 }

@@ -1,4 +1,5 @@
 //! Which operations fit their formats, and the reason why the others don't.
+use crate::must::must;
 use irtext_base::base::{AttrObj, Identifier, SYM_NAME_KEY};
 use irtext_base::location::Location;
 use irtext_context::base::context::making::Making;
@@ -6,11 +7,11 @@ use irtext_context::base::operation::add_regions;
 use irtext_context::base::{AttributeDict, Operation, Ptr};
 use irtext_demo::DemoAttr;
 use irtext_print_ops::fits::check_fits;
-use irtext_tests_common::building::{attribute, id, live, register};
+use irtext_tests_common::building::{attribute, id, register};
 use irtext_tests_common::contexts::{Ctx, named};
 use irtext_tests_common::tables::failing_demo;
 use std::alloc::Global;
-use std::test::Fail;
+use std::process::Abort;
 
 /// The format of `lab.d` by its letters, how many regions and which attributes such an operation has, and the expected text.
 type Row = (&'static str, usize, &'static str, &'static str);
@@ -71,51 +72,57 @@ fn put(
 }
 
 /// Inserts the attribute for a letter into a dictionary.
-fn insert(
-    alloc: Global,
-    attributes: &mut AttributeDict<DemoAttr>,
-    letter: char,
-) -> Result<(), Fail> {
-    let key = named(alloc, key_of(letter))?;
-    let attr = attribute(alloc, letter)?;
-    Ok(put(attributes, key, attr).ok_or("refused")?)
+fn insert(rt: &impl Abort, alloc: Global, attributes: &mut AttributeDict<DemoAttr>, letter: char) {
+    let key = must(rt, named(alloc, key_of(letter)));
+    let attr = must(rt, attribute(alloc, letter));
+    put(attributes, key, attr).expect(rt, "refused");
 }
 
 /// The dictionary with one attribute for each letter.
-fn attributes_of(alloc: Global, letters: &str) -> Result<AttributeDict<DemoAttr>, Fail> {
+fn attributes_of(rt: &impl Abort, alloc: Global, letters: &str) -> AttributeDict<DemoAttr> {
     let mut attributes = AttributeDict::new(alloc);
     for letter in letters.chars() {
-        insert(alloc, &mut attributes, letter)?;
+        insert(rt, alloc, &mut attributes, letter);
     }
-    Ok(attributes)
+    attributes
 }
 
 /// The text of the result for an operation, after it got so many regions.
-fn said(alloc: Global, ctx: &mut Ctx, op: Ptr<Operation>, regions: usize) -> Result<String, Fail> {
-    live(ctx, op)?;
-    add_regions(ctx, op, regions)?;
-    live(ctx, op)?;
-    match check_fits(ctx, op) {
-        Ok(()) => Ok(String::from_str(alloc, "fits")?),
-        Err(fault) => Ok(format!(in alloc; "{fault}")?),
+fn said(
+    rt: &impl Abort,
+    alloc: Global,
+    ctx: &mut Ctx,
+    op: Ptr<Operation>,
+    regions: usize,
+) -> String {
+    assert!(rt; ctx.contains_operation(op));
+    add_regions(ctx, op, regions).expect(rt, "out of memory");
+    assert!(rt; ctx.contains_operation(op));
+    let text = match check_fits(ctx, op) {
+        Ok(()) => String::from_str(alloc, "fits"),
+        Err(fault) => format!(in alloc; "{fault}"),
+    };
+    text.expect(rt, "out of memory")
+}
+
+/// Makes the operation of a row, without regions.
+fn made(rt: &impl Abort, alloc: Global, ctx: &mut Ctx, row: &Row) -> Ptr<Operation> {
+    if row.0 != "?" {
+        must(rt, register(alloc, ctx, ID, row.0));
     }
+    let id = must(rt, id(alloc, ID));
+    let made = ctx.make_operation(id, attributes_of(rt, alloc, row.2), Location::Unknown);
+    made.expect(rt, "out of memory")
 }
 
 /// Whether the operation of a row has this result.
-fn holds(alloc: Global, ctx: &mut Ctx, row: &Row) -> Result<bool, Fail> {
-    if row.0 != "?" {
-        register(alloc, ctx, ID, row.0)?;
-    }
-    let op = ctx.make_operation(
-        id(alloc, ID)?,
-        attributes_of(alloc, row.2)?,
-        Location::Unknown,
-    )?;
-    Ok(said(alloc, ctx, op, row.1)?.as_str() == row.3)
+fn holds(rt: &impl Abort, alloc: Global, ctx: &mut Ctx, row: &Row) -> bool {
+    let op = made(rt, alloc, ctx, row);
+    said(rt, alloc, ctx, op, row.1).as_str() == row.3
 }
 
 #[test]
-fn operations_fit_their_formats(rt: HostRuntime) -> Result<(), Fail> {
-    assert_eq!(rt; failing_demo(rt.alloc(), ROWS, holds)?, None);
-    Ok(())
+fn operations_fit_their_formats(rt: HostRuntime) {
+    let failing = failing_demo(rt.alloc(), ROWS, |a, ctx, row| Ok(holds(&rt, a, ctx, row)));
+    assert_eq!(rt; must(&rt, failing), None);
 }

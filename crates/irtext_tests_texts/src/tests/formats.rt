@@ -1,4 +1,5 @@
 //! Which formats are accepted, and by which condition the others are rejected; and the operations of a dialect.
+use crate::must::must;
 use irtext_base::base::Identifier;
 use irtext_base::format::{Directive, FormatFault, OpFormat};
 use irtext_base::result::Result as Answer;
@@ -11,7 +12,7 @@ use irtext_tests_common::contexts::named;
 use irtext_tests_common::formats::format_of;
 use std::alloc::Global;
 use std::convert::AsStr;
-use std::test::Fail;
+use std::process::Abort;
 
 const ACCEPTED: &[&str] = &[
     "", "xx", "1,0", "0,O", "ts", "v", "ab", "aR", "n", "hd", "Oa", "ak", "O>", "Od", "Oh", "OS:",
@@ -50,67 +51,67 @@ const REFUSED: &[(&str, FormatFault)] = &[
 ];
 
 /// The condition by which the format of these letters is rejected.
-fn refused(alloc: Global, letters: &str) -> Result<Option<FormatFault>, Fail> {
-    let format = format_of(alloc, letters)?;
-    Ok(check_format(&format).err())
+fn refused(rt: &impl Abort, alloc: Global, letters: &str) -> Option<FormatFault> {
+    check_format(&must(rt, format_of(alloc, letters))).err()
 }
 
 #[test]
-fn formats_that_read_uniquely_are_accepted(rt: HostRuntime) -> Result<(), Fail> {
+fn formats_that_read_uniquely_are_accepted(rt: HostRuntime) {
     assert!(rt; check_format(&OpFormat::Canonical).is_ok());
     for letters in ACCEPTED {
-        assert!(rt; refused(rt.alloc(), letters)?.is_none());
+        assert!(rt; refused(&rt, rt.alloc(), letters).is_none());
     }
-    Ok(())
-}
-
-#[test]
-fn formats_are_refused_by_the_first_condition_that_they_fail(rt: HostRuntime) -> Result<(), Fail> {
-    for row in REFUSED {
-        assert!(rt; refused(rt.alloc(), row.0)? == Some(row.1));
-    }
-    Ok(())
 }
 
 /// The name of a dialect.
-fn dialect_name(alloc: Global, text: &str) -> Result<DialectName, Fail> {
-    Ok(DialectName::from(named(alloc, text)?))
+fn dialect_name(rt: &impl Abort, alloc: Global, text: &str) -> DialectName {
+    DialectName::from(must(rt, named(alloc, text)))
+}
+
+/// A dialect of this name, without operations.
+fn dialect(rt: &impl Abort, alloc: Global, name: &str) -> Dialect {
+    Dialect::new(alloc, dialect_name(rt, alloc, name))
+}
+
+/// Whether a copy of this name equals it.
+fn is_copied(name: &DialectName) -> bool {
+    let copy: Answer<DialectName, DemoAttr> = name.try_clone();
+    matches!(&copy, Ok(copy) if *copy == *name)
 }
 
 /// Whether a name's copy and its identifier equal the text that it was made from.
-fn comes_back(alloc: Global) -> Result<bool, Fail> {
-    let name = dialect_name(alloc, "test")?;
-    let copy: Answer<DialectName, DemoAttr> = name.try_clone();
-    let same = matches!(&copy, Ok(copy) if *copy == name);
-    let word = named(alloc, "test")?;
-    Ok(same && name.as_str() == "test" && Identifier::from(name) == word)
+fn comes_back(rt: &impl Abort, alloc: Global) -> bool {
+    let name = dialect_name(rt, alloc, "test");
+    let same = is_copied(&name) && name.as_str() == "test";
+    same && Identifier::from(name) == must(rt, named(alloc, "test"))
 }
 
 /// The name of a dialect as a text, or the error.
-fn result_text(alloc: Global, text: &str) -> Result<String, Fail> {
+fn result_text(rt: &impl Abort, alloc: Global, text: &str) -> String {
     let answer: Answer<DialectName, DemoAttr> = DialectName::try_new(alloc, text);
-    value_or_cause(alloc, &answer)
+    must(rt, value_or_cause(alloc, &answer))
 }
 
 /// Nothing for a call that succeeded, or the text of its error.
-fn nothing_or_error(alloc: Global, answer: &Answer<(), DemoAttr>) -> Result<String, Fail> {
+fn nothing_or_error(rt: &impl Abort, alloc: Global, answer: &Answer<(), DemoAttr>) -> String {
     match answer {
-        Ok(()) => Ok(String::new(alloc)),
-        Err(error) => Ok(format!(in alloc; "{error}")?),
+        Ok(()) => String::new(alloc),
+        Err(error) => format!(in alloc; "{error}").expect(rt, "out of memory"),
     }
 }
 
 /// The result of registering an operation under the name `test.z`: an empty text, or the error.
 fn registered(
+    rt: &impl Abort,
     alloc: Global,
     dialect: &mut Dialect,
     letters: &str,
     isolated: bool,
-) -> Result<String, Fail> {
-    let id = id(alloc, ("test", "z"))?;
-    let format = format_of(alloc, letters)?;
+) -> String {
+    let id = must(rt, id(alloc, ("test", "z")));
+    let format = must(rt, format_of(alloc, letters));
     let answer: Answer<(), DemoAttr> = dialect.add_op(id, format, isolated);
-    nothing_or_error(alloc, &answer)
+    nothing_or_error(rt, alloc, &answer)
 }
 
 /// Formats that are registered one after the other under one name, whether as isolated, and the result for each.
@@ -125,20 +126,24 @@ const REGISTERED: &[(&str, bool, &str)] = &[
 ];
 
 /// Whether the last format that was accepted is kept.
-fn keeps(alloc: Global, dialect: &mut Dialect) -> Result<bool, Fail> {
+fn keeps(rt: &impl Abort, alloc: Global, dialect: &mut Dialect) -> bool {
     for row in REGISTERED {
-        if registered(alloc, dialect, row.0, row.1)?.as_str() != row.2 {
-            return Ok(false);
+        if registered(rt, alloc, dialect, row.0, row.1).as_str() != row.2 {
+            return false;
         }
     }
-    let id = id(alloc, ("test", "z"))?;
-    Ok(matches!(dialect.op(&id), Some(info) if info.isolated))
+    is_isolated(rt, alloc, dialect)
+}
+
+/// Whether `test.z` is isolated.
+fn is_isolated(rt: &impl Abort, alloc: Global, dialect: &Dialect) -> bool {
+    let id = must(rt, id(alloc, ("test", "z")));
+    matches!(dialect.op(&id), Some(info) if info.isolated)
 }
 
 /// The same with a dialect of its own.
-fn last_is_kept(alloc: Global) -> Result<bool, Fail> {
-    let mut dialect = Dialect::new(alloc, dialect_name(alloc, "test")?);
-    keeps(alloc, &mut dialect)
+fn last_is_kept(rt: &impl Abort, alloc: Global) -> bool {
+    keeps(rt, alloc, &mut dialect(rt, alloc, "test"))
 }
 
 /// Whether a format is only the first operand.
@@ -150,66 +155,63 @@ fn is_first_operand(format: &OpFormat) -> bool {
 }
 
 /// Whether `test.z` is isolated, and has the format of its first operand.
-fn is_as_it_was(alloc: Global, dialect: &Dialect) -> Result<bool, Fail> {
-    let id = id(alloc, ("test", "z"))?;
-    Ok(match dialect.op(&id) {
+fn is_as_it_was(rt: &impl Abort, alloc: Global, dialect: &Dialect) -> bool {
+    let id = must(rt, id(alloc, ("test", "z")));
+    match dialect.op(&id) {
         Some(info) => info.isolated && is_first_operand(&info.format),
         None => false,
-    })
+    }
 }
 
 /// The result of registering `test.z` again, with a format that is rejected: the first registration has to stay.
-fn refused_after(alloc: Global, dialect: &mut Dialect, letters: &str) -> Result<String, Fail> {
-    if !registered(alloc, dialect, "0", true)?.as_str().is_empty() {
-        return Err(Fail::from("not registered"));
-    }
-    let said = registered(alloc, dialect, letters, false)?;
-    if !is_as_it_was(alloc, dialect)? {
-        return Err(Fail::from("the table has changed"));
-    }
-    Ok(said)
+fn refused_after(rt: &impl Abort, alloc: Global, dialect: &mut Dialect, letters: &str) -> String {
+    assert!(rt;
+        registered(rt, alloc, dialect, "0", true)
+            .as_str()
+            .is_empty()
+    );
+    let said = registered(rt, alloc, dialect, letters, false);
+    assert!(rt; is_as_it_was(rt, alloc, dialect), "the table has changed");
+    said
 }
 
 /// The same with a dialect of its own.
-fn refused_by_add_op(alloc: Global, letters: &str) -> Result<String, Fail> {
-    let mut dialect = Dialect::new(alloc, dialect_name(alloc, "test")?);
-    refused_after(alloc, &mut dialect, letters)
+fn refused_by_add_op(rt: &impl Abort, alloc: Global, letters: &str) -> String {
+    refused_after(rt, alloc, &mut dialect(rt, alloc, "test"), letters)
 }
 
 /// The expected text for a format that fails this condition first.
-fn refusal(alloc: Global, fault: FormatFault) -> Result<String, Fail> {
-    Ok(format!(in alloc; "Compilation error: invalid argument.\n{fault}")?)
+fn refusal(rt: &impl Abort, alloc: Global, fault: FormatFault) -> String {
+    format!(in alloc; "Compilation error: invalid argument.\n{fault}").expect(rt, "out of memory")
 }
 
 #[test]
-fn a_refused_format_leaves_the_table_unchanged(rt: HostRuntime) -> Result<(), Fail> {
+fn formats_are_refused_by_the_first_condition_that_they_fail(rt: HostRuntime) {
     for row in REFUSED {
-        assert_eq!(rt;
-            refused_by_add_op(rt.alloc(), row.0)?.as_str(),
-            refusal(rt.alloc(), row.1)?.as_str()
+        assert!(rt; refused(&rt, rt.alloc(), row.0) == Some(row.1));
+        assert!(rt;
+            refused_by_add_op(&rt, rt.alloc(), row.0).as_str()
+                == refusal(&rt, rt.alloc(), row.1).as_str()
         );
     }
-    Ok(())
 }
 
 /// The result of registering `test.z` with another dialect.
-fn of_another(alloc: Global) -> Result<String, Fail> {
-    let mut dialect = Dialect::new(alloc, dialect_name(alloc, "builtin")?);
-    registered(alloc, &mut dialect, "", false)
+fn of_another(rt: &impl Abort, alloc: Global) -> String {
+    registered(rt, alloc, &mut dialect(rt, alloc, "builtin"), "", false)
 }
 
 #[test]
-fn dialects_and_their_names(rt: HostRuntime) -> Result<(), Fail> {
-    assert!(rt; comes_back(rt.alloc())?);
-    assert_eq!(rt; result_text(rt.alloc(), "test")?.as_str(), "test");
+fn dialects_and_their_names(rt: HostRuntime) {
+    assert!(rt; comes_back(&rt, rt.alloc()));
+    assert_eq!(rt; result_text(&rt, rt.alloc(), "test").as_str(), "test");
     assert_eq!(rt;
-        result_text(rt.alloc(), "1a")?.as_str(),
+        result_text(&rt, rt.alloc(), "1a").as_str(),
         "Unexpected `1`, expected identifier"
     );
-    assert!(rt; last_is_kept(rt.alloc())?);
+    assert!(rt; last_is_kept(&rt, rt.alloc()));
     assert_eq!(rt;
-        of_another(rt.alloc())?.as_str(),
+        of_another(&rt, rt.alloc()).as_str(),
         "Compilation error: invalid argument.\nOperation test.z is not of dialect builtin"
     );
-    Ok(())
 }

@@ -1,4 +1,5 @@
 //! A list on a stream with its state.
+use crate::must::must;
 use irtext_base::parsable::{CharStream, ParseResult};
 use irtext_demo::DemoAttr;
 use irtext_tests_common::answers::listed;
@@ -14,10 +15,7 @@ fn read(alloc: Global, s: &mut Stream<'_>) -> Result<String, Fail> {
 }
 
 #[test]
-fn a_list_beside_a_state(rt: HostRuntime) -> Result<(), Fail> {
-    assert_eq!(rt;
-        in_context(rt.alloc(), "1,2", read)?.as_str(),
-        "[1, 2], line: 1, column: 4: None"
-    );
-    Ok(())
+fn a_list_beside_a_state(rt: HostRuntime) {
+    let said = must(&rt, in_context(rt.alloc(), "1,2", read));
+    assert_eq!(rt; said.as_str(), "[1, 2], line: 1, column: 4: None");
 }

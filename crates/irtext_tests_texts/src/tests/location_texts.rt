@@ -1,4 +1,5 @@
 //! Locations of each kind as texts, and errors after theirs: files by the paths that the context keeps.
+use crate::must::must;
 use irtext_base::base::{AttrObj, Identifier};
 use irtext_base::location::{Location, Source};
 use irtext_base::parsable::SourcePosition;
@@ -9,7 +10,7 @@ use irtext_tests_common::contexts::Ctx;
 use irtext_tests_common::nesting::{Nesting, between, nested};
 use irtext_tests_common::tables::{differing_alone, failing_demo};
 use std::alloc::Global;
-use std::test::Fail;
+use std::process::Abort;
 
 /// The printed texts of the locations, and of an error in files.
 const TEXTS: &[&str] = &[
@@ -40,8 +41,11 @@ const NESTED: &[(Nesting, &str, &str)] = &[
     (Nesting::Last, "fused[?, ", "]"),
 ];
 
+/// A location, with the demo attributes.
+type Place = Location<DemoAttr>;
+
 /// A place of a source.
-fn at(src: Source, line: i32, column: i32) -> Location<DemoAttr> {
+fn at(src: Source, line: i32, column: i32) -> Place {
     Location::SrcPos {
         src,
         pos: SourcePosition { line, column },
@@ -49,127 +53,158 @@ fn at(src: Source, line: i32, column: i32) -> Location<DemoAttr> {
 }
 
 /// A place of a file.
-fn in_file(ctx: &mut Ctx, path: &str, line: i32, column: i32) -> Result<Location<DemoAttr>, Fail> {
-    let src = Source::new_from_file(ctx, path).ok().ok_or("refused")?;
-    Ok(at(src, line, column))
+fn in_file(rt: &impl Abort, ctx: &mut Ctx, path: &str, line: i32, column: i32) -> Place {
+    let src = Source::new_from_file(ctx, path).ok().expect(rt, "refused");
+    at(src, line, column)
+}
+
+/// A value in a box.
+fn boxed<X: Drop>(rt: &impl Abort, alloc: Global, value: X) -> Box<X> {
+    Box::new(alloc, value).expect(rt, "out of memory")
+}
+
+/// A text of its own.
+fn owned(rt: &impl Abort, alloc: Global, text: &str) -> String {
+    String::from_str(alloc, text).expect(rt, "out of memory")
 }
 
 /// A name for an unknown location.
-fn named(alloc: Global, name: &str) -> Result<Location<DemoAttr>, Fail> {
-    Ok(Location::Named {
-        name: Box::new(alloc, String::from_str(alloc, name)?)?,
-        child_loc: Box::new(alloc, Location::Unknown)?,
-    })
+fn named(rt: &impl Abort, alloc: Global, name: &str) -> Place {
+    Location::Named {
+        name: boxed(rt, alloc, owned(rt, alloc, name)),
+        child_loc: boxed(rt, alloc, Location::Unknown),
+    }
 }
 
 /// A place in memory and an unknown one as one location, with this attribute.
-fn fused(alloc: Global, metadata: Option<AttrObj<DemoAttr>>) -> Result<Location<DemoAttr>, Fail> {
-    let mut locations = Vec::new(alloc);
-    locations.push(at(Source::InMemory, 3, 4))?;
-    locations.push(Location::Unknown)?;
-    Ok(Location::Fused {
-        metadata: Box::new(alloc, metadata)?,
-        locations: Box::new(alloc, locations)?,
-    })
+fn fused(rt: &impl Abort, alloc: Global, metadata: Option<AttrObj<DemoAttr>>) -> Place {
+    let (mut locations, memory) = (Vec::new(alloc), "out of memory");
+    locations
+        .push(at(Source::InMemory, 3, 4))
+        .expect(rt, memory);
+    locations.push(Location::Unknown).expect(rt, memory);
+    Location::Fused {
+        metadata: boxed(rt, alloc, metadata),
+        locations: boxed(rt, alloc, locations),
+    }
 }
 
 /// The names `m` and none.
-fn given(alloc: Global) -> Result<AttrObj<DemoAttr>, Fail> {
+fn given(rt: &impl Abort, alloc: Global) -> AttrObj<DemoAttr> {
     let mut names = Vec::new(alloc);
-    names.push(Some(Identifier::from_word(alloc, "m")?))?;
-    names.push(None)?;
-    Ok(AttrObj::GivenNames(names))
+    let pushed = names.push(Some(word(rt, alloc)));
+    pushed.expect(rt, "out of memory");
+    names.push(None).expect(rt, "out of memory");
+    AttrObj::GivenNames(names)
+}
+
+/// The identifier `m`.
+fn word(rt: &impl Abort, alloc: Global) -> Identifier {
+    Identifier::from_word(alloc, "m").expect(rt, "out of memory")
 }
 
 /// A text as an attribute.
-fn text(alloc: Global, text: &str) -> Result<AttrObj<DemoAttr>, Fail> {
-    let text = Characters::new(String::from_str(alloc, text)?);
-    Ok(AttrObj::Own(DemoAttr::String(text)))
+fn text(rt: &impl Abort, alloc: Global, text: &str) -> AttrObj<DemoAttr> {
+    let text = Characters::new(owned(rt, alloc, text));
+    AttrObj::Own(DemoAttr::String(text))
+}
+
+/// An unknown place that is called from another.
+fn called(rt: &impl Abort, alloc: Global) -> Place {
+    Location::CallSite {
+        callee: boxed(rt, alloc, Location::Unknown),
+        caller: boxed(rt, alloc, Location::Unknown),
+    }
 }
 
 /// The location of a line of the table.
-fn location(alloc: Global, ctx: &mut Ctx, line: usize) -> Result<Location<DemoAttr>, Fail> {
+fn location(rt: &impl Abort, alloc: Global, ctx: &mut Ctx, line: usize) -> Place {
     match line {
-        0 => in_file(ctx, "foo.mlir", 42, 7),
-        1 => Ok(at(Source::InMemory, 1, 2)),
-        2 => named(alloc, "foo"),
-        3 => named(alloc, "a\"b\\c\nd\te\u{7f}"),
-        4 => in_file(ctx, "a\"b\\c.mlir", 1, 2),
-        5 => fused(alloc, None),
-        6 => fused(alloc, Some(text(alloc, "testattr")?)),
-        7 => fused(
-            alloc,
-            Some(AttrObj::Ident(Identifier::from_word(alloc, "m")?)),
-        ),
-        8 => fused(alloc, Some(given(alloc)?)),
-        _ => Ok(Location::CallSite {
-            callee: Box::new(alloc, Location::Unknown)?,
-            caller: Box::new(alloc, Location::Unknown)?,
-        }),
+        0 => in_file(rt, ctx, "foo.mlir", 42, 7),
+        1 => at(Source::InMemory, 1, 2),
+        2 => named(rt, alloc, "foo"),
+        3 => named(rt, alloc, "a\"b\\c\nd\te\u{7f}"),
+        4 => in_file(rt, ctx, "a\"b\\c.mlir", 1, 2),
+        5 => fused(rt, alloc, None),
+        6 => fused(rt, alloc, Some(text(rt, alloc, "testattr"))),
+        7 => fused(rt, alloc, Some(AttrObj::Ident(word(rt, alloc)))),
+        8 => fused(rt, alloc, Some(given(rt, alloc))),
+        _ => called(rt, alloc),
     }
 }
 
 /// An error in a file.
-fn in_one_file(alloc: Global, ctx: &mut Ctx) -> Result<Error<DemoAttr>, Fail> {
-    let place = in_file(ctx, "/tmp/test.pliron", 1, 2)?;
-    let cause = Cause::of_text(format!(in alloc; "Test error"));
-    Ok(Error {
+fn in_one_file(rt: &impl Abort, alloc: Global, ctx: &mut Ctx) -> Error<DemoAttr> {
+    Error {
         kind: ErrorKind::InvalidInput,
-        loc: place,
-        err: cause,
-    })
+        loc: in_file(rt, ctx, "/tmp/test.pliron", 1, 2),
+        err: Cause::of_text(format!(in alloc; "Test error")),
+    }
 }
 
 /// An error in a file, in another one.
-fn in_two_files(alloc: Global, ctx: &mut Ctx) -> Result<Error<DemoAttr>, Fail> {
-    let inner = Box::new(alloc, in_one_file(alloc, ctx)?)?;
-    let place = in_file(ctx, "/tmp/test.pliron", 1, 1)?;
-    Ok(Error {
+fn in_two_files(rt: &impl Abort, alloc: Global, ctx: &mut Ctx) -> Error<DemoAttr> {
+    let inner = boxed(rt, alloc, in_one_file(rt, alloc, ctx));
+    Error {
         kind: ErrorKind::InvalidInput,
-        loc: place,
+        loc: in_file(rt, ctx, "/tmp/test.pliron", 1, 1),
         err: Cause::Nested(inner),
-    })
+    }
 }
 
 /// The printed text of the error in files.
-fn shown_error(alloc: Global, ctx: &mut Ctx) -> Result<String, Fail> {
-    let nested = in_two_files(alloc, ctx)?;
-    error_text(alloc, ctx, &nested)
+fn shown_error(rt: &impl Abort, alloc: Global, ctx: &mut Ctx) -> String {
+    let nested = in_two_files(rt, alloc, ctx);
+    error_text(rt, alloc, ctx, &nested)
 }
 
 /// The printed text of an error after its location.
-fn error_text(alloc: Global, ctx: &Ctx, error: &Error<DemoAttr>) -> Result<String, Fail> {
-    Ok(format!(in alloc; "{}", error.disp(ctx))?)
+fn error_text(rt: &impl Abort, alloc: Global, ctx: &Ctx, error: &Error<DemoAttr>) -> String {
+    format!(in alloc; "{}", error.disp(ctx)).expect(rt, "out of memory")
 }
 
 /// The printed text of the location of a line, or of the error after the last.
-fn shown(alloc: Global, ctx: &mut Ctx, line: usize) -> Result<String, Fail> {
+fn shown(rt: &impl Abort, alloc: Global, ctx: &mut Ctx, line: usize) -> String {
     if line == 10 {
-        return shown_error(alloc, ctx);
+        return shown_error(rt, alloc, ctx);
     }
-    let location = location(alloc, ctx, line)?;
-    location_text(alloc, ctx, &location)
+    let location = location(rt, alloc, ctx, line);
+    location_text(rt, alloc, ctx, &location)
 }
 
 /// The printed text of a location.
-fn location_text(alloc: Global, ctx: &Ctx, location: &Location<DemoAttr>) -> Result<String, Fail> {
-    Ok(format!(in alloc; "{}", location.disp(ctx))?)
+fn location_text(rt: &impl Abort, alloc: Global, ctx: &Ctx, location: &Place) -> String {
+    format!(in alloc; "{}", location.disp(ctx)).expect(rt, "out of memory")
 }
 
 #[test]
-fn each_location_has_its_text(rt: HostRuntime) -> Result<(), Fail> {
-    assert_eq!(rt; differing_alone(rt.alloc(), TEXTS, shown)?, None);
-    Ok(())
+fn each_location_has_its_text(rt: HostRuntime) {
+    let differing = differing_alone(
+        rt.alloc(),
+        TEXTS,
+        |a, ctx, line| Ok(shown(&rt, a, ctx, line)),
+    );
+    assert_eq!(rt; must(&rt, differing), None);
+}
+
+/// The printed text of unknown locations in one another.
+fn deep(rt: &impl Abort, alloc: Global, ctx: &Ctx, nesting: Nesting) -> String {
+    let location = nested(alloc, nesting, DEPTH, Location::Unknown).expect(rt, "out of memory");
+    location_text(rt, alloc, ctx, &location)
 }
 
 /// Whether nested locations are printed so.
-fn holds(alloc: Global, ctx: &mut Ctx, row: &(Nesting, &str, &str)) -> Result<bool, Fail> {
-    let location = nested(alloc, row.0, DEPTH, Location::Unknown)?;
-    Ok(location_text(alloc, ctx, &location)? == between(alloc, DEPTH, row.1, "?", row.2)?)
+fn holds(rt: &impl Abort, alloc: Global, ctx: &Ctx, row: &(Nesting, &str, &str)) -> bool {
+    let wanted = between(alloc, DEPTH, row.1, "?", row.2).expect(rt, "out of memory");
+    deep(rt, alloc, ctx, row.0) == wanted
 }
 
 #[test]
-fn deep_locations_are_printed(rt: HostRuntime) -> Result<(), Fail> {
-    assert_eq!(rt; failing_demo(rt.alloc(), NESTED, holds)?, None);
-    Ok(())
+fn deep_locations_are_printed(rt: HostRuntime) {
+    let failing = failing_demo(
+        rt.alloc(),
+        NESTED,
+        |a, ctx, row| Ok(holds(&rt, a, ctx, row)),
+    );
+    assert_eq!(rt; must(&rt, failing), None);
 }

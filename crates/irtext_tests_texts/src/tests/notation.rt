@@ -1,9 +1,10 @@
 //! The notation of formats: which texts denote which formats, how formats are printed, and where a wrong text is rejected.
+use crate::must::must;
 use irtext_base::format::OpFormat;
 use irtext_base::format::notation::NotationFault;
 use irtext_tests_common::formats::format_of;
 use std::alloc::Global;
-use std::test::Fail;
+use std::process::Abort;
 
 /// Texts with the letters of the directives that they denote, and the text that is printed for these.
 const DENOTED: &[(&str, &str, &str)] = &[
@@ -37,26 +38,26 @@ const REFUSED: &[(&str, &str)] = &[
 ];
 
 /// The notation that is printed for the format of a text, or the error.
-fn printed(alloc: Global, text: &str) -> Result<String, Fail> {
-    match OpFormat::parse(alloc, text) {
-        Ok(format) => Ok(format!(in alloc; "{format}")?),
-        Err(fault) => Ok(format!(in alloc; "{fault}")?),
-    }
+fn printed(rt: &impl Abort, alloc: Global, text: &str) -> String {
+    let printed = match OpFormat::parse(alloc, text) {
+        Ok(format) => format!(in alloc; "{format}"),
+        Err(fault) => format!(in alloc; "{fault}"),
+    };
+    printed.expect(rt, "out of memory")
 }
 
 /// The notation of the format of these letters.
-fn of_letters(alloc: Global, letters: &str) -> Result<String, Fail> {
-    let format = format_of(alloc, letters)?;
-    Ok(format!(in alloc; "{format}")?)
+fn of_letters(rt: &impl Abort, alloc: Global, letters: &str) -> String {
+    let format = must(rt, format_of(alloc, letters));
+    format!(in alloc; "{format}").expect(rt, "out of memory")
 }
 
 #[test]
-fn notations_denote_formats(rt: HostRuntime) -> Result<(), Fail> {
+fn notations_denote_formats(rt: HostRuntime) {
     for row in DENOTED {
-        assert!(rt; printed(rt.alloc(), row.0)?.as_str() == row.2);
-        assert!(rt; of_letters(rt.alloc(), row.1)?.as_str() == row.2);
+        assert!(rt; printed(&rt, rt.alloc(), row.0).as_str() == row.2);
+        assert!(rt; of_letters(&rt, rt.alloc(), row.1).as_str() == row.2);
     }
-    Ok(())
 }
 
 /// Notations that are printed as they are.
@@ -69,18 +70,16 @@ const KEPT: &[&str] = &[
 ];
 
 #[test]
-fn printed_notations_are_kept(rt: HostRuntime) -> Result<(), Fail> {
+fn printed_notations_are_kept(rt: HostRuntime) {
     for text in KEPT {
-        assert!(rt; printed(rt.alloc(), text)?.as_str() == *text);
+        assert!(rt; printed(&rt, rt.alloc(), text).as_str() == *text);
     }
-    Ok(())
 }
 
 #[test]
-fn wrong_notations_are_refused(rt: HostRuntime) -> Result<(), Fail> {
+fn wrong_notations_are_refused(rt: HostRuntime) {
     for row in REFUSED {
-        assert!(rt; printed(rt.alloc(), row.0)?.as_str() == row.1);
+        assert!(rt; printed(&rt, rt.alloc(), row.0).as_str() == row.1);
     }
     assert!(rt; NotationFault::Memory == NotationFault::Memory);
-    Ok(())
 }

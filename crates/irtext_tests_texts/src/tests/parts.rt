@@ -3,6 +3,7 @@ ghost use Rattle.std.specs.Prelude.{codes, refl};
 ghost use Rattle.irtext_syntax.specs.KeywordTexts.{fixed_word};
 ghost use Rattle.irtext_syntax.specs.Ranges.{from_to};
 
+use crate::must::must;
 use irtext_base::parsable::{CharStream, ParseResult, TextStream};
 use irtext_demo::{DemoAttr, DemoType};
 use irtext_syntax::characters::Characters;
@@ -17,7 +18,7 @@ use irtext_syntax::ready::{Angle, Colon, Comma, Curly, Round, SpacedArrow, Squar
 use irtext_syntax::sequence::{Then, Within};
 use irtext_tests_common::answers::left;
 use std::alloc::Global;
-use std::test::Fail;
+use std::process::Abort;
 
 /// The word `to`.
 struct To;
@@ -85,36 +86,46 @@ type Rows = ListOf<Square, ListOf<Round, Number<u8>>>;
 type Optional = Within<Round, Option<ListOf<Curly, Name>>>;
 
 /// The text of what is parsed for a part: what is printed for it and the next character, or the fault.
-fn said<P: Part<DemoAttr>>(alloc: Global, text: &str) -> Result<String, Fail> {
-    let mut stream = TextStream::new(alloc, text)?;
+fn said<P: Part<DemoAttr>, R: Abort>(rt: &R, alloc: Global, text: &str) -> String {
+    let mut stream = TextStream::new(alloc, text).expect(rt, "out of memory");
     let answer: ParseResult<P, DemoAttr> = <P as Part<DemoAttr>>::read(&mut stream);
-    let next = stream.peek();
+    again(rt, alloc, &answer, stream.peek())
+}
+
+/// The text of a result: what is printed for the part and the next character, or the fault.
+fn again<P: Part<DemoAttr>>(
+    rt: &impl Abort,
+    alloc: Global,
+    answer: &ParseResult<P, DemoAttr>,
+    next: Option<char>,
+) -> String {
     match answer {
         Ok(part) => {
             let mut printed = String::new(alloc);
-            part.write_text(&mut printed)?;
-            Ok(format!(in alloc; "{printed}|{next:?}")?)
+            part.write_text(&mut printed).expect(rt, "out of memory");
+            write!(printed, "|{next:?}").expect(rt, "out of memory");
+            printed
         }
-        Err(fault) => left(alloc, &fault, next),
+        Err(fault) => must(rt, left(alloc, fault, next)),
     }
 }
 
 /// The same for the part of this kind.
-fn said_as(alloc: Global, kind: Kind, text: &str) -> Result<String, Fail> {
+fn said_as<R: Abort>(rt: &R, alloc: Global, kind: Kind, text: &str) -> String {
     match kind {
-        Kind::Signed => said::<Number<i64>>(alloc, text),
-        Kind::Byte => said::<Number<u8>>(alloc, text),
-        Kind::Percent => said::<Ranged<Percent>>(alloc, text),
-        Kind::Quoted => said::<Characters>(alloc, text),
-        Kind::Name => said::<Name>(alloc, text),
-        Kind::Keyword => said::<Keyword<To>>(alloc, text),
-        Kind::Flag => said::<Flag<To>>(alloc, text),
-        Kind::Type => said::<Own<DemoType>>(alloc, text),
-        Kind::Pair => said::<Pair>(alloc, text),
-        Kind::Arrow => said::<Mapping>(alloc, text),
-        Kind::Names => said::<ListOf<Square, Then<Name, Comma, Name>>>(alloc, text),
-        Kind::Nested => said::<Rows>(alloc, text),
-        Kind::Maybe => said::<Optional>(alloc, text),
+        Kind::Signed => said::<Number<i64>, R>(rt, alloc, text),
+        Kind::Byte => said::<Number<u8>, R>(rt, alloc, text),
+        Kind::Percent => said::<Ranged<Percent>, R>(rt, alloc, text),
+        Kind::Quoted => said::<Characters, R>(rt, alloc, text),
+        Kind::Name => said::<Name, R>(rt, alloc, text),
+        Kind::Keyword => said::<Keyword<To>, R>(rt, alloc, text),
+        Kind::Flag => said::<Flag<To>, R>(rt, alloc, text),
+        Kind::Type => said::<Own<DemoType>, R>(rt, alloc, text),
+        Kind::Pair => said::<Pair, R>(rt, alloc, text),
+        Kind::Arrow => said::<Mapping, R>(rt, alloc, text),
+        Kind::Names => said::<ListOf<Square, Then<Name, Comma, Name>>, R>(rt, alloc, text),
+        Kind::Nested => said::<Rows, R>(rt, alloc, text),
+        Kind::Maybe => said::<Optional, R>(rt, alloc, text),
     }
 }
 
@@ -250,11 +261,10 @@ const TEXTS: &[(Kind, &[(&str, &str)])] = &[
 ];
 
 #[test]
-fn ready_parts_are_parsed_and_printed(rt: HostRuntime) -> Result<(), Fail> {
+fn ready_parts_are_parsed_and_printed(rt: HostRuntime) {
     for part in TEXTS {
         for row in part.1 {
-            assert_eq!(rt; said_as(rt.alloc(), part.0, row.0)?.as_str(), row.1);
+            assert_eq!(rt; said_as(&rt, rt.alloc(), part.0, row.0).as_str(), row.1);
         }
     }
-    Ok(())
 }

@@ -1,36 +1,29 @@
 //! The printing state and its guards.
 use irtext_print_ir::printable::{RegionPrintDepthLimit, State, fmt_indented_newline};
-use std::test::Fail;
 
 #[test]
-fn a_guard_gives_back_the_indentation_of_its_entry(rt: HostRuntime) -> Result<(), Fail> {
+fn a_guard_gives_back_the_indentation_of_its_entry(rt: HostRuntime) {
     let mut state = State::new(rt.alloc(), 5u8);
     let mut text = String::new(rt.alloc());
     {
-        let guard = state.indent().ok().ok_or("too deep")?;
-        fmt_indented_newline(guard.state, &mut text)
-            .ok()
-            .ok_or("refused")?;
+        let guard = state.indent().expect(&rt, "too deep");
+        fmt_indented_newline(guard.state, &mut text).expect(&rt, "refused");
         guard.state.set_indent_width(8);
     }
-    fmt_indented_newline(&state, &mut text)
-        .ok()
-        .ok_or("refused")?;
+    fmt_indented_newline(&state, &mut text).expect(&rt, "refused");
     assert_eq!(rt; text.as_str(), "\n  \n");
     assert_eq!(rt; state.indent_width(), 8);
     assert_eq!(rt; *state.aux_data_ref(), 5);
     *state.aux_data_mut() = 6;
     assert_eq!(rt; *state.aux_data_ref(), 6);
-    Ok(())
 }
 
 #[test]
-fn too_deep_an_indentation_is_refused(rt: HostRuntime) -> Result<(), Fail> {
+fn too_deep_an_indentation_is_refused(rt: HostRuntime) {
     let mut state = State::new(rt.alloc(), ());
     state.set_indent_width(40000);
-    let guard = state.indent().ok().ok_or("too deep")?;
+    let guard = state.indent().expect(&rt, "too deep");
     assert!(rt; guard.state.indent().is_err());
-    Ok(())
 }
 
 /// Whether a limit of one region is restored, and no region is entered within it.

@@ -1,14 +1,14 @@
 //! Roots that are printed by the call that returns why it fails.
+use crate::must::must;
 use irtext_context::base::context::making::Making;
 use irtext_context::base::{Item, Operation, Ptr};
 use irtext_few::Few;
 use irtext_print_ir::ir::print::print_root;
 use irtext_print_ir::printable::{RegionPrintDepthLimit, State};
-use irtext_tests_common::building::{id, live, name, operation, place};
+use irtext_tests_common::building::{id, name, operation, place};
 use irtext_tests_common::contexts::{Ctx, with_demo};
-use irtext_tests_common::tables::failing;
 use std::alloc::Global;
-use std::test::Fail;
+use std::process::Abort;
 
 /// The widths of an indentation and of the first one, and the limit on levels of regions.
 type Layout = (u16, u16, RegionPrintDepthLimit);
@@ -53,31 +53,32 @@ const ROWS: &[Row] = &[
 ];
 
 /// Makes `builtin.module @m` at a place in memory, without regions.
-fn make(alloc: Global, ctx: &mut Ctx) -> Result<Ptr<Operation>, Fail> {
-    let id = id(alloc, ("builtin", "module"))?;
-    let op = operation(ctx, id, Few::none(), &[], &[], 0)?;
-    name(alloc, ctx, op, "m")?;
-    place(ctx, Item::Operation(op), 2)?;
-    Ok(op)
+fn make(rt: &impl Abort, alloc: Global, ctx: &mut Ctx) -> Ptr<Operation> {
+    let id = must(rt, id(alloc, ("builtin", "module")));
+    let op = must(rt, operation(ctx, id, Few::none(), &[], &[], 0));
+    must(rt, name(alloc, ctx, op, "m"));
+    must(rt, place(ctx, Item::Operation(op), 2));
+    op
 }
 
 /// Appends the text of a root so many times, with one state: the text, or the error.
 fn appended(
+    rt: &impl Abort,
     alloc: Global,
     ctx: &Ctx,
     op: Ptr<Operation>,
     state: &mut State<()>,
     mut text: String,
     times: usize,
-) -> Result<String, Fail> {
+) -> String {
     for _time in 0..times {
-        live(ctx, op)?;
+        assert!(rt; ctx.contains_operation(op));
         match print_root(ctx, op, state, &mut text) {
             Ok(()) => {}
-            Err(refusal) => return Ok(format!(in alloc; "{refusal:?}")?),
+            Err(refusal) => return format!(in alloc; "{refusal:?}").expect(rt, "out of memory"),
         }
     }
-    Ok(text)
+    text
 }
 
 /// The state with a layout, or a new one.
@@ -89,25 +90,28 @@ fn state_of(alloc: Global, layout: Option<Layout>) -> State<()> {
 }
 
 /// Whether a root is printed as in a row.
-fn is_printed(alloc: Global, ctx: &Ctx, op: Ptr<Operation>, row: &Row) -> Result<bool, Fail> {
+fn is_printed(rt: &impl Abort, alloc: Global, ctx: &Ctx, op: Ptr<Operation>, row: &Row) -> bool {
+    let text = String::from_str(alloc, row.0).expect(rt, "out of memory");
     let mut state = state_of(alloc, row.1);
-    let text = String::from_str(alloc, row.0)?;
-    Ok(appended(alloc, ctx, op, &mut state, text, row.2)?.as_str() == row.3)
+    appended(rt, alloc, ctx, op, &mut state, text, row.2).as_str() == row.3
 }
 
-/// The number of the first row that differs, or that of none if a module without regions is not a misfit.
-fn differing(alloc: Global, ctx: &mut Ctx) -> Result<Option<usize>, Fail> {
-    let op = make(alloc, ctx)?;
-    if !is_printed(alloc, ctx, op, &("", None, 1, "Misfit"))? {
-        return Ok(Some(ROWS.len()));
+/// The number of the first row that differs, after a module without regions was a misfit.
+fn differing(rt: &impl Abort, alloc: Global, ctx: &mut Ctx) -> Option<usize> {
+    let op = make(rt, alloc, ctx);
+    assert!(rt; is_printed(rt, alloc, ctx, op, &("", None, 1, "Misfit")));
+    assert!(rt; ctx.contains_operation(op));
+    ctx.add_region(op).expect(rt, "out of memory");
+    for (number, row) in ROWS.iter().enumerate() {
+        if !is_printed(rt, alloc, ctx, op, row) {
+            return Some(number);
+        }
     }
-    live(ctx, op)?;
-    ctx.add_region(op)?;
-    failing(ROWS, ctx, |ctx, row| is_printed(alloc, ctx, op, row))
+    None
 }
 
 #[test]
-fn roots_are_printed_or_refused(rt: HostRuntime) -> Result<(), Fail> {
-    assert_eq!(rt; with_demo(rt.alloc(), differing)?, None);
-    Ok(())
+fn roots_are_printed_or_refused(rt: HostRuntime) {
+    let differing = with_demo(rt.alloc(), |alloc, ctx| Ok(differing(&rt, alloc, ctx)));
+    assert_eq!(rt; must(&rt, differing), None);
 }

@@ -1,4 +1,5 @@
 //! Plain values, separators, quoted texts and stored printers as texts, and the printing state's guards.
+use crate::must::must;
 use irtext_context::base::Context;
 use irtext_demo::{DemoAttr, DemoType};
 use irtext_print_ir::irfmt::printers::{enclosed, iter_with_sep_by, printable_from_fn, quoted};
@@ -9,7 +10,7 @@ use irtext_tests_common::contexts::Ctx;
 use irtext_tests_common::tables::differing_alone;
 use std::alloc::Global;
 use std::fmt;
-use std::test::Fail;
+use std::process::Abort;
 
 /// The printed texts, one line after the other, with one context.
 const LINES: &[&str] = &[
@@ -43,44 +44,46 @@ fn fmt_number(
 
 /// The numbers with a separator between each two, under one indent.
 fn listed(
+    rt: &impl Abort,
     alloc: Global,
     ctx: &Ctx,
     numbers: &[u64],
     separator: ListSeparator,
-) -> Result<String, Fail> {
+) -> String {
     let list = iter_with_sep_by(numbers.iter(), separator, fmt_number);
     let mut state = State::new(alloc, ());
     let mut text = String::new(alloc);
-    let guard = state.indent().ok().ok_or("too deep")?;
-    list.fmt(ctx, guard.state, &mut text).ok().ok_or("refused")?;
-    Ok(text)
+    let guard = state.indent().expect(rt, "too deep");
+    list.fmt(ctx, guard.state, &mut text).expect(rt, "refused");
+    text
 }
 
 /// A separator under one indent, a bar, and the separator under none.
-fn shown(alloc: Global, ctx: &Ctx, separator: ListSeparator) -> Result<String, Fail> {
+fn shown(rt: &impl Abort, alloc: Global, ctx: &Ctx, separator: ListSeparator) -> String {
     let mut state = State::new(alloc, ());
-    let guard = state.indent().ok().ok_or("too deep")?;
+    let guard = state.indent().expect(rt, "too deep");
     let text = format!(in alloc;
         "{}|{}",
         separator.print(ctx, guard.state),
         separator.disp(ctx)
-    )?;
-    Ok(text)
+    );
+    text.expect(rt, "out of memory")
 }
 
 /// Plain values.
-fn plain(alloc: Global, ctx: &Ctx) -> Result<String, Fail> {
-    Ok(format!(in alloc; "{} {}", (-1i8).disp(ctx), (&"a\"b").disp(ctx))?)
+fn plain(rt: &impl Abort, alloc: Global, ctx: &Ctx) -> String {
+    let text = format!(in alloc; "{} {}", (-1i8).disp(ctx), (&"a\"b").disp(ctx));
+    text.expect(rt, "out of memory")
 }
 
 /// A text between two others.
-fn between(alloc: Global, ctx: &Ctx) -> Result<String, Fail> {
+fn between(rt: &impl Abort, alloc: Global, ctx: &Ctx) -> String {
     let inside = enclosed("<", ">", quoted("a"));
-    Ok(format!(in alloc; "{}", inside.disp(ctx))?)
+    format!(in alloc; "{}", inside.disp(ctx)).expect(rt, "out of memory")
 }
 
 /// The printed text of a stored closure, and the width of the indentation that it leaves in the state.
-fn stored(alloc: Global, ctx: &Ctx) -> Result<String, Fail> {
+fn stored(rt: &impl Abort, alloc: Global, ctx: &Ctx) -> String {
     let printer = printable_from_fn(|_ctx: &Context<DemoType, DemoAttr>, state: &mut State<
         (),
     >, f: &mut String| -> fmt::Result {
@@ -92,99 +95,88 @@ fn stored(alloc: Global, ctx: &Ctx) -> Result<String, Fail> {
     let mut text = String::new(alloc);
     printer
         .fmt(ctx, &mut state, &mut text)
-        .ok()
-        .ok_or("refused")?;
-    write!(text, "{}", state.indent_width())?;
-    Ok(text)
+        .expect(rt, "refused");
+    write!(text, "{}", state.indent_width()).expect(rt, "out of memory");
+    text
 }
 
 /// A text between two others, appended to an earlier text.
-fn appended(alloc: Global, ctx: &Ctx) -> Result<String, Fail> {
+fn appended(rt: &impl Abort, alloc: Global, ctx: &Ctx) -> String {
     let inside = enclosed("<", ">", quoted("a"));
-    let mut text = String::from_str(alloc, "text: ")?;
-    inside.disp(ctx).append_to(&mut text).ok().ok_or("refused")?;
-    Ok(text)
+    let mut text = String::from_str(alloc, "text: ").expect(rt, "out of memory");
+    inside.disp(ctx).append_to(&mut text).expect(rt, "refused");
+    text
 }
 
 /// A newline under one indent, made before the state has no room for another.
-fn newline(alloc: Global, ctx: &Ctx) -> Result<String, Fail> {
+fn newline(rt: &impl Abort, alloc: Global, ctx: &Ctx) -> String {
     let mut state = State::new(alloc, ());
-    let guard = state.indent().ok().ok_or("too deep")?;
+    let guard = state.indent().expect(rt, "too deep");
     let newline = indented_nl(guard.state);
     guard.state.set_indent_width(65535);
-    let full = matches!(guard.state.indent(), Err(fmt::Error));
-    if !full {
-        return Err(Fail::from("indented"));
-    }
-    Ok(format!(in alloc; "{newline}108{}", newline.disp(ctx))?)
+    assert!(rt; matches!(guard.state.indent(), Err(fmt::Error)));
+    format!(in alloc; "{newline}108{}", newline.disp(ctx)).expect(rt, "out of memory")
 }
 
 /// A newline after a guard.
-fn after_guard(alloc: Global) -> Result<String, Fail> {
+fn after_guard(rt: &impl Abort, alloc: Global) -> String {
     let mut state = State::new(alloc, ());
-    let inside = state.indent().is_ok();
-    let newline = indented_nl(&state);
-    if !inside {
-        return Err(Fail::from("too deep"));
-    }
-    Ok(format!(in alloc; "{newline}")?)
+    assert!(rt; state.indent().is_ok());
+    format!(in alloc; "{}", indented_nl(&state)).expect(rt, "out of memory")
 }
 
 /// A newline under one indent and a number, and a newline once the guard, through which the width was changed, is dropped.
-fn widened(alloc: Global) -> Result<String, Fail> {
+fn widened(rt: &impl Abort, alloc: Global) -> String {
     let mut state = State::new(alloc, ());
     let mut text = String::new(alloc);
     {
-        let guard = state.indent().ok().ok_or("too deep")?;
-        write!(text, "{}108", indented_nl(guard.state))?;
+        let guard = state.indent().expect(rt, "too deep");
+        write!(text, "{}108", indented_nl(guard.state)).expect(rt, "out of memory");
         guard.state.set_indent_width(8);
     }
-    write!(text, "{}", indented_nl(&state))?;
-    Ok(text)
+    write!(text, "{}", indented_nl(&state)).expect(rt, "out of memory");
+    text
 }
 
 /// The printed text for a line.
-fn line(alloc: Global, ctx: &mut Ctx, number: usize) -> Result<String, Fail> {
+fn line(rt: &impl Abort, alloc: Global, ctx: &Ctx, number: usize) -> String {
     match number {
-        0 => plain(alloc, ctx),
-        1 => between(alloc, ctx),
-        2 => shown(alloc, ctx, ListSeparator::None),
-        3 => shown(alloc, ctx, ListSeparator::Newline),
-        4 => shown(alloc, ctx, ListSeparator::CharNewline(';')),
-        5 => shown(alloc, ctx, ListSeparator::Char(',')),
-        6 => shown(alloc, ctx, ListSeparator::CharSpace('→')),
-        7 => listed(alloc, ctx, &[1, 2, 3], ListSeparator::CharSpace(',')),
-        8 => listed(alloc, ctx, &[1, 2, 3], ListSeparator::CharNewline(';')),
-        9 => listed(alloc, ctx, &[], ListSeparator::CharSpace(',')),
-        10 => stored(alloc, ctx),
-        11 => newline(alloc, ctx),
-        12 => after_guard(alloc),
-        13 => appended(alloc, ctx),
-        _ => widened(alloc),
+        0 => plain(rt, alloc, ctx),
+        1 => between(rt, alloc, ctx),
+        2 => shown(rt, alloc, ctx, ListSeparator::None),
+        3 => shown(rt, alloc, ctx, ListSeparator::Newline),
+        4 => shown(rt, alloc, ctx, ListSeparator::CharNewline(';')),
+        5 => shown(rt, alloc, ctx, ListSeparator::Char(',')),
+        6 => shown(rt, alloc, ctx, ListSeparator::CharSpace('→')),
+        7 => listed(rt, alloc, ctx, &[1, 2, 3], ListSeparator::CharSpace(',')),
+        8 => listed(rt, alloc, ctx, &[1, 2, 3], ListSeparator::CharNewline(';')),
+        9 => listed(rt, alloc, ctx, &[], ListSeparator::CharSpace(',')),
+        10 => stored(rt, alloc, ctx),
+        11 => newline(rt, alloc, ctx),
+        12 => after_guard(rt, alloc),
+        13 => appended(rt, alloc, ctx),
+        _ => widened(rt, alloc),
     }
 }
 
 #[test]
-fn values_and_lists_print_themselves(rt: HostRuntime) -> Result<(), Fail> {
-    assert_eq!(rt; differing_alone(rt.alloc(), LINES, line)?, None);
-    Ok(())
+fn values_and_lists_print_themselves(rt: HostRuntime) {
+    let differing = differing_alone(rt.alloc(), LINES, |a, ctx, n| Ok(line(&rt, a, ctx, n)));
+    assert_eq!(rt; must(&rt, differing), None);
 }
 
 #[test]
-fn quoted_texts_escape_controls(rt: HostRuntime) -> Result<(), Fail> {
+fn quoted_texts_escape_controls(rt: HostRuntime) {
     let mut text = String::new(rt.alloc());
-    fmt_quoted("a\"b\\c\nd\te\u{7f}\0\r\u{1f}'é\u{1f600}\u{80}", &mut text)
-        .ok()
-        .ok_or("refused")?;
+    fmt_quoted("a\"b\\c\nd\te\u{7f}\0\r\u{1f}'é\u{1f600}\u{80}", &mut text).expect(&rt, "refused");
     assert_eq!(rt;
         text.as_str(),
         "\"a\\\"b\\\\c\\nd\\te\\u{7f}\\0\\r\\u{1f}'é\u{1f600}\u{80}\""
     );
-    Ok(())
 }
 
 #[test]
-fn a_guard_gives_back_the_limit_of_its_entry(rt: HostRuntime) -> Result<(), Fail> {
+fn a_guard_gives_back_the_limit_of_its_entry(rt: HostRuntime) {
     let mut state = State::new(rt.alloc(), ());
     assert_eq!(rt;
         state.current_region_print_depth_limit(),
@@ -192,7 +184,7 @@ fn a_guard_gives_back_the_limit_of_its_entry(rt: HostRuntime) -> Result<(), Fail
     );
     state.set_region_print_depth_limit(RegionPrintDepthLimit::Max(1));
     {
-        let guard = state.enter_region().ok_or("elided")?;
+        let guard = state.enter_region().expect(&rt, "elided");
         guard
             .state
             .set_region_print_depth_limit(RegionPrintDepthLimit::Max(9));
@@ -201,5 +193,4 @@ fn a_guard_gives_back_the_limit_of_its_entry(rt: HostRuntime) -> Result<(), Fail
         state.current_region_print_depth_limit(),
         RegionPrintDepthLimit::Max(1)
     );
-    Ok(())
 }

@@ -2,7 +2,7 @@
 use irtext_base::parsable::SourcePosition;
 use irtext_tokens::excerpt::Excerpt;
 use std::alloc::Global;
-use std::test::Fail;
+use std::process::Abort;
 
 /// Texts with a line and a column, and the excerpt there.
 const EXCERPTS: &[(&str, i32, i32, &str)] = &[
@@ -32,20 +32,22 @@ const EXCERPTS: &[(&str, i32, i32, &str)] = &[
 ];
 
 /// The excerpt of a text at a line and a column.
-fn excerpt(alloc: Global, text: &str, line: i32, column: i32) -> Result<String, Fail> {
+fn excerpt(rt: &impl Abort, alloc: Global, text: &str, line: i32, column: i32) -> String {
     let excerpt = Excerpt {
         text,
         position: SourcePosition { line, column },
     };
-    Ok(format!(in alloc; "{excerpt}")?)
+    format!(in alloc; "{excerpt}").expect(rt, "out of memory")
 }
 
 #[test]
-fn lines_with_carets(rt: HostRuntime) -> Result<(), Fail> {
+fn lines_with_carets(rt: HostRuntime) {
     for row in EXCERPTS {
-        assert_eq!(rt; excerpt(rt.alloc(), row.0, row.1, row.2)?.as_str(), row.3);
+        assert_eq!(rt;
+            excerpt(&rt, rt.alloc(), row.0, row.1, row.2).as_str(),
+            row.3
+        );
     }
-    Ok(())
 }
 
 /// A line of 130 characters.
@@ -81,9 +83,8 @@ const CUT: &[(i32, &str)] = &[
 ];
 
 #[test]
-fn long_lines_are_cut(rt: HostRuntime) -> Result<(), Fail> {
+fn long_lines_are_cut(rt: HostRuntime) {
     for row in CUT {
-        assert_eq!(rt; excerpt(rt.alloc(), WIDE, 1, row.0)?.as_str(), row.1);
+        assert_eq!(rt; excerpt(&rt, rt.alloc(), WIDE, 1, row.0).as_str(), row.1);
     }
-    Ok(())
 }

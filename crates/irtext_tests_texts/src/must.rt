@@ -1,0 +1,11 @@
+//! What every step of these tests needs: a call that fails ends the test.
+use std::process::Abort;
+use std::test::Fail;
+
+/// The value of a call that has to succeed. A failed one ends the test.
+pub(crate) fn must<X>(rt: &impl Abort, answer: Result<X, Fail>) -> X {
+    match answer {
+        Ok(value) => value,
+        Err(_) => rt.panic("a call has failed"),
+    }
+}
