@@ -1,6 +1,6 @@
 //! Operations and blocks of a context: how they are made, put into one another, and given attributes and locations.
 ghost use Rattle.std.specs.Prelude.{IsSome, OnOk};
-ghost use Rattle.irtext_context.specs.Context.{block, operation};
+ghost use Rattle.irtext_context.specs.Context.{operation};
 
 use crate::contexts::{Ctx, named};
 use crate::formats::format_or_canonical;
@@ -29,16 +29,6 @@ pub fn live(ctx: &Ctx, op: Ptr<Operation>) -> Result<(), Fail>
 {
     if !ctx.contains_operation(op) {
         return Err(Fail::from("no such operation"));
-    }
-    Ok(())
-}
-
-/// Fails if this is no live block.
-pub fn live_block(ctx: &Ctx, b: Ptr<BasicBlock>) -> Result<(), Fail>
-    ensures { OnOk result (IsSome (block ctx.now b)) }
-{
-    if !ctx.contains_block(b) {
-        return Err(Fail::from("no such block"));
     }
     Ok(())
 }
