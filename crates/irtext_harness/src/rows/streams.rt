@@ -168,10 +168,12 @@ pub(crate) struct Outcome {
 /// The outcome of what is asked.
 fn result_of(alloc: Global, s: &mut Stream<'_>, asked: Asked<'_>) -> Result<Outcome, Fail> {
     let said = said(alloc, s, asked)?;
+    let marks = s.state.has_marks();
+    let ctx = &mut *s.state.ctx;
     Ok(Outcome {
         said,
-        marks: s.state.has_marks(),
-        live: s.state.ctx.num_live(),
+        marks,
+        live: ctx.num_live(),
     })
 }
 
@@ -208,7 +210,10 @@ fn region_answer(
     answer: ParseResult<Ptr<Region>, DemoAttr>,
 ) -> Result<String, Fail> {
     match answer {
-        Ok(region) => region_text(alloc, s.state.ctx, op, region),
+        Ok(region) => {
+            let ctx = &mut *s.state.ctx;
+            region_text(alloc, ctx, op, region)
+        }
         Err(fault) => faulted(alloc, s, &fault),
     }
 }
