@@ -2,7 +2,7 @@
 use std::process::Abort;
 use std::test::Fail;
 
-/// The value of a call that has to succeed. A failed one ends the test.
+/// The value of a call that has to succeed. A failed one ends the test, and drops nothing of what it owns.
 pub(crate) fn must<X>(rt: &impl Abort, answer: Result<X, Fail>) -> X {
     match answer {
         Ok(value) => value,
