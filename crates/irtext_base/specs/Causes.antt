@@ -1,5 +1,5 @@
 -- The messages of causes and errors, in bytes.
-use Rattle.std.specs.Prelude.{ℕ, Option, Some, None, List, ◌++◌, codes, string_bytes}
+use Rattle.std.specs.Prelude.{ℕ, Bool, true, false, Option, Some, None, List, ◌++◌, codes, string_bytes}
 use Rattle.std.specs.Fmt.{decimal}
 use Rattle.std.specs.Char.{encode_utf8}
 use Rattle.irtext_base.specs.declared.base.identifier.OpId.{OpId}
@@ -55,6 +55,10 @@ expected_text expected.Type = codes "type"
 expected_text expected.Attribute = codes "attribute"
 expected_text expected.EndOfInput = codes "end of input"
 
+-- the line above the message of an error's cause
+abbrev pub heading : ErrorKind → List ℕ
+heading kind = codes "Compilation error: " ++ (kind_text kind ++ codes ".\n")
+
 -- the message of an error, with the message of its cause on the next line
 abbrev pub headed : ErrorKind → List ℕ → List ℕ
 headed kind cause = codes "Compilation error: " ++ (kind_text kind ++ (codes ".\n" ++ cause))
@@ -83,6 +87,10 @@ abbrev pub name_tracker_text : tracker.ParserNameTrackerError → List ℕ
 name_tracker_text (tracked.MultipleDefinitions name) = codes "Identifier " ++ (name ++ codes " defined more than once in the scope")
 name_tracker_text tracked.TopLevelOpRegionNotIsolatedFromAbove = codes "Regions in a top-level operation must be IsolatedFromAbove"
 
+-- how many results and names an operation has
+abbrev pub counts_text : ℕ → ℕ → List ℕ
+counts_text results names = codes "Operation has " ++ (decimal results ++ (codes " results and " ++ (decimal names ++ codes " names")))
+
 -- the message of a cause
 abbrev pub cause_text : {A : Type 0} → Cause A → List ℕ
 cause_text Memory = codes "Out of memory"
@@ -110,6 +118,12 @@ cause_text Fmt = codes "an error occurred when formatting an argument"
 cause_text (Nested' p kind err loc) = headed kind (cause_text err)
 cause_text (Parse' at p cause) = codes "Parse error at " ++ (position_text at ++ (codes "\n" ++ (cause_text cause ++ codes "\n")))
 cause_text (WrongDialect id dialect) = codes "Operation " ++ (id_text id ++ (codes " is not of dialect " ++ dialect))
+
+-- whether a cause has no other cause in it
+abbrev pub is_flat : {A : Type 0} → Cause A → Bool
+is_flat (Nested' p kind err loc) = false
+is_flat (Parse' at p cause) = false
+is_flat _ = true
 
 -- the message of an error
 abbrev pub error_text : {A : Type 0} → Error A → List ℕ

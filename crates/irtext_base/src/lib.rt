@@ -3,6 +3,7 @@
 #![tactic(auto)]
 
 pub mod base;
+mod display;
 pub mod format;
 pub mod laws;
 pub mod location;

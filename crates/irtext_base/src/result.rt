@@ -1,12 +1,14 @@
 //! Errors: their kinds and causes, with the messages of these.
-ghost use Rattle.std.specs.Prelude.{◌≡◌, Some, MatchResult, string_bytes};
-ghost use Rattle.irtext_base.specs.Causes.{kind_text, expected_text, found_text, cause_text, error_text, cause_of};
+ghost use Rattle.std.specs.Prelude.{◌≡◌, IsTrue, Some, MatchResult, string_bytes};
+ghost use Rattle.std.specs.Fmt.{WritesOnOk};
+ghost use Rattle.irtext_base.specs.Causes.{kind_text, expected_text, found_text, counts_text, is_flat, heading, cause_text, error_text, cause_of};
 ghost use Rattle.irtext_base.specs.Locations.{out_of_memory};
 ghost use Rattle.irtext_base.specs.declared.result.Cause.{Memory, Fmt};
 ghost use Rattle.irtext_base.specs.declared.result.ErrorKind.TheVariants.{InvalidArgument};
 ghost use Rattle.irtext_base.specs.declared.location.Location.{Unknown};
 
 use crate::base::{Identifier, OpId, Refusal};
+use crate::display::{fmt_between, fmt_labelled, fmt_two};
 use crate::format::FormatFault;
 use crate::location::{Location, out_of_memory};
 use crate::parsable::{ParserNameTrackerError, SourcePosition, UnresolvedReference};
@@ -183,11 +185,12 @@ impl Display for ErrorKind {
     ghost output = { λ kind. Some (kind_text kind) };
 
     fn fmt<W: fmt::Write>(&self, f: &mut fmt::Formatter<W>) -> fmt::Result {
-        match self {
-            ErrorKind::InvalidInput => write!(f, "invalid input program"),
-            ErrorKind::VerificationFailed => write!(f, "verification failed"),
-            ErrorKind::InvalidArgument => write!(f, "invalid argument"),
-        }
+        let words = match self {
+            ErrorKind::InvalidInput => "invalid input program",
+            ErrorKind::VerificationFailed => "verification failed",
+            ErrorKind::InvalidArgument => "invalid argument",
+        };
+        write!(f, "{words}")
     }
 }
 
@@ -196,9 +199,9 @@ impl Display for Expected {
 
     fn fmt<W: fmt::Write>(&self, f: &mut fmt::Formatter<W>) -> fmt::Result {
         let words = match self {
-            Expected::Text(text) => return write!(f, "`{text}`"),
-            Expected::Literal(text) => return write!(f, "`{text}`"),
-            Expected::Char(c) => return write!(f, "`{c}`"),
+            Expected::Text(text) => return fmt_between("`", text, "`", f),
+            Expected::Literal(text) => return fmt_between("`", text, "`", f),
+            Expected::Char(c) => return fmt_between("`", c, "`", f),
             Expected::Identifier => "identifier",
             Expected::Digit => "digit",
             Expected::HexadecimalDigit => "hexadecimal digit",
@@ -233,10 +236,70 @@ impl Display for Found {
 
     fn fmt<W: fmt::Write>(&self, f: &mut fmt::Formatter<W>) -> fmt::Result {
         match self.0 {
-            Some(c) => write!(f, "`{c}`"),
-            None => write!(f, "end of input"),
+            Some(c) => fmt_between("`", &c, "`", f),
+            None => f.write_str("end of input"),
         }
     }
+}
+
+/// Writes how many results and names an operation has.
+fn fmt_counts<W: fmt::Write>(results: usize, names: usize, f: &mut fmt::Formatter<W>) -> fmt::Result
+    ensures { WritesOnOk W.write_str_gives f.old result (counts_text results names) f.new }
+{
+    write!(f, "Operation has {results} results and {names} names")
+}
+
+/// Writes the message of a cause that has no other cause in it.
+fn fmt_flat<A, W: fmt::Write>(cause: &Cause<A>, f: &mut fmt::Formatter<W>) -> fmt::Result
+    requires { IsTrue (is_flat cause.now) }
+    ensures { WritesOnOk W.write_str_gives f.old result (cause_text cause.now) f.new }
+{
+    match cause {
+        Cause::Memory => f.write_str("Out of memory"),
+        Cause::StreamFailed => f.write_str("The stream has failed"),
+        Cause::Unexpected { found, expected } => {
+            fmt_two("Unexpected ", &Found(*found), ", expected ", expected, f)
+        }
+        Cause::NumberRange(text) => fmt_labelled("Number out of range: ", text, f),
+        Cause::BadEscape(c) => fmt_labelled("Unexpected escaped character \\", c, f),
+        Cause::BadUnicodeEscape(digits) => {
+            fmt_between("Invalid unicode escape \\u{", digits, "}", f)
+        }
+        Cause::EmptyItem => f.write_str("Repeated item reads nothing"),
+        Cause::BadSeparator => f.write_str("List separator is white space"),
+        Cause::UnregisteredDialect(name) => fmt_labelled("Unregistered dialect ", name, f),
+        Cause::UnregisteredOp(id) => fmt_labelled("Unregistered Op ", id, f),
+        Cause::ResultCount { results, names } => fmt_counts(*results, *names, f),
+        Cause::NoActiveScope(name) => fmt_labelled("No active scope for identifier ", name, f),
+        Cause::UnresolvedReference(reference) => reference.fmt(f),
+        Cause::ParserNameTrackerError(error) => error.fmt(f),
+        Cause::DuplicateIndex(index) => fmt_labelled("Duplicate outline index: ", index, f),
+        Cause::UnknownIndex(index) => fmt_labelled(
+            "No operation or block found for outline index: ",
+            index,
+            f,
+        ),
+        Cause::UnknownPrintOnce(index) => {
+            fmt_labelled("No PrintOnceAttr found for outline index: ", index, f)
+        }
+        Cause::ReservedKey(key) => fmt_labelled("Reserved attribute key: ", key, f),
+        Cause::OwnText(text) => text.fmt(f),
+        Cause::FormatFault(fault) => fault.fmt(f),
+        Cause::Text(text) => text.fmt(f),
+        Cause::Fmt => f.write_str("an error occurred when formatting an argument"),
+        Cause::Nested(_) => unreachable!(),
+        Cause::Parse { .. } => unreachable!(),
+        Cause::WrongDialect { id, dialect } => {
+            fmt_two("Operation ", id, " is not of dialect ", dialect, f)
+        }
+    }
+}
+
+/// Writes the line above the message of an error's cause.
+fn fmt_heading<W: fmt::Write>(kind: ErrorKind, f: &mut fmt::Formatter<W>) -> fmt::Result
+    ensures { WritesOnOk W.write_str_gives f.old result (heading kind) f.new }
+{
+    fmt_between("Compilation error: ", &kind, ".\n", f)
 }
 
 impl<A> Display for Cause<A> {
@@ -245,46 +308,16 @@ impl<A> Display for Cause<A> {
     #[cycle(cause)]
     fn fmt<W: fmt::Write>(&self, f: &mut fmt::Formatter<W>) -> fmt::Result {
         match self {
-            Cause::Memory => write!(f, "Out of memory"),
-            Cause::StreamFailed => write!(f, "The stream has failed"),
-            Cause::Unexpected { found, expected } => {
-                let found = Found(*found);
-                write!(f, "Unexpected {found}, expected {expected}")
+            Cause::Nested(error) => {
+                fmt_heading(error.kind, f)?;
+                error.err.fmt(f)
             }
-            Cause::NumberRange(text) => write!(f, "Number out of range: {text}"),
-            Cause::BadEscape(c) => write!(f, "Unexpected escaped character \\{c}"),
-            Cause::BadUnicodeEscape(digits) => write!(f, "Invalid unicode escape \\u{{{digits}}}"),
-            Cause::EmptyItem => write!(f, "Repeated item reads nothing"),
-            Cause::BadSeparator => write!(f, "List separator is white space"),
-            Cause::UnregisteredDialect(name) => write!(f, "Unregistered dialect {name}"),
-            Cause::UnregisteredOp(id) => write!(f, "Unregistered Op {id}"),
-            Cause::ResultCount { results, names } => {
-                write!(f, "Operation has {results} results and {names} names")
-            }
-            Cause::NoActiveScope(name) => write!(f, "No active scope for identifier {name}"),
-            Cause::UnresolvedReference(reference) => write!(f, "{reference}"),
-            Cause::ParserNameTrackerError(error) => write!(f, "{error}"),
-            Cause::DuplicateIndex(index) => write!(f, "Duplicate outline index: {index}"),
-            Cause::UnknownIndex(index) => {
-                write!(f, "No operation or block found for outline index: {index}")
-            }
-            Cause::UnknownPrintOnce(index) => {
-                write!(f, "No PrintOnceAttr found for outline index: {index}")
-            }
-            Cause::ReservedKey(key) => write!(f, "Reserved attribute key: {key}"),
-            Cause::OwnText(text) => write!(f, "{text}"),
-            Cause::FormatFault(fault) => write!(f, "{fault}"),
-            Cause::Text(text) => write!(f, "{text}"),
-            Cause::Fmt => write!(f, "an error occurred when formatting an argument"),
-            Cause::Nested(error) => (**error).fmt(f),
             Cause::Parse { at, cause } => {
-                write!(f, "Parse error at {at}\n")?;
+                fmt_between("Parse error at ", at, "\n", f)?;
                 (**cause).fmt(f)?;
-                write!(f, "\n")
+                f.write_str("\n")
             }
-            Cause::WrongDialect { id, dialect } => {
-                write!(f, "Operation {id} is not of dialect {dialect}")
-            }
+            _ => fmt_flat(self, f),
         }
     }
 }
@@ -292,10 +325,8 @@ impl<A> Display for Cause<A> {
 impl<A> Display for Error<A> {
     ghost output = { λ error. Some (error_text error) };
 
-    #[cycle(cause)]
     fn fmt<W: fmt::Write>(&self, f: &mut fmt::Formatter<W>) -> fmt::Result {
-        let kind = self.kind;
-        write!(f, "Compilation error: {kind}.\n")?;
+        fmt_heading(self.kind, f)?;
         self.err.fmt(f)
     }
 }

@@ -3,6 +3,7 @@ ghost use Rattle.std.specs.Prelude.{Some, codes, ◌++◌};
 ghost use Rattle.irtext_base.specs.Causes.{name_tracker_text, unresolved_text};
 
 use crate::base::Identifier;
+use crate::display::fmt_between;
 use std::fmt;
 use std::fmt::Display;
 
@@ -24,9 +25,11 @@ impl Display for UnresolvedReference {
 
     fn fmt<W: fmt::Write>(&self, f: &mut fmt::Formatter<W>) -> fmt::Result {
         let name = &self.0;
-        write!(
+        fmt_between(
+            "Identifier ",
+            name,
+            " was not resolved to any definition in the scope",
             f,
-            "Identifier {name} was not resolved to any definition in the scope"
         )
     }
 }
@@ -37,13 +40,15 @@ impl Display for ParserNameTrackerError {
     fn fmt<W: fmt::Write>(&self, f: &mut fmt::Formatter<W>) -> fmt::Result {
         match self {
             ParserNameTrackerError::MultipleDefinitions(name) => {
-                write!(f, "Identifier {name} defined more than once in the scope")
+                fmt_between(
+                    "Identifier ",
+                    name,
+                    " defined more than once in the scope",
+                    f,
+                )
             }
             ParserNameTrackerError::TopLevelOpRegionNotIsolatedFromAbove => {
-                write!(
-                    f,
-                    "Regions in a top-level operation must be IsolatedFromAbove"
-                )
+                f.write_str("Regions in a top-level operation must be IsolatedFromAbove")
             }
         }
     }
