@@ -12,7 +12,7 @@ use Rattle.irtext_base.specs.declared.location.walk.Frame.TheVariants as frame
 use Rattle.irtext_base.specs.declared.location.walk.Turn.{Turn}
 use Rattle.irtext_base.specs.declared.location.walk.Turn.TheVariants.{Inside, Done}
 use Rattle.irtext_base.specs.Locations.{LocationOf, LocationsOf, LocationView, LocationViews, src_pos, fused, named, call_site, unknown, no_location, location, location_view, attr_view_in, in_row}
-use Rattle.irtext_base.specs.Walks.{Rule, same_sources, Taken, still, made, joined, taken, row_taken, Reached, Continues, Opens, IsInside, Enters, in_front, row_with, row_left, row_rest, row_closing, closed, closing, resume, begun, turns, all_turns, row_turns, frame_turns, stack_turns, turn_turns, work}
+use Rattle.irtext_base.specs.Walks.{Rule, same_sources, Taken, still, made, joined, taken, row_taken, Reached, Continues, in_front, row_with, row_left, row_rest, closed, closing, resume, begun, turns, all_turns, row_turns, frame_turns, stack_turns, work}
 use Rattle.irtext_base.proofs.Characters.{and_left}
 use Rattle.irtext_base.proofs.LocationViews.{seen-src_pos, seen-named, seen-call_site, seen-unknown}
 
@@ -93,36 +93,18 @@ module _ {A : Type 0} (old new : List (Frame A)) (f : Frame A) (e : new ≡ old 
   stack_new : stack_turns new ≡ stack_turns old + frame_turns f
   stack_new = ap stack_turns e ∙ stack_push old f
 
-inside_taken : {W A : Type 0} (r : Rule W) (w : W) (l : Location A) (t : Turn A) → IsInside l t → begun r t w ≡ taken r w (location_view l)
-inside_taken r w l (Inside k) e = ap (λ x. taken r w (location_view x)) e
-inside_taken r w l (Done copy) e = absurd e
-
-inside_turns : {A : Type 0} (l : Location A) (t : Turn A) → IsInside l t → turn_turns t ≡ turns (location_view l)
-inside_turns l (Inside k) e = ap (λ x. turns (location_view x)) e
-inside_turns l (Done copy) e = absurd e
-
--- a frame was opened around a location
-module _ {A : Type 0} (old new : Vec (Frame A) Global) (f : Frame A) (l : Location A) (t : Turn A) (h : Enters f l old t new) where
-  entered : {W : Type 0} (r : Rule W) (w : W) → resume r new.items (begun r t w) ≡ resume r old.items (closed r f (taken r w (location_view l)))
-  entered r w = ap (resume r new.items) (inside_taken r w l t h.inside) ∙ resume_new old.items new.items f h.opened r (taken r w (location_view l))
-
-  entered_work : work new.items t ≡ stack_turns old.items + (frame_turns f + turns (location_view l))
-  entered_work =
-      let more : stack_turns new.items ≡ stack_turns old.items + frame_turns f = stack_new old.items new.items f h.opened in
-      omega (arith, more, inside_turns l t h.inside)
-
 -- a list goes on with the next of its locations
-module _ {A : Type 0} (old new : Vec (Frame A) Global) (row : Row A) (next : Location A) (others : Bor (List (Location A))) (t : Turn A)
-    (h : Enters (frame.Fused (record { metadata = row.metadata; copies = row.copies; left = others })) next old t new) (s : row.left.now ≡ next ∷ others.now) where
-  pub row_goes_on : {W : Type 0} (r : Rule W) → Continues r (row_rest row) old t new
+module _ {A : Type 0} (old new : List (Frame A)) (row : Row A) (next : Location A) (others : Bor (List (Location A)))
+    (e : new ≡ old ++ frame.Fused (record { metadata = row.metadata; copies = row.copies; left = others }) ∷ []) (s : row.left.now ≡ next ∷ others.now) where
+  pub row_goes_on : {W : Type 0} (r : Rule W) (w : W) → resume r new (taken r w (location_view next)) ≡ resume r old (row_rest row r w)
   row_goes_on r w =
-      entered old new _ next t h r w
-      ∙ ap (λ ls. resume r old.items (made (row_with row) (row_taken r w (in_row (map location_view ls))))) (sym s)
+      resume_new old new _ e r (taken r w (location_view next))
+      ∙ ap (λ ls. resume r old (made (row_with row) (row_taken r w (in_row (map location_view ls))))) (sym s)
 
-  pub row_turns_on : work new.items t ≡ stack_turns old.items + row_turns row
+  pub row_turns_on : stack_turns new + turns (location_view next) ≡ stack_turns old + row_turns row
   row_turns_on =
       let left : row_turns row ≡ suc (turns (location_view next) + all_turns (in_row (map location_view others.now))) = ap (λ ls. all_turns (in_row (map location_view ls))) s in
-      let more : work new.items t ≡ stack_turns old.items + (suc (all_turns (in_row (map location_view others.now))) + turns (location_view next)) = entered_work old new _ next t h in
+      let more : stack_turns new ≡ stack_turns old + suc (all_turns (in_row (map location_view others.now))) = stack_new old new _ e in
       omega (arith, left, more)
 
 none : {X : Type 0} (xs : List X) → length xs ≡ 0 → xs ≡ []
@@ -141,59 +123,59 @@ module _ {A : Type 0} (row : Row A) (h : length row.left.now ≡ 0) where
   row_turns_end old = ap (λ ls. stack_turns old + all_turns (in_row (map location_view ls))) (sym (none row.left.now h))
 
 -- a row with one copy more
-pub row_noted : {W A : Type 0} (r : Rule W) (w : W) (row later : Row A) (copy : Location A) → later.metadata ≡ row.metadata → later.left ≡ row.left
-    → later.copies.items ≡ row.copies.items ++ copy ∷ [] → row_rest later r w ≡ row_closing row copy r w
-row_noted r w row later copy m l e =
+pub row_noted : {W A : Type 0} (r : Rule W) (w : W) (f : Frame A) (row later : Row A) (copy : Location A) → f ≡ frame.Fused row → later.metadata ≡ row.metadata → later.left ≡ row.left
+    → later.copies.items ≡ row.copies.items ++ copy ∷ [] → row_rest later r w ≡ closing f copy r w
+row_noted r w f row later copy is m l e =
     let left = row_taken r w (row_left row) in
     let before = map location_view row.copies.items in
     let front : in_front (map location_view later.copies.items) left.value ≡ in_front before (location (location_view copy) left.value)
     = ap (λ ks. in_front (map location_view ks) left.value) e ∙ (ap (λ ks. in_front ks left.value) (map-append location_view row.copies.items (copy ∷ [])) ∙ in_front_last before (location_view copy) left.value) in
     ap₂ (λ x y. made (λ ls. fused (attr_view_in x.now) (in_front (map location_view later.copies.items) ls)) (row_taken r w (in_row (map location_view y.now)))) m l
-    ∙ ap (λ ls. record { known = left.known; value = fused (attr_view_in row.metadata.now) ls; after = left.after }) front
+    ∙ (ap (λ ls. record { known = left.known; value = fused (attr_view_in row.metadata.now) ls; after = left.after }) front
+    ∙ ap (λ g. closing g copy r w) (sym is))
 
 pub continues_as : {W A : Type 0} (r : Rule W) (rest other : Rule W → W → Taken W (LocationView A)) (old : Vec (Frame A) Global) (t : Turn A) (new : Vec (Frame A) Global)
     → ((w : W) → rest r w ≡ other r w) → Continues r rest old t new → Continues r other old t new
 continues_as r rest other old t new e h = λ w. h w ∙ ap (resume r old.items) (e w)
 
 -- after a callee comes its caller
-module _ {A : Type 0} (old new : Vec (Frame A) Global) (f : Frame A) (caller : Bor (Location A)) (copy : Location A) (is : f ≡ frame.Callee caller) (t : Turn A)
-    (h : Enters (frame.Caller copy) caller.now old t new) where
-  pub caller_next : {W : Type 0} (r : Rule W) → Continues r (closing f copy) old t new
-  caller_next r w = entered old new _ caller.now t h r w ∙ ap (λ g. resume r old.items (closing g copy r w)) (sym is)
+module _ {A : Type 0} (old new : List (Frame A)) (f : Frame A) (caller : Bor (Location A)) (copy : Location A) (is : f ≡ frame.Callee caller) (e : new ≡ old ++ frame.Caller copy ∷ []) where
+  pub caller_next : {W : Type 0} (r : Rule W) (w : W) → resume r new (taken r w (location_view caller.now)) ≡ resume r old (closing f copy r w)
+  caller_next r w = resume_new old new _ e r (taken r w (location_view caller.now)) ∙ ap (λ g. resume r old (closing g copy r w)) (sym is)
 
-  pub caller_less : work new.items t < stack_turns old.items + frame_turns f
+  pub caller_less : stack_turns new + turns (location_view caller.now) < stack_turns old + frame_turns f
   caller_less =
-      let more : work new.items t ≡ stack_turns old.items + (1 + turns (location_view caller.now)) = entered_work old new _ caller.now t h in
+      let more : stack_turns new ≡ stack_turns old + 1 = stack_new old new _ e in
       let all : frame_turns f ≡ suc (suc (turns (location_view caller.now))) = ap frame_turns is in
       omega (arith, more, all)
 
 -- a name is opened
-module _ {A : Type 0} (old new : Vec (Frame A) Global) (l : Location A) (name : Box (String Global) Global) (child : Box (Location A) Global) (is : l ≡ Named name child)
-    (text : Bor (String Global)) (n : text.now ≡ name.value) (inside : Location A) (i : inside ≡ child.value) (t : Turn A) (h : Enters (frame.Named text) inside old t new) where
+module _ {A : Type 0} (old new : List (Frame A)) (l : Location A) (name : Box (String Global) Global) (child : Box (Location A) Global) (is : l ≡ Named name child)
+    (text : Bor (String Global)) (n : text.now ≡ name.value) (inside : Location A) (i : inside ≡ child.value) (e : new ≡ old ++ frame.Named text ∷ []) where
   look : location_view l ≡ named (string_bytes text.now) (location_view inside)
   look = ap location_view is ∙ (seen-named name child ∙ sym (ap₂ (λ x y. named (string_bytes x) (location_view y)) n i))
 
-  pub name_opens : {W : Type 0} (r : Rule W) (w : W) → Opens r l w old t w new
-  name_opens r w = entered old new _ inside t h r w ∙ ap (λ v. resume r old.items (taken r w v)) (sym look)
+  pub name_opens : {W : Type 0} (r : Rule W) (w : W) → resume r new (taken r w (location_view inside)) ≡ resume r old (taken r w (location_view l))
+  name_opens r w = resume_new old new _ e r (taken r w (location_view inside)) ∙ ap (λ v. resume r old (taken r w v)) (sym look)
 
-  pub name_less : work new.items t < stack_turns old.items + turns (location_view l)
+  pub name_less : stack_turns new + turns (location_view inside) < stack_turns old + turns (location_view l)
   name_less =
-      let more : work new.items t ≡ stack_turns old.items + (1 + turns (location_view inside)) = entered_work old new _ inside t h in
+      let more : stack_turns new ≡ stack_turns old + 1 = stack_new old new _ e in
       let all : turns (location_view l) ≡ suc (suc (turns (location_view inside))) = ap turns look in
       omega (arith, more, all)
 
 -- a callee is opened, whose caller waits
-module _ {A : Type 0} (old new : Vec (Frame A) Global) (l : Location A) (callee caller : Box (Location A) Global) (is : l ≡ CallSite callee caller)
-    (inside : Location A) (i : inside ≡ callee.value) (waits : Bor (Location A)) (j : waits.now ≡ caller.value) (t : Turn A) (h : Enters (frame.Callee waits) inside old t new) where
+module _ {A : Type 0} (old new : List (Frame A)) (l : Location A) (callee caller : Box (Location A) Global) (is : l ≡ CallSite callee caller)
+    (inside : Location A) (i : inside ≡ callee.value) (waits : Bor (Location A)) (j : waits.now ≡ caller.value) (e : new ≡ old ++ frame.Callee waits ∷ []) where
   seen : location_view l ≡ call_site (location_view inside) (location_view waits.now)
   seen = ap location_view is ∙ (seen-call_site callee caller ∙ sym (ap₂ (λ x y. call_site (location_view x) (location_view y)) i j))
 
-  pub call_site_opens : {W : Type 0} (r : Rule W) (w : W) → Opens r l w old t w new
-  call_site_opens r w = entered old new _ inside t h r w ∙ ap (λ v. resume r old.items (taken r w v)) (sym seen)
+  pub call_site_opens : {W : Type 0} (r : Rule W) (w : W) → resume r new (taken r w (location_view inside)) ≡ resume r old (taken r w (location_view l))
+  call_site_opens r w = resume_new old new _ e r (taken r w (location_view inside)) ∙ ap (λ v. resume r old (taken r w v)) (sym seen)
 
-  pub call_site_less : work new.items t < stack_turns old.items + turns (location_view l)
+  pub call_site_less : stack_turns new + turns (location_view inside) < stack_turns old + turns (location_view l)
   call_site_less =
-      let more : work new.items t ≡ stack_turns old.items + (suc (suc (turns (location_view waits.now))) + turns (location_view inside)) = entered_work old new _ inside t h in
+      let more : stack_turns new ≡ stack_turns old + suc (suc (turns (location_view waits.now))) = stack_new old new _ e in
       let all : turns (location_view l) ≡ suc (suc (suc (turns (location_view inside) + turns (location_view waits.now)))) = ap turns seen in
       omega (arith, more, all)
 

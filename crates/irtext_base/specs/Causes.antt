@@ -87,10 +87,6 @@ abbrev pub name_tracker_text : tracker.ParserNameTrackerError → List ℕ
 name_tracker_text (tracked.MultipleDefinitions name) = codes "Identifier " ++ (name ++ codes " defined more than once in the scope")
 name_tracker_text tracked.TopLevelOpRegionNotIsolatedFromAbove = codes "Regions in a top-level operation must be IsolatedFromAbove"
 
--- how many results and names an operation has
-abbrev pub counts_text : ℕ → ℕ → List ℕ
-counts_text results names = codes "Operation has " ++ (decimal results ++ (codes " results and " ++ (decimal names ++ codes " names")))
-
 -- the message of a cause
 abbrev pub cause_text : {A : Type 0} → Cause A → List ℕ
 cause_text Memory = codes "Out of memory"

@@ -1,5 +1,5 @@
 -- Copies of locations with other sources: what they are, and what the open frames still make of the copy inside them.
-use Rattle.std.specs.Prelude.{◌≡◌, ℕ, ◌+◌, suc, Bool, true, ◌&&◌, List, [], ◌∷◌, ◌++◌, fold, length, map, string_bytes, Vec}
+use Rattle.std.specs.Prelude.{◌≡◌, ℕ, ◌+◌, suc, Bool, true, ◌&&◌, List, [], ◌∷◌, fold, length, map, string_bytes, Vec}
 use Rattle.std.specs.declared.alloc.Global.{Global}
 use Rattle.irtext_base.specs.declared.location.Location.{Location}
 use Rattle.irtext_base.specs.declared.location.Source.{Source}
@@ -115,20 +115,6 @@ begun r (Done l) w = still (location_view l) w
 -- what an open frame makes of this finished copy inside it
 abbrev pub closing : {W A : Type 0} → Frame A → Location A → Rule W → W → Taken W (LocationView A)
 closing f copy r w = closed r f (still (location_view copy) w)
-
--- what a row that is open makes of a finished copy of the location after its copies
-abbrev pub row_closing : {W A : Type 0} → Row A → Location A → Rule W → W → Taken W (LocationView A)
-row_closing row = closing (frame.Fused row)
-
--- the location is copied next
-abbrev pub IsInside : {A : Type 0} → Location A → Turn A → Type 0
-IsInside l (Inside k) = k.now ≡ l
-IsInside l (Done copy) = ⊥
-
--- the frame was opened around the location, which is copied next
-pub record Enters {A : Type 0} (f : Frame A) (l : Location A) (old : Vec (Frame A) Global) (t : Turn A) (new : Vec (Frame A) Global) : Type 0 where
-  pub inside : IsInside l t
-  pub opened : new.items ≡ old.items ++ f ∷ []
 
 -- from any state, what is now inside the new frames makes the same as `rest` inside the old ones
 abbrev pub Continues : {W A : Type 0} → Rule W → (Rule W → W → Taken W (LocationView A))

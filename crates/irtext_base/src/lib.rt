@@ -3,7 +3,6 @@
 #![tactic(auto)]
 
 pub mod base;
-mod display;
 pub mod format;
 pub mod laws;
 pub mod location;

@@ -1,21 +1,19 @@
 //! Errors: their kinds and causes, with the messages of these.
-ghost use Rattle.std.specs.Prelude.{◌≡◌, IsTrue, Some, MatchResult, string_bytes};
-ghost use Rattle.std.specs.Fmt.{WritesOnOk};
-ghost use Rattle.irtext_base.specs.Causes.{kind_text, expected_text, found_text, counts_text, is_flat, heading, cause_text, error_text, cause_of};
+ghost use Rattle.std.specs.Prelude.{◌≡◌, ◌++◌, codes, IsTrue, Some, MatchResult, string_bytes};
+ghost use Rattle.std.specs.Fmt.{◌++?◌, DisplaysOnOk, WritesOnOk};
+ghost use Rattle.irtext_base.specs.Causes.{kind_text, expected_text, found_text, is_flat, heading, cause_text, error_text, cause_of};
 ghost use Rattle.irtext_base.specs.Locations.{out_of_memory};
 ghost use Rattle.irtext_base.specs.declared.result.Cause.{Memory, Fmt};
 ghost use Rattle.irtext_base.specs.declared.result.ErrorKind.TheVariants.{InvalidArgument};
 ghost use Rattle.irtext_base.specs.declared.location.Location.{Unknown};
 
 use crate::base::{Identifier, OpId, Refusal};
-use crate::display::{fmt_between, fmt_labelled, fmt_two};
 use crate::format::FormatFault;
 use crate::location::{Location, out_of_memory};
 use crate::parsable::{ParserNameTrackerError, SourcePosition, UnresolvedReference};
 use arrayvec::ArrayString;
 use std::alloc::{AllocError, AllocFailed};
-use std::fmt;
-use std::fmt::Display;
+use std::fmt::{self, Display, Formatter, Write};
 
 /// The kind of an error.
 #[derive(Clone, Copy, Debug, PartialEq, Eq)]
@@ -184,24 +182,23 @@ impl<A: Drop> Error<A> {
 impl Display for ErrorKind {
     ghost output = { λ kind. Some (kind_text kind) };
 
-    fn fmt<W: fmt::Write>(&self, f: &mut fmt::Formatter<W>) -> fmt::Result {
-        let words = match self {
-            ErrorKind::InvalidInput => "invalid input program",
-            ErrorKind::VerificationFailed => "verification failed",
-            ErrorKind::InvalidArgument => "invalid argument",
-        };
-        write!(f, "{words}")
+    fn fmt<W: Write>(&self, f: &mut Formatter<W>) -> fmt::Result {
+        match self {
+            ErrorKind::InvalidInput => write!(f, "invalid input program"),
+            ErrorKind::VerificationFailed => write!(f, "verification failed"),
+            ErrorKind::InvalidArgument => write!(f, "invalid argument"),
+        }
     }
 }
 
 impl Display for Expected {
     ghost output = { λ expected. Some (expected_text expected) };
 
-    fn fmt<W: fmt::Write>(&self, f: &mut fmt::Formatter<W>) -> fmt::Result {
+    fn fmt<W: Write>(&self, f: &mut Formatter<W>) -> fmt::Result {
         let words = match self {
-            Expected::Text(text) => return fmt_between("`", text, "`", f),
-            Expected::Literal(text) => return fmt_between("`", text, "`", f),
-            Expected::Char(c) => return fmt_between("`", c, "`", f),
+            Expected::Text(text) => return write!(f, "`{text}`"),
+            Expected::Literal(text) => return write!(f, "`{text}`"),
+            Expected::Char(c) => return write!(f, "`{c}`"),
             Expected::Identifier => "identifier",
             Expected::Digit => "digit",
             Expected::HexadecimalDigit => "hexadecimal digit",
@@ -221,36 +218,30 @@ impl Display for Expected {
 impl Display for StringError {
     ghost output = { λ text. Some (string_bytes text.0) };
 
-    fn fmt<W: fmt::Write>(&self, f: &mut fmt::Formatter<W>) -> fmt::Result {
-        let text = &self.0;
-        write!(f, "{text}")
+    fn fmt<W: Write>(&self, f: &mut Formatter<W>) -> fmt::Result {
+        self.0.fmt(f)
     }
 }
 
-/// What a parse error found: a character, or the end.
-#[derive(Clone, Copy)]
-struct Found(Option<char>);
-
-impl Display for Found {
-    ghost output = { λ found. Some (found_text found.0) };
-
-    fn fmt<W: fmt::Write>(&self, f: &mut fmt::Formatter<W>) -> fmt::Result {
-        match self.0 {
-            Some(c) => fmt_between("`", &c, "`", f),
-            None => f.write_str("end of input"),
-        }
-    }
-}
-
-/// Writes how many results and names an operation has.
-fn fmt_counts<W: fmt::Write>(results: usize, names: usize, f: &mut fmt::Formatter<W>) -> fmt::Result
-    ensures { WritesOnOk W.write_str_gives f.old result (counts_text results names) f.new }
+/// Writes a value after a text.
+fn labelled<X: Display, W: Write>(label: &str, value: &X, f: &mut Formatter<W>) -> fmt::Result
+    ensures { DisplaysOnOk W.write_str_gives f.old result (Some label.now ++? X.output value.now) f.new }
 {
-    write!(f, "Operation has {results} results and {names} names")
+    write!(f, "{label}{value}")
+}
+
+/// Writes what was found where something else is expected: a character, or the end.
+fn unexpected<W: Write>(found: Option<char>, f: &mut Formatter<W>) -> fmt::Result
+    ensures { WritesOnOk W.write_str_gives f.old result (codes "Unexpected " ++ found_text found) f.new }
+{
+    match found {
+        Some(c) => write!(f, "Unexpected `{c}`"),
+        None => write!(f, "Unexpected end of input"),
+    }
 }
 
 /// Writes the message of a cause that has no other cause in it.
-fn fmt_flat<A, W: fmt::Write>(cause: &Cause<A>, f: &mut fmt::Formatter<W>) -> fmt::Result
+fn message<A, W: Write>(cause: &Cause<A>, f: &mut Formatter<W>) -> fmt::Result
     requires { IsTrue (is_flat cause.now) }
     ensures { WritesOnOk W.write_str_gives f.old result (cause_text cause.now) f.new }
 {
@@ -258,66 +249,60 @@ fn fmt_flat<A, W: fmt::Write>(cause: &Cause<A>, f: &mut fmt::Formatter<W>) -> fm
         Cause::Memory => f.write_str("Out of memory"),
         Cause::StreamFailed => f.write_str("The stream has failed"),
         Cause::Unexpected { found, expected } => {
-            fmt_two("Unexpected ", &Found(*found), ", expected ", expected, f)
+            unexpected(*found, f)?;
+            labelled(", expected ", expected, f)
         }
-        Cause::NumberRange(text) => fmt_labelled("Number out of range: ", text, f),
-        Cause::BadEscape(c) => fmt_labelled("Unexpected escaped character \\", c, f),
-        Cause::BadUnicodeEscape(digits) => {
-            fmt_between("Invalid unicode escape \\u{", digits, "}", f)
-        }
+        Cause::NumberRange(text) => labelled("Number out of range: ", text, f),
+        Cause::BadEscape(c) => labelled("Unexpected escaped character \\", c, f),
+        Cause::BadUnicodeEscape(digits) => write!(f, "Invalid unicode escape \\u{{{digits}}}"),
         Cause::EmptyItem => f.write_str("Repeated item reads nothing"),
         Cause::BadSeparator => f.write_str("List separator is white space"),
-        Cause::UnregisteredDialect(name) => fmt_labelled("Unregistered dialect ", name, f),
-        Cause::UnregisteredOp(id) => fmt_labelled("Unregistered Op ", id, f),
-        Cause::ResultCount { results, names } => fmt_counts(*results, *names, f),
-        Cause::NoActiveScope(name) => fmt_labelled("No active scope for identifier ", name, f),
+        Cause::UnregisteredDialect(name) => labelled("Unregistered dialect ", name, f),
+        Cause::UnregisteredOp(id) => labelled("Unregistered Op ", id, f),
+        Cause::ResultCount { results, names } => {
+            write!(f, "Operation has {results} results and {names} names")
+        }
+        Cause::NoActiveScope(name) => labelled("No active scope for identifier ", name, f),
         Cause::UnresolvedReference(reference) => reference.fmt(f),
         Cause::ParserNameTrackerError(error) => error.fmt(f),
-        Cause::DuplicateIndex(index) => fmt_labelled("Duplicate outline index: ", index, f),
-        Cause::UnknownIndex(index) => fmt_labelled(
-            "No operation or block found for outline index: ",
-            index,
-            f,
-        ),
-        Cause::UnknownPrintOnce(index) => {
-            fmt_labelled("No PrintOnceAttr found for outline index: ", index, f)
-        }
-        Cause::ReservedKey(key) => fmt_labelled("Reserved attribute key: ", key, f),
+        Cause::DuplicateIndex(i) => labelled("Duplicate outline index: ", i, f),
+        Cause::UnknownIndex(i) => labelled("No operation or block found for outline index: ", i, f),
+        Cause::UnknownPrintOnce(i) => labelled("No PrintOnceAttr found for outline index: ", i, f),
+        Cause::ReservedKey(key) => labelled("Reserved attribute key: ", key, f),
         Cause::OwnText(text) => text.fmt(f),
         Cause::FormatFault(fault) => fault.fmt(f),
         Cause::Text(text) => text.fmt(f),
         Cause::Fmt => f.write_str("an error occurred when formatting an argument"),
-        Cause::Nested(_) => unreachable!(),
-        Cause::Parse { .. } => unreachable!(),
         Cause::WrongDialect { id, dialect } => {
-            fmt_two("Operation ", id, " is not of dialect ", dialect, f)
+            write!(f, "Operation {id} is not of dialect {dialect}")
         }
+        Cause::Nested(_) | Cause::Parse { .. } => unreachable!(),
     }
 }
 
 /// Writes the line above the message of an error's cause.
-fn fmt_heading<W: fmt::Write>(kind: ErrorKind, f: &mut fmt::Formatter<W>) -> fmt::Result
+fn heading<W: Write>(kind: ErrorKind, f: &mut Formatter<W>) -> fmt::Result
     ensures { WritesOnOk W.write_str_gives f.old result (heading kind) f.new }
 {
-    fmt_between("Compilation error: ", &kind, ".\n", f)
+    write!(f, "Compilation error: {kind}.\n")
 }
 
 impl<A> Display for Cause<A> {
     ghost output = { λ cause. Some (cause_text cause) };
 
     #[cycle(cause)]
-    fn fmt<W: fmt::Write>(&self, f: &mut fmt::Formatter<W>) -> fmt::Result {
+    fn fmt<W: Write>(&self, f: &mut Formatter<W>) -> fmt::Result {
         match self {
             Cause::Nested(error) => {
-                fmt_heading(error.kind, f)?;
+                heading(error.kind, f)?;
                 error.err.fmt(f)
             }
             Cause::Parse { at, cause } => {
-                fmt_between("Parse error at ", at, "\n", f)?;
+                write!(f, "Parse error at {at}\n")?;
                 (**cause).fmt(f)?;
                 f.write_str("\n")
             }
-            _ => fmt_flat(self, f),
+            _ => message(self, f),
         }
     }
 }
@@ -325,8 +310,8 @@ impl<A> Display for Cause<A> {
 impl<A> Display for Error<A> {
     ghost output = { λ error. Some (error_text error) };
 
-    fn fmt<W: fmt::Write>(&self, f: &mut fmt::Formatter<W>) -> fmt::Result {
-        fmt_heading(self.kind, f)?;
+    fn fmt<W: Write>(&self, f: &mut Formatter<W>) -> fmt::Result {
+        heading(self.kind, f)?;
         self.err.fmt(f)
     }
 }
@@ -335,7 +320,7 @@ impl<A> Display for Error<A> {
 impl<A> fmt::Debug for Error<A> {
     ghost debug_output = { λ error. Some (error_text error) };
 
-    fn fmt<W: fmt::Write>(&self, f: &mut fmt::Formatter<W>) -> fmt::Result {
+    fn fmt<W: Write>(&self, f: &mut Formatter<W>) -> fmt::Result {
         Display::fmt(self, f)
     }
 }

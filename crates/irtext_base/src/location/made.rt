@@ -7,13 +7,6 @@ use crate::location::Location;
 use crate::text::AttrText;
 use std::alloc::{AllocError, Global};
 
-/// Puts a value into a box.
-fn boxed<X: Drop>(alloc: Global, value: X) -> Result<Box<X>, AllocError>
-    ensures { IfOk result (λ b. b.value ≡ value) }
-{
-    Ok(Box::new(alloc, value)?)
-}
-
 fn copy_metadata<A: AttrText<A>>(
     alloc: Global,
     metadata: &Option<AttrObj<A>>,
@@ -34,8 +27,8 @@ pub(super) fn fused<A: AttrText<A>>(
 ) -> Result<Location<A>, AllocError>
     ensures { IfOk result (λ l. location_view l ≡ fused (attr_view_in metadata.now) (in_row (map location_view locations.items))) }
 {
-    let metadata = boxed(alloc, copy_metadata(alloc, metadata)?)?;
-    let locations = boxed(alloc, locations)?;
+    let metadata = Box::new(alloc, copy_metadata(alloc, metadata)?)?;
+    let locations = Box::new(alloc, locations)?;
     Ok(Location::Fused {
         metadata,
         locations,
@@ -50,8 +43,8 @@ pub(super) fn named<A: Drop>(
 ) -> Result<Location<A>, AllocError>
     ensures { IfOk result (λ l. location_view l ≡ named (string_bytes name.now) (location_view child)) }
 {
-    let name = boxed(alloc, name.clone()?)?;
-    let child_loc = boxed(alloc, child)?;
+    let name = Box::new(alloc, name.clone()?)?;
+    let child_loc = Box::new(alloc, child)?;
     Ok(Location::Named { name, child_loc })
 }
 
@@ -63,7 +56,7 @@ pub(super) fn call_site<A: Drop>(
 ) -> Result<Location<A>, AllocError>
     ensures { IfOk result (λ l. location_view l ≡ call_site (location_view callee) (location_view caller)) }
 {
-    let callee = boxed(alloc, callee)?;
-    let caller = boxed(alloc, caller)?;
+    let callee = Box::new(alloc, callee)?;
+    let caller = Box::new(alloc, caller)?;
     Ok(Location::CallSite { callee, caller })
 }

@@ -1,8 +1,7 @@
 //! Copies locations with other sources, by a loop with a stack of frames, so that they may be nested to any depth.
 ghost use Rattle.std.specs.Prelude.{◌≡◌, ◌+◌, ◌<◌, IfOk, OnOk, OnErr, IsTrue};
 ghost use Rattle.irtext_base.specs.Locations.{location_view};
-ghost use Rattle.irtext_base.specs.Walks.{Reached, Continues, Opens, Copies, Enters, taken, row_rest, row_closing, closing};
-ghost use Rattle.irtext_base.specs.Walks.{row_turns, frame_turns, stack_turns, turns, work};
+ghost use Rattle.irtext_base.specs.Walks.{Reached, Continues, Opens, Copies, taken, row_rest, closing, row_turns, frame_turns, stack_turns, turns, work};
 
 use crate::base::AttrObj;
 use crate::location::made::{call_site, fused, named};
@@ -65,18 +64,6 @@ pub(super) struct Walk<'m, M> {
     pub(super) sources: &'m M,
 }
 
-/// Opens a frame around a location, which is copied next.
-fn enter<'a, A: Drop>(
-    frame: Frame<'a, A>,
-    location: &'a Location<A>,
-    frames: &mut Vec<Frame<'a, A>>,
-) -> Result<Turn<'a, A>, AllocError>
-    ensures { IfOk result (λ t. Enters frame.entry location.now frames.old t frames.new) }
-{
-    frames.push(frame)?;
-    Ok(Turn::Inside(location))
-}
-
 impl<'m, M: NewSources> Walk<'m, M> {
     /// Continues with the next location of a row, or builds the row's copy if none is left.
     fn go_on<'a, A: AttrText<A>>(
@@ -93,31 +80,16 @@ impl<'m, M: NewSources> Walk<'m, M> {
             left,
         } = row;
         match left.split_first() {
-            Some((next, left)) => enter(
-                Frame::Fused(Row {
+            Some((next, left)) => {
+                frames.push(Frame::Fused(Row {
                     metadata,
                     copies,
                     left,
-                }),
-                next,
-                frames,
-            ),
+                }))?;
+                Ok(Turn::Inside(next))
+            }
             None => Ok(Turn::Done(fused(self.alloc, metadata, copies)?)),
         }
-    }
-
-    /// Adds a copy to a row, and continues with the row's next location.
-    fn add<'a, A: AttrText<A>>(
-        &self,
-        mut row: Row<'a, A>,
-        copy: Location<A>,
-        frames: &mut Vec<Frame<'a, A>>,
-    ) -> Result<Turn<'a, A>, AllocError>
-        ensures on { IfOk result (λ t. Continues (M.rule self.now.sources.now) (row_closing row.entry copy) frames.old t frames.new) }
-        ensures less { IfOk result (λ t. work frames.new.items t ≡ stack_turns frames.old.items + row_turns row.entry) }
-    {
-        row.copies.push(copy)?;
-        self.go_on(row, frames)
     }
 
     /// Opens a location: the first location that is nested in it is next. A location with none is copied.
@@ -148,8 +120,14 @@ impl<'m, M: NewSources> Walk<'m, M> {
                 };
                 self.go_on(row, frames)
             }
-            Location::Named { name, child_loc } => enter(Frame::Named(name), child_loc, frames),
-            Location::CallSite { callee, caller } => enter(Frame::Callee(caller), callee, frames),
+            Location::Named { name, child_loc } => {
+                frames.push(Frame::Named(name))?;
+                Ok(Turn::Inside(child_loc))
+            }
+            Location::CallSite { callee, caller } => {
+                frames.push(Frame::Callee(caller))?;
+                Ok(Turn::Inside(callee))
+            }
             Location::Unknown => Ok(Turn::Done(Location::Unknown)),
         }
     }
@@ -166,9 +144,15 @@ impl<'m, M: NewSources> Walk<'m, M> {
     {
         match frame {
             Frame::Named(name) => Ok(Turn::Done(named(self.alloc, name, copy)?)),
-            Frame::Callee(caller) => enter(Frame::Caller(copy), caller, frames),
+            Frame::Callee(caller) => {
+                frames.push(Frame::Caller(copy))?;
+                Ok(Turn::Inside(caller))
+            }
             Frame::Caller(callee) => Ok(Turn::Done(call_site(self.alloc, callee, copy)?)),
-            Frame::Fused(row) => self.add(row, copy, frames),
+            Frame::Fused(mut row) => {
+                row.copies.push(copy)?;
+                self.go_on(row, frames)
+            }
         }
     }
 

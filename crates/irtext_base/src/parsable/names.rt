@@ -3,9 +3,7 @@ ghost use Rattle.std.specs.Prelude.{Some, codes, ◌++◌};
 ghost use Rattle.irtext_base.specs.Causes.{name_tracker_text, unresolved_text};
 
 use crate::base::Identifier;
-use crate::display::fmt_between;
-use std::fmt;
-use std::fmt::Display;
+use std::fmt::{self, Display};
 
 /// A name or a label that its scope doesn't define.
 #[derive(Debug, Drop)]
@@ -25,11 +23,9 @@ impl Display for UnresolvedReference {
 
     fn fmt<W: fmt::Write>(&self, f: &mut fmt::Formatter<W>) -> fmt::Result {
         let name = &self.0;
-        fmt_between(
-            "Identifier ",
-            name,
-            " was not resolved to any definition in the scope",
+        write!(
             f,
+            "Identifier {name} was not resolved to any definition in the scope"
         )
     }
 }
@@ -40,15 +36,13 @@ impl Display for ParserNameTrackerError {
     fn fmt<W: fmt::Write>(&self, f: &mut fmt::Formatter<W>) -> fmt::Result {
         match self {
             ParserNameTrackerError::MultipleDefinitions(name) => {
-                fmt_between(
-                    "Identifier ",
-                    name,
-                    " defined more than once in the scope",
-                    f,
-                )
+                write!(f, "Identifier {name} defined more than once in the scope")
             }
             ParserNameTrackerError::TopLevelOpRegionNotIsolatedFromAbove => {
-                f.write_str("Regions in a top-level operation must be IsolatedFromAbove")
+                write!(
+                    f,
+                    "Regions in a top-level operation must be IsolatedFromAbove"
+                )
             }
         }
     }
