@@ -55,6 +55,10 @@ expected_text expected.Type = codes "type"
 expected_text expected.Attribute = codes "attribute"
 expected_text expected.EndOfInput = codes "end of input"
 
+-- what was found, and what is expected in its place
+abbrev pub mismatch_text : Option ℕ → Expected → List ℕ
+mismatch_text found expected = codes "Unexpected " ++ (found_text found ++ (codes ", expected " ++ expected_text expected))
+
 -- the line above the message of an error's cause
 abbrev pub heading : ErrorKind → List ℕ
 heading kind = codes "Compilation error: " ++ (kind_text kind ++ codes ".\n")

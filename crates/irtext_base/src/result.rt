@@ -1,7 +1,7 @@
 //! Errors: their kinds and causes, with the messages of these.
-ghost use Rattle.std.specs.Prelude.{◌≡◌, ◌++◌, codes, IsTrue, Some, MatchResult, string_bytes};
+ghost use Rattle.std.specs.Prelude.{◌≡◌, IsTrue, Some, MatchResult, string_bytes};
 ghost use Rattle.std.specs.Fmt.{◌++?◌, DisplaysOnOk, WritesOnOk};
-ghost use Rattle.irtext_base.specs.Causes.{kind_text, expected_text, found_text, is_flat, heading, cause_text, error_text, cause_of};
+ghost use Rattle.irtext_base.specs.Causes.{kind_text, expected_text, mismatch_text, is_flat, heading, cause_text, error_text, cause_of};
 ghost use Rattle.irtext_base.specs.Locations.{out_of_memory};
 ghost use Rattle.irtext_base.specs.declared.result.Cause.{Memory, Fmt};
 ghost use Rattle.irtext_base.specs.declared.result.ErrorKind.TheVariants.{InvalidArgument};
@@ -230,13 +230,13 @@ fn labelled<X: Display, W: Write>(label: &str, value: &X, f: &mut Formatter<W>) 
     write!(f, "{label}{value}")
 }
 
-/// Writes what was found where something else is expected: a character, or the end.
-fn unexpected<W: Write>(found: Option<char>, f: &mut Formatter<W>) -> fmt::Result
-    ensures { WritesOnOk W.write_str_gives f.old result (codes "Unexpected " ++ found_text found) f.new }
+/// Writes what was found, a character or the end, and what is expected in its place.
+fn mismatch<W: Write>(found: Option<char>, expected: &Expected, f: &mut Formatter<W>) -> fmt::Result
+    ensures { WritesOnOk W.write_str_gives f.old result (mismatch_text found expected.now) f.new }
 {
     match found {
-        Some(c) => write!(f, "Unexpected `{c}`"),
-        None => write!(f, "Unexpected end of input"),
+        Some(c) => write!(f, "Unexpected `{c}`, expected {expected}"),
+        None => write!(f, "Unexpected end of input, expected {expected}"),
     }
 }
 
@@ -248,10 +248,7 @@ fn message<A, W: Write>(cause: &Cause<A>, f: &mut Formatter<W>) -> fmt::Result
     match cause {
         Cause::Memory => f.write_str("Out of memory"),
         Cause::StreamFailed => f.write_str("The stream has failed"),
-        Cause::Unexpected { found, expected } => {
-            unexpected(*found, f)?;
-            labelled(", expected ", expected, f)
-        }
+        Cause::Unexpected { found, expected } => mismatch(*found, expected, f),
         Cause::NumberRange(text) => labelled("Number out of range: ", text, f),
         Cause::BadEscape(c) => labelled("Unexpected escaped character \\", c, f),
         Cause::BadUnicodeEscape(digits) => write!(f, "Invalid unicode escape \\u{{{digits}}}"),
