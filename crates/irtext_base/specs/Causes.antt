@@ -1,5 +1,5 @@
 -- The messages of causes and errors, in bytes.
-use Rattle.std.specs.Prelude.{ℕ, Option, Some, None, List, ◌++◌, codes, string_bytes}
+use Rattle.std.specs.Prelude.{ℕ, Bool, true, false, Option, Some, None, List, ◌++◌, codes, string_bytes}
 use Rattle.std.specs.Fmt.{decimal}
 use Rattle.std.specs.Char.{encode_utf8}
 use Rattle.irtext_base.specs.declared.base.identifier.OpId.{OpId}
@@ -54,6 +54,14 @@ expected_text expected.TrueOrFalse = codes "true or false"
 expected_text expected.Type = codes "type"
 expected_text expected.Attribute = codes "attribute"
 expected_text expected.EndOfInput = codes "end of input"
+
+-- what was found, and what is expected in its place
+abbrev pub mismatch_text : Option ℕ → Expected → List ℕ
+mismatch_text found expected = codes "Unexpected " ++ (found_text found ++ (codes ", expected " ++ expected_text expected))
+
+-- the line above the message of an error's cause
+abbrev pub heading : ErrorKind → List ℕ
+heading kind = codes "Compilation error: " ++ (kind_text kind ++ codes ".\n")
 
 -- the message of an error, with the message of its cause on the next line
 abbrev pub headed : ErrorKind → List ℕ → List ℕ
@@ -110,6 +118,12 @@ cause_text Fmt = codes "an error occurred when formatting an argument"
 cause_text (Nested' p kind err loc) = headed kind (cause_text err)
 cause_text (Parse' at p cause) = codes "Parse error at " ++ (position_text at ++ (codes "\n" ++ (cause_text cause ++ codes "\n")))
 cause_text (WrongDialect id dialect) = codes "Operation " ++ (id_text id ++ (codes " is not of dialect " ++ dialect))
+
+-- whether a cause has no other cause in it
+abbrev pub is_flat : {A : Type 0} → Cause A → Bool
+is_flat (Nested' p kind err loc) = false
+is_flat (Parse' at p cause) = false
+is_flat _ = true
 
 -- the message of an error
 abbrev pub error_text : {A : Type 0} → Error A → List ℕ

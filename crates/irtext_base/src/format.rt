@@ -5,8 +5,7 @@ ghost use Rattle.irtext_base.specs.Causes.{format_fault_text};
 pub mod notation;
 
 use crate::base::Identifier;
-use std::fmt;
-use std::fmt::Display;
+use std::fmt::{self, Display};
 
 /// One step of a format: a fixed text, or the part of the operation that is parsed and printed there. Indices count from 0.
 #[derive(Drop)]

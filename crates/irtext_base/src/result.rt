@@ -1,6 +1,7 @@
 //! Errors: their kinds and causes, with the messages of these.
-ghost use Rattle.std.specs.Prelude.{◌≡◌, Some, MatchResult, string_bytes};
-ghost use Rattle.irtext_base.specs.Causes.{kind_text, expected_text, found_text, cause_text, error_text, cause_of};
+ghost use Rattle.std.specs.Prelude.{◌≡◌, IsTrue, Some, MatchResult, string_bytes};
+ghost use Rattle.std.specs.Fmt.{◌++?◌, DisplaysOnOk, WritesOnOk};
+ghost use Rattle.irtext_base.specs.Causes.{kind_text, expected_text, mismatch_text, is_flat, heading, cause_text, error_text, cause_of};
 ghost use Rattle.irtext_base.specs.Locations.{out_of_memory};
 ghost use Rattle.irtext_base.specs.declared.result.Cause.{Memory, Fmt};
 ghost use Rattle.irtext_base.specs.declared.result.ErrorKind.TheVariants.{InvalidArgument};
@@ -12,8 +13,7 @@ use crate::location::{Location, out_of_memory};
 use crate::parsable::{ParserNameTrackerError, SourcePosition, UnresolvedReference};
 use arrayvec::ArrayString;
 use std::alloc::{AllocError, AllocFailed};
-use std::fmt;
-use std::fmt::Display;
+use std::fmt::{self, Display, Formatter, Write};
 
 /// The kind of an error.
 #[derive(Clone, Copy, Debug, PartialEq, Eq)]
@@ -182,7 +182,7 @@ impl<A: Drop> Error<A> {
 impl Display for ErrorKind {
     ghost output = { λ kind. Some (kind_text kind) };
 
-    fn fmt<W: fmt::Write>(&self, f: &mut fmt::Formatter<W>) -> fmt::Result {
+    fn fmt<W: Write>(&self, f: &mut Formatter<W>) -> fmt::Result {
         match self {
             ErrorKind::InvalidInput => write!(f, "invalid input program"),
             ErrorKind::VerificationFailed => write!(f, "verification failed"),
@@ -194,7 +194,7 @@ impl Display for ErrorKind {
 impl Display for Expected {
     ghost output = { λ expected. Some (expected_text expected) };
 
-    fn fmt<W: fmt::Write>(&self, f: &mut fmt::Formatter<W>) -> fmt::Result {
+    fn fmt<W: Write>(&self, f: &mut Formatter<W>) -> fmt::Result {
         let words = match self {
             Expected::Text(text) => return write!(f, "`{text}`"),
             Expected::Literal(text) => return write!(f, "`{text}`"),
@@ -218,73 +218,88 @@ impl Display for Expected {
 impl Display for StringError {
     ghost output = { λ text. Some (string_bytes text.0) };
 
-    fn fmt<W: fmt::Write>(&self, f: &mut fmt::Formatter<W>) -> fmt::Result {
-        let text = &self.0;
-        write!(f, "{text}")
+    fn fmt<W: Write>(&self, f: &mut Formatter<W>) -> fmt::Result {
+        self.0.fmt(f)
     }
 }
 
-/// What a parse error found: a character, or the end.
-#[derive(Clone, Copy)]
-struct Found(Option<char>);
+/// Writes a value after a text.
+fn labelled<X: Display, W: Write>(label: &str, value: &X, f: &mut Formatter<W>) -> fmt::Result
+    ensures { DisplaysOnOk W.write_str_gives f.old result (Some label.now ++? X.output value.now) f.new }
+{
+    write!(f, "{label}{value}")
+}
 
-impl Display for Found {
-    ghost output = { λ found. Some (found_text found.0) };
-
-    fn fmt<W: fmt::Write>(&self, f: &mut fmt::Formatter<W>) -> fmt::Result {
-        match self.0 {
-            Some(c) => write!(f, "`{c}`"),
-            None => write!(f, "end of input"),
-        }
+/// Writes what was found, a character or the end, and what is expected in its place.
+fn mismatch<W: Write>(found: Option<char>, expected: &Expected, f: &mut Formatter<W>) -> fmt::Result
+    ensures { WritesOnOk W.write_str_gives f.old result (mismatch_text found expected.now) f.new }
+{
+    match found {
+        Some(c) => write!(f, "Unexpected `{c}`, expected {expected}"),
+        None => write!(f, "Unexpected end of input, expected {expected}"),
     }
+}
+
+/// Writes the message of a cause that has no other cause in it.
+fn message<A, W: Write>(cause: &Cause<A>, f: &mut Formatter<W>) -> fmt::Result
+    requires { IsTrue (is_flat cause.now) }
+    ensures { WritesOnOk W.write_str_gives f.old result (cause_text cause.now) f.new }
+{
+    match cause {
+        Cause::Memory => f.write_str("Out of memory"),
+        Cause::StreamFailed => f.write_str("The stream has failed"),
+        Cause::Unexpected { found, expected } => mismatch(*found, expected, f),
+        Cause::NumberRange(text) => labelled("Number out of range: ", text, f),
+        Cause::BadEscape(c) => labelled("Unexpected escaped character \\", c, f),
+        Cause::BadUnicodeEscape(digits) => write!(f, "Invalid unicode escape \\u{{{digits}}}"),
+        Cause::EmptyItem => f.write_str("Repeated item reads nothing"),
+        Cause::BadSeparator => f.write_str("List separator is white space"),
+        Cause::UnregisteredDialect(name) => labelled("Unregistered dialect ", name, f),
+        Cause::UnregisteredOp(id) => labelled("Unregistered Op ", id, f),
+        Cause::ResultCount { results, names } => {
+            write!(f, "Operation has {results} results and {names} names")
+        }
+        Cause::NoActiveScope(name) => labelled("No active scope for identifier ", name, f),
+        Cause::UnresolvedReference(reference) => reference.fmt(f),
+        Cause::ParserNameTrackerError(error) => error.fmt(f),
+        Cause::DuplicateIndex(i) => labelled("Duplicate outline index: ", i, f),
+        Cause::UnknownIndex(i) => labelled("No operation or block found for outline index: ", i, f),
+        Cause::UnknownPrintOnce(i) => labelled("No PrintOnceAttr found for outline index: ", i, f),
+        Cause::ReservedKey(key) => labelled("Reserved attribute key: ", key, f),
+        Cause::OwnText(text) => text.fmt(f),
+        Cause::FormatFault(fault) => fault.fmt(f),
+        Cause::Text(text) => text.fmt(f),
+        Cause::Fmt => f.write_str("an error occurred when formatting an argument"),
+        Cause::WrongDialect { id, dialect } => {
+            write!(f, "Operation {id} is not of dialect {dialect}")
+        }
+        Cause::Nested(_) | Cause::Parse { .. } => unreachable!(),
+    }
+}
+
+/// Writes the line above the message of an error's cause.
+fn heading<W: Write>(kind: ErrorKind, f: &mut Formatter<W>) -> fmt::Result
+    ensures { WritesOnOk W.write_str_gives f.old result (heading kind) f.new }
+{
+    write!(f, "Compilation error: {kind}.\n")
 }
 
 impl<A> Display for Cause<A> {
     ghost output = { λ cause. Some (cause_text cause) };
 
     #[cycle(cause)]
-    fn fmt<W: fmt::Write>(&self, f: &mut fmt::Formatter<W>) -> fmt::Result {
+    fn fmt<W: Write>(&self, f: &mut Formatter<W>) -> fmt::Result {
         match self {
-            Cause::Memory => write!(f, "Out of memory"),
-            Cause::StreamFailed => write!(f, "The stream has failed"),
-            Cause::Unexpected { found, expected } => {
-                let found = Found(*found);
-                write!(f, "Unexpected {found}, expected {expected}")
+            Cause::Nested(error) => {
+                heading(error.kind, f)?;
+                error.err.fmt(f)
             }
-            Cause::NumberRange(text) => write!(f, "Number out of range: {text}"),
-            Cause::BadEscape(c) => write!(f, "Unexpected escaped character \\{c}"),
-            Cause::BadUnicodeEscape(digits) => write!(f, "Invalid unicode escape \\u{{{digits}}}"),
-            Cause::EmptyItem => write!(f, "Repeated item reads nothing"),
-            Cause::BadSeparator => write!(f, "List separator is white space"),
-            Cause::UnregisteredDialect(name) => write!(f, "Unregistered dialect {name}"),
-            Cause::UnregisteredOp(id) => write!(f, "Unregistered Op {id}"),
-            Cause::ResultCount { results, names } => {
-                write!(f, "Operation has {results} results and {names} names")
-            }
-            Cause::NoActiveScope(name) => write!(f, "No active scope for identifier {name}"),
-            Cause::UnresolvedReference(reference) => write!(f, "{reference}"),
-            Cause::ParserNameTrackerError(error) => write!(f, "{error}"),
-            Cause::DuplicateIndex(index) => write!(f, "Duplicate outline index: {index}"),
-            Cause::UnknownIndex(index) => {
-                write!(f, "No operation or block found for outline index: {index}")
-            }
-            Cause::UnknownPrintOnce(index) => {
-                write!(f, "No PrintOnceAttr found for outline index: {index}")
-            }
-            Cause::ReservedKey(key) => write!(f, "Reserved attribute key: {key}"),
-            Cause::OwnText(text) => write!(f, "{text}"),
-            Cause::FormatFault(fault) => write!(f, "{fault}"),
-            Cause::Text(text) => write!(f, "{text}"),
-            Cause::Fmt => write!(f, "an error occurred when formatting an argument"),
-            Cause::Nested(error) => (**error).fmt(f),
             Cause::Parse { at, cause } => {
                 write!(f, "Parse error at {at}\n")?;
                 (**cause).fmt(f)?;
-                write!(f, "\n")
+                f.write_str("\n")
             }
-            Cause::WrongDialect { id, dialect } => {
-                write!(f, "Operation {id} is not of dialect {dialect}")
-            }
+            _ => message(self, f),
         }
     }
 }
@@ -292,10 +307,8 @@ impl<A> Display for Cause<A> {
 impl<A> Display for Error<A> {
     ghost output = { λ error. Some (error_text error) };
 
-    #[cycle(cause)]
-    fn fmt<W: fmt::Write>(&self, f: &mut fmt::Formatter<W>) -> fmt::Result {
-        let kind = self.kind;
-        write!(f, "Compilation error: {kind}.\n")?;
+    fn fmt<W: Write>(&self, f: &mut Formatter<W>) -> fmt::Result {
+        heading(self.kind, f)?;
         self.err.fmt(f)
     }
 }
@@ -304,7 +317,7 @@ impl<A> Display for Error<A> {
 impl<A> fmt::Debug for Error<A> {
     ghost debug_output = { λ error. Some (error_text error) };
 
-    fn fmt<W: fmt::Write>(&self, f: &mut fmt::Formatter<W>) -> fmt::Result {
+    fn fmt<W: Write>(&self, f: &mut Formatter<W>) -> fmt::Result {
         Display::fmt(self, f)
     }
 }

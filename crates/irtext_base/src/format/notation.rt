@@ -30,8 +30,7 @@ pub use irtext_stream::notation::fault::{NotationFault, NotationPart};
 use irtext_stream::notation::print::{fmt_closed, fmt_index, fmt_literal, fmt_word};
 use irtext_stream::stream::TextStream;
 use std::alloc::Global;
-use std::fmt;
-use std::fmt::Display;
+use std::fmt::{self, Display};
 
 impl OpFormat {
     /// Parses the notation of a format, such as ``@name `to` $my_to `with` {0}``. It does not say whether `check_format` accepts the format.

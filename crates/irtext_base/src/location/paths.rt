@@ -1,6 +1,5 @@
 //! File paths, each kept once under a key, and the trait of what has such paths.
-ghost use Rattle.std.specs.Prelude.{◌≡◌, ◌≤◌, ◌<◌, ◌^◌, ◌++◌, ◌∷◌, ℕ, List, [], Some, false, is_some};
-ghost use Rattle.std.specs.Prelude.{IfOk, OnOk, OnErr, length, position, slice_get, take};
+ghost use Rattle.std.specs.Prelude.{◌≡◌, ◌≤◌, ◌<◌, ◌^◌, ◌++◌, ◌∷◌, ℕ, List, [], Some, false, is_some, IfOk, OnOk, OnErr, length, position, slice_get, take};
 ghost use Rattle.std.specs.Borrow.{sem};
 ghost use Rattle.std.specs.List.{list_any};
 ghost use Rattle.std.specs.Str.{bytes_eq};

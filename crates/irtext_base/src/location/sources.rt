@@ -182,10 +182,9 @@ impl<A, L: Looks> Visitor<A, L> for OfSources {
 }
 
 /// Returns the summary with all sources of a location added.
-pub(super) fn see_sources<A, L: Looks>(location: &Location<A>, seen: L) -> L
+pub(super) fn see_sources<A, L: Looks>(location: &Location<A>, mut seen: L) -> L
     ensures { result ≡ visited (of_sources L.more) seen (location_view location.now) }
 {
-    let mut seen = seen;
     visit(location, &OfSources, &mut seen);
     seen
 }

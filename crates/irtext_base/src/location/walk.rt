@@ -1,8 +1,7 @@
 //! Copies locations with other sources, by a loop with a stack of frames, so that they may be nested to any depth.
 ghost use Rattle.std.specs.Prelude.{◌≡◌, ◌+◌, ◌<◌, IfOk, OnOk, OnErr, IsTrue};
 ghost use Rattle.irtext_base.specs.Locations.{location_view};
-ghost use Rattle.irtext_base.specs.Walks.{Reached, Continues, Opens, Copies, taken, row_rest, closing};
-ghost use Rattle.irtext_base.specs.Walks.{row_turns, frame_turns, stack_turns, turns, work};
+ghost use Rattle.irtext_base.specs.Walks.{Reached, Continues, Opens, Copies, taken, row_rest, closing, row_turns, frame_turns, stack_turns, turns, work};
 
 use crate::base::AttrObj;
 use crate::location::made::{call_site, fused, named};

@@ -3,8 +3,7 @@ ghost use Rattle.std.specs.Prelude.{Some, codes, ◌++◌};
 ghost use Rattle.irtext_base.specs.Causes.{name_tracker_text, unresolved_text};
 
 use crate::base::Identifier;
-use std::fmt;
-use std::fmt::Display;
+use std::fmt::{self, Display};
 
 /// A name or a label that its scope doesn't define.
 #[derive(Debug, Drop)]
