@@ -45,10 +45,15 @@ fn make(rt: &impl Abort, alloc: Global, ctx: &mut Ctx, check: Check) {
         Check::Dialects => dialects::check(rt, alloc, ctx),
         Check::LastPlaces => graphs::check_last(rt, alloc, ctx),
         _ => {
-            assert!(rt; register_demo(ctx).is_ok());
+            add_demo(rt, ctx);
             make_in_demo(rt, alloc, ctx, check);
         }
     }
+}
+
+/// Registers the demo dialects.
+fn add_demo(rt: &impl Abort, ctx: &mut Ctx) {
+    assert!(rt; register_demo(ctx).is_ok());
 }
 
 /// Makes a check that needs the demo dialects.

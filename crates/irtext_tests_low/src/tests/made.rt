@@ -16,6 +16,11 @@ use irtext_tests_common::contexts::Ctx;
 use std::alloc::Global;
 use std::process::Abort;
 
+/// Registers the demo dialects.
+fn add_demo(rt: &impl Abort, ctx: &mut Ctx) {
+    assert!(rt; register_demo(ctx).is_ok());
+}
+
 /// The result of making an operation with two results, a pointer and a byte, with these operands and successors, and with
 /// two regions.
 fn answered(
@@ -117,7 +122,7 @@ fn grow(rt: &impl Abort, ctx: &mut Ctx, op: Ptr<Operation>) {
 
 /// Checks that an operation that uses a result twice, an argument and a block has the parts that it was made with.
 pub(crate) fn link(rt: &impl Abort, alloc: Global, ctx: &mut Ctx) {
-    assert!(rt; register_demo(ctx).is_ok());
+    add_demo(rt, ctx);
     let first = made(rt, alloc, ctx, &[], &[]);
     let block = make_block(rt, alloc, ctx, "", "p");
     let (result, argument) = (Value::Result(first, 1), Value::Argument(block, 0));
@@ -140,7 +145,7 @@ const UNREGISTERED: &[(&str, &str, &str)] = &[
 
 /// Checks that an operation of the id of a row that is to use a value has this error, and leaves no trace.
 pub(crate) fn refuse(rt: &impl Abort, alloc: Global, ctx: &mut Ctx, row: usize) {
-    assert!(rt; register_demo(ctx).is_ok());
+    add_demo(rt, ctx);
     let row = UNREGISTERED.get(row).expect(rt, "no such row");
     let used = Value::Result(made(rt, alloc, ctx, &[], &[]), 0);
     let said = said(rt, alloc, ctx, (row.0, row.1), &[used], &[]);
@@ -157,7 +162,7 @@ fn what_is_not_registered_is_not_made(rt: HostRuntime) {
 
 /// Checks that there is no number for an operation that is to use a result of another, and that all objects and uses are unchanged then.
 pub(crate) fn fill(rt: &impl Abort, alloc: Global, ctx: &mut Ctx) {
-    assert!(rt; register_demo(ctx).is_ok());
+    add_demo(rt, ctx);
     let used = Value::Result(made(rt, alloc, ctx, &[], &[]), 0);
     let block = make_block(rt, alloc, ctx, "", "p");
     let said = said(rt, alloc, ctx, ("builtin", "module"), &[used], &[block]);

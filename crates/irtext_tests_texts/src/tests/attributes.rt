@@ -83,7 +83,8 @@ fn printed(
 fn attribute(alloc: Global, s: &mut Stream<'_>) -> Result<String, Fail> {
     let answer = attr_parse(s);
     let next = s.peek();
-    printed(alloc, s.state.ctx, &answer, next)
+    let ctx = &mut *s.state.ctx;
+    printed(alloc, ctx, &answer, next)
 }
 
 /// The result for the type that is parsed.
