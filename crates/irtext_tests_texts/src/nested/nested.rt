@@ -16,13 +16,13 @@ type Layout = (u16, u16, RegionPrintDepthLimit, bool);
 type Row = (&'static [Step], &'static [(Layout, &'static str)]);
 
 /// No limit.
-const ALL: RegionPrintDepthLimit = RegionPrintDepthLimit::Unlimited;
+pub(crate) const ALL: RegionPrintDepthLimit = RegionPrintDepthLimit::Unlimited;
 
 /// At most one level.
 const ONE: RegionPrintDepthLimit = RegionPrintDepthLimit::Max(1);
 
 /// No level.
-const NONE: RegionPrintDepthLimit = RegionPrintDepthLimit::Max(0);
+pub(crate) const NONE: RegionPrintDepthLimit = RegionPrintDepthLimit::Max(0);
 
 /// The layout of a new state.
 const PLAIN: Layout = (2, 0, ALL, true);

@@ -1,6 +1,7 @@
 //! Roots that are printed by the call that returns why it fails.
 use crate::checks::{Check, in_demo};
 use crate::must::must;
+use crate::nested::nested::{ALL, NONE};
 use irtext_context::base::context::making::Making;
 use irtext_context::base::{Item, Operation, Ptr};
 use irtext_few::Few;
@@ -13,12 +14,6 @@ use std::process::Abort;
 
 /// The widths of an indentation and of the first one, and the limit on levels of regions.
 type Layout = (u16, u16, RegionPrintDepthLimit);
-
-/// No limit.
-const ALL: RegionPrintDepthLimit = RegionPrintDepthLimit::Unlimited;
-
-/// No level.
-const NONE: RegionPrintDepthLimit = RegionPrintDepthLimit::Max(0);
 
 /// For `builtin.module @m`: a text to which it is appended, the layout, or none for that of a new state, how many times it is printed
 /// with one state, and the text then, or the error.
