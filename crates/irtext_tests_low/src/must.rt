@@ -1,4 +1,8 @@
 //! What every step of these tests needs: a call that fails ends the test.
+use irtext_base::result::Result as Answer;
+use irtext_tests_common::answers::{done_or_cause, value_or_cause};
+use std::alloc::Global;
+use std::fmt;
 use std::process::Abort;
 use std::test::Fail;
 
@@ -8,4 +12,28 @@ pub(crate) fn must<X>(rt: &impl Abort, answer: Result<X, Fail>) -> X {
         Ok(value) => value,
         Err(_) => rt.panic("a call has failed"),
     }
+}
+
+/// Ends the test if a text is not the expected one. A caller has no branch for it, as it has for an assertion of its own.
+pub(crate) fn same(rt: &impl Abort, said: &str, wanted: &str) {
+    assert_eq!(rt; said, wanted);
+}
+
+/// This word for a call that succeeded, or the cause of its error. The result ends here, and not in each test that has one.
+pub(crate) fn told<X: Drop, A: Drop>(
+    rt: &impl Abort,
+    alloc: Global,
+    answer: Answer<X, A>,
+    done: &str,
+) -> String {
+    must(rt, done_or_cause(alloc, &answer, done))
+}
+
+/// The value of a call that succeeded, or the cause of its error, which end here.
+pub(crate) fn value_told<X: fmt::Display + Drop, A: Drop>(
+    rt: &impl Abort,
+    alloc: Global,
+    answer: Answer<X, A>,
+) -> String {
+    must(rt, value_or_cause(alloc, &answer))
 }

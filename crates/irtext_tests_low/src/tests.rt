@@ -1,9 +1,9 @@
 //! The tests, a file for each subject.
-mod blocks;
-mod contexts;
-mod edges;
-mod lent;
-mod locations;
-mod made;
+pub(crate) mod blocks;
+pub(crate) mod contexts;
+pub(crate) mod edges;
+pub(crate) mod lent;
+pub(crate) mod locations;
+pub(crate) mod made;
 mod nested;
-mod unique;
+pub(crate) mod unique;

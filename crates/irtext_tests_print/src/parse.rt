@@ -1,7 +1,7 @@
 //! The tests, a file for each subject.
 mod causes;
-mod errors;
-mod location_readings;
+pub(crate) mod errors;
+pub(crate) mod location_readings;
 mod markers;
 mod refused;
 mod values;

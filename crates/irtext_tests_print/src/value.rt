@@ -20,3 +20,8 @@ pub(crate) fn value_of<X>(rt: &impl Abort, answer: Result<X, Fail>, message: &st
 pub(crate) fn to_text<X: fmt::Display + Drop>(rt: &impl Abort, alloc: Global, value: X) -> String {
     format!(in alloc; "{value}").expect(rt, "out of memory")
 }
+
+/// Ends the test if a text is not the expected one. A caller has no branch for it, as it has for an assertion of its own.
+pub(crate) fn same(rt: &impl Abort, said: &str, wanted: &str) {
+    assert_eq!(rt; said, wanted);
+}

@@ -17,7 +17,7 @@ fn register_make(ctx: &mut Context<DemoType, DemoAttr>) -> Answer<(), DemoAttr> 
     ctx.register_op("mine", "make", format, false)
 }
 
-use crate::value::value_of;
+use crate::value::{same, value_of};
 use irtext_tests_common::contexts::with_demo;
 use irtext_tests_print::reading::{root, whole};
 use std::test::Fail;
@@ -40,5 +40,5 @@ fn made(alloc: Global, ctx: &mut Context<DemoType, DemoAttr>) -> Result<String, 
 #[test]
 fn the_example_of_the_page_registers_an_operation(rt: HostRuntime) {
     let text = value_of(&rt, with_demo(rt.alloc(), made), "no text");
-    assert_eq!(rt; text.as_str(), PRINTED);
+    same(&rt, text.as_str(), PRINTED);
 }

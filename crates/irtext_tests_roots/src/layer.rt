@@ -1,7 +1,7 @@
 //! The tests, a file for each subject.
 mod apart;
-mod checked;
-mod dialects;
-mod graphs;
-mod macros;
-mod reexports;
+pub(crate) mod checked;
+pub(crate) mod dialects;
+pub(crate) mod graphs;
+pub(crate) mod macros;
+pub(crate) mod reexports;

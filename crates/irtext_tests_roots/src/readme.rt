@@ -25,7 +25,7 @@ fn printed(alloc: Global, text: &str) -> Result<String, Fail> {
     Ok(format!(in alloc; "{}", root.disp(&ctx))?)
 }
 
-use crate::value::value_of;
+use crate::value::{same, value_of};
 
 /// The printed text of an empty module.
 const PRINTED: &str =
@@ -34,5 +34,5 @@ const PRINTED: &str =
 #[test]
 fn the_example_of_the_readme_prints_a_text(rt: HostRuntime) {
     let text = value_of(&rt, printed(rt.alloc(), "builtin.module @m { }"), "no text");
-    assert_eq!(rt; text.as_str(), PRINTED);
+    same(&rt, text.as_str(), PRINTED);
 }

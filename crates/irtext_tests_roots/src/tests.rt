@@ -1,2 +1,2 @@
 //! The tests, a file for each subject.
-mod outside;
+pub(crate) mod outside;

@@ -9,3 +9,8 @@ pub(crate) fn must<X>(rt: &impl Abort, answer: Result<X, Fail>) -> X {
         Err(_) => rt.panic("a call has failed"),
     }
 }
+
+/// Ends the test if a text is not the expected one. A caller has no branch for it, as it has for an assertion of its own.
+pub(crate) fn same(rt: &impl Abort, said: &str, wanted: &str) {
+    assert_eq!(rt; said, wanted);
+}

@@ -1,6 +1,6 @@
 //! The tests, a file for each subject, and the steps that build their contexts.
-mod misfits;
-mod nested;
-mod pieces;
-mod printed;
-mod steps;
+pub(crate) mod misfits;
+pub(crate) mod nested;
+pub(crate) mod pieces;
+pub(crate) mod printed;
+pub(crate) mod steps;

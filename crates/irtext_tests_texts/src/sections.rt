@@ -1,3 +1,3 @@
 //! The tests, and what builds their contexts.
 mod building;
-mod rows;
+pub(crate) mod rows;

@@ -1,13 +1,13 @@
 //! The tests, a file for each subject.
 mod attributes;
 mod demo;
-mod fits;
+pub(crate) mod fits;
 mod formats;
-mod listed;
+pub(crate) mod listed;
 mod lists;
-mod location_texts;
+pub(crate) mod location_texts;
 mod notation;
 mod parts;
 mod printing;
-mod roots;
-mod separators;
+pub(crate) mod roots;
+pub(crate) mod separators;

@@ -1,7 +1,7 @@
 //! A dictionary of up to twenty keys and given names: they are inserted, replaced and removed, and are in the order in which
 //! they were inserted. A copy without the outlined attributes keeps that order.
 use crate::dict::pairs::put;
-use crate::must::must;
+use crate::must::{must, same};
 use irtext_base::base::{AttrObj, GIVEN_NAMES_KEY, Identifier};
 use irtext_context::base::AttributeDict;
 use irtext_demo::DemoAttr;
@@ -114,9 +114,10 @@ fn step(
 fn keys_keep_their_order(rt: HostRuntime) {
     let mut dictionary = AttributeDict::new(rt.alloc());
     for (number, wanted) in LISTED.iter().enumerate() {
-        assert_eq!(rt;
+        same(
+            &rt,
             step(&rt, rt.alloc(), &mut dictionary, number).as_str(),
-            *wanted
+            *wanted,
         );
     }
 }
@@ -178,8 +179,8 @@ fn check(
     for letter in row.0.chars() {
         insert(rt, alloc, dictionary, letter);
     }
-    assert_eq!(rt; copied(rt, alloc, dictionary).as_str(), row.1);
-    assert_eq!(rt; letters(rt, alloc, dictionary).as_str(), row.0);
+    same(rt, copied(rt, alloc, dictionary).as_str(), row.1);
+    same(rt, letters(rt, alloc, dictionary).as_str(), row.0);
 }
 
 #[test]

@@ -1,8 +1,7 @@
 //! Ids of operations made of texts.
-use crate::must::must;
+use crate::must::{same, value_told};
 use irtext_base::base::OpId;
 use irtext_base::result::Result as Answer;
-use irtext_tests_common::answers::value_or_cause;
 use std::alloc::Global;
 use std::process::Abort;
 
@@ -17,12 +16,12 @@ const IDS: &[(&str, &str, &str)] = &[
 /// The id of two texts, or the error.
 fn id(rt: &impl Abort, alloc: Global, dialect: &str, name: &str) -> String {
     let answer: Answer<OpId, ()> = OpId::try_new(alloc, dialect, name);
-    must(rt, value_or_cause(alloc, &answer))
+    value_told(rt, alloc, answer)
 }
 
 #[test]
 fn ids_are_made_of_texts(rt: HostRuntime) {
     for row in IDS {
-        assert_eq!(rt; id(&rt, rt.alloc(), row.0, row.1).as_str(), row.2);
+        same(&rt, id(&rt, rt.alloc(), row.0, row.1).as_str(), row.2);
     }
 }

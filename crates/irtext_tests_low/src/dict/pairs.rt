@@ -1,9 +1,9 @@
 //! Identifiers, and a dictionary with them, one call of each kind.
-use crate::must::must;
+use crate::must::{must, same, value_told};
 use irtext_base::base::{AttrObj, GIVEN_NAMES_KEY, Identifier, Refusal};
 use irtext_base::result::Result as Answer;
 use irtext_context::base::AttributeDict;
-use irtext_tests_common::answers::{named, value_or_cause};
+use irtext_tests_common::answers::named;
 use std::alloc::Global;
 use std::process::Abort;
 
@@ -18,7 +18,7 @@ const WORDS: &[(&str, &str)] = &[
 /// The identifier of a text, or the error.
 fn word(rt: &impl Abort, alloc: Global, text: &str) -> String {
     let answer: Answer<Identifier, ()> = Identifier::try_new(alloc, text);
-    must(rt, value_or_cause(alloc, &answer))
+    value_told(rt, alloc, answer)
 }
 
 /// The identifier of a text that is one.
@@ -36,7 +36,7 @@ fn copied(rt: &impl Abort, alloc: Global) -> bool {
 #[test]
 fn identifiers_are_words(rt: HostRuntime) {
     for row in WORDS {
-        assert_eq!(rt; word(&rt, rt.alloc(), row.0).as_str(), row.1);
+        same(&rt, word(&rt, rt.alloc(), row.0).as_str(), row.1);
     }
     assert!(rt; copied(&rt, rt.alloc()));
 }

@@ -1,4 +1,5 @@
 //! Excerpts of texts: the line of a position, with a caret below it.
+use crate::must::same;
 use irtext_base::parsable::SourcePosition;
 use irtext_tokens::excerpt::Excerpt;
 use std::alloc::Global;
@@ -43,9 +44,10 @@ fn excerpt(rt: &impl Abort, alloc: Global, text: &str, line: i32, column: i32) -
 #[test]
 fn lines_with_carets(rt: HostRuntime) {
     for row in EXCERPTS {
-        assert_eq!(rt;
+        same(
+            &rt,
             excerpt(&rt, rt.alloc(), row.0, row.1, row.2).as_str(),
-            row.3
+            row.3,
         );
     }
 }
@@ -85,6 +87,10 @@ const CUT: &[(i32, &str)] = &[
 #[test]
 fn long_lines_are_cut(rt: HostRuntime) {
     for row in CUT {
-        assert_eq!(rt; excerpt(&rt, rt.alloc(), WIDE, 1, row.0).as_str(), row.1);
+        same(
+            &rt,
+            excerpt(&rt, rt.alloc(), WIDE, 1, row.0).as_str(),
+            row.1,
+        );
     }
 }

@@ -1,5 +1,5 @@
 //! Lists of items, with and without separators.
-use crate::must::must;
+use crate::must::{must, same};
 use irtext_base::parsable::{CharStream, ParseResult, TextStream};
 use irtext_base::printable::ListSeparator;
 use irtext_tests_common::answers::listed;
@@ -111,7 +111,11 @@ fn read_text(rt: &impl Abort, alloc: Global, reader: Reader, text: &str) -> Stri
 #[test]
 fn lists_of_a_text(rt: HostRuntime) {
     for row in LISTS {
-        assert_eq!(rt; read_text(&rt, rt.alloc(), row.0, row.1).as_str(), row.2);
+        same(
+            &rt,
+            read_text(&rt, rt.alloc(), row.0, row.1).as_str(),
+            row.2,
+        );
     }
 }
 
@@ -129,6 +133,10 @@ fn two(rt: &impl Abort, alloc: Global, first: Reader, second: Reader, text: &str
 #[test]
 fn lists_that_follow_a_refusal(rt: HostRuntime) {
     for row in FOLLOWING {
-        assert_eq!(rt; two(&rt, rt.alloc(), row.0, row.1, row.2).as_str(), row.3);
+        same(
+            &rt,
+            two(&rt, rt.alloc(), row.0, row.1, row.2).as_str(),
+            row.3,
+        );
     }
 }

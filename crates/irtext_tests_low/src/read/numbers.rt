@@ -1,7 +1,7 @@
 //! Numbers of every type, in decimal and hexadecimal digits and as their text, and booleans.
 ghost use Rattle.std.specs.Prelude.{◌≤◌};
 
-use crate::must::must;
+use crate::must::{must, same};
 use crate::read::numbers::Kind::{
     HexI64, HexU8, HexU16, HexU32, HexU64, HexUsize, I8, I16, I32, I64, Isize, Text, Truth, U8,
     U16, U32, U64, Usize,
@@ -219,18 +219,22 @@ fn not_expected(rt: &impl Abort, alloc: Global, column: u8, error: &str) -> Stri
 #[test]
 fn numbers_and_truth_values_of_a_text(rt: HostRuntime) {
     for row in READ {
-        assert_eq!(rt; read(&rt, rt.alloc(), row.0, row.1).as_str(), row.2);
+        same(&rt, read(&rt, rt.alloc(), row.0, row.1).as_str(), row.2);
     }
     for row in OUT_OF_RANGE {
-        assert_eq!(rt;
-            read(&rt, rt.alloc(), row.0, row.1),
-            out_of_range(&rt, rt.alloc(), row.1)
+        let said = read(&rt, rt.alloc(), row.0, row.1);
+        same(
+            &rt,
+            said.as_str(),
+            out_of_range(&rt, rt.alloc(), row.1).as_str(),
         );
     }
     for row in UNEXPECTED {
-        assert_eq!(rt;
-            read(&rt, rt.alloc(), row.0, row.1),
-            not_expected(&rt, rt.alloc(), row.2, row.3)
+        let said = read(&rt, rt.alloc(), row.0, row.1);
+        same(
+            &rt,
+            said.as_str(),
+            not_expected(&rt, rt.alloc(), row.2, row.3).as_str(),
         );
     }
 }
@@ -238,7 +242,11 @@ fn numbers_and_truth_values_of_a_text(rt: HostRuntime) {
 #[test]
 fn a_refused_number_leaves_the_stream_failed(rt: HostRuntime) {
     for row in AFTER_SKIPPED {
-        assert_eq!(rt; following(&rt, rt.alloc(), row.0, row.1).as_str(), row.2);
+        same(
+            &rt,
+            following(&rt, rt.alloc(), row.0, row.1).as_str(),
+            row.2,
+        );
     }
 }
 
@@ -292,9 +300,10 @@ fn in_radix(rt: &impl Abort, alloc: Global, kind: Kind, radix: u32, text: &str) 
 #[test]
 fn numbers_in_a_radix(rt: HostRuntime) {
     for row in RADICES {
-        assert_eq!(rt;
+        same(
+            &rt,
             in_radix(&rt, rt.alloc(), row.0, row.1, row.2).as_str(),
-            row.3
+            row.3,
         );
     }
 }

@@ -1,5 +1,5 @@
 //! Quoted texts and their parser.
-use crate::must::must;
+use crate::must::{must, same};
 use irtext_base::parsable::TextStream;
 use irtext_tests_common::answers::with_next;
 use irtext_tokens::irfmt::parsers::quoted_string_parse;
@@ -55,6 +55,6 @@ fn read(rt: &impl Abort, alloc: Global, text: &str) -> String {
 #[test]
 fn texts_in_quotation_marks(rt: HostRuntime) {
     for row in QUOTED {
-        assert_eq!(rt; read(&rt, rt.alloc(), row.0).as_str(), row.1);
+        same(&rt, read(&rt, rt.alloc(), row.0).as_str(), row.1);
     }
 }

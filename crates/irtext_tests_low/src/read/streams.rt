@@ -1,5 +1,5 @@
 //! The stream over a text, places, faults and tokens.
-use crate::must::must;
+use crate::must::{must, same};
 use irtext_base::parsable::{
     CharStream, ParseFault, ParseResult, Place, SourcePosition, TextStream,
 };
@@ -123,9 +123,13 @@ fn failed(rt: &impl Abort, alloc: Global) -> (bool, bool) {
 fn a_stream_counts_lines_and_characters(rt: HostRuntime) {
     assert!(rt; SourcePosition::default() == SourcePosition { line: 1, column: 1 });
     for row in TAKEN {
-        assert_eq!(rt; taken(&rt, rt.alloc(), "é\nb", row.0).as_str(), row.1);
+        same(&rt, taken(&rt, rt.alloc(), "é\nb", row.0).as_str(), row.1);
     }
-    assert_eq!(rt; given_back(&rt, rt.alloc()).as_str(), "\"é\\n\" Some('é')");
+    same(
+        &rt,
+        given_back(&rt, rt.alloc()).as_str(),
+        "\"é\\n\" Some('é')",
+    );
     assert!(rt; failed(&rt, rt.alloc()) == (false, true));
 }
 
@@ -177,9 +181,10 @@ fn words_and_fixed_texts(rt: HostRuntime) {
     let stream = TextStream::new(rt.alloc(), " \t_a1 builtin.module ->x");
     let mut stream = stream.expect(&rt, "out of memory");
     for (number, wanted) in WORDS.iter().enumerate() {
-        assert_eq!(rt;
+        same(
+            &rt,
             word(&rt, rt.alloc(), &mut stream, number).as_str(),
-            *wanted
+            *wanted,
         );
     }
 }
@@ -228,10 +233,14 @@ fn value(stream: &mut TextStream) -> ParseResult<u8, ()> {
 fn faults_are_committed_or_not(rt: HostRuntime) {
     check_classes(&rt, rt.alloc());
     for (number, wanted) in FAULTS.iter().enumerate() {
-        assert_eq!(rt; refused(&rt, rt.alloc(), "ab", number).as_str(), *wanted);
+        same(
+            &rt,
+            refused(&rt, rt.alloc(), "ab", number).as_str(),
+            *wanted,
+        );
     }
     let said = must(&rt, said(rt.alloc(), "ab", value));
-    assert_eq!(rt; said.as_str(), "7");
+    same(&rt, said.as_str(), "7");
 }
 
 /// Whether two fixed texts are skipped after white space, and the position of the stream then.
@@ -252,7 +261,7 @@ const SLICES: (&str, &str) = (
 
 #[test]
 fn a_stream_goes_by_slices(rt: HostRuntime) {
-    assert_eq!(rt; slices(&rt, rt.alloc(), SLICES.0).as_str(), SLICES.1);
+    same(&rt, slices(&rt, rt.alloc(), SLICES.0).as_str(), SLICES.1);
 }
 
 /// Fails the stream, or not.
@@ -290,10 +299,10 @@ fn arrow(rt: &impl Abort, alloc: Global, text: &str, failed: bool) -> String {
 #[test]
 fn a_fixed_text_after_white_space(rt: HostRuntime) {
     for row in ACCEPTED {
-        assert_eq!(rt; accepted(&rt, rt.alloc(), row.0, row.1).as_str(), row.2);
+        same(&rt, accepted(&rt, rt.alloc(), row.0, row.1).as_str(), row.2);
     }
     for row in ARROWS {
-        assert_eq!(rt; arrow(&rt, rt.alloc(), row.0, row.1).as_str(), row.2);
+        same(&rt, arrow(&rt, rt.alloc(), row.0, row.1).as_str(), row.2);
     }
 }
 
@@ -309,8 +318,9 @@ fn long_line(rt: &impl Abort, alloc: Global) -> String {
 #[test]
 fn a_long_line_counts_characters(rt: HostRuntime) {
     let text = long_line(&rt, rt.alloc());
-    assert_eq!(rt;
+    same(
+        &rt,
         taken(&rt, rt.alloc(), text.as_str(), 1100).as_str(),
-        "Some('a') line: 2, column: 1100 Some('é') false"
+        "Some('a') line: 2, column: 1100 Some('é') false",
     );
 }

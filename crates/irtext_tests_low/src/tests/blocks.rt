@@ -1,5 +1,6 @@
 //! Blocks of a context: how they are made, labelled and changed.
-use crate::must::must;
+use crate::checks::{Check, alone, counting};
+use crate::must::{must, same, told};
 use crate::tests::locations::{at, make};
 use irtext_base::base::{AttrObj, GIVEN_NAMES_KEY, SYM_NAME_KEY};
 use irtext_base::location::Source;
@@ -13,9 +14,8 @@ use irtext_demo::{DemoAttr, DemoType};
 use irtext_few::Few;
 use irtext_graph::held::HasGraph;
 use irtext_graph::object::Value;
-use irtext_tests_common::answers::done_or_cause;
 use irtext_tests_common::building::{block_inside, into_block, place, types};
-use irtext_tests_common::contexts::{Ctx, named, with_context, with_counters};
+use irtext_tests_common::contexts::{Ctx, named};
 use std::alloc::Global;
 use std::process::Abort;
 
@@ -67,12 +67,6 @@ fn put(rt: &impl Abort, alloc: Global, ctx: &mut Ctx, block: Ptr<BasicBlock>, ke
     block.set_attribute(ctx, key, attr).is_ok()
 }
 
-/// Gives a block a label.
-fn label(rt: &impl Abort, alloc: Global, ctx: &mut Ctx, block: Ptr<BasicBlock>) {
-    assert!(rt; ctx.contains_block(block));
-    block.set_label(ctx, Some(must(rt, named(alloc, "entry"))));
-}
-
 /// Changes a block, and returns whether that was allowed.
 fn write(
     rt: &impl Abort,
@@ -83,7 +77,7 @@ fn write(
 ) -> bool {
     assert!(rt; ctx.contains_block(block));
     match step {
-        Step::Label => label(rt, alloc, ctx, block),
+        Step::Label => block.set_label(ctx, Some(must(rt, named(alloc, "entry")))),
         Step::NoLabel => block.set_label(ctx, None),
         Step::Place => block.set_loc(ctx, at(Source::InMemory)),
         Step::Name => return put(rt, alloc, ctx, block, SYM_NAME_KEY),
@@ -102,44 +96,36 @@ const STEPS: &[(Step, bool, &str)] = &[
 ];
 
 /// Checks the result of each step, and how it leaves a block that begins with three arguments.
-fn check_steps(rt: &impl Abort, alloc: Global, ctx: &mut Ctx) {
+pub(crate) fn check_steps(rt: &impl Abort, alloc: Global, ctx: &mut Ctx) {
     let block = made(rt, alloc, ctx, "ppp").ok().expect(rt, "refused");
     assert!(rt; begins_with_pointer(ctx, block));
-    assert_eq!(rt; shown(rt, alloc, ctx, block).as_str(), "- 3 0 true");
+    same(rt, shown(rt, alloc, ctx, block).as_str(), "- 3 0 true");
     for row in STEPS {
         assert!(rt; write(rt, alloc, ctx, block, row.0) == row.1);
-        assert_eq!(rt; shown(rt, alloc, ctx, block).as_str(), row.2);
+        same(rt, shown(rt, alloc, ctx, block).as_str(), row.2);
     }
 }
 
 #[test]
 fn blocks_are_labelled_and_written(rt: HostRuntime) {
-    let done = with_context(rt.alloc(), |alloc, ctx| Ok(check_steps(&rt, alloc, ctx)));
-    must(&rt, done);
+    alone(&rt, rt.alloc(), Check::Blocks);
 }
 
 /// The text of the result for a block with arguments of these types.
 fn said(rt: &impl Abort, alloc: Global, ctx: &mut Ctx, letters: &str) -> String {
-    let answer = made(rt, alloc, ctx, letters);
-    must(rt, done_or_cause(alloc, &answer, "made"))
+    told(rt, alloc, made(rt, alloc, ctx, letters), "made")
 }
 
 /// Checks that no block of two arguments is made if one number is left for values, and that one of one argument is.
-fn fill(rt: &impl Abort, alloc: Global, ctx: &mut Ctx) {
-    assert_eq!(rt; said(rt, alloc, ctx, "pp").as_str(), "Out of memory");
+pub(crate) fn fill(rt: &impl Abort, alloc: Global, ctx: &mut Ctx) {
+    same(rt, said(rt, alloc, ctx, "pp").as_str(), "Out of memory");
     assert!(rt; ctx.num_live() == 0);
-    assert_eq!(rt; said(rt, alloc, ctx, "p").as_str(), "made");
+    same(rt, said(rt, alloc, ctx, "p").as_str(), "made");
 }
 
 #[test]
 fn arguments_end_at_the_greatest_number(rt: HostRuntime) {
-    let done = with_counters(
-        rt.alloc(),
-        u64::MAX - 1,
-        1,
-        |alloc, ctx| Ok(fill(&rt, alloc, ctx)),
-    );
-    must(&rt, done);
+    counting(&rt, rt.alloc(), u64::MAX - 1, 1, Check::LastArguments);
 }
 
 /// Whether the location of an operation or a block is known.
@@ -165,7 +151,7 @@ fn known(
 }
 
 /// Checks that locations are known in an operation with a block and an operation in it, and none once they are erased.
-fn erase_inside(rt: &impl Abort, alloc: Global, ctx: &mut Ctx) {
+pub(crate) fn erase_inside(rt: &impl Abort, alloc: Global, ctx: &mut Ctx) {
     let (outer, inner) = (make(rt, alloc, ctx), make(rt, alloc, ctx));
     assert!(rt; ctx.contains_operation(outer));
     ctx.add_region(outer).expect(rt, "out of memory");
@@ -180,6 +166,5 @@ fn erase_inside(rt: &impl Abort, alloc: Global, ctx: &mut Ctx) {
 
 #[test]
 fn inner_locations_are_erased(rt: HostRuntime) {
-    let done = with_context(rt.alloc(), |alloc, ctx| Ok(erase_inside(&rt, alloc, ctx)));
-    must(&rt, done);
+    alone(&rt, rt.alloc(), Check::InnerLocations);
 }

@@ -2,7 +2,8 @@
 ghost use Rattle.std.specs.Prelude.{◌≤◌, ℕ};
 ghost use Rattle.irtext_context.specs.Context.{KeepsOlder};
 
-use crate::must::must;
+use crate::checks::{Check, alone, counting};
+use crate::must::{must, same};
 use irtext_base::base::OpId;
 use irtext_base::location::Location;
 use irtext_context::base::context::making::Making;
@@ -10,7 +11,7 @@ use irtext_context::base::{AttributeDict, Operation, OperationAccess, Ptr, Regio
 use irtext_graph::held::HasGraph;
 use irtext_graph::object::Object;
 use irtext_tests_common::building::id;
-use irtext_tests_common::contexts::{Ctx, with_context, with_counters};
+use irtext_tests_common::contexts::Ctx;
 use std::alloc::{AllocError, Global};
 use std::process::Abort;
 
@@ -51,17 +52,6 @@ fn passes(rt: &impl Abort, alloc: Global, ctx: &mut Ctx) -> (Ptr<Operation>, u64
     (op, live)
 }
 
-/// Makes a module with a region.
-fn make_with_region(
-    rt: &impl Abort,
-    alloc: Global,
-    ctx: &mut Ctx,
-) -> (Ptr<Operation>, Ptr<Region>) {
-    let op = make(rt, alloc, ctx);
-    assert!(rt; ctx.contains_operation(op));
-    (op, ctx.add_region(op).expect(rt, "out of memory"))
-}
-
 /// Whether a region is in an operation.
 fn is_in(ctx: &Ctx, region: Ptr<Region>, op: Ptr<Operation>) -> bool {
     let (graph, region) = (ctx.graph(), Object::TheRegion(region));
@@ -69,40 +59,36 @@ fn is_in(ctx: &Ctx, region: Ptr<Region>, op: Ptr<Operation>) -> bool {
 }
 
 /// Makes a module with a region, and another after a mark to which the context is then rolled back; checks what is live.
-fn rolls_back(rt: &impl Abort, alloc: Global, ctx: &mut Ctx) {
-    let (first, region) = make_with_region(rt, alloc, ctx);
+pub(crate) fn rolls_back(rt: &impl Abort, alloc: Global, ctx: &mut Ctx) {
+    let first = make(rt, alloc, ctx);
+    assert!(rt; ctx.contains_operation(first));
+    let region = ctx.add_region(first).expect(rt, "out of memory");
     assert!(rt; is_in(ctx, region, first));
     let (second, before) = passes(rt, alloc, ctx);
-    assert!(rt; is_in(ctx, region, first) && !ctx.contains_operation(second));
-    assert!(rt; before == 3 && ctx.num_live() == 2);
+    assert!(rt; is_in(ctx, region, first) & !ctx.contains_operation(second));
+    assert!(rt; (before == 3) & (ctx.num_live() == 2));
     let third = make(rt, alloc, ctx);
-    assert!(rt; second.place() == 2 && third.place() == 2 && third.generation() == 2);
-    assert_eq!(rt;
+    assert!(rt; (second.place() == 2) & (third.place() == 2) & (third.generation() == 2));
+    same(
+        rt,
         shown(rt, alloc, ctx, first).as_str(),
-        "builtin.module 1 true"
+        "builtin.module 1 true",
     );
 }
 
 #[test]
 fn objects_are_made_kept_and_given_back(rt: HostRuntime) {
-    let done = with_context(rt.alloc(), |alloc, ctx| Ok(rolls_back(&rt, alloc, ctx)));
-    must(&rt, done);
+    alone(&rt, rt.alloc(), Check::Objects);
 }
 
-/// Whether one operation is made, and then another, and the number of live objects.
-fn filled(rt: &impl Abort, alloc: Global, ctx: &mut Ctx) -> (bool, bool, u64) {
-    let first = try_make(alloc, ctx, module_id(rt, alloc)).is_ok();
-    let second = try_make(alloc, ctx, module_id(rt, alloc)).is_ok();
-    (first, second, ctx.num_live())
+/// Checks that one operation is made, and not another one.
+pub(crate) fn fill(rt: &impl Abort, alloc: Global, ctx: &mut Ctx) {
+    assert!(rt; try_make(alloc, ctx, module_id(rt, alloc)).is_ok());
+    assert!(rt; try_make(alloc, ctx, module_id(rt, alloc)).is_err());
+    assert!(rt; ctx.num_live() == 1);
 }
 
 #[test]
 fn places_end_below_the_greatest_number(rt: HostRuntime) {
-    let filled = with_counters(
-        rt.alloc(),
-        0,
-        u32::MAX - 1,
-        |alloc, ctx| Ok(filled(&rt, alloc, ctx)),
-    );
-    assert!(rt; must(&rt, filled) == (true, false, 1));
+    counting(&rt, rt.alloc(), 0, u32::MAX - 1, Check::LastPlaces);
 }

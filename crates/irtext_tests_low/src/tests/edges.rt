@@ -1,14 +1,12 @@
 //! Attributes that are set on an operation, and `Refusal`s as errors.
-use crate::must::must;
+use crate::checks::{Check, alone};
+use crate::must::{must, same, told};
+use crate::tests::locations::make;
 use irtext_base::base::{AttrObj, GIVEN_NAMES_KEY, Refusal, SYM_NAME_KEY};
-use irtext_base::location::Location;
 use irtext_base::result::{Error, Result as Answer};
-use irtext_context::base::context::making::Making;
-use irtext_context::base::{AttributeDict, Operation, OperationAccess, Ptr};
+use irtext_context::base::{Operation, OperationAccess, Ptr};
 use irtext_demo::DemoAttr;
-use irtext_tests_common::answers::done_or_cause;
-use irtext_tests_common::building::id;
-use irtext_tests_common::contexts::{Ctx, named, with_context};
+use irtext_tests_common::contexts::{Ctx, named};
 use std::alloc::{AllocError, Global};
 use std::process::Abort;
 
@@ -35,22 +33,14 @@ fn step(rt: &impl Abort, alloc: Global, ctx: &mut Ctx, op: Ptr<Operation>, key: 
     assert!(rt; ctx.contains_operation(op));
     let key = must(rt, named(alloc, key));
     let attr = AttrObj::Ident(must(rt, named(alloc, "main")));
-    let answer = answer(op.set_attribute(ctx, key, attr));
-    must(rt, done_or_cause(alloc, &answer, "set"))
-}
-
-/// Makes an operation without attributes.
-fn make(rt: &impl Abort, alloc: Global, ctx: &mut Ctx) -> Ptr<Operation> {
-    let id = must(rt, id(alloc, ("builtin", "module")));
-    let made = ctx.make_operation(id, AttributeDict::new(alloc), Location::Unknown);
-    made.expect(rt, "out of memory")
+    told(rt, alloc, answer(op.set_attribute(ctx, key, attr)), "set")
 }
 
 /// Checks the result for each key, with an operation without attributes, which has one in the end.
-fn check_keys(rt: &impl Abort, alloc: Global, ctx: &mut Ctx) {
+pub(crate) fn check_keys(rt: &impl Abort, alloc: Global, ctx: &mut Ctx) {
     let op = make(rt, alloc, ctx);
     for row in KEYS {
-        assert_eq!(rt; step(rt, alloc, ctx, op, row.0).as_str(), row.1);
+        same(rt, step(rt, alloc, ctx, op, row.0).as_str(), row.1);
     }
     assert!(rt; ctx.contains_operation(op));
     assert!(rt; op.attributes(ctx).len() == 1);
@@ -69,10 +59,10 @@ fn no_memory(rt: &impl Abort, alloc: Global) -> String {
 
 #[test]
 fn attributes_are_set_and_refused(rt: HostRuntime) {
-    let done = with_context(rt.alloc(), |alloc, ctx| Ok(check_keys(&rt, alloc, ctx)));
-    must(&rt, done);
-    assert_eq!(rt;
+    alone(&rt, rt.alloc(), Check::Keys);
+    same(
+        &rt,
         no_memory(&rt, rt.alloc()).as_str(),
-        "Compilation error: invalid argument.\nOut of memory"
+        "Compilation error: invalid argument.\nOut of memory",
     );
 }

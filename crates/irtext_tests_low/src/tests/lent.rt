@@ -1,12 +1,14 @@
 //! Attributes that are borrowed mutably from a context: an inserted key is there, a reserved one is rejected, other objects are unchanged.
+use crate::checks::{Check, alone};
 use crate::must::must;
 use crate::tests::locations::make;
+use crate::tests::unique::make_block;
 use irtext_base::base::{AttrObj, GIVEN_NAMES_KEY, SYM_NAME_KEY};
-use irtext_context::base::{AttributeDict, BasicBlock, BlockAccess, Item, OperationAccess, Ptr};
+use irtext_context::base::context::making::Making;
+use irtext_context::base::{AttributeDict, BlockAccess, Item, OperationAccess};
 use irtext_demo::DemoAttr;
-use irtext_few::Few;
-use irtext_tests_common::building::block;
-use irtext_tests_common::contexts::{Ctx, named, with_context};
+use irtext_tests_common::building::erase;
+use irtext_tests_common::contexts::{Ctx, named};
 use std::alloc::Global;
 use std::process::Abort;
 
@@ -59,46 +61,30 @@ fn counted(attributes: &AttributeDict<DemoAttr>) -> (usize, bool) {
 fn name_one(rt: &impl Abort, alloc: Global, ctx: &mut Ctx, item: Item, other: Item) {
     assert!(rt; put_into(rt, alloc, ctx, item, SYM_NAME_KEY));
     assert!(rt; !put_into(rt, alloc, ctx, item, GIVEN_NAMES_KEY));
-    assert!(rt; shown(rt, ctx, item) == (1, true) && shown(rt, ctx, other) == (0, false));
+    assert!(rt; (shown(rt, ctx, item) == (1, true)) & (shown(rt, ctx, other) == (0, false)));
 }
 
-/// Checks that for two operations.
-fn name_operation(rt: &impl Abort, alloc: Global, ctx: &mut Ctx) {
+/// Checks that for two operations, and for two blocks.
+pub(crate) fn name_each(rt: &impl Abort, alloc: Global, ctx: &mut Ctx) {
     let (op, other) = (make(rt, alloc, ctx), make(rt, alloc, ctx));
     name_one(rt, alloc, ctx, Item::Operation(op), Item::Operation(other));
-}
-
-/// Makes a block without arguments.
-fn make_block(rt: &impl Abort, alloc: Global, ctx: &mut Ctx) -> Ptr<BasicBlock> {
-    must(rt, block(alloc, ctx, "", Few::none()))
-}
-
-/// Checks that for two blocks.
-fn name_block(rt: &impl Abort, alloc: Global, ctx: &mut Ctx) {
-    let (first, other) = (make_block(rt, alloc, ctx), make_block(rt, alloc, ctx));
-    name_one(rt, alloc, ctx, Item::Block(first), Item::Block(other));
+    let block = make_block(rt, alloc, ctx, "", "");
+    let other = make_block(rt, alloc, ctx, "", "");
+    name_one(rt, alloc, ctx, Item::Block(block), Item::Block(other));
 }
 
 /// Checks that an operation, its region and a block are in the context, and only the block once the operation was erased.
-fn contains_what_is_left(rt: &impl Abort, alloc: Global, ctx: &mut Ctx) {
-    let (op, other) = (make(rt, alloc, ctx), make_block(rt, alloc, ctx));
+pub(crate) fn contains_what_is_left(rt: &impl Abort, alloc: Global, ctx: &mut Ctx) {
+    let (op, other) = (make(rt, alloc, ctx), make_block(rt, alloc, ctx, "", ""));
     assert!(rt; ctx.contains_operation(op));
-    let region = op.add_region(ctx).expect(rt, "out of memory");
-    assert!(rt; ctx.contains(other) && ctx.contains(region));
-    assert!(rt; ctx.contains(op) && op.can_erase(ctx));
-    op.erase(ctx);
-    assert!(rt; !ctx.contains(op) && !ctx.contains(region) && ctx.contains(other));
+    let region = ctx.add_region(op).expect(rt, "out of memory");
+    assert!(rt; ctx.contains(other) & ctx.contains(region) & ctx.contains(op));
+    must(rt, erase(ctx, Item::Operation(op)));
+    assert!(rt; !ctx.contains(op) & !ctx.contains(region) & ctx.contains(other));
 }
 
 #[test]
 fn attributes_of_operations_and_blocks(rt: HostRuntime) {
-    let done = with_context(rt.alloc(), |alloc, ctx| Ok(name_operation(&rt, alloc, ctx)));
-    must(&rt, done);
-    let done = with_context(rt.alloc(), |alloc, ctx| Ok(name_block(&rt, alloc, ctx)));
-    must(&rt, done);
-    let done = with_context(
-        rt.alloc(),
-        |alloc, ctx| Ok(contains_what_is_left(&rt, alloc, ctx)),
-    );
-    must(&rt, done);
+    alone(&rt, rt.alloc(), Check::Named);
+    alone(&rt, rt.alloc(), Check::Contained);
 }

@@ -1,4 +1,5 @@
 //! The sources, copies and hashes of locations, and the paths that a context keeps.
+use crate::checks::{Check, alone};
 use crate::must::must;
 use crate::tests::nested;
 use irtext_base::base::AttrObj;
@@ -9,7 +10,7 @@ use irtext_context::base::{AttributeDict, Operation, OperationAccess, Ptr};
 use irtext_context::location::erase_locations;
 use irtext_demo::DemoAttr;
 use irtext_tests_common::building::id;
-use irtext_tests_common::contexts::{Ctx, named, with_context, with_contexts};
+use irtext_tests_common::contexts::{Ctx, named, with_contexts};
 use std::alloc::Global;
 use std::hash::{DefaultHasher, Hash, Hasher};
 use std::process::Abort;
@@ -72,9 +73,9 @@ fn keep_once(rt: &impl Abort, alloc: Global, ctx: &mut Ctx, other: &Ctx) {
     let b = file(rt, ctx, "b");
     let c = file(rt, ctx, "c");
     let again = file(rt, ctx, "b");
-    assert!(rt; b != c && b == again && ctx.num_paths() == 2);
-    assert!(rt; b.is_of(ctx) && !b.is_of(other) && !other.contains_paths(&at(b)));
-    assert!(rt; has_single(rt, alloc, b) && in_order(rt, alloc, b) && lists_once(rt, alloc, b));
+    assert!(rt; (b != c) & (b == again) & (ctx.num_paths() == 2));
+    assert!(rt; b.is_of(ctx) & !b.is_of(other) & !other.contains_paths(&at(b)));
+    assert!(rt; has_single(rt, alloc, b) & in_order(rt, alloc, b) & lists_once(rt, alloc, b));
     assert!(rt; path_of(ctx, b) == "b");
 }
 
@@ -212,17 +213,16 @@ fn erase(rt: &impl Abort, alloc: Global, ctx: &mut Ctx) {
 }
 
 /// Checks that locations of a context are copied, hashed and erased.
-fn keep(rt: &impl Abort, alloc: Global, ctx: &mut Ctx) {
-    assert!(rt; copied(rt, alloc) && attribute_copied(rt, alloc));
-    assert!(rt; hashed(rt, ctx) && counted(rt, alloc, ctx));
+pub(crate) fn keep(rt: &impl Abort, alloc: Global, ctx: &mut Ctx) {
+    assert!(rt; copied(rt, alloc) & attribute_copied(rt, alloc));
+    assert!(rt; hashed(rt, ctx) & counted(rt, alloc, ctx));
     erase(rt, alloc, ctx);
     nested::check_copies(rt, alloc);
 }
 
 #[test]
 fn copies_and_hashes_of_locations(rt: HostRuntime) {
-    let done = with_context(rt.alloc(), |alloc, ctx| Ok(keep(&rt, alloc, ctx)));
-    must(&rt, done);
+    alone(&rt, rt.alloc(), Check::Locations);
 }
 
 /// Checks that two contexts keep each path once, and locations move from one to the other.

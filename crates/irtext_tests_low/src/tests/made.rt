@@ -1,5 +1,7 @@
 //! Operations of a context that are made with results, operands, successors and regions, or fail.
-use crate::must::must;
+use crate::checks::{Check, alone, counting};
+use crate::must::{must, same, told};
+use crate::tests::unique::make_block;
 use irtext_base::result::Result as Answer;
 use irtext_context::base::{
     BasicBlock, NewOperation, Operation, OperationAccess, Ptr, Region, Value,
@@ -9,11 +11,15 @@ use irtext_demo::{DemoAttr, DemoType, IntegerType, Signedness, Width};
 use irtext_few::Few;
 use irtext_graph::held::HasGraph;
 use irtext_graph::object::{Defined, Object};
-use irtext_tests_common::answers::done_or_cause;
-use irtext_tests_common::building::{block, id};
-use irtext_tests_common::contexts::{Ctx, with_counters, with_demo};
+use irtext_tests_common::building::id;
+use irtext_tests_common::contexts::Ctx;
 use std::alloc::Global;
 use std::process::Abort;
+
+/// Registers the demo dialects.
+fn add_demo(rt: &impl Abort, ctx: &mut Ctx) {
+    assert!(rt; register_demo(ctx).is_ok());
+}
 
 /// The result of making an operation with two results, a pointer and a byte, with these operands and successors, and with
 /// two regions.
@@ -41,7 +47,7 @@ fn said(
     successors: &[Ptr<BasicBlock>],
 ) -> String {
     let answer = answered(rt, alloc, ctx, words, operands, successors);
-    must(rt, done_or_cause(alloc, &answer, "made"))
+    told(rt, alloc, answer, "made")
 }
 
 /// Makes such an operation of a demo dialect.
@@ -56,21 +62,16 @@ fn made(
     answer.ok().expect(rt, "refused")
 }
 
-/// Makes a block with one argument.
-fn made_block(rt: &impl Abort, alloc: Global, ctx: &mut Ctx) -> Ptr<BasicBlock> {
-    must(rt, block(alloc, ctx, "", Few::one(DemoType::Pointer)))
-}
-
 /// Whether an operation uses these three values and this block, and nothing else.
 fn is_linked(ctx: &Ctx, op: Ptr<Operation>, operands: [Value; 3], block: Ptr<BasicBlock>) -> bool {
     let graph = ctx.graph();
     graph.contains(Object::TheOperation(op))
         && graph.num_operands(op) == 3
         && graph.num_successors(op) == 1
-        && graph.get_operand(op, 0) == operands[0]
-        && graph.get_operand(op, 1) == operands[1]
-        && graph.get_operand(op, 2) == operands[2]
-        && graph.get_successor(op, 0) == block
+        && (graph.get_operand(op, 0) == operands[0])
+            & (graph.get_operand(op, 1) == operands[1])
+            & (graph.get_operand(op, 2) == operands[2])
+            & (graph.get_successor(op, 0) == block)
 }
 
 /// The type of signed integers of eight bits.
@@ -120,20 +121,20 @@ fn grow(rt: &impl Abort, ctx: &mut Ctx, op: Ptr<Operation>) {
 }
 
 /// Checks that an operation that uses a result twice, an argument and a block has the parts that it was made with.
-fn link(rt: &impl Abort, alloc: Global, ctx: &mut Ctx) {
+pub(crate) fn link(rt: &impl Abort, alloc: Global, ctx: &mut Ctx) {
+    add_demo(rt, ctx);
     let first = made(rt, alloc, ctx, &[], &[]);
-    let block = made_block(rt, alloc, ctx);
+    let block = make_block(rt, alloc, ctx, "", "p");
     let (result, argument) = (Value::Result(first, 1), Value::Argument(block, 0));
     let op = made(rt, alloc, ctx, &[result, argument, result], &[block]);
-    assert!(rt; is_linked(ctx, op, [result, argument, result], block) && is_typed(rt, ctx, op));
-    assert!(rt; num_uses(ctx, result) == Some(2) && num_uses(ctx, argument) == Some(1));
+    assert!(rt; is_linked(ctx, op, [result, argument, result], block) & is_typed(rt, ctx, op));
+    assert!(rt; (num_uses(ctx, result) == Some(2)) & (num_uses(ctx, argument) == Some(1)));
     grow(rt, ctx, op);
 }
 
 #[test]
 fn operations_are_made_with_all_that_they_have(rt: HostRuntime) {
-    let done = with_demo(rt.alloc(), |alloc, ctx| Ok(link(&rt, alloc, ctx)));
-    must(&rt, done);
+    alone(&rt, rt.alloc(), Check::Made);
 }
 
 /// Ids that are not registered with the demo dialects, and the error for an operation of each.
@@ -142,41 +143,36 @@ const UNREGISTERED: &[(&str, &str, &str)] = &[
     ("builtin", "other", "Unregistered Op builtin.other"),
 ];
 
-/// Checks that an operation of an id that is to use a value has this error, and leaves no trace.
-fn refuse(rt: &impl Abort, alloc: Global, ctx: &mut Ctx, row: &(&str, &str, &str)) {
+/// Checks that an operation of the id of a row that is to use a value has this error, and leaves no trace.
+pub(crate) fn refuse(rt: &impl Abort, alloc: Global, ctx: &mut Ctx, row: usize) {
+    add_demo(rt, ctx);
+    let row = UNREGISTERED.get(row).expect(rt, "no such row");
     let used = Value::Result(made(rt, alloc, ctx, &[], &[]), 0);
     let said = said(rt, alloc, ctx, (row.0, row.1), &[used], &[]);
-    assert_eq!(rt; said.as_str(), row.2);
-    assert!(rt; ctx.num_live() == 3 && num_uses(ctx, used) == Some(0));
+    same(rt, said.as_str(), row.2);
+    assert!(rt; (ctx.num_live() == 3) & (num_uses(ctx, used) == Some(0)));
 }
 
 #[test]
 fn what_is_not_registered_is_not_made(rt: HostRuntime) {
-    for row in UNREGISTERED {
-        let done = with_demo(rt.alloc(), |alloc, ctx| Ok(refuse(&rt, alloc, ctx, row)));
-        must(&rt, done);
+    for row in 0..UNREGISTERED.len() {
+        alone(&rt, rt.alloc(), Check::Unregistered(row));
     }
 }
 
 /// Checks that there is no number for an operation that is to use a result of another, and that all objects and uses are unchanged then.
-fn fill(rt: &impl Abort, alloc: Global, ctx: &mut Ctx) {
-    assert!(rt; register_demo(ctx).is_ok());
+pub(crate) fn fill(rt: &impl Abort, alloc: Global, ctx: &mut Ctx) {
+    add_demo(rt, ctx);
     let used = Value::Result(made(rt, alloc, ctx, &[], &[]), 0);
-    let block = made_block(rt, alloc, ctx);
+    let block = make_block(rt, alloc, ctx, "", "p");
     let said = said(rt, alloc, ctx, ("builtin", "module"), &[used], &[block]);
-    assert_eq!(rt; said.as_str(), "Out of memory");
-    assert!(rt; ctx.num_live() == 4 && num_uses(ctx, used) == Some(0));
+    same(rt, said.as_str(), "Out of memory");
+    assert!(rt; (ctx.num_live() == 4) & (num_uses(ctx, used) == Some(0)));
 }
 
 #[test]
 fn a_full_counter_leaves_all_as_it_was(rt: HostRuntime) {
     for counters in &[(u64::MAX - 4, 1), (0, u32::MAX - 3)] {
-        let done = with_counters(
-            rt.alloc(),
-            counters.0,
-            counters.1,
-            |alloc, ctx| Ok(fill(&rt, alloc, ctx)),
-        );
-        must(&rt, done);
+        counting(&rt, rt.alloc(), counters.0, counters.1, Check::FullCounter);
     }
 }

@@ -1,5 +1,6 @@
 //! The names under which values and blocks are printed.
-use crate::must::must;
+use crate::checks::{Check, counting};
+use crate::must::{must, same};
 use crate::tests::locations::make;
 use irtext_base::base::{AttrObj, GIVEN_NAMES_KEY, Identifier};
 use irtext_context::base::{BasicBlock, Item, Operation, OperationData, Ptr};
@@ -9,7 +10,7 @@ use irtext_grammar::UniqueName;
 use irtext_graph::held::HasGraph;
 use irtext_graph::object::Value;
 use irtext_tests_common::building::{block, erase, give, types};
-use irtext_tests_common::contexts::{Ctx, named, with_counters};
+use irtext_tests_common::contexts::{Ctx, named};
 use std::alloc::Global;
 use std::process::Abort;
 
@@ -21,21 +22,13 @@ fn value_name(rt: &impl Abort, alloc: Global, ctx: &Ctx, v: Value) -> String {
     v.unique_name(ctx).expect(rt, "out of memory")
 }
 
-/// The name of a block, or `-` if it is not live.
-fn block_name(rt: &impl Abort, alloc: Global, ctx: &Ctx, block: Ptr<BasicBlock>) -> String {
-    if !ctx.contains_block(block) {
-        return String::from_str(alloc, "-").expect(rt, "out of memory");
-    }
-    block.unique_name(ctx).expect(rt, "out of memory")
-}
-
 /// Appends a name, and a space.
 fn append_name(rt: &impl Abort, name: &str, names: &mut String) {
     names.push_str(name).expect(rt, "out of memory");
     names.push(' ').expect(rt, "out of memory");
 }
 
-/// Appends the name of a block, and a space.
+/// Appends the name of a block, or `-` if it is not live, and a space.
 fn append_block(
     rt: &impl Abort,
     alloc: Global,
@@ -43,7 +36,11 @@ fn append_block(
     block: Ptr<BasicBlock>,
     names: &mut String,
 ) {
-    let name = block_name(rt, alloc, ctx, block);
+    if !ctx.contains_block(block) {
+        append_name(rt, "-", names);
+        return;
+    }
+    let name = block.unique_name(ctx).expect(rt, "out of memory");
     append_name(rt, name.as_str(), names);
 }
 
@@ -92,7 +89,7 @@ fn give_names(rt: &impl Abort, alloc: Global, ctx: &mut Ctx, item: Item, texts: 
 }
 
 /// Makes a block with this label, or none if it is empty, and an argument for each letter.
-fn make_block(
+pub(crate) fn make_block(
     rt: &impl Abort,
     alloc: Global,
     ctx: &mut Ctx,
@@ -179,31 +176,21 @@ const NAMES: &[(Kind, u64, u32, &str)] = &[
     ),
 ];
 
-/// Appends the names of what is made so.
-fn append_names(rt: &impl Abort, alloc: Global, ctx: &mut Ctx, kind: Kind, names: &mut String) {
-    match kind {
-        Kind::Arguments => of_arguments(rt, alloc, ctx, names),
-        Kind::Results => of_results(rt, alloc, ctx, names),
-        Kind::Blocks => of_blocks(rt, alloc, ctx, names),
-    }
-}
-
-/// The names of what is made so.
-fn names_of(rt: &impl Abort, alloc: Global, ctx: &mut Ctx, kind: Kind) -> String {
+/// Checks the names of what is made as in a row.
+pub(crate) fn check(rt: &impl Abort, alloc: Global, ctx: &mut Ctx, row: usize) {
+    let row = NAMES.get(row).expect(rt, "no such row");
     let mut names = String::new(alloc);
-    append_names(rt, alloc, ctx, kind, &mut names);
-    names
+    match row.0 {
+        Kind::Arguments => of_arguments(rt, alloc, ctx, &mut names),
+        Kind::Results => of_results(rt, alloc, ctx, &mut names),
+        Kind::Blocks => of_blocks(rt, alloc, ctx, &mut names),
+    }
+    same(rt, names.as_str(), row.3);
 }
 
 #[test]
 fn values_and_blocks_have_their_names(rt: HostRuntime) {
-    for row in NAMES {
-        let names = with_counters(
-            rt.alloc(),
-            row.1,
-            row.2,
-            |alloc, ctx| Ok(names_of(&rt, alloc, ctx, row.0)),
-        );
-        assert_eq!(rt; must(&rt, names).as_str(), row.3);
+    for (number, row) in NAMES.iter().enumerate() {
+        counting(&rt, rt.alloc(), row.1, row.2, Check::Names(number));
     }
 }

@@ -1,6 +1,6 @@
 //! The texts of causes and of the small error types.
 use crate::parse::errors::{at, error};
-use crate::value::{to_text, value_of};
+use crate::value::{same, to_text, value_of};
 use irtext_base::base::{Identifier, OpId};
 use irtext_base::format::FormatFault;
 use irtext_base::location::Location;
@@ -181,7 +181,7 @@ fn text_of(rt: &impl Abort, alloc: Global, number: usize) -> String {
 #[test]
 fn texts_of_causes(rt: HostRuntime) {
     for (number, wanted) in CAUSES.iter().enumerate() {
-        assert_eq!(rt; text_of(&rt, rt.alloc(), number).as_str(), *wanted);
+        same(&rt, text_of(&rt, rt.alloc(), number).as_str(), *wanted);
     }
 }
 
@@ -254,6 +254,6 @@ fn small(rt: &impl Abort, alloc: Global, number: usize) -> String {
 #[test]
 fn texts_of_small_error_types(rt: HostRuntime) {
     for (number, wanted) in SMALL.iter().enumerate() {
-        assert_eq!(rt; small(&rt, rt.alloc(), number).as_str(), *wanted);
+        same(&rt, small(&rt, rt.alloc(), number).as_str(), *wanted);
     }
 }

@@ -1,5 +1,6 @@
 //! Errors in errors, and errors as faults of a parser.
-use crate::value::value_of;
+use crate::checks::{Check, in_empty};
+use crate::value::{same, value_of};
 use irtext_base::location::{Location, Source};
 use irtext_base::parsable::{ParseResult, SourcePosition};
 use irtext_base::result::{Cause, Error, ErrorKind};
@@ -7,7 +8,6 @@ use irtext_demo::DemoAttr;
 use irtext_print_ir::printable::Disp;
 use irtext_tests_common::answers::line;
 use irtext_tests_common::contexts::Ctx;
-use irtext_tests_common::tables::differing_alone;
 use irtext_tokens::parsable::IntoParseResult;
 use std::alloc::Global;
 use std::fmt;
@@ -124,15 +124,17 @@ fn said(rt: &impl Abort, alloc: Global, number: usize) -> String {
     value_of(rt, line(alloc, &answer), "out of memory")
 }
 
+/// Checks the text of each error.
+pub(crate) fn check(rt: &impl Abort, alloc: Global, ctx: &Ctx) {
+    for (number, wanted) in INNER.iter().enumerate() {
+        same(rt, shown_inner(rt, alloc, ctx, number).as_str(), *wanted);
+    }
+}
+
 #[test]
 fn errors_in_errors_and_in_readings(rt: HostRuntime) {
-    let differing = differing_alone(
-        rt.alloc(),
-        INNER,
-        |alloc, ctx, number| Ok(shown_inner(&rt, alloc, ctx, number)),
-    );
-    assert_eq!(rt; value_of(&rt, differing, "no texts"), None);
+    in_empty(&rt, rt.alloc(), Check::Errors);
     for (number, wanted) in FAULTS.iter().enumerate() {
-        assert_eq!(rt; said(&rt, rt.alloc(), number).as_str(), *wanted);
+        same(&rt, said(&rt, rt.alloc(), number).as_str(), *wanted);
     }
 }

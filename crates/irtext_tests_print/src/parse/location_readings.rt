@@ -1,13 +1,13 @@
 //! Locations of each kind and their parser, and the errors of other texts.
-use crate::value::value_of;
+use crate::checks::{Check, in_empty};
+use crate::value::same;
 use irtext_base::location::{Location, Source};
 use irtext_base::result::{Error, Result as Answer};
 use irtext_demo::DemoAttr;
 use irtext_parse_root::parsable::{Parsable, SourcePosition, parse_from_str};
 use irtext_print_ir::printable::Disp;
-use irtext_tests_common::contexts::{Ctx, with_context};
+use irtext_tests_common::contexts::Ctx;
 use irtext_tests_common::nesting::between;
-use irtext_tests_common::tables::failing_demo;
 use std::alloc::Global;
 use std::process::Abort;
 
@@ -87,41 +87,39 @@ fn read(rt: &impl Abort, alloc: Global, ctx: &mut Ctx, text: &str) -> String {
     }
 }
 
-/// The same with a context of its own.
-fn again(rt: &impl Abort, alloc: Global, text: &str) -> String {
-    let said = with_context(alloc, |alloc, ctx| Ok(read(rt, alloc, ctx, text)));
-    value_of(rt, said, "no context")
+/// Checks the printed text of the location that a text is parsed as, or the error.
+pub(crate) fn check(rt: &impl Abort, alloc: Global, ctx: &mut Ctx, text: &str, wanted: &str) {
+    same(rt, read(rt, alloc, ctx, text).as_str(), wanted);
 }
 
 #[test]
 fn locations_of_a_text(rt: HostRuntime) {
     for text in SAME {
-        assert_eq!(rt; again(&rt, rt.alloc(), text).as_str(), *text);
+        in_empty(&rt, rt.alloc(), Check::Location(text, text));
     }
 }
 
-/// Whether a text is parsed as a location.
-fn is_read(rt: &impl Abort, alloc: Global, text: &str) -> bool {
-    let found = with_context(alloc, |_, ctx| Ok(location(ctx, text).is_ok()));
-    value_of(rt, found, "no context")
+/// Checks whether a text is parsed as a location.
+pub(crate) fn check_read(rt: &impl Abort, ctx: &mut Ctx, text: &str, wanted: bool) {
+    assert!(rt; location(ctx, text).is_ok() == wanted);
 }
 
 #[test]
 fn locations_deep_in_one_another(rt: HostRuntime) {
     let text = between(rt.alloc(), DEPTH, FRONT, "?", BACK).expect(&rt, "out of memory");
-    assert!(rt; is_read(&rt, rt.alloc(), text.as_str()));
+    in_empty(&rt, rt.alloc(), Check::IsLocation(text.as_str(), true));
 }
 
 #[test]
 fn a_fault_deep_in_locations(rt: HostRuntime) {
     let text = between(rt.alloc(), DEPTH, FRONT, "x", "").expect(&rt, "out of memory");
-    assert!(rt; !is_read(&rt, rt.alloc(), text.as_str()));
+    in_empty(&rt, rt.alloc(), Check::IsLocation(text.as_str(), false));
 }
 
 #[test]
 fn white_space_and_faults_in_locations(rt: HostRuntime) {
     for row in OTHERS {
-        assert_eq!(rt; again(&rt, rt.alloc(), row.0).as_str(), row.1);
+        in_empty(&rt, rt.alloc(), Check::Location(row.0, row.1));
     }
 }
 
@@ -136,19 +134,19 @@ fn is_parsed_as(ctx: &mut Ctx, text: &str, wanted: &Location<DemoAttr>) -> bool 
     }
 }
 
-/// Whether the first place of the file has this text, and is parsed back.
-fn comes_back(rt: &impl Abort, alloc: Global, ctx: &mut Ctx) -> bool {
+/// Checks that the first place of the file has this text, and is parsed back.
+pub(crate) fn check_file(rt: &impl Abort, alloc: Global, ctx: &mut Ctx) {
     let src = Source::new_from_file(ctx, FILE.0).expect(rt, "refused");
     let pos = SourcePosition { line: 1, column: 1 };
     let place = Location::SrcPos { src, pos };
     let text = printed(rt, alloc, ctx, &place);
-    text.as_str() == FILE.1 && is_parsed_as(ctx, text.as_str(), &place)
+    same(rt, text.as_str(), FILE.1);
+    assert!(rt; is_parsed_as(ctx, text.as_str(), &place));
 }
 
 #[test]
 fn a_file_with_quotation_marks_in_its_name(rt: HostRuntime) {
-    let same = with_context(rt.alloc(), |alloc, ctx| Ok(comes_back(&rt, alloc, ctx)));
-    assert!(rt; value_of(&rt, same, "no context"));
+    in_empty(&rt, rt.alloc(), Check::File);
 }
 
 /// The source that a text is parsed as.
@@ -175,19 +173,20 @@ fn shown(
 /// Texts of a source and a position, and the printed texts of what they are parsed as.
 const PLACES: &[(&str, &str, &str)] = &[("\"b\"", "line : 3,column:4", "\"b\" line: 3, column: 4")];
 
-/// Whether a source and a position are parsed and printed so.
-fn holds(rt: &impl Abort, alloc: Global, ctx: &mut Ctx, row: &(&str, &str, &str)) -> bool {
-    let source = source(ctx, row.0).expect(rt, "no source");
-    let position = position(ctx, row.1).expect(rt, "no position");
-    shown(rt, alloc, ctx, &source, &position).as_str() == row.2
+/// Checks that sources and positions are parsed and printed so.
+pub(crate) fn check_places(rt: &impl Abort, alloc: Global, ctx: &mut Ctx) {
+    for row in PLACES {
+        let source = source(ctx, row.0).expect(rt, "no source");
+        let position = position(ctx, row.1).expect(rt, "no position");
+        same(
+            rt,
+            shown(rt, alloc, ctx, &source, &position).as_str(),
+            row.2,
+        );
+    }
 }
 
 #[test]
 fn sources_and_positions_of_a_text(rt: HostRuntime) {
-    let failing = failing_demo(
-        rt.alloc(),
-        PLACES,
-        |alloc, ctx, row| Ok(holds(&rt, alloc, ctx, row)),
-    );
-    assert_eq!(rt; value_of(&rt, failing, "no context"), None);
+    in_empty(&rt, rt.alloc(), Check::Places);
 }

@@ -1,5 +1,5 @@
 //! Items with white space around them, and the marker that may be in place of one.
-use crate::value::value_of;
+use crate::value::{same, value_of};
 use irtext_base::parsable::{ParseResult, TextStream};
 use irtext_demo::DemoAttr;
 use irtext_parse_root::irfmt::outlined::outlined_marker_or;
@@ -75,10 +75,14 @@ fn marked(
 fn items_and_the_marker(rt: HostRuntime) {
     let mut stream = TextStream::new(rt.alloc(), " 7 x").expect(&rt, "out of memory");
     for wanted in SPACED {
-        assert_eq!(rt; read_spaced(&rt, rt.alloc(), &mut stream).as_str(), *wanted);
+        same(
+            &rt,
+            read_spaced(&rt, rt.alloc(), &mut stream).as_str(),
+            *wanted,
+        );
     }
-    assert_eq!(rt; read_truth(&rt, rt.alloc(), TRUTH.0).as_str(), TRUTH.1);
+    same(&rt, read_truth(&rt, rt.alloc(), TRUTH.0).as_str(), TRUTH.1);
     for row in MARKED {
-        assert_eq!(rt; read_marked(&rt, rt.alloc(), row.0).as_str(), row.1);
+        same(&rt, read_marked(&rt, rt.alloc(), row.0).as_str(), row.1);
     }
 }

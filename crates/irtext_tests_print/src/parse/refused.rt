@@ -1,6 +1,6 @@
 //! A text that is no root, because its id is not registered.
 use crate::reading::read_root;
-use crate::value::value_of;
+use crate::value::{same, value_of};
 use irtext_tests_common::answers::done_or_cause;
 use irtext_tests_common::contexts::{Ctx, with_demo};
 use std::alloc::Global;
@@ -21,5 +21,5 @@ fn said(alloc: Global, ctx: &mut Ctx) -> Result<String, Fail> {
 #[test]
 fn an_id_that_is_not_registered(rt: HostRuntime) {
     let said = value_of(&rt, with_demo(rt.alloc(), said), "no text");
-    assert_eq!(rt; said.as_str(), UNREGISTERED.1);
+    same(&rt, said.as_str(), UNREGISTERED.1);
 }

@@ -1,5 +1,5 @@
 //! Numbers, booleans, identifiers and texts that are parsed with a context.
-use crate::value::value_of;
+use crate::value::{same, value_of};
 use irtext_base::base::Identifier;
 use irtext_demo::{DemoAttr, DemoType};
 use irtext_parse_root::parsable::Parsable;
@@ -45,11 +45,11 @@ fn values(alloc: Global, s: &mut Stream<'_>) -> Result<String, Fail> {
 fn values_are_read_with_a_context(rt: HostRuntime) {
     let text = "+1+18446744073709551615+3+00065535+255true-1-0-3-9223372036854775808_a1";
     let name = value_of(&rt, in_context(rt.alloc(), text, values), "another value");
-    assert_eq!(rt; name.as_str(), "_a1");
+    same(&rt, name.as_str(), "_a1");
     let text = value_of(
         &rt,
         in_context(rt.alloc(), "\"a\"", quoted),
         "out of memory",
     );
-    assert_eq!(rt; text.as_str(), "a");
+    same(&rt, text.as_str(), "a");
 }

@@ -5,7 +5,7 @@ ghost use Rattle.irtext_base.specs.Format as format;
 ghost use Rattle.irtext_base.specs.FormatViews.{directive_of, format_of};
 ghost use Rattle.irtext_tests_roots.specs.Apart.{lab_dialects, lab_format, lab_id};
 
-use crate::value::value_of;
+use crate::value::{same, value_of};
 use irtext_context::base::context::making::Making;
 use irtext_demo::DemoAttr;
 use irtext_tests_common::answers::result_text;
@@ -106,6 +106,14 @@ fn brought_over(
     answered(alloc, other, &answer)
 }
 
+/// Makes `lab.d` whether it is registered or not.
+fn make_unregistered(alloc: Global, ctx: &mut Ctx) -> Result<Ptr<Operation>, Fail>
+    ensures { OnOk result (ctx.new.dialects ≡ ctx.old.dialects) }
+{
+    let id = id(alloc)?;
+    Ok(ctx.make_operation(id, AttributeDict::new(alloc), Location::Unknown)?)
+}
+
 /// The text that is parsed, printed and parsed again: an operation in a block of another.
 const NESTED: &str = "lab.d here { ^a(): lab.d here {} }";
 
@@ -123,84 +131,68 @@ fn read_again(rt: &impl Abort, alloc: Global, ctx: &mut Ctx, other: &mut Ctx) ->
     }
 }
 
-/// The same, if the dialect is registered with each context separately.
-fn registered_again(
+/// What is brought from one context into another, and whether the dialect is registered with each separately.
+#[derive(Clone, Copy)]
+enum Case {
+    /// The text, if it is.
+    Text,
+    /// `lab.d`, if it is.
+    Registered,
+    /// `lab.d`, if neither context has the dialect.
+    Unregistered,
+}
+
+/// The result for a case: for the text the concrete texts of both roots, for `lab.d` its text in the other context, or why there is none.
+fn brought(
     rt: &impl Abort,
     alloc: Global,
     ctx: &mut Ctx,
     other: &mut Ctx,
+    case: Case,
 ) -> Result<(String, String), Fail>
     requires one { ctx.old.dialects ≡ [] }
     requires two { other.old.dialects ≡ [] }
 {
+    if matches!(case, Case::Unregistered) {
+        let op = make_unregistered(alloc, ctx)?;
+        return Ok((brought_over(alloc, ctx, op, other)?, String::new(alloc)));
+    }
     register(alloc, ctx)?;
     register(alloc, other)?;
-    Ok(read_again(rt, alloc, ctx, other))
+    if matches!(case, Case::Text) {
+        return Ok(read_again(rt, alloc, ctx, other));
+    }
+    let op = make(alloc, ctx)?;
+    Ok((brought_over(alloc, ctx, op, other)?, String::new(alloc)))
 }
 
 /// The same with two contexts that had no dialects before.
-fn again(rt: &impl Abort, alloc: Global) -> Result<(String, String), Fail> {
+fn apart(rt: &impl Abort, alloc: Global, case: Case) -> (String, String) {
     let mut ctx: Ctx = Context::new(alloc);
     let mut other: Ctx = Context::new(alloc);
-    registered_again(rt, alloc, &mut ctx, &mut other)
-}
-
-/// The result for `lab.d`, if the dialect is registered with each context separately.
-fn registered_apart(alloc: Global, ctx: &mut Ctx, other: &mut Ctx) -> Result<String, Fail>
-    requires one { ctx.old.dialects ≡ [] }
-    requires two { other.old.dialects ≡ [] }
-{
-    register(alloc, ctx)?;
-    register(alloc, other)?;
-    let op = make(alloc, ctx)?;
-    brought_over(alloc, ctx, op, other)
-}
-
-/// Makes `lab.d` whether it is registered or not.
-fn make_unregistered(alloc: Global, ctx: &mut Ctx) -> Result<Ptr<Operation>, Fail>
-    ensures { OnOk result (ctx.new.dialects ≡ ctx.old.dialects) }
-{
-    let id = id(alloc)?;
-    Ok(ctx.make_operation(id, AttributeDict::new(alloc), Location::Unknown)?)
-}
-
-/// The result for `lab.d`, if neither context has the dialect.
-fn registered_nowhere(alloc: Global, ctx: &mut Ctx, other: &mut Ctx) -> Result<String, Fail>
-    requires { other.old.dialects ≡ ctx.old.dialects }
-{
-    let op = make_unregistered(alloc, ctx)?;
-    brought_over(alloc, ctx, op, other)
-}
-
-/// One of both results, with two contexts that had no dialects before.
-fn apart(alloc: Global, registered: bool) -> Result<String, Fail> {
-    let mut ctx: Ctx = Context::new(alloc);
-    let mut other: Ctx = Context::new(alloc);
-    if registered {
-        registered_apart(alloc, &mut ctx, &mut other)
-    } else {
-        registered_nowhere(alloc, &mut ctx, &mut other)
-    }
+    let brought = brought(rt, alloc, &mut ctx, &mut other, case);
+    value_of(rt, brought, "not registered, or no text")
 }
 
 #[test]
 fn a_text_is_read_printed_and_read_again(rt: HostRuntime) {
-    let (first, second) = value_of(&rt, again(&rt, rt.alloc()), "not registered");
-    assert_eq!(rt; first.as_str(), second.as_str());
-    assert_eq!(rt;
+    let (first, second) = apart(&rt, rt.alloc(), Case::Text);
+    same(&rt, first.as_str(), second.as_str());
+    same(
+        &rt,
         first.as_str(),
-        "lab.d here \n{\n  ^a_block1v1() !0:\n    lab.d here \n    {\n      \n    } !1\n}"
+        "lab.d here \n{\n  ^a_block1v1() !0:\n    lab.d here \n    {\n      \n    } !1\n}",
     );
 }
 
 #[test]
 fn a_root_comes_back_where_its_dialect_is_registered_apart(rt: HostRuntime) {
-    let text = value_of(&rt, apart(rt.alloc(), true), "no text");
-    assert_eq!(rt; text.as_str(), "lab.d here \n{\n  \n}");
+    let (text, _) = apart(&rt, rt.alloc(), Case::Registered);
+    same(&rt, text.as_str(), "lab.d here \n{\n  \n}");
 }
 
 #[test]
 fn what_is_not_registered_is_not_brought_over(rt: HostRuntime) {
-    let text = value_of(&rt, apart(rt.alloc(), false), "no text");
-    assert_eq!(rt; text.as_str(), "Misfit");
+    let (text, _) = apart(&rt, rt.alloc(), Case::Unregistered);
+    same(&rt, text.as_str(), "Misfit");
 }

@@ -1,9 +1,10 @@
 //! Calls that test what other calls require, the types of values, and the list of all operations in a root, by the names of this layer.
-use crate::value::value_of;
+use crate::checks::{Check, alone};
+use crate::value::{same, value_of};
 use irtext_demo::{DemoAttr, DemoType};
 use irtext_tests_common::answers::printed;
 use irtext_tests_common::building::{id, types};
-use irtext_tests_common::contexts::{Ctx, with_demo};
+use irtext_tests_common::contexts::Ctx;
 use pliron_text::base::{
     BasicBlock, ContainsParts, Few, NestedOperations, NewBlock, Operation, OperationTypes, Ptr,
     TryInsert, TryNewOperation, Value, ValueType,
@@ -153,18 +154,14 @@ fn said(rt: &impl Abort, alloc: Global, ctx: &mut Ctx, number: usize) -> String 
     answered(rt, alloc, answer)
 }
 
-/// The number of the first call that says something else.
-fn differing_call(rt: &impl Abort, alloc: Global, ctx: &mut Ctx) -> Option<usize> {
+/// Checks what each call says.
+pub(crate) fn check(rt: &impl Abort, alloc: Global, ctx: &mut Ctx) {
     for (number, wanted) in SAID.iter().enumerate() {
-        if said(rt, alloc, ctx, number).as_str() != *wanted {
-            return Some(number);
-        }
+        same(rt, said(rt, alloc, ctx, number).as_str(), *wanted);
     }
-    None
 }
 
 #[test]
 fn calls_test_what_others_require(rt: HostRuntime) {
-    let differing = with_demo(rt.alloc(), |alloc, ctx| Ok(differing_call(&rt, alloc, ctx)));
-    assert_eq!(rt; value_of(&rt, differing, "no context"), None);
+    alone(&rt, rt.alloc(), Check::Calls);
 }

@@ -1,10 +1,10 @@
 //! The dialects of a context: how they are registered and looked up, and how their names are parsed and printed.
-use crate::value::value_of;
+use crate::checks::{Check, alone};
+use crate::value::{same, to_text, value_of};
 use irtext_demo::{DemoAttr, DemoType};
 use irtext_tests_common::answers::printed;
 use irtext_tests_common::building::id;
 use irtext_tests_common::contexts::{Ctx, named};
-use irtext_tests_common::tables::differing_alone;
 use irtext_tests_print::registering::register;
 use pliron_text::base::{NewBareOperation, OpId, Operation, Ptr};
 use pliron_text::dialect::{Dialect, DialectName};
@@ -118,9 +118,9 @@ fn read(rt: &impl Abort, alloc: Global, ctx: &mut Ctx, text: &str) -> String {
 fn made(rt: &impl Abort, alloc: Global, ctx: &mut Ctx, name: &str) -> String {
     let id = id_of(rt, alloc, name);
     let answer: Answer<Ptr<Operation>, DemoAttr> = Operation::new(ctx, id, 2);
-    match &answer {
-        Ok(op) => regions(rt, alloc, ctx, *op),
-        Err(error) => format!(in alloc; "{error}").expect(rt, "out of memory"),
+    match answer {
+        Ok(op) => regions(rt, alloc, ctx, op),
+        Err(error) => to_text(rt, alloc, error),
     }
 }
 
@@ -162,12 +162,14 @@ fn step(rt: &impl Abort, alloc: Global, ctx: &mut Ctx, number: usize) -> String 
     }
 }
 
+/// Checks the text of each step.
+pub(crate) fn check(rt: &impl Abort, alloc: Global, ctx: &mut Ctx) {
+    for (number, wanted) in STEPS.iter().enumerate() {
+        same(rt, step(rt, alloc, ctx, number).as_str(), *wanted);
+    }
+}
+
 #[test]
 fn dialects_of_a_context(rt: HostRuntime) {
-    let differing = differing_alone(
-        rt.alloc(),
-        STEPS,
-        |alloc, ctx, number| Ok(step(&rt, alloc, ctx, number)),
-    );
-    assert_eq!(rt; value_of(&rt, differing, "no texts"), None);
+    alone(&rt, rt.alloc(), Check::Dialects);
 }

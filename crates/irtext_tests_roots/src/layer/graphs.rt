@@ -1,10 +1,11 @@
 //! Graphs with blocks and values that a caller makes, and their printed texts.
-use crate::value::value_of;
+use crate::checks::{Check, alone, counting};
+use crate::value::{same, value_of};
 use irtext_context::base::Item;
 use irtext_tests_common::building::{
     block_inside, give, id, into_block, module, note, one_name, operation, place, types,
 };
-use irtext_tests_common::contexts::{Ctx, with_counters, with_demo};
+use irtext_tests_common::contexts::Ctx;
 use irtext_tests_print::reading::{concrete, whole};
 use irtext_tests_print::registering::register;
 use pliron_text::base::{BasicBlock, Few, GIVEN_NAMES_KEY, Operation, Ptr, Value};
@@ -12,7 +13,6 @@ use pliron_text::ir::print_root;
 use pliron_text::printable::State;
 use std::alloc::Global;
 use std::process::Abort;
-use std::test::Fail;
 
 /// Registers a constant (its value, a colon, its type) and an operation that uses one value.
 fn register_both(rt: &impl Abort, alloc: Global, ctx: &mut Ctx) {
@@ -210,29 +210,25 @@ fn printed(rt: &impl Abort, alloc: Global, ctx: &mut Ctx, root: Root) -> String 
     }
 }
 
-/// The number of the first root with another text.
-fn differing_root(rt: &impl Abort, alloc: Global, ctx: &mut Ctx) -> Option<usize> {
+/// Checks the text of each root.
+pub(crate) fn check(rt: &impl Abort, alloc: Global, ctx: &mut Ctx) {
     register_both(rt, alloc, ctx);
-    for (number, row) in ROOTS.iter().enumerate() {
-        if printed(rt, alloc, ctx, row.0).as_str() != row.1 {
-            return Some(number);
-        }
+    for row in ROOTS {
+        same(rt, printed(rt, alloc, ctx, row.0).as_str(), row.1);
     }
-    None
 }
 
 #[test]
 fn graphs_made_by_a_caller_are_printed(rt: HostRuntime) {
-    let differing = with_demo(rt.alloc(), |alloc, ctx| Ok(differing_root(&rt, alloc, ctx)));
-    assert_eq!(rt; value_of(&rt, differing, "no context"), None);
+    alone(&rt, rt.alloc(), Check::Roots);
 }
 
 /// A root with two blocks, made with counters that are nearly full.
 const LAST: &str =
     "test.scope \n{\n  ^a_block4294967293v1() !0:\n    \n\n  ^b_block4294967294v1() !1:\n    \n}";
 
-/// The printed text of this root.
-fn last(rt: &impl Abort, alloc: Global, ctx: &mut Ctx) -> Result<String, Fail> {
+/// Checks the printed text of this root.
+pub(crate) fn check_last(rt: &impl Abort, alloc: Global, ctx: &mut Ctx) {
     let scope = ("test", "scope");
     value_of(rt, register(alloc, ctx, scope, "a", false), "refused");
     let id = value_of(rt, id(alloc, scope), "no identifier");
@@ -240,16 +236,11 @@ fn last(rt: &impl Abort, alloc: Global, ctx: &mut Ctx) -> Result<String, Fail> {
     let root = value_of(rt, root, "not made");
     block_at(rt, alloc, ctx, root, "a", "", 21);
     block_at(rt, alloc, ctx, root, "b", "", 27);
-    concrete(alloc, ctx, root)
+    let text = value_of(rt, concrete(alloc, ctx, root), "no text");
+    same(rt, text.as_str(), LAST);
 }
 
 #[test]
 fn the_last_places_are_printed(rt: HostRuntime) {
-    let text = with_counters(
-        rt.alloc(),
-        0,
-        u32::MAX - 2,
-        |alloc, ctx| last(&rt, alloc, ctx),
-    );
-    assert_eq!(rt; value_of(&rt, text, "no text").as_str(), LAST);
+    counting(&rt, rt.alloc(), u32::MAX - 2, Check::LastPlaces);
 }

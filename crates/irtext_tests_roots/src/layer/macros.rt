@@ -1,8 +1,8 @@
 //! The errors that the macros make from a cause or a text.
-use crate::value::{to_text, value_of};
+use crate::checks::{Check, alone};
+use crate::value::{same, to_text};
 use irtext_demo::DemoAttr;
 use irtext_tests_common::contexts::Ctx;
-use irtext_tests_common::tables::differing_alone;
 use pliron_text::location::{Location, Source};
 use pliron_text::parsable::SourcePosition;
 use pliron_text::printable::Disp;
@@ -77,20 +77,21 @@ fn shown_of_set(rt: &impl Abort, alloc: Global, ctx: &Ctx, set: usize, number: u
     shown(rt, alloc, ctx, &answer)
 }
 
-/// The number of the first line for which the macros of a set make another text.
-fn differing_of_set(rt: &impl Abort, alloc: Global, set: usize) -> Option<usize> {
-    let differing = differing_alone(
-        alloc,
-        MADE,
-        |alloc, ctx, number| Ok(shown_of_set(rt, alloc, ctx, set, number)),
-    );
-    value_of(rt, differing, "no texts")
+/// Checks the text of the error that the macros of a set make for each line.
+pub(crate) fn check(rt: &impl Abort, alloc: Global, ctx: &Ctx, set: usize) {
+    for (number, wanted) in MADE.iter().enumerate() {
+        same(
+            rt,
+            shown_of_set(rt, alloc, ctx, set, number).as_str(),
+            *wanted,
+        );
+    }
 }
 
 #[test]
 fn what_the_macros_make(rt: HostRuntime) {
     for set in 0..2 {
-        assert_eq!(rt; differing_of_set(&rt, rt.alloc(), set), None);
+        alone(&rt, rt.alloc(), Check::Macros(set));
     }
 }
 
@@ -102,7 +103,8 @@ fn displayed(rt: &impl Abort, alloc: Global) -> String {
 
 #[test]
 fn what_an_error_displays(rt: HostRuntime) {
-    assert_eq!(rt;
+    same(
+        &rt,
         displayed(&rt, rt.alloc()).as_str(),
         "Compilation error: invalid input program.\nSome formatted 0",
     );

@@ -1,8 +1,9 @@
 //! What `pliron_text` re-exports from the crates below, by its own paths, unless another row names it.
-use crate::value::value_of;
+use crate::checks::{Check, alone};
+use crate::value::{same, value_of};
 use irtext_demo::DemoAttr;
 use irtext_tests_common::building::id;
-use irtext_tests_common::contexts::{Ctx, named, with_demo};
+use irtext_tests_common::contexts::{Ctx, named};
 use irtext_tests_print::reading::root;
 use pliron_text::base::{
     AttrObj, AttributeDict, BasicBlock, BlockAccess, Few, Identifier, NewBlock, NewOperation, OpId,
@@ -113,18 +114,17 @@ fn isolated(rt: &impl Abort, alloc: Global, ctx: &Ctx) -> bool {
     matches!(info, Some(info) if info.isolated)
 }
 
-/// Whether all of this is true of a module.
-fn holds(rt: &impl Abort, alloc: Global, ctx: &mut Ctx) -> bool {
+/// Checks that all of this is true of a module.
+pub(crate) fn check(rt: &impl Abort, alloc: Global, ctx: &mut Ctx) {
     let op = root(ctx, "builtin.module @m {}").expect(rt, "refused");
-    let inside = alive(ctx, op) && isolated(rt, alloc, ctx) && keeps(rt, alloc);
-    let kept = key(ctx, "b").is_some() && key(ctx, "b") == key(ctx, "b");
-    inside && kept && erased(ctx, op) && unlocated(rt, alloc, ctx)
+    assert!(rt; alive(ctx, op) & isolated(rt, alloc, ctx) & keeps(rt, alloc));
+    assert!(rt; key(ctx, "b").is_some() & (key(ctx, "b") == key(ctx, "b")));
+    assert!(rt; erased(ctx, op) & unlocated(rt, alloc, ctx));
 }
 
 #[test]
 fn objects_by_the_paths_of_this_layer(rt: HostRuntime) {
-    let true_of_it = with_demo(rt.alloc(), |alloc, ctx| Ok(holds(&rt, alloc, ctx)));
-    assert!(rt; value_of(&rt, true_of_it, "no context"));
+    alone(&rt, rt.alloc(), Check::Objects);
 }
 
 /// The texts of the small errors.
@@ -142,5 +142,5 @@ fn readings_and_errors_by_the_paths_of_this_layer(rt: HostRuntime) {
     assert_eq!(rt; OUTLINED_ATTR_MARKER, "!outlined");
     let checked: Result<(), FormatFault> = check_format(&OpFormat::Canonical);
     assert_eq!(rt; checked, Ok(()));
-    assert_eq!(rt; errors(&rt, rt.alloc()).as_str(), ERRORS);
+    same(&rt, errors(&rt, rt.alloc()).as_str(), ERRORS);
 }

@@ -1,8 +1,9 @@
 //! Results that are named outside of every region: no scope is open there, so each is an error.
-use crate::value::value_of;
+use crate::checks::{Check, alone};
+use crate::value::{same, value_of};
 use irtext_demo::DemoAttr;
 use irtext_tests_common::answers::result_text;
-use irtext_tests_common::contexts::{Ctx, named, with_demo};
+use irtext_tests_common::contexts::{Ctx, named};
 use irtext_tests_print::reading::root;
 use pliron_text::base::{BasicBlock, Identifier, Operation, Ptr};
 use pliron_text::irfmt::parsers::process_parsed_ssa_defs;
@@ -109,13 +110,15 @@ fn results(
     }
 }
 
+/// Checks the result of a row.
+pub(crate) fn check(rt: &impl Abort, alloc: Global, ctx: &mut Ctx, row: usize) {
+    let row = RESULTS.get(row).expect(rt, "no such row");
+    same(rt, results(rt, alloc, ctx, row.0, row.1).as_str(), row.2);
+}
+
 #[test]
 fn results_are_named_inside_of_regions_alone(rt: HostRuntime) {
-    for row in RESULTS {
-        let said = with_demo(
-            rt.alloc(),
-            |alloc, ctx| Ok(results(&rt, alloc, ctx, row.0, row.1)),
-        );
-        assert_eq!(rt; value_of(&rt, said, "no context").as_str(), row.2);
+    for row in 0..RESULTS.len() {
+        alone(&rt, rt.alloc(), Check::Outside(row));
     }
 }

@@ -1,4 +1,5 @@
 //! Which operations fit their formats, and the first reason why the others do not.
+use crate::checks::{Check, in_demo};
 use crate::must::must;
 use crate::nested::steps::give_letter;
 use irtext_base::location::Location;
@@ -8,68 +9,69 @@ use irtext_few::Few;
 use irtext_print_ops::fits::{FitFault, check_fits};
 use irtext_tests_common::building::{block, id, operation, register, types};
 use irtext_tests_common::contexts::Ctx;
-use irtext_tests_common::tables::failing_demo;
 use std::alloc::Global;
 use std::process::Abort;
 
 /// The id of the operations.
-const ID: (&str, &str) = ("lab", "d");
+pub(crate) const ID: (&str, &str) = ("lab", "d");
 
 /// The number of operands, successors and regions.
 type Counts = (usize, usize, usize);
 
+/// What the check of an operation says: a word, and a number or a key beside it.
+type Said<'c> = (&'static str, usize, &'c str);
+
 /// The format of `lab.d` by its letters, the types of the results of such an operation, the numbers of its parts, its attributes,
-/// and the expected text.
+/// and what the check says.
 type Row = (
     &'static str,
     &'static str,
     Counts,
     &'static str,
-    &'static str,
+    Said<'static>,
 );
 
 /// Operations with their formats. If several things don't fit, the first in the order of `FitFault` is returned.
 const ROWS: &[Row] = &[
-    ("?", "", (0, 0, 0), "", "not registered"),
-    ("-", "pb", (2, 1, 2), "kng", "fits"),
-    ("0,1:v", "p", (2, 0, 0), "", "fits"),
-    ("0,1:v", "p", (1, 0, 0), "", "operands 1"),
-    ("0,O:", "", (2, 0, 0), "", "fits"),
-    ("0,O:", "", (0, 0, 0), "", "operands 0"),
-    ("O", "", (0, 2, 1), "k", "successors 2"),
-    ("s", "", (0, 1, 0), "", "fits"),
-    ("s", "p", (0, 2, 0), "", "successors 2"),
-    ("S:", "", (0, 2, 0), "", "fits"),
-    ("v", "pb", (0, 0, 1), "", "results 2"),
-    ("a", "", (0, 0, 2), "k", "regions 2"),
-    ("aR", "", (0, 0, 2), "", "fits"),
-    ("hk", "", (0, 0, 0), "", "no attribute k"),
-    ("h", "", (0, 0, 0), "tk", "no symbol"),
-    ("h", "", (0, 0, 0), "s", "fits"),
-    ("h", "", (0, 0, 0), "sk", "k is not written"),
-    ("", "", (0, 0, 0), "n", "fits"),
-    ("d", "", (0, 0, 0), "kn", "fits"),
+    ("?", "", (0, 0, 0), "", ("not registered", 0, "")),
+    ("-", "pb", (2, 1, 2), "kng", ("fits", 0, "")),
+    ("0,1:v", "p", (2, 0, 0), "", ("fits", 0, "")),
+    ("0,1:v", "p", (1, 0, 0), "", ("operands", 1, "")),
+    ("0,O:", "", (2, 0, 0), "", ("fits", 0, "")),
+    ("0,O:", "", (0, 0, 0), "", ("operands", 0, "")),
+    ("O", "", (0, 2, 1), "k", ("successors", 2, "")),
+    ("s", "", (0, 1, 0), "", ("fits", 0, "")),
+    ("s", "p", (0, 2, 0), "", ("successors", 2, "")),
+    ("S:", "", (0, 2, 0), "", ("fits", 0, "")),
+    ("v", "pb", (0, 0, 1), "", ("results", 2, "")),
+    ("a", "", (0, 0, 2), "k", ("regions", 2, "")),
+    ("aR", "", (0, 0, 2), "", ("fits", 0, "")),
+    ("hk", "", (0, 0, 0), "", ("no attribute", 0, "k")),
+    ("h", "", (0, 0, 0), "tk", ("no symbol", 0, "")),
+    ("h", "", (0, 0, 0), "s", ("fits", 0, "")),
+    ("h", "", (0, 0, 0), "sk", ("not written", 0, "k")),
+    ("", "", (0, 0, 0), "n", ("fits", 0, "")),
+    ("d", "", (0, 0, 0), "kn", ("fits", 0, "")),
 ];
 
-/// The text of a result.
-fn result_text(rt: &impl Abort, alloc: Global, answer: Result<(), FitFault<'_>>) -> String {
-    let text = match answer {
-        Ok(()) => String::from_str(alloc, "fits"),
-        Err(FitFault::NotRegistered) => String::from_str(alloc, "not registered"),
-        Err(FitFault::OperandCount(count)) => format!(in alloc; "operands {count}"),
-        Err(FitFault::SuccessorCount(count)) => format!(in alloc; "successors {count}"),
-        Err(FitFault::ResultCount(count)) => format!(in alloc; "results {count}"),
-        Err(FitFault::RegionCount(count)) => format!(in alloc; "regions {count}"),
-        Err(FitFault::MissingAttribute(key)) => format!(in alloc; "no attribute {key}"),
-        Err(FitFault::NoSymbol) => String::from_str(alloc, "no symbol"),
-        Err(FitFault::UnwrittenAttribute(key)) => format!(in alloc; "{key} is not written"),
-        Err(_) => panic!(rt; "another reason"),
-    };
-    text.expect(rt, "out of memory")
+/// What a result says.
+fn said(answer: Result<(), FitFault<'_>>) -> Said<'_> {
+    match answer {
+        Ok(()) => ("fits", 0, ""),
+        Err(FitFault::NotRegistered) => ("not registered", 0, ""),
+        Err(FitFault::OperandCount(count)) => ("operands", count, ""),
+        Err(FitFault::SuccessorCount(count)) => ("successors", count, ""),
+        Err(FitFault::ResultCount(count)) => ("results", count, ""),
+        Err(FitFault::RegionCount(count)) => ("regions", count, ""),
+        Err(FitFault::MissingAttribute(key)) => ("no attribute", 0, key.as_str()),
+        Err(FitFault::NoSymbol) => ("no symbol", 0, ""),
+        Err(FitFault::UnwrittenAttribute(key)) => ("not written", 0, key.as_str()),
+        Err(_) => ("another reason", 0, ""),
+    }
 }
 
-/// Makes an operation that is not registered.
-fn unregistered(rt: &impl Abort, alloc: Global, ctx: &mut Ctx) -> Ptr<Operation> {
+/// Makes an operation without attributes, whether it is registered or not.
+pub(crate) fn bare(rt: &impl Abort, alloc: Global, ctx: &mut Ctx) -> Ptr<Operation> {
     let id = must(rt, id(alloc, ID));
     let made = ctx.make_operation(id, AttributeDict::new(alloc), Location::Unknown);
     made.expect(rt, "out of memory")
@@ -111,24 +113,26 @@ fn registered(rt: &impl Abort, alloc: Global, ctx: &mut Ctx, row: &Row) -> Ptr<O
     op
 }
 
-/// The text of the result for an operation.
-fn checked(rt: &impl Abort, alloc: Global, ctx: &Ctx, op: Ptr<Operation>) -> String {
-    assert!(rt; ctx.contains_operation(op));
-    result_text(rt, alloc, check_fits(ctx, op))
+/// The rows.
+fn rows() -> &'static [Row] {
+    ROWS
 }
 
-/// Whether the operation of a row has this result.
-fn holds(rt: &impl Abort, alloc: Global, ctx: &mut Ctx, row: &Row) -> bool {
+/// Checks that the check of the operation of a row says what it has to.
+pub(crate) fn check(rt: &impl Abort, alloc: Global, ctx: &mut Ctx, number: usize) {
+    let row = rows().get(number).expect(rt, "no such row");
     let op = if row.0 == "?" {
-        unregistered(rt, alloc, ctx)
+        bare(rt, alloc, ctx)
     } else {
         registered(rt, alloc, ctx, row)
     };
-    checked(rt, alloc, ctx, op).as_str() == row.4
+    assert!(rt; ctx.contains_operation(op));
+    assert!(rt; said(check_fits(ctx, op)) == row.4);
 }
 
 #[test]
 fn operations_fit_or_say_the_first_reason(rt: HostRuntime) {
-    let failing = failing_demo(rt.alloc(), ROWS, |a, ctx, row| Ok(holds(&rt, a, ctx, row)));
-    assert_eq!(rt; must(&rt, failing), None);
+    for row in 0..rows().len() {
+        in_demo(&rt, rt.alloc(), Check::Misfit(row));
+    }
 }

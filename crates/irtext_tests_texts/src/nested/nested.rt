@@ -1,10 +1,11 @@
 //! Operations that are printed with everything nested in them, with the items (operations and blocks with a mark); or why they are not.
-use crate::must::must;
+use crate::checks::{Check, in_demo};
+use crate::must::same;
 use crate::nested::steps::{FUNCTION, Made, Part, Step, Used, built, operation_of};
 use irtext_context::base::Item;
 use irtext_print::printable::{RegionPrintDepthLimit, State};
 use irtext_print_ops::nested::print_nested;
-use irtext_tests_common::contexts::{Ctx, with_demo};
+use irtext_tests_common::contexts::Ctx;
 use std::alloc::Global;
 use std::process::Abort;
 
@@ -15,13 +16,13 @@ type Layout = (u16, u16, RegionPrintDepthLimit, bool);
 type Row = (&'static [Step], &'static [(Layout, &'static str)]);
 
 /// No limit.
-const ALL: RegionPrintDepthLimit = RegionPrintDepthLimit::Unlimited;
+pub(crate) const ALL: RegionPrintDepthLimit = RegionPrintDepthLimit::Unlimited;
 
 /// At most one level.
 const ONE: RegionPrintDepthLimit = RegionPrintDepthLimit::Max(1);
 
 /// No level.
-const NONE: RegionPrintDepthLimit = RegionPrintDepthLimit::Max(0);
+pub(crate) const NONE: RegionPrintDepthLimit = RegionPrintDepthLimit::Max(0);
 
 /// The layout of a new state.
 const PLAIN: Layout = (2, 0, ALL, true);
@@ -165,35 +166,23 @@ fn printed(rt: &impl Abort, alloc: Global, ctx: &Ctx, made: &Made, layout: Layou
     }
 }
 
-/// Whether the first operation is printed so in each layout.
-fn is_printed(
-    rt: &impl Abort,
-    alloc: Global,
-    ctx: &Ctx,
-    made: &Made,
-    printings: &[(Layout, &str)],
-) -> bool {
-    for (layout, text) in printings {
-        if printed(rt, alloc, ctx, made, *layout).as_str() != *text {
-            return false;
-        }
-    }
-    true
+/// The rows.
+fn rows() -> &'static [Row] {
+    ROWS
 }
 
-/// Whether the first operation of the row at this index is printed so in each layout.
-fn holds(rt: &impl Abort, alloc: Global, ctx: &mut Ctx, number: usize) -> bool {
-    let Some(row) = ROWS.get(number) else {
-        return false;
-    };
+/// Checks that the first operation of a row is printed so in each layout.
+pub(crate) fn check(rt: &impl Abort, alloc: Global, ctx: &mut Ctx, number: usize) {
+    let row = rows().get(number).expect(rt, "no such row");
     let made = built(rt, alloc, ctx, row.0);
-    is_printed(rt, alloc, ctx, &made, row.1)
+    for (layout, text) in row.1 {
+        same(rt, printed(rt, alloc, ctx, &made, *layout).as_str(), *text);
+    }
 }
 
 #[test]
 fn operations_are_printed_with_all_that_nests_in_them(rt: HostRuntime) {
-    for number in 0..ROWS.len() {
-        let holds = with_demo(rt.alloc(), |a, ctx| Ok(holds(&rt, a, ctx, number)));
-        assert!(rt; must(&rt, holds));
+    for row in 0..rows().len() {
+        in_demo(&rt, rt.alloc(), Check::Nested(row));
     }
 }

@@ -1,7 +1,7 @@
 //! The pieces of the texts of operations and blocks, each by its own call; and which of these are marked, and fit their formats.
-use crate::must::must;
+use crate::checks::{Check, in_demo};
+use crate::must::same;
 use crate::nested::steps::{FUNCTION, Made, block_of, built, operation_of};
-use irtext_base::format::Directive;
 use irtext_context::base::{BasicBlock, Operation, OperationAccess, Ptr, Value};
 use irtext_graph::held::HasGraph;
 use irtext_print_ops::block_heads::fmt_block_head;
@@ -12,7 +12,7 @@ use irtext_print_ops::marks::{is_block_marked, is_operation_marked};
 use irtext_print_ops::names::{fmt_block_label, fmt_value_name};
 use irtext_print_ops::pieces::fmt_piece;
 use irtext_print_ops::printer::Printer;
-use irtext_tests_common::contexts::{Ctx, with_context};
+use irtext_tests_common::contexts::Ctx;
 use std::alloc::Global;
 use std::process::Abort;
 
@@ -80,28 +80,17 @@ fn value_name(rt: &impl Abort, ctx: &Ctx, value: Value, text: &mut String) {
     fmt_value_name(ctx, value, text).ok().expect(rt, "refused");
 }
 
-/// Appends the label of a block, or everything before its operations.
-fn of_block(rt: &impl Abort, ctx: &Ctx, block: Ptr<BasicBlock>, whole: bool, text: &mut String) {
+/// Appends the text of a call on a block: everything before its operations, whether it is marked, or its label.
+fn of_block(rt: &impl Abort, ctx: &Ctx, block: Ptr<BasicBlock>, call: Call, text: &mut String) {
     assert!(rt; ctx.contains_block(block));
-    if whole {
-        fmt_block_head(ctx, block, text).ok().expect(rt, "refused");
-    } else {
-        fmt_block_label(ctx, block, text).ok().expect(rt, "refused");
+    match call {
+        Call::Head(_) => fmt_block_head(ctx, block, text).ok().expect(rt, "refused"),
+        Call::Marked(_) => {
+            let marked = is_block_marked(ctx, block);
+            write!(text, "{marked}").expect(rt, "out of memory");
+        }
+        _ => fmt_block_label(ctx, block, text).ok().expect(rt, "refused"),
     }
-}
-
-/// Appends the text of a directive of an operation's format.
-fn of_directive(
-    rt: &impl Abort,
-    ctx: &Ctx,
-    op: Ptr<Operation>,
-    directives: &[Directive],
-    directive: &Directive,
-    text: &mut String,
-) {
-    assert!(rt; ctx.contains_operation(op));
-    let answer = fmt_piece(ctx, op, directives, directive, text);
-    answer.ok().expect(rt, "refused");
 }
 
 /// Appends the text of the directive of an index.
@@ -109,7 +98,8 @@ fn piece(rt: &impl Abort, ctx: &Ctx, op: Ptr<Operation>, index: usize, text: &mu
     assert!(rt; ctx.contains_operation(op));
     let directives = directives_in(ctx, op.get_opid(ctx)).expect(rt, "no directives");
     let directive = directives.get(index).expect(rt, "no such directive");
-    of_directive(rt, ctx, op, directives, directive, text);
+    let answer = fmt_piece(ctx, op, directives, directive, text);
+    answer.ok().expect(rt, "refused");
 }
 
 /// Appends the text of a call on an operation.
@@ -132,13 +122,6 @@ fn known(rt: &impl Abort, ctx: &Ctx, op: Ptr<Operation>, text: &mut String) {
     write!(text, "{marked} {fits} {canonical}").expect(rt, "out of memory");
 }
 
-/// Appends whether a block is marked.
-fn marked(rt: &impl Abort, ctx: &Ctx, block: Ptr<BasicBlock>, text: &mut String) {
-    assert!(rt; ctx.contains_block(block));
-    let marked = is_block_marked(ctx, block);
-    write!(text, "{marked}").expect(rt, "out of memory");
-}
-
 /// Appends the text of a call.
 fn write(rt: &impl Abort, ctx: &Ctx, made: &Made, call: Call, text: &mut String) {
     match call {
@@ -148,9 +131,9 @@ fn write(rt: &impl Abort, ctx: &Ctx, made: &Made, call: Call, text: &mut String)
         Call::Argument(block) => {
             value_name(rt, ctx, Value::Argument(block_of(rt, made, block), 0), text)
         }
-        Call::Label(block) => of_block(rt, ctx, block_of(rt, made, block), false, text),
-        Call::Head(block) => of_block(rt, ctx, block_of(rt, made, block), true, text),
-        Call::Marked(block) => marked(rt, ctx, block_of(rt, made, block), text),
+        Call::Label(block) | Call::Head(block) | Call::Marked(block) => {
+            of_block(rt, ctx, block_of(rt, made, block), call, text)
+        }
         Call::Known(op) => known(rt, ctx, operation_of(rt, made, op), text),
         Call::Piece(op, index) => piece(rt, ctx, operation_of(rt, made, op), index, text),
         Call::Results(op) | Call::Front(op) | Call::Canonical(op) => {
@@ -159,31 +142,22 @@ fn write(rt: &impl Abort, ctx: &Ctx, made: &Made, call: Call, text: &mut String)
     }
 }
 
-/// Whether a call prints this text.
-fn is_written(rt: &impl Abort, alloc: Global, ctx: &Ctx, made: &Made, row: &(Call, &str)) -> bool {
+/// The text of a call.
+fn written(rt: &impl Abort, alloc: Global, ctx: &Ctx, made: &Made, call: Call) -> String {
     let mut text = String::new(alloc);
-    write(rt, ctx, made, row.0, &mut text);
-    text.as_str() == row.1
+    write(rt, ctx, made, call, &mut text);
+    text
 }
 
-/// The number of the first call that prints another text.
-fn differing(rt: &impl Abort, alloc: Global, ctx: &Ctx, made: &Made) -> Option<usize> {
-    for (number, row) in CALLS.iter().enumerate() {
-        if !is_written(rt, alloc, ctx, made, row) {
-            return Some(number);
-        }
-    }
-    None
-}
-
-/// The same in a context in which the function is made.
-fn differing_in(rt: &impl Abort, alloc: Global, ctx: &mut Ctx) -> Option<usize> {
+/// Checks that each call prints its text, in a context in which the function is made.
+pub(crate) fn check(rt: &impl Abort, alloc: Global, ctx: &mut Ctx) {
     let made = built(rt, alloc, ctx, FUNCTION);
-    differing(rt, alloc, ctx, &made)
+    for row in CALLS {
+        same(rt, written(rt, alloc, ctx, &made, row.0).as_str(), row.1);
+    }
 }
 
 #[test]
 fn pieces_and_marks_are_written_by_their_calls(rt: HostRuntime) {
-    let differing = with_context(rt.alloc(), |alloc, ctx| Ok(differing_in(&rt, alloc, ctx)));
-    assert_eq!(rt; must(&rt, differing), None);
+    in_demo(&rt, rt.alloc(), Check::Pieces);
 }

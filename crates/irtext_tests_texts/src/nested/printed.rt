@@ -1,6 +1,7 @@
 //! The text of demo operations with everything nested in them, as users print it: roots, concrete texts, blocks, regions, and with regions
 //! elided.
-use crate::must::must;
+use crate::checks::{Check, in_demo};
+use crate::must::{must, same};
 use irtext_base::base::{AttrObj, GIVEN_NAMES_KEY};
 use irtext_base::parsable::{ParseFault, TextStream};
 use irtext_base::text::IrText;
@@ -16,7 +17,7 @@ use irtext_tests_common::building::{
     block_inside, erase, give, id, into_block, module, name, one_name, operation, place, register,
     types,
 };
-use irtext_tests_common::contexts::{Ctx, with_demo};
+use irtext_tests_common::contexts::Ctx;
 use std::alloc::Global;
 use std::process::Abort;
 
@@ -160,22 +161,22 @@ fn module_text(
     }
 }
 
-/// The number of the first part of a module with another text.
-fn modules(rt: &impl Abort, alloc: Global, ctx: &mut Ctx) -> Option<usize> {
+/// Checks the text of each part of a module.
+pub(crate) fn check_module(rt: &impl Abort, alloc: Global, ctx: &mut Ctx) {
     let op = must(rt, module(alloc, ctx, "bar"));
     let entry = must(rt, block_inside(alloc, ctx, op, "", Few::none()));
     for (number, wanted) in MODULE.iter().enumerate() {
-        if module_text(rt, alloc, ctx, op, entry, number).as_str() != *wanted {
-            return Some(number);
-        }
+        same(
+            rt,
+            module_text(rt, alloc, ctx, op, entry, number).as_str(),
+            *wanted,
+        );
     }
-    None
 }
 
 #[test]
 fn a_module_with_an_empty_block_is_printed(rt: HostRuntime) {
-    let differing = with_demo(rt.alloc(), |alloc, ctx| Ok(modules(&rt, alloc, ctx)));
-    assert_eq!(rt; must(&rt, differing), None);
+    in_demo(&rt, rt.alloc(), Check::Module);
 }
 
 /// A module with a function that returns a constant: its concrete text, and its section.
@@ -225,38 +226,36 @@ fn functions(rt: &impl Abort, alloc: Global, ctx: &mut Ctx) -> Ptr<Operation> {
     op
 }
 
-/// Whether a module with a function is printed as its concrete text, and with its section.
-fn is_printed(rt: &impl Abort, alloc: Global, ctx: &mut Ctx) -> bool {
+/// Checks that a module with a function is printed as its concrete text, and with its section.
+pub(crate) fn check_function(rt: &impl Abort, alloc: Global, ctx: &mut Ctx) {
     let op = functions(rt, alloc, ctx);
     let (text, section) = FUNCTION;
-    concrete(rt, alloc, ctx, op).as_str() == text
-        && whole(rt, alloc, ctx, op).strip_prefix(text) == Some(section)
+    same(rt, concrete(rt, alloc, ctx, op).as_str(), text);
+    assert!(rt; whole(rt, alloc, ctx, op).strip_prefix(text) == Some(section));
 }
 
 #[test]
 fn a_module_with_a_function_is_printed(rt: HostRuntime) {
-    let printed = with_demo(rt.alloc(), |alloc, ctx| Ok(is_printed(&rt, alloc, ctx)));
-    assert!(rt; must(&rt, printed));
+    in_demo(&rt, rt.alloc(), Check::Function);
 }
 
 /// An operation in the canonical form, whose result is the second value.
 const GLOBAL: &str =
     "v1 = test.global () [] [builtin_sym_name: builtin.identifier global_0, test_global_op_const_val: builtin.integer <0: si64>]: <() -> (test.ptr )>";
 
-/// The printed text of this operation.
-fn globals(rt: &impl Abort, alloc: Global, ctx: &mut Ctx) -> String {
+/// Checks the text of this operation.
+pub(crate) fn check_global(rt: &impl Abort, alloc: Global, ctx: &mut Ctx) {
     register_all(rt, alloc, ctx);
     with_result(rt, alloc, ctx, ("test", "constant"), "i");
     let op = with_result(rt, alloc, ctx, ("test", "global"), "p");
     must(rt, name(alloc, ctx, op, "global_0"));
     give_text(rt, alloc, ctx, op, "test_global_op_const_val", ZERO);
-    concrete(rt, alloc, ctx, op)
+    same(rt, concrete(rt, alloc, ctx, op).as_str(), GLOBAL);
 }
 
 #[test]
 fn an_operation_without_a_format_of_its_own_is_printed(rt: HostRuntime) {
-    let printed = with_demo(rt.alloc(), |alloc, ctx| Ok(globals(&rt, alloc, ctx)));
-    assert_eq!(rt; must(&rt, printed).as_str(), GLOBAL);
+    in_demo(&rt, rt.alloc(), Check::Global);
 }
 
 /// Makes a branch with a place, last in a block.
@@ -349,19 +348,19 @@ fn branches_text(
     }
 }
 
-/// The number of the first text that differs.
-fn cycles(rt: &impl Abort, alloc: Global, ctx: &mut Ctx) -> Option<usize> {
+/// Checks each text of the module.
+pub(crate) fn check_branches(rt: &impl Abort, alloc: Global, ctx: &mut Ctx) {
     let made = branches(rt, alloc, ctx);
     for (number, wanted) in BRANCHES.iter().enumerate() {
-        if branches_text(rt, alloc, ctx, made, number).as_str() != *wanted {
-            return Some(number);
-        }
+        same(
+            rt,
+            branches_text(rt, alloc, ctx, made, number).as_str(),
+            *wanted,
+        );
     }
-    None
 }
 
 #[test]
 fn blocks_that_branch_to_one_another_are_printed(rt: HostRuntime) {
-    let differing = with_demo(rt.alloc(), |alloc, ctx| Ok(cycles(&rt, alloc, ctx)));
-    assert_eq!(rt; must(&rt, differing), None);
+    in_demo(&rt, rt.alloc(), Check::Branches);
 }

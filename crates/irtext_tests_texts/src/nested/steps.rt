@@ -174,8 +174,20 @@ fn key_of(letter: char) -> &'static str {
 
 /// Gives an item the attribute for a letter.
 pub(crate) fn give_letter(rt: &impl Abort, alloc: Global, ctx: &mut Ctx, item: Item, letter: char) {
+    give_under(rt, alloc, ctx, item, key_of(letter), letter);
+}
+
+/// Gives an item the attribute for a letter under a key.
+pub(crate) fn give_under(
+    rt: &impl Abort,
+    alloc: Global,
+    ctx: &mut Ctx,
+    item: Item,
+    key: &str,
+    letter: char,
+) {
     let attr = must(rt, attribute(alloc, letter));
-    must(rt, give(alloc, ctx, item, key_of(letter), attr));
+    must(rt, give(alloc, ctx, item, key, attr));
 }
 
 /// Makes the step if it makes an object.

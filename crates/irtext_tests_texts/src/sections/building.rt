@@ -38,27 +38,20 @@ fn nop(rt: &impl Abort, alloc: Global, ctx: &mut Ctx) -> Item {
     Item::Operation(must(rt, operation(ctx, id, Few::none(), &[], &[], 0)))
 }
 
-/// Appends an item, and gives it its place, if it has one.
-fn add(rt: &impl Abort, ctx: &mut Ctx, items: &mut Vec<Item>, item: Item, column: i32) {
+/// Makes one step, and appends the item that it makes, at its place, if it has one.
+fn do_step(rt: &impl Abort, alloc: Global, ctx: &mut Ctx, items: &mut Vec<Item>, step: Step) {
+    let (item, column) = match step {
+        Step::Nop(column) => (nop(rt, alloc, ctx), column),
+        Step::Block(label, column) => {
+            let block = must(rt, block(alloc, ctx, label, Few::none()));
+            (Item::Block(block), column)
+        }
+        Step::Erase(number) => return must(rt, erase(ctx, item_of(rt, items, number))),
+        _ => return do_attribute(rt, alloc, ctx, items, step),
+    };
     items.push(item).expect(rt, "out of memory");
     if column != 0 {
         must(rt, place(ctx, item, column));
-    }
-}
-
-/// Makes one step, and appends the item that it makes.
-fn do_step(rt: &impl Abort, alloc: Global, ctx: &mut Ctx, items: &mut Vec<Item>, step: Step) {
-    match step {
-        Step::Nop(column) => {
-            let nop = nop(rt, alloc, ctx);
-            add(rt, ctx, items, nop, column);
-        }
-        Step::Block(label, column) => {
-            let block = must(rt, block(alloc, ctx, label, Few::none()));
-            add(rt, ctx, items, Item::Block(block), column);
-        }
-        Step::Erase(number) => must(rt, erase(ctx, item_of(rt, items, number))),
-        _ => do_attribute(rt, alloc, ctx, items, step),
     }
 }
 

@@ -1,12 +1,12 @@
 //! The sections of items (operations and blocks), and which of these have a mark.
-use crate::must::must;
+use crate::checks::{Check, in_demo};
+use crate::must::same;
 use crate::sections::building::Step::{Block, Erase, Ident, Name, Nop, Note};
 use crate::sections::building::{Step, built};
 use irtext_context::base::Item;
 use irtext_print::given::is_marked;
 use irtext_print::section::print_section;
 use irtext_tests_common::contexts::Ctx;
-use irtext_tests_common::tables::failing_demo;
 use std::alloc::Global;
 use std::process::Abort;
 
@@ -113,15 +113,22 @@ fn marks(rt: &impl Abort, alloc: Global, ctx: &Ctx, items: &[Item]) -> String {
     text
 }
 
-/// Whether the items of a row have this section, and these marks.
-fn holds(rt: &impl Abort, alloc: Global, ctx: &mut Ctx, row: &Row) -> bool {
+/// The rows.
+fn rows() -> &'static [Row] {
+    ROWS
+}
+
+/// Checks that the items of a row have its section, and its marks.
+pub(crate) fn check(rt: &impl Abort, alloc: Global, ctx: &mut Ctx, number: usize) {
+    let row = rows().get(number).expect(rt, "no such row");
     let items = built(rt, alloc, ctx, row.0);
-    section(rt, alloc, ctx, &items).as_str() == row.1
-        && marks(rt, alloc, ctx, &items).as_str() == row.2
+    same(rt, section(rt, alloc, ctx, &items).as_str(), row.1);
+    same(rt, marks(rt, alloc, ctx, &items).as_str(), row.2);
 }
 
 #[test]
 fn sections_give_each_marked_item_an_entry(rt: HostRuntime) {
-    let failing = failing_demo(rt.alloc(), ROWS, |a, ctx, row| Ok(holds(&rt, a, ctx, row)));
-    assert_eq!(rt; must(&rt, failing), None);
+    for row in 0..rows().len() {
+        in_demo(&rt, rt.alloc(), Check::Section(row));
+    }
 }

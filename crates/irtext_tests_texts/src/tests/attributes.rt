@@ -1,8 +1,7 @@
 //! Attributes and types as they are parsed and printed.
-use crate::must::must;
+use crate::must::{must, same};
 use irtext_base::base::AttrObj;
 use irtext_base::parsable::{CharStream, ParseResult};
-use irtext_context::base::Context;
 use irtext_demo::DemoAttr;
 use irtext_parse_state::irfmt::parsers::type_parse;
 use irtext_print_ir::printable::Disp;
@@ -70,30 +69,22 @@ const TYPES: &[(&str, &str)] = &[
 /// The text of an attribute that was parsed, or the fault, and the next character.
 fn printed(
     alloc: Global,
+    ctx: &Ctx,
     answer: &ParseResult<AttrObj<DemoAttr>, DemoAttr>,
     next: Option<char>,
 ) -> Result<String, Fail> {
     match answer {
-        Ok(attr) => with_empty(alloc, &Context::new(alloc), attr, next),
+        Ok(attr) => Ok(format!(in alloc; "{}|{next:?}", attr.disp(ctx))?),
         Err(fault) => left(alloc, fault, next),
     }
-}
-
-/// The text of an attribute in this context, and the next character.
-fn with_empty(
-    alloc: Global,
-    ctx: &Ctx,
-    attr: &AttrObj<DemoAttr>,
-    next: Option<char>,
-) -> Result<String, Fail> {
-    Ok(format!(in alloc; "{}|{next:?}", attr.disp(ctx))?)
 }
 
 /// The result for the attribute that is parsed.
 fn attribute(alloc: Global, s: &mut Stream<'_>) -> Result<String, Fail> {
     let answer = attr_parse(s);
     let next = s.peek();
-    printed(alloc, &answer, next)
+    let ctx = &mut *s.state.ctx;
+    printed(alloc, ctx, &answer, next)
 }
 
 /// The result for the type that is parsed.
@@ -107,7 +98,7 @@ fn type_of(alloc: Global, s: &mut Stream<'_>) -> Result<String, Fail> {
 fn attributes_of_a_text(rt: HostRuntime) {
     for row in ATTRIBUTES {
         let said = must(&rt, in_context(rt.alloc(), row.0, attribute));
-        assert_eq!(rt; said.as_str(), row.1);
+        same(&rt, said.as_str(), row.1);
     }
 }
 
@@ -115,6 +106,6 @@ fn attributes_of_a_text(rt: HostRuntime) {
 fn types_of_a_text(rt: HostRuntime) {
     for row in TYPES {
         let said = must(&rt, in_context(rt.alloc(), row.0, type_of));
-        assert_eq!(rt; said.as_str(), row.1);
+        same(&rt, said.as_str(), row.1);
     }
 }

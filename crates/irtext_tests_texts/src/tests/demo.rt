@@ -1,5 +1,5 @@
 //! The demo types and attributes, as they are parsed and printed.
-use crate::must::must;
+use crate::must::{must, same};
 use irtext_base::parsable::{ParseResult, TextStream};
 use irtext_base::text::IrText;
 use irtext_demo::{DemoAttr, DemoType};
@@ -106,9 +106,10 @@ fn written<X: IrText<DemoAttr>>(
 #[test]
 fn types(rt: HostRuntime) {
     for row in TYPES {
-        assert_eq!(rt;
+        same(
+            &rt,
             again::<DemoType, _>(&rt, rt.alloc(), row.0).as_str(),
-            row.1
+            row.1,
         );
     }
 }
@@ -116,9 +117,10 @@ fn types(rt: HostRuntime) {
 #[test]
 fn attributes(rt: HostRuntime) {
     for row in ATTRIBUTES {
-        assert_eq!(rt;
+        same(
+            &rt,
             again::<DemoAttr, _>(&rt, rt.alloc(), row.0).as_str(),
-            row.1
+            row.1,
         );
     }
 }

@@ -1,15 +1,14 @@
 //! Which operations fit their formats, and the reason why the others don't.
-use crate::must::must;
-use irtext_base::base::{AttrObj, Identifier, SYM_NAME_KEY};
-use irtext_base::location::Location;
-use irtext_context::base::context::making::Making;
+use crate::checks::{Check, in_demo};
+use crate::must::{must, same};
+use crate::nested::misfits::{ID, bare};
+use crate::nested::steps::give_under;
+use irtext_base::base::SYM_NAME_KEY;
 use irtext_context::base::operation::add_regions;
-use irtext_context::base::{AttributeDict, Operation, Ptr};
-use irtext_demo::DemoAttr;
+use irtext_context::base::{Item, Operation, Ptr};
 use irtext_print_ops::fits::check_fits;
-use irtext_tests_common::building::{attribute, id, register};
-use irtext_tests_common::contexts::{Ctx, named};
-use irtext_tests_common::tables::failing_demo;
+use irtext_tests_common::building::register;
+use irtext_tests_common::contexts::Ctx;
 use std::alloc::Global;
 use std::process::Abort;
 
@@ -51,40 +50,12 @@ const ROWS: &[Row] = &[
     ("ka", 1, "n", "fits"),
 ];
 
-/// The id of the operations.
-const ID: (&str, &str) = ("lab", "d");
-
 /// The key of the attribute for a letter.
 fn key_of(letter: char) -> &'static str {
     match letter {
         's' | 't' => SYM_NAME_KEY,
         _ => "k",
     }
-}
-
-/// Inserts an attribute into a dictionary.
-fn put(
-    attributes: &mut AttributeDict<DemoAttr>,
-    key: Identifier,
-    attr: AttrObj<DemoAttr>,
-) -> Option<()> {
-    attributes.insert(key, attr).ok()
-}
-
-/// Inserts the attribute for a letter into a dictionary.
-fn insert(rt: &impl Abort, alloc: Global, attributes: &mut AttributeDict<DemoAttr>, letter: char) {
-    let key = must(rt, named(alloc, key_of(letter)));
-    let attr = must(rt, attribute(alloc, letter));
-    put(attributes, key, attr).expect(rt, "refused");
-}
-
-/// The dictionary with one attribute for each letter.
-fn attributes_of(rt: &impl Abort, alloc: Global, letters: &str) -> AttributeDict<DemoAttr> {
-    let mut attributes = AttributeDict::new(alloc);
-    for letter in letters.chars() {
-        insert(rt, alloc, &mut attributes, letter);
-    }
-    attributes
 }
 
 /// The text of the result for an operation, after it got so many regions.
@@ -110,19 +81,28 @@ fn made(rt: &impl Abort, alloc: Global, ctx: &mut Ctx, row: &Row) -> Ptr<Operati
     if row.0 != "?" {
         must(rt, register(alloc, ctx, ID, row.0));
     }
-    let id = must(rt, id(alloc, ID));
-    let made = ctx.make_operation(id, attributes_of(rt, alloc, row.2), Location::Unknown);
-    made.expect(rt, "out of memory")
+    let op = bare(rt, alloc, ctx);
+    for letter in row.2.chars() {
+        give_under(rt, alloc, ctx, Item::Operation(op), key_of(letter), letter);
+    }
+    op
 }
 
-/// Whether the operation of a row has this result.
-fn holds(rt: &impl Abort, alloc: Global, ctx: &mut Ctx, row: &Row) -> bool {
+/// The rows.
+fn rows() -> &'static [Row] {
+    ROWS
+}
+
+/// Checks that the operation of a row has this result.
+pub(crate) fn check(rt: &impl Abort, alloc: Global, ctx: &mut Ctx, number: usize) {
+    let row = rows().get(number).expect(rt, "no such row");
     let op = made(rt, alloc, ctx, row);
-    said(rt, alloc, ctx, op, row.1).as_str() == row.3
+    same(rt, said(rt, alloc, ctx, op, row.1).as_str(), row.3);
 }
 
 #[test]
 fn operations_fit_their_formats(rt: HostRuntime) {
-    let failing = failing_demo(rt.alloc(), ROWS, |a, ctx, row| Ok(holds(&rt, a, ctx, row)));
-    assert_eq!(rt; must(&rt, failing), None);
+    for row in 0..rows().len() {
+        in_demo(&rt, rt.alloc(), Check::Fits(row));
+    }
 }

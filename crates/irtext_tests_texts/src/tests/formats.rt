@@ -1,5 +1,5 @@
 //! Which formats are accepted, and by which condition the others are rejected; and the operations of a dialect.
-use crate::must::must;
+use crate::must::{must, same};
 use irtext_base::base::Identifier;
 use irtext_base::format::{Directive, FormatFault, OpFormat};
 use irtext_base::result::Result as Answer;
@@ -189,10 +189,8 @@ fn refusal(rt: &impl Abort, alloc: Global, fault: FormatFault) -> String {
 fn formats_are_refused_by_the_first_condition_that_they_fail(rt: HostRuntime) {
     for row in REFUSED {
         assert!(rt; refused(&rt, rt.alloc(), row.0) == Some(row.1));
-        assert!(rt;
-            refused_by_add_op(&rt, rt.alloc(), row.0).as_str()
-                == refusal(&rt, rt.alloc(), row.1).as_str()
-        );
+        let said = refused_by_add_op(&rt, rt.alloc(), row.0);
+        same(&rt, said.as_str(), refusal(&rt, rt.alloc(), row.1).as_str());
     }
 }
 
@@ -204,14 +202,16 @@ fn of_another(rt: &impl Abort, alloc: Global) -> String {
 #[test]
 fn dialects_and_their_names(rt: HostRuntime) {
     assert!(rt; comes_back(&rt, rt.alloc()));
-    assert_eq!(rt; result_text(&rt, rt.alloc(), "test").as_str(), "test");
-    assert_eq!(rt;
+    same(&rt, result_text(&rt, rt.alloc(), "test").as_str(), "test");
+    same(
+        &rt,
         result_text(&rt, rt.alloc(), "1a").as_str(),
-        "Unexpected `1`, expected identifier"
+        "Unexpected `1`, expected identifier",
     );
     assert!(rt; last_is_kept(&rt, rt.alloc()));
-    assert_eq!(rt;
+    same(
+        &rt,
         of_another(&rt, rt.alloc()).as_str(),
-        "Compilation error: invalid argument.\nOperation test.z is not of dialect builtin"
+        "Compilation error: invalid argument.\nOperation test.z is not of dialect builtin",
     );
 }

@@ -1,5 +1,5 @@
 //! A list on a stream with its state.
-use crate::must::must;
+use crate::must::{must, same};
 use irtext_base::parsable::{CharStream, ParseResult};
 use irtext_demo::DemoAttr;
 use irtext_tests_common::answers::listed;
@@ -17,5 +17,5 @@ fn read(alloc: Global, s: &mut Stream<'_>) -> Result<String, Fail> {
 #[test]
 fn a_list_beside_a_state(rt: HostRuntime) {
     let said = must(&rt, in_context(rt.alloc(), "1,2", read));
-    assert_eq!(rt; said.as_str(), "[1, 2], line: 1, column: 4: None");
+    same(&rt, said.as_str(), "[1, 2], line: 1, column: 4: None");
 }

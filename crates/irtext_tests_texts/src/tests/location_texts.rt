@@ -1,5 +1,6 @@
 //! Locations of each kind as texts, and errors after theirs: files by the paths that the context keeps.
-use crate::must::must;
+use crate::checks::{Check, in_demo};
+use crate::must::same;
 use irtext_base::base::{AttrObj, Identifier};
 use irtext_base::location::{Location, Source};
 use irtext_base::parsable::SourcePosition;
@@ -8,7 +9,6 @@ use irtext_demo::{Characters, DemoAttr};
 use irtext_print_ir::printable::Disp;
 use irtext_tests_common::contexts::Ctx;
 use irtext_tests_common::nesting::{Nesting, between, nested};
-use irtext_tests_common::tables::{differing_alone, failing_demo};
 use std::alloc::Global;
 use std::process::Abort;
 
@@ -152,12 +152,6 @@ fn in_two_files(rt: &impl Abort, alloc: Global, ctx: &mut Ctx) -> Error<DemoAttr
     }
 }
 
-/// The printed text of the error in files.
-fn shown_error(rt: &impl Abort, alloc: Global, ctx: &mut Ctx) -> String {
-    let nested = in_two_files(rt, alloc, ctx);
-    error_text(rt, alloc, ctx, &nested)
-}
-
 /// The printed text of an error after its location.
 fn error_text(rt: &impl Abort, alloc: Global, ctx: &Ctx, error: &Error<DemoAttr>) -> String {
     format!(in alloc; "{}", error.disp(ctx)).expect(rt, "out of memory")
@@ -166,7 +160,8 @@ fn error_text(rt: &impl Abort, alloc: Global, ctx: &Ctx, error: &Error<DemoAttr>
 /// The printed text of the location of a line, or of the error after the last.
 fn shown(rt: &impl Abort, alloc: Global, ctx: &mut Ctx, line: usize) -> String {
     if line == 10 {
-        return shown_error(rt, alloc, ctx);
+        let nested = in_two_files(rt, alloc, ctx);
+        return error_text(rt, alloc, ctx, &nested);
     }
     let location = location(rt, alloc, ctx, line);
     location_text(rt, alloc, ctx, &location)
@@ -177,34 +172,29 @@ fn location_text(rt: &impl Abort, alloc: Global, ctx: &Ctx, location: &Place) ->
     format!(in alloc; "{}", location.disp(ctx)).expect(rt, "out of memory")
 }
 
+/// Checks the text of each location, and of the error.
+pub(crate) fn check(rt: &impl Abort, alloc: Global, ctx: &mut Ctx) {
+    for (line, wanted) in TEXTS.iter().enumerate() {
+        same(rt, shown(rt, alloc, ctx, line).as_str(), *wanted);
+    }
+}
+
 #[test]
 fn each_location_has_its_text(rt: HostRuntime) {
-    let differing = differing_alone(
-        rt.alloc(),
-        TEXTS,
-        |a, ctx, line| Ok(shown(&rt, a, ctx, line)),
-    );
-    assert_eq!(rt; must(&rt, differing), None);
+    in_demo(&rt, rt.alloc(), Check::Locations);
 }
 
-/// The printed text of unknown locations in one another.
-fn deep(rt: &impl Abort, alloc: Global, ctx: &Ctx, nesting: Nesting) -> String {
-    let location = nested(alloc, nesting, DEPTH, Location::Unknown).expect(rt, "out of memory");
-    location_text(rt, alloc, ctx, &location)
-}
-
-/// Whether nested locations are printed so.
-fn holds(rt: &impl Abort, alloc: Global, ctx: &Ctx, row: &(Nesting, &str, &str)) -> bool {
+/// Checks that nested locations are printed as in a row.
+pub(crate) fn check_deep(rt: &impl Abort, alloc: Global, ctx: &Ctx, row: usize) {
+    let row = NESTED.get(row).expect(rt, "no such row");
     let wanted = between(alloc, DEPTH, row.1, "?", row.2).expect(rt, "out of memory");
-    deep(rt, alloc, ctx, row.0) == wanted
+    let location = nested(alloc, row.0, DEPTH, Location::Unknown).expect(rt, "out of memory");
+    assert!(rt; location_text(rt, alloc, ctx, &location) == wanted);
 }
 
 #[test]
 fn deep_locations_are_printed(rt: HostRuntime) {
-    let failing = failing_demo(
-        rt.alloc(),
-        NESTED,
-        |a, ctx, row| Ok(holds(&rt, a, ctx, row)),
-    );
-    assert_eq!(rt; must(&rt, failing), None);
+    for row in 0..NESTED.len() {
+        in_demo(&rt, rt.alloc(), Check::DeepLocation(row));
+    }
 }

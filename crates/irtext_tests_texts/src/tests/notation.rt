@@ -1,5 +1,5 @@
 //! The notation of formats: which texts denote which formats, how formats are printed, and where a wrong text is rejected.
-use crate::must::must;
+use crate::must::{must, same};
 use irtext_base::format::OpFormat;
 use irtext_base::format::notation::NotationFault;
 use irtext_tests_common::formats::format_of;
@@ -55,8 +55,8 @@ fn of_letters(rt: &impl Abort, alloc: Global, letters: &str) -> String {
 #[test]
 fn notations_denote_formats(rt: HostRuntime) {
     for row in DENOTED {
-        assert!(rt; printed(&rt, rt.alloc(), row.0).as_str() == row.2);
-        assert!(rt; of_letters(&rt, rt.alloc(), row.1).as_str() == row.2);
+        same(&rt, printed(&rt, rt.alloc(), row.0).as_str(), row.2);
+        same(&rt, of_letters(&rt, rt.alloc(), row.1).as_str(), row.2);
     }
 }
 
@@ -72,14 +72,14 @@ const KEPT: &[&str] = &[
 #[test]
 fn printed_notations_are_kept(rt: HostRuntime) {
     for text in KEPT {
-        assert!(rt; printed(&rt, rt.alloc(), text).as_str() == *text);
+        same(&rt, printed(&rt, rt.alloc(), text).as_str(), *text);
     }
 }
 
 #[test]
 fn wrong_notations_are_refused(rt: HostRuntime) {
     for row in REFUSED {
-        assert!(rt; printed(&rt, rt.alloc(), row.0).as_str() == row.1);
+        same(&rt, printed(&rt, rt.alloc(), row.0).as_str(), row.1);
     }
     assert!(rt; NotationFault::Memory == NotationFault::Memory);
 }

@@ -3,7 +3,7 @@ ghost use Rattle.std.specs.Prelude.{codes, refl};
 ghost use Rattle.irtext_syntax.specs.KeywordTexts.{fixed_word};
 ghost use Rattle.irtext_syntax.specs.Ranges.{from_to};
 
-use crate::must::must;
+use crate::must::{must, same};
 use irtext_base::parsable::{CharStream, ParseResult, TextStream};
 use irtext_demo::{DemoAttr, DemoType};
 use irtext_syntax::characters::Characters;
@@ -264,7 +264,7 @@ const TEXTS: &[(Kind, &[(&str, &str)])] = &[
 fn ready_parts_are_parsed_and_printed(rt: HostRuntime) {
     for part in TEXTS {
         for row in part.1 {
-            assert_eq!(rt; said_as(&rt, rt.alloc(), part.0, row.0).as_str(), row.1);
+            same(&rt, said_as(&rt, rt.alloc(), part.0, row.0).as_str(), row.1);
         }
     }
 }

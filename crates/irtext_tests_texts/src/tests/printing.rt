@@ -1,4 +1,5 @@
 //! The printing state and its guards.
+use crate::must::same;
 use irtext_print_ir::printable::{RegionPrintDepthLimit, State, fmt_indented_newline};
 
 #[test]
@@ -11,7 +12,7 @@ fn a_guard_gives_back_the_indentation_of_its_entry(rt: HostRuntime) {
         guard.state.set_indent_width(8);
     }
     fmt_indented_newline(&state, &mut text).expect(&rt, "refused");
-    assert_eq!(rt; text.as_str(), "\n  \n");
+    same(&rt, text.as_str(), "\n  \n");
     assert_eq!(rt; state.indent_width(), 8);
     assert_eq!(rt; *state.aux_data_ref(), 5);
     *state.aux_data_mut() = 6;

@@ -1,23 +1,19 @@
 //! Roots that are printed by the call that returns why it fails.
+use crate::checks::{Check, in_demo};
 use crate::must::must;
+use crate::nested::nested::{ALL, NONE};
 use irtext_context::base::context::making::Making;
 use irtext_context::base::{Item, Operation, Ptr};
 use irtext_few::Few;
 use irtext_print_ir::ir::print::print_root;
 use irtext_print_ir::printable::{RegionPrintDepthLimit, State};
 use irtext_tests_common::building::{id, name, operation, place};
-use irtext_tests_common::contexts::{Ctx, with_demo};
+use irtext_tests_common::contexts::Ctx;
 use std::alloc::Global;
 use std::process::Abort;
 
 /// The widths of an indentation and of the first one, and the limit on levels of regions.
 type Layout = (u16, u16, RegionPrintDepthLimit);
-
-/// No limit.
-const ALL: RegionPrintDepthLimit = RegionPrintDepthLimit::Unlimited;
-
-/// No level.
-const NONE: RegionPrintDepthLimit = RegionPrintDepthLimit::Max(0);
 
 /// For `builtin.module @m`: a text to which it is appended, the layout, or none for that of a new state, how many times it is printed
 /// with one state, and the text then, or the error.
@@ -96,22 +92,18 @@ fn is_printed(rt: &impl Abort, alloc: Global, ctx: &Ctx, op: Ptr<Operation>, row
     appended(rt, alloc, ctx, op, &mut state, text, row.2).as_str() == row.3
 }
 
-/// The number of the first row that differs, after a module without regions was a misfit.
-fn differing(rt: &impl Abort, alloc: Global, ctx: &mut Ctx) -> Option<usize> {
+/// Checks that a module without regions is a misfit, and then each row.
+pub(crate) fn check(rt: &impl Abort, alloc: Global, ctx: &mut Ctx) {
     let op = make(rt, alloc, ctx);
     assert!(rt; is_printed(rt, alloc, ctx, op, &("", None, 1, "Misfit")));
     assert!(rt; ctx.contains_operation(op));
     ctx.add_region(op).expect(rt, "out of memory");
-    for (number, row) in ROWS.iter().enumerate() {
-        if !is_printed(rt, alloc, ctx, op, row) {
-            return Some(number);
-        }
+    for row in ROWS {
+        assert!(rt; is_printed(rt, alloc, ctx, op, row));
     }
-    None
 }
 
 #[test]
 fn roots_are_printed_or_refused(rt: HostRuntime) {
-    let differing = with_demo(rt.alloc(), |alloc, ctx| Ok(differing(&rt, alloc, ctx)));
-    assert_eq!(rt; must(&rt, differing), None);
+    in_demo(&rt, rt.alloc(), Check::Roots);
 }

@@ -1,5 +1,6 @@
 //! Plain values, separators, quoted texts and stored printers as texts, and the printing state's guards.
-use crate::must::must;
+use crate::checks::{Check, in_demo};
+use crate::must::same;
 use irtext_context::base::Context;
 use irtext_demo::{DemoAttr, DemoType};
 use irtext_print_ir::irfmt::printers::{enclosed, iter_with_sep_by, printable_from_fn, quoted};
@@ -7,7 +8,6 @@ use irtext_print_ir::printable::{
     Disp, ListSeparator, Printable, RegionPrintDepthLimit, State, fmt_quoted, indented_nl,
 };
 use irtext_tests_common::contexts::Ctx;
-use irtext_tests_common::tables::differing_alone;
 use std::alloc::Global;
 use std::fmt;
 use std::process::Abort;
@@ -159,19 +159,26 @@ fn line(rt: &impl Abort, alloc: Global, ctx: &Ctx, number: usize) -> String {
     }
 }
 
+/// Checks the text of each line.
+pub(crate) fn check(rt: &impl Abort, alloc: Global, ctx: &Ctx) {
+    for (number, wanted) in LINES.iter().enumerate() {
+        same(rt, line(rt, alloc, ctx, number).as_str(), *wanted);
+    }
+}
+
 #[test]
 fn values_and_lists_print_themselves(rt: HostRuntime) {
-    let differing = differing_alone(rt.alloc(), LINES, |a, ctx, n| Ok(line(&rt, a, ctx, n)));
-    assert_eq!(rt; must(&rt, differing), None);
+    in_demo(&rt, rt.alloc(), Check::Values);
 }
 
 #[test]
 fn quoted_texts_escape_controls(rt: HostRuntime) {
     let mut text = String::new(rt.alloc());
     fmt_quoted("a\"b\\c\nd\te\u{7f}\0\r\u{1f}'é\u{1f600}\u{80}", &mut text).expect(&rt, "refused");
-    assert_eq!(rt;
+    same(
+        &rt,
         text.as_str(),
-        "\"a\\\"b\\\\c\\nd\\te\\u{7f}\\0\\r\\u{1f}'é\u{1f600}\u{80}\""
+        "\"a\\\"b\\\\c\\nd\\te\\u{7f}\\0\\r\\u{1f}'é\u{1f600}\u{80}\"",
     );
 }
 
