@@ -26,34 +26,49 @@ fn define(tracker: &mut Measured, text: &str) -> Result<bool, AllocError> {
     Ok(tracker.has_value_scope() && tracker.ssa_def(name, 1).is_ok())
 }
 
-/// Enters a region with its own scope, defines all these names in it, and leaves it.
-fn define_all(tracker: &mut Measured, texts: &[String]) -> Result<bool, AllocError> {
+/// Enters a region with its own scope, and defines all these names in it.
+fn enter_and_define(tracker: &mut Measured, texts: &[String]) -> Result<bool, AllocError> {
     let mut all = tracker.enter_region(true).is_ok();
     for text in texts {
         all = define(tracker, text.as_str())? && all;
     }
-    Ok(tracker.exit_region(true).is_none() && all)
+    Ok(all)
+}
+
+/// Does the same so many times, and leaves the region each time.
+fn define_often(
+    tracker: &mut Measured,
+    texts: &[String],
+    times: usize,
+) -> Result<bool, AllocError> {
+    let mut all = true;
+    for _ in 0..times {
+        all = enter_and_define(tracker, texts)? && all;
+        all = tracker.exit_region(true).is_none() && all;
+    }
+    Ok(all)
+}
+
+/// Interns these names. Returns how many names are known then.
+fn intern_all(tracker: &mut Measured, texts: &[String]) -> Result<usize, AllocError> {
+    for text in texts {
+        tracker.intern(text.as_str())?;
+    }
+    Ok(tracker.num_names())
 }
 
 /// Interns so many names, each for the first time.
 pub fn new_names(alloc: Global, size: usize) -> Result<bool, AllocError> {
     let texts = texts(alloc, size)?;
     let mut tracker: Measured = NameTracker::new(alloc);
-    for text in &texts {
-        tracker.intern(text.as_str())?;
-    }
-    Ok(tracker.num_names() == size)
+    Ok(intern_all(&mut tracker, &texts)? == size)
 }
 
 /// Defines so many names in a region of their own, so many times.
 pub fn definitions(alloc: Global, size: usize, times: usize) -> Result<bool, AllocError> {
     let texts = texts(alloc, size)?;
     let mut tracker: Measured = NameTracker::new(alloc);
-    let mut all = true;
-    for _ in 0..times {
-        all = define_all(&mut tracker, &texts)? && all;
-    }
-    Ok(all)
+    define_often(&mut tracker, &texts, times)
 }
 
 /// Uses all these names, which are known.
@@ -66,31 +81,40 @@ fn use_all(tracker: &mut Measured, texts: &[String]) -> Result<bool, AllocError>
     Ok(all)
 }
 
-/// Defines so many names in a region, and uses each so many times.
-pub fn uses(alloc: Global, size: usize, times: usize) -> Result<bool, AllocError> {
-    let texts = texts(alloc, size)?;
-    let mut tracker: Measured = NameTracker::new(alloc);
-    let mut all = tracker.enter_region(true).is_ok();
-    for text in &texts {
-        all = define(&mut tracker, text.as_str())? && all;
-    }
+/// Defines these names in a region, and uses each so many times.
+fn use_often(tracker: &mut Measured, texts: &[String], times: usize) -> Result<bool, AllocError> {
+    let mut all = enter_and_define(tracker, texts)?;
     for _ in 0..times {
-        all = use_all(&mut tracker, &texts)? && all;
+        all = use_all(tracker, texts)? && all;
     }
     Ok(all)
 }
 
-/// Enters so many regions, each inside the one before, and leaves them all, so many times.
+/// Defines so many names in a region, and uses each so many times.
+pub fn uses(alloc: Global, size: usize, times: usize) -> Result<bool, AllocError> {
+    let texts = texts(alloc, size)?;
+    let mut tracker: Measured = NameTracker::new(alloc);
+    use_often(&mut tracker, &texts, times)
+}
+
+/// Enters so many regions, each inside the one before, and leaves them all.
+fn enter_and_leave(tracker: &mut Measured, size: usize) -> bool {
+    let mut all = true;
+    for _ in 0..size {
+        all = tracker.enter_region(true).is_ok() && all;
+    }
+    for _ in 0..size {
+        all = tracker.exit_region(true).is_none() && all;
+    }
+    all
+}
+
+/// Does the same so many times.
 pub fn regions(alloc: Global, size: usize, times: usize) -> bool {
     let mut tracker: Measured = NameTracker::new(alloc);
     let mut all = true;
     for _ in 0..times {
-        for _ in 0..size {
-            all = tracker.enter_region(true).is_ok() && all;
-        }
-        for _ in 0..size {
-            all = tracker.exit_region(true).is_none() && all;
-        }
+        all = enter_and_leave(&mut tracker, size) && all;
     }
     all && !tracker.has_value_scope()
 }

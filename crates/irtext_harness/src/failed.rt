@@ -3,14 +3,19 @@ use crate::roots::Stream;
 use irtext_demo::DemoAttr;
 use pliron_text::base::Operation;
 use pliron_text::ir::OperationText;
-use pliron_text::parsable::ParseResult;
+use pliron_text::parsable::{ParseFault, ParseResult};
 use pliron_text::result::Cause;
+
+/// Whether a fault says that the stream has failed.
+fn is_failure(fault: &ParseFault<DemoAttr>) -> bool {
+    fault.committed && matches!(&fault.cause, Cause::StreamFailed)
+}
 
 /// Whether a result says that the stream has failed.
 pub(crate) fn has_failed<X: Drop>(answer: ParseResult<X, DemoAttr>) -> bool {
     match answer {
-        Err(fault) => fault.committed && matches!(&fault.cause, Cause::StreamFailed),
         Ok(_) => false,
+        Err(fault) => is_failure(&fault),
     }
 }
 

@@ -32,7 +32,7 @@ impl From<io::Error> for Fault {
 
 impl Fault {
     /// Returns the fault for an error: `Memory` if its cause is out of memory, in parsing or for its text; otherwise `Wrong`.
-    fn of(error: &Error<DemoAttr>) -> Fault {
+    pub(crate) fn of(error: &Error<DemoAttr>) -> Fault {
         match &error.err {
             Cause::Memory => Fault::Memory,
             Cause::Parse { at: _, cause } => Fault::of_reading(cause),

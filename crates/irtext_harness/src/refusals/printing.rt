@@ -84,22 +84,12 @@ fn print_by(
     }
 }
 
-/// Prints a root twice, into two empty texts. If the first printing fails, the second has to succeed; otherwise both texts have to be equal.
-fn print_twice(
-    alloc: Global,
-    ctx: &Ctx,
-    root: Ptr<Operation>,
-    way: Way,
-    first: &mut String,
-    second: &mut String,
-) -> Result<(), Fault>
-    requires { IsSome (operation ctx.now root) }
-{
-    let is_first = print_by(alloc, ctx, root, way, first)?;
-    let is_second = print_by(alloc, ctx, root, way, second)?;
+/// Fails if a root was printed twice otherwise than it should be. If the first printing failed, the second has to succeed; otherwise both
+/// texts have to be equal.
+fn check_printed(is_first: bool, is_second: bool, are_equal: bool) -> Result<(), Fault> {
     match (is_first, is_second) {
         (true, false) => Err(Fault::Memory),
-        (true, true) if first.as_str() == second.as_str() => Ok(()),
+        (true, true) if are_equal => Ok(()),
         (false, true) => Ok(()),
         _ => Err(Fault::Wrong),
     }
@@ -117,7 +107,9 @@ fn append_twice(
 ) -> Result<(), Fault>
     requires { IsSome (operation ctx.now root) }
 {
-    print_twice(alloc, ctx, root, way, first, second)?;
+    let is_first = print_by(alloc, ctx, root, way, first)?;
+    let is_second = print_by(alloc, ctx, root, way, second)?;
+    check_printed(is_first, is_second, first.as_str() == second.as_str())?;
     Ok(out.push_str(second.as_str())?)
 }
 

@@ -45,13 +45,16 @@ fn refused(
     }
 }
 
+/// Appends the line about a root.
+fn push_read(out: &mut String) -> Result<Said, Fault> {
+    out.push_str("read")?;
+    Ok(Said::Text)
+}
+
 /// Parses a root from a stream.
 fn answered(s: &mut Stream<'_>, out: &mut String) -> Result<Said, Fault> {
     match Operation::top_level_parse(s) {
-        Ok(_) => {
-            out.push_str("read")?;
-            Ok(Said::Text)
-        }
+        Ok(_) => push_read(out),
         Err(fault) => refused(s, &fault, out),
     }
 }

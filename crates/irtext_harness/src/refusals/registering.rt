@@ -1,30 +1,12 @@
 //! Registering an operation and creating it while an allocation fails: the call that fails has changed nothing.
 
-use crate::fault::Fault;
+use crate::fault::{Fault, checked};
 use crate::roots::Ctx;
-use irtext_demo::DemoAttr;
 use pliron_text::base::{Identifier, NewBareOperation, OpId, Operation};
 use pliron_text::dialect::{Dialect, DialectName};
 use pliron_text::format::OpFormat;
-use pliron_text::result::{Cause, Error, Result as Answer};
 use std::alloc::Global;
 use std::fmt::Write;
-
-/// Returns the fault for an error: `Memory` if it is out of memory.
-fn fault_of(error: &Error<DemoAttr>) -> Fault {
-    match &error.err {
-        Cause::Memory => Fault::Memory,
-        _ => Fault::Wrong,
-    }
-}
-
-/// Returns the value of a call, or the fault for its error.
-fn checked<X: Drop>(answer: Answer<X, DemoAttr>) -> Result<X, Fault> {
-    match answer {
-        Ok(value) => Ok(value),
-        Err(error) => Err(fault_of(&error)),
-    }
-}
 
 /// Returns a fault, which is `Wrong` if memory ran out and something has changed.
 fn unchanged(fault: Fault, is_as_it_was: bool) -> Fault {
@@ -43,7 +25,7 @@ fn id(alloc: Global, dialect: &str) -> Result<OpId, Fault> {
 fn registered(ctx: &mut Ctx, name: &DialectName) -> Result<(), Fault> {
     match Dialect::register(ctx, name) {
         Ok(_) => Ok(()),
-        Err(error) => Err(fault_of(&error)),
+        Err(error) => Err(Fault::of(&error)),
     }
 }
 

@@ -10,13 +10,7 @@ use std::alloc::{AllocError, Global};
 
 /// Parses a list of quoted texts in brackets.
 fn list(stream: &mut TextStream) -> ParseResult<Vec<String>, DemoAttr> {
-    delimited_list_parser(
-        stream,
-        '[',
-        ']',
-        ',',
-        |s: &mut TextStream| quoted_string_parse(s),
-    )
+    delimited_list_parser(stream, '[', ']', ',', quoted_string_parse)
 }
 
 /// Appends the texts, a line each.

@@ -1,12 +1,13 @@
 //! Texts that are parsed in a context with a live root, which has to be unchanged.
 use crate::roots::{Ctx, register, root, whole};
-use crate::rows::places::num_parts;
+use crate::rows::places::{num_parts, part};
 use crate::rows::row::Row;
-use crate::rows::said::{or_fail, require};
-use crate::rows::streams::{Asked, Outcome, on_stream, region_into};
+use crate::rows::said::{push_words, require};
+use crate::rows::streams::{Asked, on_stream, region_into};
 use irtext_graph::object::Object;
-use pliron_text::base::{Operation, Ptr};
+use pliron_text::base::{Operation, Ptr, Region};
 use std::alloc::Global;
+use std::fmt::Write;
 use std::test::Fail;
 
 /// A module with a function that returns a constant, which is parsed before any other text.
@@ -23,25 +24,8 @@ fn is_unchanged(
     Ok(whole(alloc, ctx, live_root)?.as_str() == before)
 }
 
-/// Fails if the live root has changed, or if a text was rejected and an object or a mark was added.
-fn check_kept(
-    alloc: Global,
-    ctx: &Ctx,
-    live_root: Ptr<Operation>,
-    before: &str,
-    live: u64,
-    outcome: &Outcome,
-) -> Result<(), Fail> {
-    let is_same = is_unchanged(alloc, ctx, live_root, before)?;
-    require(is_same, "what stood has changed")?;
-    let is_left = outcome.marks || outcome.live != live;
-    require(
-        outcome.said.as_str() == "read" || !is_left,
-        "something was left",
-    )
-}
-
-/// The result for a text beside a root, whose text is `before`. If the text is rejected, no object and no mark may be added.
+/// Says the result for a text beside a root, whose text is `before` and must not change. If the text is rejected, no object and no mark may
+/// be added.
 fn compared(
     alloc: Global,
     ctx: &mut Ctx,
@@ -49,64 +33,96 @@ fn compared(
     before: &str,
     text: &str,
     asked: Asked<'_>,
-) -> Result<String, Fail> {
+    said: &mut String,
+) -> Result<(), Fail> {
     let live = ctx.num_live();
-    let outcome = on_stream(alloc, ctx, text, asked)?;
-    check_kept(alloc, ctx, live_root, before, live, &outcome)?;
-    Ok(outcome.said)
+    let marks = on_stream(alloc, ctx, text, asked, said)?;
+    let is_same = is_unchanged(alloc, ctx, live_root, before)?;
+    require(is_same, "what stood has changed")?;
+    let is_left = marks || ctx.num_live() != live;
+    require(said.as_str() == "read" || !is_left, "something was left")
 }
 
-/// The result for a text that is parsed beside a live root: `read`, or its fault.
+/// Says the result for a text that is parsed beside a live root: `read`, or its fault.
 pub(crate) fn beside(
     alloc: Global,
     ctx: &mut Ctx,
     text: &str,
     asked: Asked<'_>,
-) -> Result<String, Fail> {
+    said: &mut String,
+) -> Result<(), Fail> {
     let live_root = root(ctx, LIVE_ROOT).ok_or("refused")?;
     let before = whole(alloc, ctx, live_root)?;
-    compared(alloc, ctx, live_root, before.as_str(), text, asked)
+    compared(alloc, ctx, live_root, before.as_str(), text, asked, said)
 }
 
-/// The same for a root, once `test.z` is registered with the format of the letters that come first.
-pub(crate) fn beside_formatted(alloc: Global, ctx: &mut Ctx, row: &Row) -> Result<String, Fail> {
+/// Says the same for a root, once `test.z` is registered with the format of the letters that come first.
+pub(crate) fn beside_formatted(
+    alloc: Global,
+    ctx: &mut Ctx,
+    row: &Row,
+    said: &mut String,
+) -> Result<(), Fail> {
     register(alloc, ctx, ("test", "z"), row.text(0), false)?;
-    beside(alloc, ctx, row.text(1), Asked::Root)
+    beside(alloc, ctx, row.text(1), Asked::Root, said)
 }
 
-/// The line of a result for a region: whether a mark is recorded, and how many regions the operation has. If the region was rejected, no
-/// object of it may be left, and the operation's text has to be that before it.
-fn region_line(
+/// Says whether a region is the last of an operation.
+fn push_place(
+    ctx: &Ctx,
+    op: Ptr<Operation>,
+    region: Ptr<Region>,
+    said: &mut String,
+) -> Result<(), Fail> {
+    let whole = Object::TheOperation(op);
+    let last = num_parts(ctx, whole)?.saturating_sub(1);
+    let is_last = part(ctx, whole, last)? == Object::TheRegion(region);
+    push_words(if is_last { "last" } else { "elsewhere" }, said)
+}
+
+/// Says the place of a region that was parsed into an operation. If it was rejected, no object of it may be left, and the operation's text
+/// has to be that before it.
+fn say_place(
     alloc: Global,
     ctx: &Ctx,
     op: Ptr<Operation>,
     before: &str,
     live: u64,
-    said: &str,
-    marks: bool,
-) -> Result<String, Fail> {
-    let count = num_parts(ctx, Object::TheOperation(op))?;
-    let is_kept = said == "last" || ctx.num_live() == live && is_unchanged(alloc, ctx, op, before)?;
-    require(is_kept, "something was left")?;
-    or_fail(format!(in alloc; "{said}, {marks}, {count}"))
+    region: Option<Ptr<Region>>,
+    said: &mut String,
+) -> Result<(), Fail> {
+    let Some(region) = region else {
+        let is_kept = ctx.num_live() == live && is_unchanged(alloc, ctx, op, before)?;
+        return require(is_kept, "something was left");
+    };
+    push_place(ctx, op, region, said)
 }
 
-/// The line for a region that is parsed into an operation, whose text is `before`.
+/// Says the result for a region that is parsed into an operation, whose text is `before`: its place or the fault, whether a mark is
+/// recorded, and how many regions the operation has.
 fn compared_region(
     alloc: Global,
     ctx: &mut Ctx,
     op: Ptr<Operation>,
     before: &str,
     text: &str,
-) -> Result<String, Fail> {
+    said: &mut String,
+) -> Result<(), Fail> {
     let live = ctx.num_live();
-    let (said, marks) = region_into(alloc, ctx, op, text)?;
-    region_line(alloc, ctx, op, before, live, said.as_str(), marks)
+    let (region, marks) = region_into(alloc, ctx, op, text, said)?;
+    say_place(alloc, ctx, op, before, live, region, said)?;
+    let count = num_parts(ctx, Object::TheOperation(op))?;
+    Ok(write!(said, ", {marks}, {count}")?)
 }
 
-/// The result for the text of a region that is parsed into the operation of the text before it.
-pub(crate) fn region(alloc: Global, ctx: &mut Ctx, row: &Row) -> Result<String, Fail> {
+/// Says the result for the text of a region that is parsed into the operation of the text before it.
+pub(crate) fn region(
+    alloc: Global,
+    ctx: &mut Ctx,
+    row: &Row,
+    said: &mut String,
+) -> Result<(), Fail> {
     let op = root(ctx, row.text(0)).ok_or("refused")?;
     let before = whole(alloc, ctx, op)?;
-    compared_region(alloc, ctx, op, before.as_str(), row.text(1))
+    compared_region(alloc, ctx, op, before.as_str(), row.text(1), said)
 }

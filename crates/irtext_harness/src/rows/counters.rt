@@ -1,58 +1,49 @@
 //! Counters that are nearly full: a text that would exceed one fails with out of memory, and leaves no objects.
-use crate::roots::{Ctx, concrete, read_root, register_dialects, whole};
+use crate::roots::{Ctx, Form, push, read_root, register_dialects, whole};
 use crate::rows::row::{Group, Row};
-use crate::rows::said::or_fail;
 use irtext_demo::DemoAttr;
 use irtext_tests_common::contexts::with_counters;
 use pliron_text::base::{Operation, Ptr};
 use pliron_text::result::{Cause, Error};
 use std::alloc::Global;
+use std::fmt::Write;
 use std::test::Fail;
 
-/// The text of an error: its cause, or that of the fault that it holds.
-fn result_text(alloc: Global, error: &Error<DemoAttr>) -> Result<String, Fail> {
+/// Says an error: its cause, or that of the fault that it holds.
+fn refused(error: &Error<DemoAttr>, said: &mut String) -> Result<(), Fail> {
     match &error.err {
-        Cause::Parse { at: _, cause } => Ok(format!(in alloc; "{cause}")?),
-        cause => Ok(format!(in alloc; "{cause}")?),
+        Cause::Parse { at: _, cause } => Ok(write!(said, "{cause}")?),
+        cause => Ok(write!(said, "{cause}")?),
     }
 }
 
 /// A live root, and its text.
 type Root = (Ptr<Operation>, String);
 
-/// The concrete text of a root, which is added to the live ones.
+/// Says the concrete text of a root, which is added to the live ones.
 fn added(
     alloc: Global,
     ctx: &Ctx,
     parsed_roots: &mut Vec<Root>,
     op: Ptr<Operation>,
-) -> Result<String, Fail> {
+    said: &mut String,
+) -> Result<(), Fail> {
     parsed_roots.push((op, whole(alloc, ctx, op)?))?;
-    concrete(alloc, ctx, op)
+    push(ctx, op, Form::Concrete, said)
 }
 
-/// The result for a text. A root that is parsed is added to the live ones.
+/// Says the result for a text. A root that is parsed is added to the live ones.
 fn parsed(
     alloc: Global,
     ctx: &mut Ctx,
     parsed_roots: &mut Vec<Root>,
     text: &str,
-) -> Result<String, Fail> {
+    said: &mut String,
+) -> Result<(), Fail> {
     match read_root(ctx, text) {
-        Ok(op) => added(alloc, ctx, parsed_roots, op),
-        Err(error) => result_text(alloc, &error),
+        Ok(op) => added(alloc, ctx, parsed_roots, op, said),
+        Err(error) => refused(&error, said),
     }
-}
-
-/// The same, and then the number of live objects.
-fn answered(
-    alloc: Global,
-    ctx: &mut Ctx,
-    parsed_roots: &mut Vec<Root>,
-    text: &str,
-) -> Result<String, Fail> {
-    let said = parsed(alloc, ctx, parsed_roots, text)?;
-    or_fail(format!(in alloc; "{said}, {}", ctx.num_live()))
 }
 
 /// Fails if a live root has another text than before.
@@ -65,6 +56,19 @@ fn are_as_they_were(alloc: Global, ctx: &Ctx, parsed_roots: &[Root]) -> Result<(
     Ok(())
 }
 
+/// Says the result for a text, and then the number of live objects. Every live root has to have the same text as before.
+fn answered(
+    alloc: Global,
+    ctx: &mut Ctx,
+    parsed_roots: &mut Vec<Root>,
+    text: &str,
+    said: &mut String,
+) -> Result<(), Fail> {
+    parsed(alloc, ctx, parsed_roots, text, said)?;
+    write!(said, ", {}", ctx.num_live())?;
+    are_as_they_were(alloc, ctx, parsed_roots.as_slice())
+}
+
 /// Parses the texts one after the other. What is said of the last is in `said` then.
 fn say_last(
     alloc: Global,
@@ -74,8 +78,8 @@ fn say_last(
     said: &mut String,
 ) -> Result<(), Fail> {
     for text in texts {
-        *said = answered(alloc, ctx, parsed_roots, text.as_str())?;
-        are_as_they_were(alloc, ctx, parsed_roots.as_slice())?;
+        said.clear();
+        answered(alloc, ctx, parsed_roots, text.as_str(), said)?;
     }
     Ok(())
 }

@@ -1,6 +1,5 @@
 //! A file of rows: its groups, and the rows in them.
 use crate::rows::row::{Group, Item, Row};
-use irtext_tests_common::answers::result_text;
 use pliron_text::irfmt::parsers::{Class, identifier_parse, int_parse, quoted_string_parse};
 use pliron_text::parsable::{ParseFault, ParseResult, TextStream};
 use std::alloc::{AllocError, Global};
@@ -9,9 +8,8 @@ use std::test::Fail;
 /// Appends the lines of a file, an empty one in place of each that begins with `#`.
 fn push_lines(file: &str, text: &mut String) -> Result<(), AllocError> {
     for line in file.lines() {
-        if !line.starts_with('#') {
-            text.push_str(line)?;
-        }
+        let is_comment = line.starts_with('#');
+        text.push_str(if is_comment { "" } else { line })?;
         text.push('\n')?;
     }
     Ok(())
@@ -24,56 +22,50 @@ pub(crate) fn without_comments(alloc: Global, file: &str) -> Result<String, Fail
     Ok(text)
 }
 
-/// A failure with the text of a fault.
-fn failure(alloc: Global, fault: &ParseFault<()>) -> Fail {
-    match result_text(alloc, fault) {
-        Ok(text) => Fail::new(text),
-        Err(fail) => fail,
-    }
+/// A failure with the text of a fault: its place and its cause, and `!` if it is committed.
+fn failure(fault: &ParseFault<()>) -> Fail {
+    let mark = if fault.committed { "!" } else { "" };
+    Fail::new(format_args!("{}: {}{mark}", fault.pos, fault.cause))
 }
 
 /// The value that was parsed, or a failure with the text of the fault.
-fn value<X: Drop>(alloc: Global, answer: ParseResult<X, ()>) -> Result<X, Fail> {
+fn value<X: Drop>(answer: ParseResult<X, ()>) -> Result<X, Fail> {
     match answer {
         Ok(value) => Ok(value),
-        Err(fault) => Err(failure(alloc, &fault)),
+        Err(fault) => Err(failure(&fault)),
     }
 }
 
 /// Parses the numbers of a group, up to its bracket.
-fn push_numbers(
-    alloc: Global,
-    stream: &mut TextStream,
-    numbers: &mut Vec<u64>,
-) -> Result<(), Fail> {
+fn push_numbers(stream: &mut TextStream, numbers: &mut Vec<u64>) -> Result<(), Fail> {
     for _ in 0..u64::MAX {
         if stream.accept_spaced("]") {
             break;
         }
         stream.skip(Class::WhiteSpace);
-        numbers.push(value(alloc, int_parse(stream))?)?;
+        numbers.push(value(int_parse(stream))?)?;
     }
     Ok(())
 }
 
 /// Parses a group after its bracket.
 fn group(alloc: Global, stream: &mut TextStream) -> Result<Group, Fail> {
-    let word = value(alloc, identifier_parse(stream))?;
+    let word = value(identifier_parse(stream))?;
     let mut numbers = Vec::new(alloc);
-    push_numbers(alloc, stream, &mut numbers)?;
+    push_numbers(stream, &mut numbers)?;
     Ok(Group { word, numbers })
 }
 
 /// Parses a quoted text.
-fn quoted(alloc: Global, stream: &mut TextStream) -> Result<String, Fail> {
+fn quoted(stream: &mut TextStream) -> Result<String, Fail> {
     stream.skip(Class::WhiteSpace);
-    value(alloc, quoted_string_parse(stream))
+    value(quoted_string_parse(stream))
 }
 
 /// Parses the texts of a row, up to its arrow.
-fn push_texts(alloc: Global, stream: &mut TextStream, texts: &mut Vec<String>) -> Result<(), Fail> {
+fn push_texts(stream: &mut TextStream, texts: &mut Vec<String>) -> Result<(), Fail> {
     for _ in 0..u64::MAX {
-        texts.push(quoted(alloc, stream)?)?;
+        texts.push(quoted(stream)?)?;
         if stream.accept_spaced("->") {
             break;
         }
@@ -85,8 +77,8 @@ fn push_texts(alloc: Global, stream: &mut TextStream, texts: &mut Vec<String>) -
 fn row(alloc: Global, stream: &mut TextStream) -> Result<Row, Fail> {
     let line = stream.locate(stream.position()).line;
     let mut texts = Vec::new(alloc);
-    push_texts(alloc, stream, &mut texts)?;
-    let wanted = quoted(alloc, stream)?;
+    push_texts(stream, &mut texts)?;
+    let wanted = quoted(stream)?;
     Ok(Row {
         line,
         texts,

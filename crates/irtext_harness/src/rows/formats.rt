@@ -1,6 +1,6 @@
 //! Operations that are parsed and printed in a format of their own, which is given by its letters.
 use crate::roots;
-use crate::roots::{Ctx, concrete, read_root, register, whole};
+use crate::roots::{Ctx, Form, push, read_root, register};
 use crate::rows::modes::Trial;
 use crate::rows::row::Row;
 use crate::rows::said::{require, words};
@@ -8,17 +8,25 @@ use irtext_demo::DemoAttr;
 use pliron_text::base::{Operation, Ptr};
 use pliron_text::result::Error;
 use std::alloc::Global;
+use std::fmt::Write;
 use std::test::Fail;
 
-/// The printed text of a root, once `test.z` is registered with the format of these letters.
+/// Says the printed text of the root that a text is parsed as.
+pub(crate) fn printed(ctx: &mut Ctx, text: &str, said: &mut String) -> Result<(), Fail> {
+    let root = roots::root(ctx, text).ok_or("refused")?;
+    push(ctx, root, Form::Whole, said)
+}
+
+/// Says the same, once `test.z` is registered with the format of these letters.
 pub(crate) fn registered(
     alloc: Global,
     ctx: &mut Ctx,
     letters: &str,
     text: &str,
-) -> Result<String, Fail> {
+    said: &mut String,
+) -> Result<(), Fail> {
     register(alloc, ctx, ("test", "z"), letters, false)?;
-    roots::printed(alloc, ctx, text)
+    printed(ctx, text, said)
 }
 
 /// The root around an operation.
@@ -51,29 +59,37 @@ fn check_printed(alloc: Global, ctx: &mut Ctx, text: &str) -> Result<(), Fail> {
     require(printed.as_str() == text, "other text")
 }
 
-/// Fails if the root's whole text is not parsed back as a root of the same text.
-fn comes_back(alloc: Global, ctx: &mut Ctx, op: Ptr<Operation>) -> Result<(), Fail> {
-    let text = whole(alloc, ctx, op)?;
-    check_printed(alloc, ctx, text.as_str())
+/// Says the concrete text of a root whose whole text is parsed back.
+fn comes_back(
+    alloc: Global,
+    ctx: &mut Ctx,
+    op: Ptr<Operation>,
+    said: &mut String,
+) -> Result<(), Fail> {
+    push(ctx, op, Form::Whole, said)?;
+    check_printed(alloc, ctx, said.as_str())?;
+    said.clear();
+    push(ctx, op, Form::Concrete, said)
 }
 
-/// The concrete text of a root whose whole text is parsed back.
-fn printed(alloc: Global, ctx: &mut Ctx, op: Ptr<Operation>) -> Result<String, Fail> {
-    comes_back(alloc, ctx, op)?;
-    concrete(alloc, ctx, op)
+/// Says an error.
+fn refused(error: &Error<DemoAttr>, said: &mut String) -> Result<(), Fail> {
+    Ok(write!(said, "{error}")?)
 }
 
-/// The text of an error.
-fn refused(alloc: Global, error: &Error<DemoAttr>) -> Result<String, Fail> {
-    Ok(format!(in alloc; "{error}")?)
-}
-
-/// The concrete text of the root that a text is parsed as, or the error, once `lab.d`, which is isolated, is registered with the format of
-/// the letters that come first. The context is empty before.
-pub(crate) fn as_a_root(alloc: Global, ctx: &mut Ctx, row: &Row) -> Result<String, Fail> {
+/// Says the concrete text of the root that a text is parsed as, or the error, once `lab.d`, which is isolated, is registered with the format
+/// of the letters that come first. The context is empty before.
+fn say_root(alloc: Global, ctx: &mut Ctx, row: &Row, said: &mut String) -> Result<(), Fail> {
     register(alloc, ctx, ("lab", "d"), row.text(0), true)?;
     match read_root(ctx, row.text(1)) {
-        Ok(op) => printed(alloc, ctx, op),
-        Err(error) => refused(alloc, &error),
+        Ok(op) => comes_back(alloc, ctx, op, said),
+        Err(error) => refused(&error, said),
     }
+}
+
+/// What is said of it.
+pub(crate) fn as_a_root(alloc: Global, ctx: &mut Ctx, row: &Row) -> Result<String, Fail> {
+    let mut said = String::new(alloc);
+    say_root(alloc, ctx, row, &mut said)?;
+    Ok(said)
 }

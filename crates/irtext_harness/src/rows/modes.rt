@@ -1,5 +1,5 @@
 //! What the word of a group selects.
-use crate::roots::{Ctx, printed};
+use crate::roots::Ctx;
 use crate::rows::beside::{beside, beside_formatted, region};
 use crate::rows::broken::Break;
 use crate::rows::following::{after, same_mark, second, second_text, whole_text};
@@ -25,14 +25,21 @@ pub(crate) enum Trial<'r> {
 }
 
 impl Trial<'_> {
+    /// Says this in a context that has the demo dialects.
+    fn say(self, alloc: Global, ctx: &mut Ctx, said: &mut String) -> Result<(), Fail> {
+        match self {
+            Trial::Row(group, row) => in_demo(alloc, ctx, group, row, said),
+            Trial::Beside(text) => beside(alloc, ctx, text, Asked::Root, said),
+            Trial::Printed(text) => formats::printed(ctx, text, said),
+            Trial::Formatted(letters, text) => formats::registered(alloc, ctx, letters, text, said),
+        }
+    }
+
     /// What is said in a context that has the demo dialects.
     fn said_in(self, alloc: Global, ctx: &mut Ctx) -> Result<String, Fail> {
-        match self {
-            Trial::Row(group, row) => in_demo(alloc, ctx, group, row),
-            Trial::Beside(text) => beside(alloc, ctx, text, Asked::Root),
-            Trial::Printed(text) => printed(alloc, ctx, text),
-            Trial::Formatted(letters, text) => formats::registered(alloc, ctx, letters, text),
-        }
+        let mut said = String::new(alloc);
+        self.say(alloc, ctx, &mut said)?;
+        Ok(said)
     }
 
     /// What is said in a context of its own.
@@ -41,21 +48,28 @@ impl Trial<'_> {
     }
 }
 
-/// What is said of a row's texts in a context that has the demo dialects.
-fn in_demo(alloc: Global, ctx: &mut Ctx, group: &Group, row: &Row) -> Result<String, Fail> {
+/// Says what is wanted of a row's texts in a context that has the demo dialects.
+fn in_demo(
+    alloc: Global,
+    ctx: &mut Ctx,
+    group: &Group,
+    row: &Row,
+    said: &mut String,
+) -> Result<(), Fail> {
+    let text = row.text(0);
     match group.word.as_str() {
-        "beside" => beside(alloc, ctx, row.text(0), Asked::Root),
-        "beside_format" => beside_formatted(alloc, ctx, row),
-        "block" => beside(alloc, ctx, row.text(0), Asked::Block),
-        "region" => region(alloc, ctx, row),
-        "second" => second(alloc, ctx, row.text(0)),
-        "second_text" => second_text(alloc, ctx, row.text(0)),
-        "same_mark" => same_mark(alloc, ctx, row.text(0)),
-        "whole" => whole_text(alloc, ctx, row.text(0), group.number(0)),
-        "after" => after(alloc, ctx, row),
-        "operand" => of_operand(alloc, ctx, row),
-        "successor" => of_successor(alloc, ctx, row),
-        _ => printing::said(alloc, ctx, group, row),
+        "beside" => beside(alloc, ctx, text, Asked::Root, said),
+        "beside_format" => beside_formatted(alloc, ctx, row, said),
+        "block" => beside(alloc, ctx, text, Asked::Block, said),
+        "region" => region(alloc, ctx, row, said),
+        "second" => second(alloc, ctx, text, said),
+        "second_text" => second_text(alloc, ctx, text, said),
+        "same_mark" => same_mark(alloc, ctx, text, said),
+        "whole" => whole_text(alloc, ctx, text, group.number(0), said),
+        "after" => after(alloc, ctx, row, said),
+        "operand" => of_operand(ctx, row, said),
+        "successor" => of_successor(ctx, row, said),
+        _ => printing::say(alloc, ctx, group, row, said),
     }
 }
 

@@ -1,30 +1,29 @@
 //! Names that are used outside of every region: no scope is open there, so each is an error.
+use crate::rows::said::push_answer;
 use irtext_demo::DemoAttr;
-use irtext_tests_common::answers::result_text;
 use pliron_text::base::{BasicBlock, Ptr, Value};
 use pliron_text::irfmt::parsers::{block_opd_parse, ssa_opd_parse};
 use pliron_text::parsable::{ParseResult, TextStream};
 use std::alloc::Global;
 use std::test::Fail;
 
-/// The text of a result that is an error.
-fn refused<X>(alloc: Global, answer: &ParseResult<X, DemoAttr>) -> Result<String, Fail> {
-    match answer {
-        Ok(_) => Err(Fail::from("read")),
-        Err(fault) => result_text(alloc, fault),
-    }
+/// The fault of a result, or `read`.
+fn text_of<X: Drop>(alloc: Global, answer: ParseResult<X, DemoAttr>) -> Result<String, Fail> {
+    let mut said = String::new(alloc);
+    push_answer(answer, "read", &mut said)?;
+    Ok(said)
 }
 
 /// The result for a text as the use of a value.
 pub(crate) fn value(alloc: Global, text: &str) -> Result<String, Fail> {
     let mut stream = TextStream::new(alloc, text)?;
     let answer: ParseResult<Value, DemoAttr> = ssa_opd_parse(&mut stream);
-    refused(alloc, &answer)
+    text_of(alloc, answer)
 }
 
 /// The result for a text as the use of a block.
 pub(crate) fn label(alloc: Global, text: &str) -> Result<String, Fail> {
     let mut stream = TextStream::new(alloc, text)?;
     let answer: ParseResult<Ptr<BasicBlock>, DemoAttr> = block_opd_parse(&mut stream);
-    refused(alloc, &answer)
+    text_of(alloc, answer)
 }

@@ -1,15 +1,36 @@
 //! What is said of a row: texts, and why there is none.
-use std::alloc::{AllocError, Global};
+use irtext_demo::DemoAttr;
+use pliron_text::parsable::{ParseFault, ParseResult};
+use std::alloc::Global;
+use std::fmt::Write;
 use std::test::Fail;
-
-/// A text, or a failure if there was no memory for it.
-pub(crate) fn or_fail(text: Result<String, AllocError>) -> Result<String, Fail> {
-    Ok(text?)
-}
 
 /// These words.
 pub(crate) fn words(alloc: Global, words: &str) -> Result<String, Fail> {
-    or_fail(String::from_str(alloc, words))
+    Ok(String::from_str(alloc, words)?)
+}
+
+/// Appends these words.
+pub(crate) fn push_words(words: &str, said: &mut String) -> Result<(), Fail> {
+    Ok(said.push_str(words)?)
+}
+
+/// Appends a fault: its place and its cause, and `!` if it is committed.
+pub(crate) fn push_fault(fault: &ParseFault<DemoAttr>, said: &mut String) -> Result<(), Fail> {
+    let mark = if fault.committed { "!" } else { "" };
+    Ok(write!(said, "{}: {}{mark}", fault.pos, fault.cause)?)
+}
+
+/// Appends these words for a value that was parsed, or the fault.
+pub(crate) fn push_answer<X: Drop>(
+    answer: ParseResult<X, DemoAttr>,
+    words: &str,
+    said: &mut String,
+) -> Result<(), Fail> {
+    match answer {
+        Ok(_) => push_words(words, said),
+        Err(fault) => push_fault(&fault, said),
+    }
 }
 
 /// Fails with these words unless something holds.

@@ -1,11 +1,8 @@
 //! What is said of the text of a stream that has its state.
 use crate::failed::refuses_another;
-use crate::roots::{Ctx, Stream, alone, location};
-use crate::rows::places::{num_parts, part};
-use crate::rows::said::{or_fail, require, words};
+use crate::roots::{Ctx, Stream, alone, push_location};
+use crate::rows::said::{push_answer, push_fault, push_words, require};
 use irtext_demo::{DemoAttr, DemoType};
-use irtext_graph::object::Object;
-use irtext_tests_common::answers::result_text;
 use irtext_tests_common::building::live;
 use pliron_text::base::{BasicBlock, Operation, Ptr, Region};
 use pliron_text::ir::OperationText;
@@ -16,10 +13,8 @@ use pliron_text::parsable::{
     state_stream_from_iterator,
 };
 use std::alloc::Global;
+use std::fmt::Write;
 use std::test::Fail;
-
-/// The result for a root.
-type Root = ParseResult<Ptr<Operation>, DemoAttr>;
 
 /// What is parsed from a stream.
 #[derive(Clone, Copy)]
@@ -36,55 +31,59 @@ pub(crate) enum Asked<'t> {
     After(&'t str, &'t str),
 }
 
-/// The text of a fault. If it is committed, one more call has to return that the stream has failed; else it has to return something else.
+/// Says a fault. If it is committed, one more call has to return that the stream has failed; else it has to return something else.
 fn faulted(
-    alloc: Global,
     s: &mut Stream<'_>,
     fault: &ParseFault<DemoAttr>,
-) -> Result<String, Fail> {
+    said: &mut String,
+) -> Result<(), Fail> {
     let is_as_said = refuses_another(s) == fault.committed;
     require(is_as_said, "one more call says something else")?;
-    result_text(alloc, fault)
+    push_fault(fault, said)
 }
 
-/// The result for a root.
-fn root(alloc: Global, s: &mut Stream<'_>) -> Result<String, Fail> {
-    match Operation::top_level_parse(s) {
-        Ok(_) => words(alloc, "read"),
-        Err(fault) => faulted(alloc, s, &fault),
-    }
-}
-
-/// The result for a block.
-fn block(alloc: Global, s: &mut Stream<'_>) -> Result<String, Fail> {
-    match <BasicBlock as Parsable<DemoType, DemoAttr, ()>>::parse(s, ()) {
-        Ok(_) => Err(Fail::from("read")),
-        Err(fault) => faulted(alloc, s, &fault),
-    }
-}
-
-/// The text of a result for a whole text.
-fn answered(alloc: Global, answer: &Root) -> Result<String, Fail> {
+/// Says `read`, or the fault.
+fn answered<X: Drop>(
+    s: &mut Stream<'_>,
+    answer: ParseResult<X, DemoAttr>,
+    said: &mut String,
+) -> Result<(), Fail> {
     match answer {
-        Ok(_) => words(alloc, "root"),
-        Err(fault) => result_text(alloc, fault),
+        Ok(_) => push_words("read", said),
+        Err(fault) => faulted(s, &fault, said),
     }
 }
 
-/// The result for the last of so many whole texts.
-fn whole(alloc: Global, s: &mut Stream<'_>, times: u64) -> Result<String, Fail> {
+/// Says the result for a root.
+fn root(s: &mut Stream<'_>, said: &mut String) -> Result<(), Fail> {
+    let answer = Operation::top_level_parse(s);
+    answered(s, answer, said)
+}
+
+/// Says the result for a block.
+fn block(s: &mut Stream<'_>, said: &mut String) -> Result<(), Fail> {
+    let answer = <BasicBlock as Parsable<DemoType, DemoAttr, ()>>::parse(s, ());
+    answered(s, answer, said)
+}
+
+/// Says the result for the last of so many whole texts.
+fn whole(s: &mut Stream<'_>, times: u64, said: &mut String) -> Result<(), Fail> {
     for _time in 1..times {
         let _ = Operation::whole_text_parse(s).is_ok();
     }
     let answer = Operation::whole_text_parse(s);
-    answered(alloc, &answer)
+    push_answer(answer, "root", said)
 }
 
-/// The text of a result that is an error.
-fn refused(alloc: Global, answer: &Root, marks: bool) -> Result<String, Fail> {
+/// Says a result that is an error.
+fn refused(
+    answer: &ParseResult<Ptr<Operation>, DemoAttr>,
+    marks: bool,
+    said: &mut String,
+) -> Result<(), Fail> {
     match answer {
         Ok(_) => Err(Fail::from("accepted")),
-        Err(fault) => Ok(format!(in alloc; "{marks} {}: {}", fault.pos, fault.cause)?),
+        Err(fault) => Ok(write!(said, "{marks} {}: {}", fault.pos, fault.cause)?),
     }
 }
 
@@ -94,153 +93,121 @@ fn is_located(s: &Stream<'_>) -> bool {
         && matches!(parsers::location(s), Location::SrcPos { .. })
 }
 
-/// Parses two roots with the same mark: whether the first one's mark is in the state, and the result for the second one.
-fn same_mark(alloc: Global, s: &mut Stream<'_>) -> Result<String, Fail> {
+/// Parses two roots with the same mark. Says whether the first one's mark is in the state, and the result for the second one.
+fn same_mark(s: &mut Stream<'_>, said: &mut String) -> Result<(), Fail> {
     let first = alone(s).is_ok();
     let marks = s.state.has_marks();
     let answer = alone(s);
-    refused(alloc, &answer, first && marks && is_located(s))
+    refused(&answer, first && marks && is_located(s), said)
 }
 
-/// What is said of a whole text, whether a mark is recorded then, the number of live objects, and the location of an earlier operation.
-fn located(
-    alloc: Global,
-    s: &mut Stream<'_>,
-    earlier: Ptr<Operation>,
-    said: &str,
-) -> Result<String, Fail> {
+/// Says whether a mark is recorded after a whole text, the number of live objects, and the location of an earlier operation.
+fn located(s: &mut Stream<'_>, earlier: Ptr<Operation>, said: &mut String) -> Result<(), Fail> {
     let marks = s.state.has_marks();
     let ctx = &mut *s.state.ctx;
-    let at = location(alloc, ctx, earlier)?;
-    or_fail(format!(in alloc; "{said}, {marks}, {}, {at}", ctx.num_live()))
+    write!(said, ", {marks}, {}, ", ctx.num_live())?;
+    push_location(ctx, earlier, said)
 }
 
-/// The same for a whole text on a stream of its own.
+/// Says the result for a whole text on a stream of its own, and the same after it.
 fn after(
     alloc: Global,
     s: &mut Stream<'_>,
     earlier: Ptr<Operation>,
     text: &str,
-) -> Result<String, Fail> {
+    said: &mut String,
+) -> Result<(), Fail> {
     s.stream = TextStream::new(alloc, text)?;
-    let said = whole(alloc, s, 1)?;
-    located(alloc, s, earlier, said.as_str())
+    whole(s, 1, said)?;
+    located(s, earlier, said)
 }
 
-/// The same for one more text, after what is said of the first.
-fn second_after(
+/// Says the same for two texts, after an operation without its section.
+fn both_after(
     alloc: Global,
     s: &mut Stream<'_>,
-    earlier: Ptr<Operation>,
-    first: &str,
     text: &str,
-) -> Result<String, Fail> {
-    let second = after(alloc, s, earlier, text)?;
-    or_fail(format!(in alloc; "{first}; {second}"))
-}
-
-/// The same for two texts.
-fn both_after(alloc: Global, s: &mut Stream<'_>, text: &str, next: &str) -> Result<String, Fail> {
+    next: &str,
+    said: &mut String,
+) -> Result<(), Fail> {
     let earlier = alone(s).ok().ok_or("refused")?;
-    let first = after(alloc, s, earlier, text)?;
-    second_after(alloc, s, earlier, first.as_str(), next)
+    after(alloc, s, earlier, text, said)?;
+    push_words("; ", said)?;
+    after(alloc, s, earlier, next, said)
 }
 
-/// The result for what is asked.
-fn said(alloc: Global, s: &mut Stream<'_>, asked: Asked<'_>) -> Result<String, Fail> {
+/// Says the result for what is asked.
+fn say(alloc: Global, s: &mut Stream<'_>, asked: Asked<'_>, said: &mut String) -> Result<(), Fail> {
     match asked {
-        Asked::Root => root(alloc, s),
-        Asked::Block => block(alloc, s),
-        Asked::Whole(times) => whole(alloc, s, times),
-        Asked::SameMark => same_mark(alloc, s),
-        Asked::After(text, next) => both_after(alloc, s, text, next),
+        Asked::Root => root(s, said),
+        Asked::Block => block(s, said),
+        Asked::Whole(times) => whole(s, times, said),
+        Asked::SameMark => same_mark(s, said),
+        Asked::After(text, next) => both_after(alloc, s, text, next, said),
     }
 }
 
-/// What is said of a text, whether a mark is recorded then, and the number of live objects.
-#[derive(Drop)]
-pub(crate) struct Outcome {
-    pub(crate) said: String,
-    pub(crate) marks: bool,
-    pub(crate) live: u64,
+/// Says the same. Returns whether a mark is recorded then.
+fn marked(
+    alloc: Global,
+    s: &mut Stream<'_>,
+    asked: Asked<'_>,
+    said: &mut String,
+) -> Result<bool, Fail> {
+    say(alloc, s, asked, said)?;
+    Ok(s.state.has_marks())
 }
 
-/// The outcome of what is asked.
-fn result_of(alloc: Global, s: &mut Stream<'_>, asked: Asked<'_>) -> Result<Outcome, Fail> {
-    let said = said(alloc, s, asked)?;
-    let marks = s.state.has_marks();
-    let ctx = &mut *s.state.ctx;
-    Ok(Outcome {
-        said,
-        marks,
-        live: ctx.num_live(),
-    })
-}
-
-/// The outcome of what is asked of a text.
+/// Says the result for what is asked of a text. Returns whether a mark is recorded then.
 pub(crate) fn on_stream(
     alloc: Global,
     ctx: &mut Ctx,
     text: &str,
     asked: Asked<'_>,
-) -> Result<Outcome, Fail> {
+    said: &mut String,
+) -> Result<bool, Fail> {
     let state = State::new(ctx, Source::InMemory, ());
     let mut s = state_stream_from_iterator(text.chars(), state)?;
-    result_of(alloc, &mut s, asked)
+    marked(alloc, &mut s, asked, said)
 }
 
-/// Whether a region is the last of an operation, as a word.
-fn region_text(
-    alloc: Global,
-    ctx: &Ctx,
-    op: Ptr<Operation>,
-    region: Ptr<Region>,
-) -> Result<String, Fail> {
-    let whole = Object::TheOperation(op);
-    let last = num_parts(ctx, whole)?.saturating_sub(1);
-    let is_last = part(ctx, whole, last)? == Object::TheRegion(region);
-    words(alloc, if is_last { "last" } else { "elsewhere" })
-}
-
-/// The text of a result for a region: whether the region is the operation's last, or the fault.
-fn region_answer(
-    alloc: Global,
+/// Returns the region of a result, or says the fault.
+fn region_of(
     s: &mut Stream<'_>,
-    op: Ptr<Operation>,
     answer: ParseResult<Ptr<Region>, DemoAttr>,
-) -> Result<String, Fail> {
+    said: &mut String,
+) -> Result<Option<Ptr<Region>>, Fail> {
     match answer {
-        Ok(region) => {
-            let ctx = &mut *s.state.ctx;
-            region_text(alloc, ctx, op, region)
+        Ok(region) => Ok(Some(region)),
+        Err(fault) => {
+            faulted(s, &fault, said)?;
+            Ok(None)
         }
-        Err(fault) => faulted(alloc, s, &fault),
     }
 }
 
-/// The same, and whether a mark is recorded after the region.
-fn marked(
-    alloc: Global,
+/// The same, and whether a mark is recorded after it.
+fn region_and_marks(
     s: &mut Stream<'_>,
-    op: Ptr<Operation>,
     answer: ParseResult<Ptr<Region>, DemoAttr>,
-) -> Result<(String, bool), Fail> {
+    said: &mut String,
+) -> Result<(Option<Ptr<Region>>, bool), Fail> {
     let marks = s.state.has_marks();
-    let said = region_answer(alloc, s, op, answer)?;
-    Ok((said, marks))
+    Ok((region_of(s, answer, said)?, marks))
 }
 
-/// The result for a region that is parsed into an operation, and whether a mark is recorded then.
+/// Parses a text as a region of an operation. Returns the region, or says the fault; and whether a mark is recorded then.
 pub(crate) fn region_into(
     alloc: Global,
     ctx: &mut Ctx,
     op: Ptr<Operation>,
     text: &str,
-) -> Result<(String, bool), Fail> {
+    said: &mut String,
+) -> Result<(Option<Ptr<Region>>, bool), Fail> {
     live(ctx, op)?;
     let stream = TextStream::new(alloc, text)?;
     let state = State::new(ctx, Source::InMemory, ());
     let mut s = StateStream { stream, state };
     let answer = <Region as Parsable<DemoType, DemoAttr, ()>>::parse(&mut s, op);
-    marked(alloc, &mut s, op, answer)
+    region_and_marks(&mut s, answer, said)
 }
