@@ -1,5 +1,5 @@
-//! What the tests share: results as texts, tables of such texts, formats, deeply nested texts and locations, and operations and blocks; contexts of the demo types and
-//! streams over them; and for random scripts the calls of a script on names, and which names were mentioned.
+//! What the tests share: results as texts, formats, deeply nested texts and locations, and operations and blocks; contexts of the demo
+//! types and streams over them; and for random scripts the calls of a script on names, and which names were mentioned.
 #![tactic(auto)]
 
 pub mod answers;
@@ -9,4 +9,3 @@ pub mod contexts;
 pub mod formats;
 pub mod mentioned;
 pub mod nesting;
-pub mod tables;
