@@ -1,8 +1,7 @@
 -- Whether an operation is there, by the test of it.
 use Rattle.std.specs.Prelude.{IfOk, IfNone}
 use Rattle.irtext_print_ops.specs.declared.frame.Frame.{Frame}
-use Rattle.std.proofs.Common.{◌≡◌, ◌↔◌, Bool, false, Option, Some, None, IsSome, IsTrue, refl, sym, true≢false, ◌∙◌, Result, Ok, Err, OnOk, ℕ, zero, suc, arith, List, [], ◌∷◌, ◌≤◌, length, drop, slice_get}
-use Rattle.std.proofs.Math.ListN.{drop_of_length-le}
+use Rattle.std.proofs.Common.{◌≡◌, ◌↔◌, Bool, false, Option, Some, None, IsSome, IsTrue, refl, sym, true≢false, ◌∙◌, Result, Ok, Err, OnOk, ℕ, zero, suc, List, [], ◌∷◌, drop, slice_get}
 
 -- where the test fails there is none
 pub not_there : {X : Type 0} (o : Option X) (b : Bool) → (IsTrue b ↔ IsSome o) → b ≡ false → o ≡ None
@@ -33,10 +32,6 @@ no_frame (Some f) frames e h = absurd (cc)
 pub if_none : {X P : Type 0} (o : Option X) → P → IfNone o P
 if_none None p = p
 if_none (Some x) p = tt
-
--- past the last nothing is left
-pub past_all : {X : Type 0} (xs : List X) (n i : ℕ) → n ≡ length xs → n ≤ i → drop i xs ≡ []
-past_all xs n i e h = drop_of_length-le xs (omega (arith, e, h))
 
 -- after the last nothing is left
 pub none_left : {X : Type 0} (xs : List X) (i : ℕ) → slice_get xs i ≡ None → drop i xs ≡ []

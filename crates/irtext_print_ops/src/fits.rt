@@ -14,12 +14,14 @@ ghost use Rattle.irtext_print_ops.specs.Fits as fits;
 ghost use Rattle.irtext_print_ops.specs.Listed as texts;
 ghost use Rattle.irtext_print_ops.specs.declared.lists.Listed.TheVariants as listed;
 
+use crate::children::count_regions;
 use crate::lists::Listed;
 use crate::printer::Printer;
 use irtext_base::base::{AttrObj, Identifier};
 use irtext_base::format::{Directive, OpFormat};
 use irtext_base::text::{AttrText, IrText};
 use irtext_context::base::{AttributeDict, Context, Operation, OperationAccess, Ptr, Value};
+use irtext_graph::held::HasGraph;
 use irtext_print::ir::print::fits::missing_key;
 use irtext_print::ir::print::pieces::{is_key_written, is_outlined, symbol_of};
 use std::fmt;
@@ -297,7 +299,7 @@ impl<'c, T: IrText<A>, A: AttrText<A>> Printer<'c, T, A> {
             operands: self.count(Listed::Operands(op)),
             successors: self.count(Listed::Successors(op)),
             results: self.count_typed(op),
-            regions: op.num_regions(self.ctx),
+            regions: count_regions(self.ctx.graph(), op),
         }
     }
 }

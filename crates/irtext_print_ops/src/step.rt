@@ -11,7 +11,7 @@ ghost use Rattle.irtext_print_ops.specs.Steps as steps;
 ghost use Rattle.irtext_print_ops.specs.declared.frame.Frame.TheVariants as framed;
 
 use crate::block_heads::fmt_block_head;
-use crate::children::{count_blocks, region_at};
+use crate::children::{block_at, count_blocks, operation_at, region_at};
 use crate::frame::{BlockFrame, BlockTurn, Frame, OperationFrame, RegionFrame, Turn, gather, open};
 use crate::front::begin_front;
 use crate::marks::{is_block_marked, is_operation_marked};
@@ -323,12 +323,12 @@ fn region_step<'c, T: IrText<A>, A: AttrText<A>>(
     ensures refused { IfErr result (heads.RefusesFrame T.IrText.own A.IrText.own A.AttrText.own A.eq ctx.now
         width (framed.Region frame)) }
 {
-    ctx.graph().keeps_nesting();
-    if frame.block >= frame.region.num_blocks(ctx) {
+    let graph = ctx.graph();
+    graph.keeps_nesting();
+    let Some(block) = block_at(graph, frame.region, frame.block) else {
         fmt_closing(frame.indent, f)?;
         return Ok(None);
-    }
-    let block = frame.region.get_block(ctx, frame.block);
+    };
     let indent = deeper(frame.indent, width)?;
     let inner = deeper(indent, width)?;
     fmt_between_blocks(frame.first, indent, f)?;
@@ -371,11 +371,11 @@ fn block_turn<'c, T: IrText<A>, A: AttrText<A>>(
     ensures refused { IfErr result (heads.RefusesFrame T.IrText.own A.IrText.own A.AttrText.own A.eq ctx.now
         width (framed.Block frame)) }
 {
-    ctx.graph().keeps_nesting();
-    if frame.operation >= frame.block.num_operations(ctx) {
+    let graph = ctx.graph();
+    graph.keeps_nesting();
+    let Some(op) = operation_at(graph, frame.block, frame.operation) else {
         return Ok(BlockTurn::Ends);
-    }
-    let op = frame.block.get_operation(ctx, frame.operation);
+    };
     if !ctx.contains_operation(op) {
         return Ok(BlockTurn::Stays(BlockFrame {
             operation: frame.operation + 1,
