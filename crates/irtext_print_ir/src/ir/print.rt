@@ -9,6 +9,7 @@ ghost use Rattle.irtext_print_ir.specs.Printers.Printed as printed;
 ghost use Rattle.irtext_print_ops.specs.Heads as heads;
 
 use crate::ir::print::concrete::gather_operation;
+use crate::ir::print::nesting::block_of;
 use crate::printable::{Printable, Refusal, State};
 use irtext_base::text::{AttrText, IrText};
 use irtext_context::base::{Context, Item, Operation, Ptr};
@@ -20,6 +21,7 @@ use std::fmt;
 
 pub mod concrete;
 pub mod debug;
+pub(crate) mod nesting;
 pub mod parts;
 
 /// Appends what follows the concrete text of an operation in no block: its mark, and the section of all gathered items, which are
@@ -85,8 +87,9 @@ pub fn print_root<T: IrText<A>, A: AttrText<A>, U>(
         op state.old) }
     ensures rest { state.new ≡ with_gathered state.old (gathered_of state.new) }
 {
-    ctx.graph().keeps_nesting();
-    match op.get_parent_block(ctx) {
+    let graph = ctx.graph();
+    graph.keeps_nesting();
+    match block_of(graph, op) {
         Some(_block) => gather_operation(ctx, op, true, state, f),
         None => {
             gather_operation(ctx, op, false, state, f)?;

@@ -5,6 +5,7 @@ ghost use Rattle.irtext_print_ir.specs.Printers.OpPrinters.{PrintsPart, WritesPa
 ghost use Rattle.irtext_print.specs.Printers.Printing.{gathered_of, with_gathered};
 ghost use Rattle.irtext_print_ir.specs.Printers.OpPrinters as parts;
 
+use crate::ir::print::nesting::{count_regions, only_region};
 use crate::ir::print::parts::print_region as print_nested_region;
 use crate::printable::{Printable, Refusal, State};
 use irtext_base::text::{AttrText, IrText};
@@ -117,11 +118,12 @@ pub fn print_region<T: IrText<A>, A: AttrText<A>, U>(
         state.old) }
     ensures rest { state.new ≡ with_gathered state.old (gathered_of state.new) }
 {
-    if op.num_regions(ctx) != 1 {
+    let graph = ctx.graph();
+    if count_regions(graph, op) != 1 {
         return Err(Refusal::Misfit);
     }
-    ctx.graph().keeps_nesting();
-    print_nested_region(ctx, op.get_region(ctx, 0), state, f)
+    graph.keeps_nesting();
+    print_nested_region(ctx, only_region(graph, op), state, f)
 }
 
 /// Prints the header as [`print_symb_op_header`] does. The operation has to be live.
