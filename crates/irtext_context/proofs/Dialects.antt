@@ -7,7 +7,7 @@ use Rattle.indexmap.specs.IndexMap.{insert_entry}
 use Rattle.irtext_base.specs.Text.{Text}
 use Rattle.irtext_base.specs.Format.{Accepted}
 use Rattle.irtext_base.specs.FormatViews.{format_of}
-use Rattle.irtext_context.specs.Dialects.{Known, Table, AreAccepted, AllAccepted, known_of, known_entries, same_id, with_op}
+use Rattle.irtext_context.specs.Dialects.{Known, Table, AreAccepted, AllAccepted, known_of, known_entries, same_id}
 use Rattle.irtext_base.specs.declared.base.identifier.OpId.{OpId}
 use Rattle.irtext_context.specs.declared.dialect.OpInfo.{OpInfo}
 
@@ -20,15 +20,6 @@ known_put (e ∷ es) id info = go (same_id id e.0) (known_put es id info)
         → known_entries (cond b ((e.0, info) ∷ es) (e ∷ insert_entry same_id es id info)) ≡ cond b ((e.0, known_of info) ∷ known_entries es) ((e.0, known_of e.1) ∷ insert_entry same_id (known_entries es) id (known_of info))
     go true r = refl
     go false r = ap (λ l. (e.0, known_of e.1) ∷ l) r
-
--- a dialect of this name with these operations
-abbrev with_entries : Text → List (OpId × Known) → Table
-with_entries name es = record { name = name; entries = es }
-
--- what is seen of a dialect once an entry was put
-pub seen_put : (name : Text) (old new : List (OpId × OpInfo)) (id : OpId) (info : OpInfo) → new ≡ insert_entry same_id old id info
-    → with_entries name (known_entries new) ≡ with_op (with_entries name (known_entries old)) id (format_of info.format) info.isolated
-seen_put name old new id info e = ap (λ es. with_entries name (known_entries es)) e ∙ ap (with_entries name) (known_put old id info)
 
 -- what is known of the entry that is found
 pub known_found : (test : OpId → Bool) (es : List (OpId × OpInfo)) → lookup test (known_entries es) ≡ option_map known_of (lookup test es)
@@ -77,11 +68,11 @@ accepted_after None a = tt
 accepted_after (Some info) a = a
 
 -- the entries after one was put, or not
-pub accepted_put : {X E : Type 0} (r : Result X E) (name : Text) (old new : List (OpId × OpInfo)) (id : OpId) (info : OpInfo)
-    → OnOk r (new ≡ insert_entry same_id old id info) → OnErr r (new ≡ old)
-    → AreAccepted name (known_entries old) → id.dialect ≡ name → Accepted (format_of info.format) → AreAccepted name (known_entries new)
-accepted_put (Ok x) name old new id info e f a d k = subst (λ es. AreAccepted name es) (sym (known_put old id info) ∙ ap known_entries (sym e)) (accepted_more name (known_entries old) id (known_of info) a d k)
-accepted_put (Err x) name old new id info e f a d k = subst (λ es. AreAccepted name (known_entries es)) (sym f) a
+pub accepted_put : {X E : Type 0} (r : Result X E) (name : Text) (old new : List (OpId × OpInfo)) (id : OpId) (known : Known)
+    → OnOk r (known_entries new ≡ insert_entry same_id (known_entries old) id known) → OnErr r (new ≡ old)
+    → AreAccepted name (known_entries old) → id.dialect ≡ name → OnOk r (Accepted known.format) → AreAccepted name (known_entries new)
+accepted_put (Ok x) name old new id known e f a d k = subst (λ es. AreAccepted name es) (sym e) (accepted_more name (known_entries old) id known a d k)
+accepted_put (Err x) name old new id known e f a d k = subst (λ es. AreAccepted name (known_entries es)) (sym f) a
 
 -- what holds of the dialect at an index and of those after it holds from that index on
 pub accepted_from : (i : ℕ) (ds : List (Text × Table)) (x : Table) → slice_get (values_of ds) i ≡ Some x → AreAccepted x.name x.entries → AllAccepted (drop (suc i) ds) → AllAccepted (drop i ds)

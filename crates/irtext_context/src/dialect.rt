@@ -8,7 +8,7 @@ ghost use Rattle.std.specs.Map.{lookup};
 ghost use Rattle.std.specs.Str.{bytes_eq};
 ghost use Rattle.indexmap.specs.IndexMap.{insert_entry};
 ghost use Rattle.std.proofs.Common.{rules, ap};
-ghost use Rattle.irtext_context.specs.Dialects.{same_id, known_of, with_op, IsRefusedBy, AreAccepted};
+ghost use Rattle.irtext_context.specs.Dialects.{same_id, known_of, known_entries, with_op, IsRefusedBy, AreAccepted};
 ghost use Rattle.irtext_base.specs.FormatViews.{format_of};
 ghost use Rattle.irtext_base.specs.Faults.{fault_of, name_refused};
 ghost use Rattle.irtext_base.specs.Format.{Accepted};
@@ -254,6 +254,30 @@ fn info_of<A>(alloc: Global, format: OpFormat, isolated: bool) -> Result<OpInfo,
     }
 }
 
+/// Inserts an operation of this dialect with its format, which has to be accepted. On an error the entries are unchanged.
+fn put_accepted<A>(
+    ops: &mut IndexMap<OpId, OpInfo>,
+    name: &DialectName,
+    id: &OpId,
+    format: OpFormat,
+    isolated: bool,
+) -> Result<(), Cause<A>>
+    requires { id.now.dialect ≡ name.now }
+    ensures ok { OnOk result (known_entries ops.new.entries ≡ insert_entry same_id
+        (known_entries ops.old.entries) id.now (record { format = format_of format; isolated = isolated })) }
+    ensures accepted { OnOk result (Accepted (format_of format)) }
+    ensures err { OnErr result (ops.new.entries ≡ ops.old.entries) }
+    ensures refused { IfErr result (λ cause. IsRefusedBy name.now id.now format cause) }
+{
+    match info_of(*ops.allocator(), format, isolated) {
+        Ok(info) => match put(ops, name, id, info) {
+            Ok(()) => Ok(()),
+            Err(_) => Err(Cause::Memory),
+        },
+        Err(cause) => Err(cause),
+    }
+}
+
 /// Looks up an operation. The index that the name carries as a hint is tried first.
 fn found<'o>(ops: &'o IndexMap<OpId, OpInfo>, id: &OpId) -> Option<&'o OpInfo>
     ensures { option_copied result ≡ lookup (same_id id.now) ops.now.entries }
@@ -298,11 +322,8 @@ impl Dialect {
         if !self.name.is_of(&id) {
             return Err(invalid(wrong_dialect(id, &self.name)));
         }
-        match info_of(*self.ops.allocator(), format, isolated) {
-            Ok(info) => match put(&mut self.ops, &self.name, &id, info) {
-                Ok(()) => Ok(()),
-                Err(_) => Err(invalid(Cause::Memory)),
-            },
+        match put_accepted(&mut self.ops, &self.name, &id, format, isolated) {
+            Ok(()) => Ok(()),
             Err(cause) => Err(invalid(cause)),
         }
     }

@@ -2,7 +2,7 @@
 ghost use Rattle.std.specs.Prelude.{◌≡◌, None, IfOk, IfErr, IfSome, OnOk, OnErr};
 ghost use Rattle.std.specs.Map.{lookup};
 ghost use Rattle.std.specs.Str.{bytes_eq};
-ghost use Rattle.irtext_context.specs.Dialects.{IsRefusedBy};
+ghost use Rattle.irtext_context.specs.Dialects.{with_op, IsRefusedBy};
 ghost use Rattle.irtext_context.specs.DialectTable.{IsKeptAt, dialect_or_new, no_operations, with_operation, CanRegister, RefusesOp};
 ghost use Rattle.irtext_context.specs.Named.{id_of_texts};
 ghost use Rattle.irtext_context.specs.Registers.{Registers};
@@ -49,6 +49,33 @@ fn dialect_for(alloc: Global, id: &OpId, index: usize) -> Result<(DialectName, D
     empty(alloc, &DialectName { name }, index)
 }
 
+/// Makes a dialect that has only this operation, and its key.
+fn dialect_with<A>(
+    alloc: Global,
+    id: OpId,
+    format: OpFormat,
+    isolated: bool,
+    index: usize,
+) -> result::Result<(DialectName, Dialect), A>
+    requires { Accepted (format_of format) }
+    ensures ok { IfOk result (λ e. e ≡ (
+      id.dialect,
+      with_op (no_operations id.dialect) id (format_of format)
+          isolated,
+    )) }
+    ensures refused { IfErr result (λ e. IsRefusedBy id.dialect id format e.err) }
+    ensures kind { IfErr result (λ e. (e.kind ≡ ErrorKind.InvalidArgument) × (e.loc ≡ Unknown)) }
+{
+    let Ok((key, dialect)) = dialect_for(alloc, &id, index) else {
+        return Err(invalid(Cause::Memory));
+    };
+    let mut dialect = dialect;
+    match dialect.add_op(id, format, isolated) {
+        Ok(()) => Ok((key, dialect)),
+        Err(error) => Err(error),
+    }
+}
+
 /// Appends a dialect that has only this operation. On an error the entries are unchanged.
 fn put_first<A>(
     dialects: &mut IndexMap<DialectName, Dialect>,
@@ -65,14 +92,12 @@ fn put_first<A>(
     ensures refused { IfErr result (λ e. IsRefusedBy id.dialect id format e.err) }
     ensures kind { IfErr result (λ e. (e.kind ≡ ErrorKind.InvalidArgument) × (e.loc ≡ Unknown)) }
 {
-    let Ok((key, dialect)) = dialect_for(alloc, &id, dialects.len()) else {
-        return Err(invalid(Cause::Memory));
-    };
-    let mut dialect = dialect;
-    dialect.add_op(id, format, isolated)?;
-    match put_last(dialects, key, dialect) {
-        Ok(()) => Ok(()),
-        Err(AllocError) => Err(invalid(Cause::Memory)),
+    match dialect_with(alloc, id, format, isolated, dialects.len()) {
+        Ok((key, dialect)) => match put_last(dialects, key, dialect) {
+            Ok(()) => Ok(()),
+            Err(AllocError) => Err(invalid(Cause::Memory)),
+        },
+        Err(error) => Err(error),
     }
 }
 

@@ -2,13 +2,18 @@ use Rattle.std.proofs.Common.{◌≡◌, refl, ap, arith, subst, length, Some}
 use Rattle.std.specs.Option.{option_map}
 use Rattle.irtext_base.specs.declared.location.Location.{Unknown}
 use Rattle.irtext_context.specs.Context.{with_loc, with_block_loc}
-use Rattle.irtext_context.proofs.Locations.{erased_twice}
+use Rattle.irtext_context.proofs.Locations.{erased_twice, now_inside}
 use Rattle.irtext_graph.specs.Throughout.{all_from}
 use Rattle.irtext_graph.proofs.Going.{Going, going_begins, going_shrinks, going_on}
 use Rattle.irtext_context.proofs.location.erase_inside.Goals as goal
 
 pub loop-at-init : goal.loop-at-init
 loop-at-init g c = record { so_far = going_begins (option_map (with_loc Unknown)) (with_block_loc Unknown) c.args.graph.now c.args.o c.requires c.keeps_nesting.ensures.all }
+
+pub next_inside-at-requires-clause-within : goal.next_inside-at-requires-clause-within
+next_inside-at-requires-clause-within g c =
+    let d = subst (Going (option_map (with_loc Unknown)) (with_block_loc Unknown) c.args.graph.now c.loop-at.graph c.args.o) c.in-Some.is c.loop-at.invariant.so_far in
+    now_inside (option_map (with_loc Unknown)) (with_block_loc Unknown) c.args.graph.now c.loop-at.graph c.args.o _ d c.in-Some.q d.at_inside
 
 pub loop-at-smaller : goal.loop-at-smaller
 loop-at-smaller g c =
