@@ -8,21 +8,29 @@ use pliron_text::printable::Disp;
 use std::alloc::Global;
 use std::test::Fail;
 
-fn root_of(ctx: &mut Context<DemoType, DemoAttr>, text: &str) -> Result<Ptr<Operation>, Fail> {
+fn parsed(ctx: &mut Context<DemoType, DemoAttr>, text: &str) -> Result<Ptr<Operation>, Fail> {
+    register_demo(ctx).ok().ok_or("not registered")?;
     match parse_from_str(|s| Operation::top_level_parse(s), ctx, text) {
         Ok(root) => Ok(root),
         Err(_) => Err(Fail::from("refused")),
     }
 }
 
-fn printed(alloc: Global, text: &str) -> Result<String, Fail> {
-    let mut ctx = Context::new(alloc);
-    register_demo(&mut ctx).ok().ok_or("not registered")?;
-    let root = root_of(&mut ctx, text)?;
+fn printed(
+    alloc: Global,
+    ctx: &Context<DemoType, DemoAttr>,
+    root: Ptr<Operation>,
+) -> Result<String, Fail> {
     if !ctx.contains_operation(root) {
         return Err(Fail::from("no such operation"));
     }
-    Ok(format!(in alloc; "{}", root.disp(&ctx))?)
+    Ok(format!(in alloc; "{}", root.disp(ctx))?)
+}
+
+fn parsed_and_printed(alloc: Global, text: &str) -> Result<String, Fail> {
+    let mut ctx = Context::new(alloc);
+    let root = parsed(&mut ctx, text)?;
+    printed(alloc, &ctx, root)
 }
 
 use crate::value::{same, value_of};
@@ -33,6 +41,10 @@ const PRINTED: &str =
 
 #[test]
 fn the_example_of_the_readme_prints_a_text(rt: HostRuntime) {
-    let text = value_of(&rt, printed(rt.alloc(), "builtin.module @m { }"), "no text");
+    let text = value_of(
+        &rt,
+        parsed_and_printed(rt.alloc(), "builtin.module @m { }"),
+        "no text",
+    );
     same(&rt, text.as_str(), PRINTED);
 }
