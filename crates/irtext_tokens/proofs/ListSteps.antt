@@ -1,5 +1,5 @@
 -- One more item of a list.
-use Rattle.std.proofs.Common.{◌≡◌, ℕ, ◌<◌, ◌≤◌, Bool, true, false, Some, Result, Ok, Err, List, [], ◌∷◌, ◌++◌, length, refl, sym, ◌∙◌, ap, subst, append_assoc, length-append, arith}
+use Rattle.std.proofs.Common.{◌≡◌, ℕ, ◌<◌, ◌≤◌, Bool, true, false, cond, Some, Result, Ok, Err, List, [], ◌∷◌, ◌++◌, length, refl, sym, ◌∙◌, ap, subst, append_assoc, length-append, arith}
 use Rattle.std.specs.Fn.{Mut, Called}
 use Rattle.std.specs.Borrow.{MutBor}
 use Rattle.std.specs.Bool.{MatchBool, ◌==◌}
@@ -45,6 +45,15 @@ passed_says P Q false h e = absurd (cc)
 pub failed_says : (P Q : Type 0) (b : Bool) → MatchBool b P Q → b ≡ false → Q
 failed_says P Q true h e = absurd (cc)
 failed_says P Q false h e = h
+
+-- what holds of a committed error, and of the value in place of another, holds of the result
+pub unless_error : {W A : Type 0} (G : Result W (ParseFault A) → Type 0) (fault : ParseFault A) (w : W) (r : Result W (ParseFault A)) → cond fault.committed (r ≡ Err fault) (r ≡ Ok w)
+    → (fault.committed ≡ true → G (Err fault)) → (fault.committed ≡ false → G (Ok w)) → G r
+unless_error {W} {A} G fault w r h bad good = go fault.committed refl h
+  where
+    go : (b : Bool) → fault.committed ≡ b → cond b (r ≡ Err fault) (r ≡ Ok w) → G r
+    go true c e = subst G (sym e) (bad c)
+    go false c e = subst G (sym e) (good c)
 
 taken_lt : (a c r : Text) → (a ≡ [] → ⊥) → a ++ c ≡ r → length c < length r
 taken_lt [] c r n h = absurd (n refl)

@@ -1,7 +1,7 @@
 //! The errors that parsers return, and tests of the next character.
 //!
 //! An uncommitted error leaves the stream unchanged, so the caller may try another parser. A committed error leaves the stream failed.
-ghost use Rattle.std.specs.Prelude.{◌≡◌, [], true};
+ghost use Rattle.std.specs.Prelude.{◌≡◌, [], true, cond, Ok, Err};
 ghost use Rattle.irtext_base.specs.Text.{begins};
 ghost use Rattle.irtext_base.specs.Reading.{the};
 ghost use Rattle.irtext_base.specs.Stream.{IsAt, first_of, after_failure};
@@ -147,4 +147,24 @@ pub fn committed<S: CharStream, X, A>(
         Ok(value) => Ok(value),
         Err(fault) => Err(commit(stream, fault)),
     }
+}
+
+/// Whether an error is committed.
+fn is_committed<A>(fault: &ParseFault<A>) -> bool
+    ensures { result ≡ fault.now.committed }
+{
+    fault.committed
+}
+
+/// Returns the value in place of an error that is not committed, and a committed error unchanged.
+pub(crate) fn unless_committed<X: Drop, A: Drop>(
+    fault: ParseFault<A>,
+    value: X,
+) -> ParseResult<X, A>
+    ensures { cond fault.committed (result ≡ Err fault) (result ≡ Ok value) }
+{
+    if is_committed(&fault) {
+        return Err(fault);
+    }
+    Ok(value)
 }

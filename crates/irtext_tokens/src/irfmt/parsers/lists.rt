@@ -7,6 +7,7 @@ ghost use Rattle.irtext_stream.specs.Places.{SincePlace, HasPassed};
 
 use crate::irfmt::faults::{
     begins, commit, commit_unexpected, next_is, out_of_memory, pass, refuse, unexpected,
+    unless_committed,
 };
 use crate::irfmt::parsers::class::{Class, skip_white_space};
 use irtext_base::parsable::{CharStream, ParseFault, ParseResult, Place};
@@ -57,12 +58,7 @@ where
                 }
                 skip_white_space(stream);
             }
-            Err(fault) => {
-                if fault.committed {
-                    return Err(fault);
-                }
-                return Ok(found);
-            }
+            Err(fault) => return unless_committed(fault, found),
         }
     }
 }
@@ -114,12 +110,7 @@ where
                 return Err(out_of_memory(stream));
             }
         }
-        Err(fault) => {
-            if fault.committed {
-                return Err(fault);
-            }
-            return Ok(found);
-        }
+        Err(fault) => return unless_committed(fault, found),
     }
     skip_white_space(stream);
     tail(stream, sep, found, item)

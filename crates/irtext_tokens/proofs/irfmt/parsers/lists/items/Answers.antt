@@ -1,6 +1,6 @@
 use Rattle.std.proofs.Common.{rules, of_calls, refl, ◌≡◌, ◌<◌, Ok, Err, ◌++◌, ◌∷◌, [], append-nil, length, sym}
-use Rattle.irtext_tokens.specs.Lists.{Calls, empty, no_room, missing, bad, more, MovesOn}
-use Rattle.irtext_tokens.proofs.ListSteps.{called_at, rules_at, passed_says, failed_says, none_taken, some_taken, skipped_lt, prepended-more}
+use Rattle.irtext_tokens.specs.Lists.{Calls, Items, listed, empty, no_room, missing, bad, more, MovesOn}
+use Rattle.irtext_tokens.proofs.ListSteps.{called_at, rules_at, passed_says, failed_says, unless_error, none_taken, some_taken, skipped_lt, prepended-more}
 use Rattle.irtext_tokens.proofs.irfmt.parsers.lists.items.Goals as goal
 
 pub is_still_at-requires : goal.is_still_at-requires
@@ -22,15 +22,13 @@ returns-then-is_err g c =
     let called : Calls (λ r. r) g.F.FnMut c.loop-x.item c.loop-x.stream (Ok c.in-Ok.x) c.item.new.self c.item.new.arg2 = called_at c.in-Ok.ensures refl in
     c.loop-x.invariant.1 _ _ (no_room _ _ _ _ _ _ _ called c.out_of_memory.ensures)
 
-pub returns-then-fault : goal.returns-then-fault
-returns-then-fault g c =
-    let called : Calls (λ r. r) g.F.FnMut c.loop-x.item c.loop-x.stream (Err c.in-Err.fault) c.item.new.self c.item.new.arg2 = called_at c.in-Err.ensures refl in
-    c.loop-x.invariant.1 _ _ (bad _ _ _ _ _ called c.if-fault.true)
-
 pub returns-in-Err : goal.returns-in-Err
 returns-in-Err g c =
+    let m = g.S.CharStream in
     let called : Calls (λ r. r) g.F.FnMut c.loop-x.item c.loop-x.stream (Err c.in-Err.fault) c.item.new.self c.item.new.arg2 = called_at c.in-Err.ensures refl in
-    let all = c.loop-x.invariant.1 _ _ (missing _ _ _ _ _ called c.if-fault.false) in rw append-nil at all
+    unless_error (λ r. Items m.view m.at (Calls (λ r. r) g.F.FnMut) c.args.item c.args.stream.now (listed r) c.item.new.arg2) c.in-Err.fault c.loop-x.found c.unless_committed.result c.unless_committed.ensures
+    (λ e. c.loop-x.invariant.1 _ _ (bad _ _ _ _ _ called e))
+    (λ e. let all = c.loop-x.invariant.1 _ _ (missing _ _ _ _ _ called e) in rw append-nil at all)
 
 pub loop-x-smaller : goal.loop-x-smaller
 loop-x-smaller g c =
