@@ -38,10 +38,6 @@ taken_get (y ∷ ys) zero k x low e = absurd (omega (arith, low))
 taken_get (y ∷ ys) (suc n) zero x low e = e
 taken_get (y ∷ ys) (suc n) (suc k) x low e = taken_get ys n k x (omega (arith, low)) e
 
--- a list with one more, after another list that is the same
-pub noted_list : (log room after : List Made) (a : Made) → room ≡ log → after ≡ room ++ a ∷ [] → after ≡ log ++ a ∷ []
-noted_list log room after a e f = f ∙ ap (λ xs. xs ++ a ∷ []) e
-
 aged : {P C D V : Type 0} (f : ℕ × D → V) (b : V → ℕ) → ((d : ℕ × D) → b (f d) ≡ d.0) → (e : Option (Entry (Nest P C D))) → born_in e ≡ option_map b (option_map f (datum_in e))
 aged f b same None = refl
 aged f b same (Some e) = ap Some (sym (same (e.born, e.content.data)))

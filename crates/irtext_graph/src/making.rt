@@ -7,13 +7,15 @@ ghost use Rattle.irtext_graph.specs.Linking.{Defines, IsBlank};
 ghost use Rattle.std.specs.Vec.{vec_len, vec_capacity};
 ghost use Rattle.irtext_graph.specs.Regions.{HasRoom, with_child, AddsRegion};
 ghost use Rattle.irtext_graph.specs.Store.{Edits, before};
+ghost use Rattle.irtext_graph.specs.Arena.{Inserts, HasFew};
 
 use crate::arena::{Arena, Ptr};
 use crate::graph::Graph;
+use crate::held::Kind;
 use crate::log::{Made, make_room, note};
 use crate::nest::Nest;
 use crate::new_uses::{Side, unlinked_uses};
-use crate::object::{BasicBlock, Object, Operation, Region, Value};
+use crate::object::{BasicBlock, Operation, Region, Value};
 use crate::objects::{BlockData, Definition, OperationData, RegionData, Use};
 use irtext_few::{Few, Growing, Items, Lone};
 use std::alloc::{AllocError, Global};
@@ -48,17 +50,6 @@ fn many_definitions<T: Drop>(
     Ok(defined)
 }
 
-/// Fails if a counter is at its limit, so that no more can be counted.
-#[inline(always)]
-fn check_limit(count: u64) -> Result<(), AllocError>
-    ensures { OnOk result (count < 18446744073709551615) }
-{
-    if count == u64::MAX {
-        return Err(AllocError);
-    }
-    Ok(())
-}
-
 /// Reserves room in the log for one more object. Fails if no more objects can be counted.
 #[inline(always)]
 fn make_place(log: &mut Vec<Made>, made: u64) -> Result<(), AllocError>
@@ -66,8 +57,36 @@ fn make_place(log: &mut Vec<Made>, made: u64) -> Result<(), AllocError>
     ensures room { OnOk result (vec_len log.new < vec_capacity log.new) }
     ensures below { OnOk result (made < 18446744073709551615) }
 {
-    check_limit(made)?;
+    if made == u64::MAX {
+        return Err(AllocError);
+    }
     make_room(log)
+}
+
+/// Stores an object that is the next to be made, and records it in the log. Fails if an allocation fails, no slot is left, or no more
+/// objects can be counted; then the objects and the entries of the log are unchanged.
+#[inline(always)]
+fn store<X: Drop, K: Kind>(
+    arena: &mut Arena<X>,
+    log: &mut Vec<Made>,
+    first: u32,
+    made: u64,
+    content: X,
+) -> Result<Ptr<K>, AllocError>
+    ensures inserts { IfOk result (λ p. Inserts arena.old arena.new p
+        (record { born = made; content = content })) }
+    ensures few { HasFew arena.old → HasFew arena.new }
+    ensures noted { IfOk result (λ p. log.new.items ≡ log.old.items ++
+        (record { born = made; object = K.object p }) ∷ []) }
+    ensures below { OnOk result (made < 18446744073709551615) }
+    ensures err { OnErr result (arena.new.slots.items ≡ arena.old.slots.items) }
+    ensures err_free { OnErr result (arena.new.free ≡ arena.old.free) }
+    ensures same { OnErr result (log.new.items ≡ log.old.items) }
+{
+    make_place(log, made)?;
+    let p = arena.insert(first, made, content)?;
+    note(log, made, K::object(p));
+    Ok(p)
 }
 
 /// Returns the number of the next value when so many are numbered from `from`. Fails if it is too large.
@@ -209,16 +228,14 @@ impl<O: Drop, B: Drop, T: Drop> Graph<O, B, T> {
         ensures kept { (m : ℕ) → m ≤ self.old.made → KeepsOlder m self.old self.new }
     {
         let made = self.made;
-        make_place(&mut self.log, made)?;
-        let region = Nest {
+        let blank = Nest {
             parent: None,
             children: Growing::new(self.alloc),
             noted: 0,
             data: RegionData {},
         };
         let first = self.counters.first_place;
-        let p = self.objects.regions.insert(first, made, region)?;
-        note(&mut self.log, made, Object::TheRegion(p));
+        let p = store(&mut self.objects.regions, &mut self.log, first, made, blank)?;
         self.made = made + 1;
         Ok(p)
     }
@@ -232,18 +249,16 @@ impl<O: Drop, B: Drop, T: Drop> Graph<O, B, T> {
             → KeepsOlder m self.old self.new }
     {
         let made = self.made;
-        make_place(&mut self.log, made)?;
         self.objects.operations.make_region_room(op)?;
-        let region = Nest {
+        let blank = Nest {
             parent: Some(op),
             children: Growing::new(self.alloc),
             noted: self.objects.operations.child_count(op),
             data: RegionData {},
         };
         let first = self.counters.first_place;
-        let p = self.objects.regions.insert(first, made, region)?;
+        let p = store(&mut self.objects.regions, &mut self.log, first, made, blank)?;
         self.objects.operations.push_region(op, p);
-        note(&mut self.log, made, Object::TheRegion(p));
         self.made = made + 1;
         Ok(p)
     }
@@ -259,7 +274,6 @@ impl<O: Drop, B: Drop, T: Drop> Graph<O, B, T> {
         let made = self.made;
         let count = types.len() as u64;
         let arguments = next_definitions(self.alloc, types, self.counters.values)?;
-        make_place(&mut self.log, made)?;
         let block = Nest {
             parent: None,
             children: Growing::new(self.alloc),
@@ -271,8 +285,7 @@ impl<O: Drop, B: Drop, T: Drop> Graph<O, B, T> {
             },
         };
         let first = self.counters.first_place;
-        let p = self.objects.blocks.insert(first, made, block)?;
-        note(&mut self.log, made, Object::TheBlock(p));
+        let p = store(&mut self.objects.blocks, &mut self.log, first, made, block)?;
         self.made = made + 1;
         self.counters.values += count;
         Ok(p)
@@ -287,14 +300,12 @@ impl<O: Drop, B: Drop, T: Drop> Graph<O, B, T> {
         ensures kept { (m : ℕ) → m ≤ self.old.made → KeepsOlder m self.old self.new }
     {
         let made = self.made;
-        make_place(&mut self.log, made)?;
         let results = Lone::none();
         let used = Few::none();
         let led_to = Lone::none();
-        let blank = blank_operation(self.alloc, value, results, used, led_to);
+        let op = blank_operation(self.alloc, value, results, used, led_to);
         let first = self.counters.first_place;
-        let p = self.objects.operations.insert(first, made, blank)?;
-        note(&mut self.log, made, Object::TheOperation(p));
+        let p = store(&mut self.objects.operations, &mut self.log, first, made, op)?;
         self.made = made + 1;
         Ok(p)
     }
@@ -319,11 +330,9 @@ impl<O: Drop, B: Drop, T: Drop> Graph<O, B, T> {
         let made = self.made;
         let from = self.counters.values;
         let count = types.len() as u64;
-        let blank = new_operation(self.alloc, value, types, from, operands, successors)?;
-        make_place(&mut self.log, made)?;
+        let op = new_operation(self.alloc, value, types, from, operands, successors)?;
         let first = self.counters.first_place;
-        let p = self.objects.operations.insert(first, made, blank)?;
-        note(&mut self.log, made, Object::TheOperation(p));
+        let p = store(&mut self.objects.operations, &mut self.log, first, made, op)?;
         self.objects.attach_all(Side::Operands, p, operands.len());
         self.objects
             .attach_all(Side::Successors, p, successors.len());

@@ -1,40 +1,34 @@
 use Rattle.std.proofs.Common.{◌∙◌, refl, arith}
-use Rattle.irtext_graph.proofs.Logs.{noted_list, block_noted}
+use Rattle.irtext_graph.proofs.Logs.{block_noted}
 use Rattle.irtext_graph.proofs.Sounds.{sound_block}
 use Rattle.irtext_graph.proofs.Made.{on_err, same_keeps, same_slots, slots_kept, slots_seen, block_made, block-keeps}
 use Rattle.irtext_graph.proofs.Numbers.{block_numbers}
 use Rattle.irtext_graph.proofs.graph.Graph.make_block.Goals as goal
 
 pub invariant_of-self : goal.invariant_of-self
-invariant_of-self g c = slots_kept c.self.inside.made c.self.inside.counters c.self.inside.log.items c.make_place.new.log.items c.self.inside.objects c.self.inside.objects c.make_place.ensures.same same_slots same_slots same_slots c.self.invariant
-
-pub invariant_of-self-in_err-p : goal.invariant_of-self-in_err-p
-invariant_of-self-in_err-p g c = slots_kept c.self.inside.made c.self.inside.counters c.self.inside.log.items c.make_place.new.log.items c.self.inside.objects _ c.make_place.ensures.same same_slots (record { items = c.in_err-p.ensures.err; free = c.in_err-p.ensures.err_free }) same_slots c.self.invariant
-
-pub returns-in_err-make_place-clause-kept : goal.returns-in_err-make_place-clause-kept
-returns-in_err-make_place-clause-kept g c = λ m up. same_keeps m _ _ c.self.view_is
+invariant_of-self g c = slots_kept c.self.inside.made c.self.inside.counters c.self.inside.log.items c.store.new.log.items c.self.inside.objects _ c.in_err-p.ensures.same same_slots (record { items = c.in_err-p.ensures.err; free = c.in_err-p.ensures.err_free }) same_slots c.self.invariant
 
 pub returns-in_err-p-clause-err : goal.returns-in_err-p-clause-err
-returns-in_err-p-clause-err g c = on_err _ (slots_seen c.self.inside.made c.self.inside.counters c.self.inside.objects (record c.self.inside.objects { blocks = c.insert.new.self }) same_slots (record { items = c.in_err-p.ensures.err; free = c.in_err-p.ensures.err_free }) same_slots ∙ c.self.view_is)
+returns-in_err-p-clause-err g c = on_err _ (slots_seen c.self.inside.made c.self.inside.counters c.self.inside.objects (record c.self.inside.objects { blocks = c.store.new.arena }) same_slots (record { items = c.in_err-p.ensures.err; free = c.in_err-p.ensures.err_free }) same_slots ∙ c.self.view_is)
 
 pub returns-in_err-p-clause-kept : goal.returns-in_err-p-clause-kept
-returns-in_err-p-clause-kept g c = λ m up. same_keeps m _ _ (slots_seen c.self.inside.made c.self.inside.counters c.self.inside.objects (record c.self.inside.objects { blocks = c.insert.new.self }) same_slots (record { items = c.in_err-p.ensures.err; free = c.in_err-p.ensures.err_free }) same_slots ∙ c.self.view_is)
+returns-in_err-p-clause-kept g c = λ m up. same_keeps m _ _ (slots_seen c.self.inside.made c.self.inside.counters c.self.inside.objects (record c.self.inside.objects { blocks = c.store.new.arena }) same_slots (record { items = c.in_err-p.ensures.err; free = c.in_err-p.ensures.err_free }) same_slots ∙ c.self.view_is)
 
 pub invariant_of-self-2 : goal.invariant_of-self-2
 invariant_of-self-2 g c =
     let e = c.in_ok-p.ensures in
     record {
-      sound = sound_block c.self.inside.objects c.self.inside.made c.insert.new.self c.in_ok-p.p _ e.inserts refl c.new.ensures c.in_ok-arguments.ensures.defines.unused refl c.self.invariant.sound (omega arith) (e.few c.self.invariant.sound.few_blocks);
-      logged = block_noted c.self.inside.made c.self.inside.log.items c.note.new.log.items c.self.inside.objects c.insert.new.self c.in_ok-p.p _ (noted_list c.self.inside.log.items c.make_place.new.log.items c.note.new.log.items _ c.make_place.ensures.same c.note.ensures) c.self.invariant.logged e.inserts.updates refl;
+      sound = sound_block c.self.inside.objects c.self.inside.made c.store.new.arena c.in_ok-p.p _ e.inserts refl c.new.ensures c.in_ok-arguments.ensures.defines.unused refl c.self.invariant.sound (omega arith) (e.few c.self.invariant.sound.few_blocks);
+      logged = block_noted c.self.inside.made c.self.inside.log.items c.store.new.log.items c.self.inside.objects c.store.new.arena c.in_ok-p.p _ e.noted c.self.invariant.logged e.inserts.updates refl;
       numbered = block_numbers _ _ c.in_ok-p.p c.args.value c.args.types
-          (block_made c.self.inside.made c.self.inside.counters _ c.self.inside.objects c.insert.new.self c.in_ok-p.p _ c.args.value c.args.types e.inserts refl refl c.new.ensures refl
+          (block_made c.self.inside.made c.self.inside.counters _ c.self.inside.objects c.store.new.arena c.in_ok-p.p _ c.args.value c.args.types e.inserts refl refl c.new.ensures refl
           c.in_ok-arguments.ensures.defines.values (omega (arith, c.len-count.ensures)))
           c.self.invariant.numbered;
     }
 
 pub returns-clause-made : goal.returns-clause-made
 returns-clause-made g c =
-    rw (← c.self.view_is) (block_made c.self.inside.made c.self.inside.counters _ c.self.inside.objects c.insert.new.self c.in_ok-p.p _ c.args.value c.args.types c.in_ok-p.ensures.inserts refl refl c.new.ensures refl
+    rw (← c.self.view_is) (block_made c.self.inside.made c.self.inside.counters _ c.self.inside.objects c.store.new.arena c.in_ok-p.p _ c.args.value c.args.types c.in_ok-p.ensures.inserts refl refl c.new.ensures refl
     c.in_ok-arguments.ensures.defines.values (omega (arith, c.len-count.ensures)))
 
 pub returns-clause-kept : goal.returns-clause-kept

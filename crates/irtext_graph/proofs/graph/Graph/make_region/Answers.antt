@@ -1,30 +1,27 @@
 use Rattle.std.proofs.Common.{◌∙◌, refl, arith}
-use Rattle.irtext_graph.proofs.Logs.{noted_list, region_noted}
+use Rattle.irtext_graph.proofs.Logs.{region_noted}
 use Rattle.irtext_graph.proofs.Sounds.{sound_region}
 use Rattle.irtext_graph.proofs.Made.{same_keeps, same_slots, slots_kept, slots_seen, region_made, region-keeps}
 use Rattle.irtext_graph.proofs.graph.Graph.make_region.Goals as goal
 
-pub invariant_of-self-in_err-p : goal.invariant_of-self-in_err-p
-invariant_of-self-in_err-p g c =
-    slots_kept c.self.inside.made c.self.inside.counters c.self.inside.log.items c.make_place.new.log.items c.self.inside.objects _ c.make_place.ensures.same same_slots same_slots (record { items = c.in_err-p.ensures.err; free = c.in_err-p.ensures.err_free }) c.self.invariant
-
-pub returns-in_err-make_place-clause-kept : goal.returns-in_err-make_place-clause-kept
-returns-in_err-make_place-clause-kept g c = λ m up. same_keeps m _ _ c.self.view_is
+pub invariant_of-self : goal.invariant_of-self
+invariant_of-self g c =
+    slots_kept c.self.inside.made c.self.inside.counters c.self.inside.log.items c.store.new.log.items c.self.inside.objects _ c.in_err-p.ensures.same same_slots same_slots (record { items = c.in_err-p.ensures.err; free = c.in_err-p.ensures.err_free }) c.self.invariant
 
 pub returns-in_err-p-clause-kept : goal.returns-in_err-p-clause-kept
-returns-in_err-p-clause-kept g c = λ m up. same_keeps m _ _ (slots_seen c.self.inside.made c.self.inside.counters c.self.inside.objects (record c.self.inside.objects { regions = c.insert.new.self }) same_slots same_slots (record { items = c.in_err-p.ensures.err; free = c.in_err-p.ensures.err_free }) ∙ c.self.view_is)
+returns-in_err-p-clause-kept g c = λ m up. same_keeps m _ _ (slots_seen c.self.inside.made c.self.inside.counters c.self.inside.objects (record c.self.inside.objects { regions = c.store.new.arena }) same_slots same_slots (record { items = c.in_err-p.ensures.err; free = c.in_err-p.ensures.err_free }) ∙ c.self.view_is)
 
 pub invariant_of-self-2 : goal.invariant_of-self-2
 invariant_of-self-2 g c =
     let e = c.in_ok-p.ensures in
     record {
-      sound = sound_region c.self.inside.objects c.self.inside.made c.insert.new.self c.in_ok-p.p _ e.inserts refl c.new.ensures c.self.invariant.sound (omega arith) (e.few c.self.invariant.sound.few_regions);
-      logged = region_noted c.self.inside.made c.self.inside.log.items c.note.new.log.items c.self.inside.objects c.insert.new.self c.in_ok-p.p _ (noted_list c.self.inside.log.items c.make_place.new.log.items c.note.new.log.items _ c.make_place.ensures.same c.note.ensures) c.self.invariant.logged e.inserts.updates refl;
+      sound = sound_region c.self.inside.objects c.self.inside.made c.store.new.arena c.in_ok-p.p _ e.inserts refl c.new.ensures c.self.invariant.sound (omega arith) (e.few c.self.invariant.sound.few_regions);
+      logged = region_noted c.self.inside.made c.self.inside.log.items c.store.new.log.items c.self.inside.objects c.store.new.arena c.in_ok-p.p _ e.noted c.self.invariant.logged e.inserts.updates refl;
       numbered = record { below = c.self.invariant.numbered.below; differ = c.self.invariant.numbered.differ };
     }
 
 pub returns-clause-made : goal.returns-clause-made
-returns-clause-made g c = rw (← c.self.view_is) (region_made c.self.inside.made c.self.inside.counters c.self.inside.objects c.insert.new.self c.in_ok-p.p _ c.in_ok-p.ensures.inserts refl refl c.new.ensures)
+returns-clause-made g c = rw (← c.self.view_is) (region_made c.self.inside.made c.self.inside.counters c.self.inside.objects c.store.new.arena c.in_ok-p.p _ c.in_ok-p.ensures.inserts refl refl c.new.ensures)
 
 pub returns-clause-kept : goal.returns-clause-kept
 returns-clause-kept g c = λ m up. region-keeps m _ _ c.in_ok-p.p up (returns-clause-made g c)
