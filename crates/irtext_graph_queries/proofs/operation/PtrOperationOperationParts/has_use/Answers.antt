@@ -2,6 +2,9 @@ use Rattle.std.proofs.Common.{arith}
 use Rattle.irtext_graph_queries.proofs.FirstResults.{next_unused}
 use Rattle.irtext_graph_queries.proofs.operation.PtrOperationOperationParts.has_use.Goals as goal
 
+pub loop-i-init : goal.loop-i-init
+loop-i-init g c = record { unused = λ u m. let less = m.1 in omega (arith, less) }
+
 pub loop-i-preserved : goal.loop-i-preserved
 loop-i-preserved g c =
     let v = g.C.HasGraph.graph c.args.ctx.now in

@@ -1,6 +1,9 @@
 use Rattle.std.proofs.Common.{◌++◌, ◌∙◌, ap, arith}
-use Rattle.irtext_graph_queries.proofs.FirstResults.{next_listed, all_listed}
+use Rattle.irtext_graph_queries.proofs.FirstResults.{none_listed, next_listed, all_listed}
 use Rattle.irtext_graph_queries.proofs.operation.PtrOperationOperationParts.uses.Goals as goal
+
+pub loop-i-init : goal.loop-i-init
+loop-i-init g c = record { listed = rw c.new-all.ensures.items (none_listed (g.C.HasGraph.graph c.args.ctx.now) c.args.self) }
 
 pub loop-i-preserved : goal.loop-i-preserved
 loop-i-preserved g c =
