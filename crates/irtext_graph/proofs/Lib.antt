@@ -56,3 +56,4 @@ pub mod Throughout
 pub mod Going
 pub mod Alone
 pub mod Numbers
+pub mod Indexed

@@ -21,7 +21,7 @@ use std::alloc::{AllocError, Global};
 use std::marker::Model;
 
 /// The counters of a graph: the number of the next value, and the number of the first slot.
-#[derive(Clone, Copy, Debug)]
+#[derive(Clone, Copy)]
 pub(crate) struct Counters {
     pub(crate) values: u64,
     pub(crate) first_place: u32,

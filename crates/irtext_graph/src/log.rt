@@ -8,7 +8,7 @@ use crate::objects::Objects;
 use std::alloc::AllocError;
 
 /// An object that was made, and the number of objects that were made before it.
-#[derive(Clone, Copy, Debug)]
+#[derive(Clone, Copy)]
 pub(crate) struct Made {
     pub(crate) born: u64,
     pub(crate) object: Object,

@@ -9,7 +9,7 @@ use irtext_few::Few;
 use std::alloc::{AllocError, Global};
 
 /// The operands or the successors of an operation.
-#[derive(Clone, Copy, Debug)]
+#[derive(Clone, Copy)]
 pub(crate) enum Side {
     Operands,
     Successors,

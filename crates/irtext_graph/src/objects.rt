@@ -8,7 +8,7 @@ use irtext_few::{Few, Lone};
 use std::alloc::AllocError;
 
 /// The links of a use: whether it is in a use list, and the uses before and after it there.
-#[derive(Clone, Copy, Debug)]
+#[derive(Clone, Copy)]
 pub(crate) struct Links {
     pub(crate) linked: bool,
     pub(crate) prev: Option<Site>,
@@ -16,7 +16,7 @@ pub(crate) struct Links {
 }
 
 /// A use: what is used, and its links to the other uses of the same.
-#[derive(Clone, Copy, Debug)]
+#[derive(Clone, Copy)]
 pub(crate) struct Use<D> {
     pub(crate) def: D,
     pub(crate) links: Links,

@@ -19,7 +19,16 @@ within_some [] k m = absurd (cc)
 within_some (x ∷ xs) zero m = omega arith
 within_some (x ∷ xs) (suc k) m = let r = within_some xs k m in omega (arith, r)
 
+some_within : {X : Type 0} (xs : List X) (k : ℕ) → k < length xs → IsSome (slice_get xs k)
+some_within [] k less = absurd (omega (arith, less))
+some_within (x ∷ xs) zero less = refl
+some_within (x ∷ xs) (suc k) less = some_within xs k (omega (arith, less))
+
 module _ {O B T : Type 0} (g : GraphView O B T) (p : Ptr Operation) where
+  -- a result below the number of all is there
+  pub result_there : (k n : ℕ) → n ≡ length (results g p) → k < n → IsDefinedValue g (Result p k)
+  result_there k n count less = some_within (results g p) k (omega (arith, count, less))
+
   -- a result that is there is one of all
   pub result_within : (k n : ℕ) → n ≡ length (results g p) → IsDefinedValue g (Result p k) → k < n
   result_within k n count there = rw count (within_some (results g p) k there)

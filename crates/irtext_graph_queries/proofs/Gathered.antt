@@ -1,9 +1,9 @@
 -- Lists that are gathered item by item.
-use Rattle.std.proofs.Common.{◌≡◌, ◌<◌, ◌++◌, ◌∷◌, ◌∙◌, ◌⊎◌, ℕ, zero, suc, refl, sym, ap, subst, inl, inr, arith, Result, Ok, Err, IfOk, List, [], Some, map, map-id, length, slice_get}
-use Rattle.std.proofs.lemmas.List.{length-append}
+use Rattle.std.proofs.Common.{◌≡◌, ◌<◌, ◌≤◌, ◌+◌, ◌++◌, ◌∷◌, ◌∙◌, ◌⊎◌, ℕ, zero, suc, refl, sym, ap, subst, inl, inr, arith, List, [], Some, map, length, slice_get, take}
+use Rattle.std.proofs.lemmas.List.{length-append, map-append, take_all}
 use Rattle.std.proofs.lemmas.Option.{slice_get_within}
 use Rattle.std.proofs.Math.Nat.{eq-or-lt_of_le}
-use Rattle.irtext_graph_queries.specs.Lists.{AreGathered, each}
+use Rattle.irtext_graph_queries.specs.Lists.{each}
 
 module _ {X : Type 0} where
   -- the item that was pushed is the last
@@ -32,19 +32,47 @@ module _ {X : Type 0} where
       go (inl last) before = subst (λ k. slice_get (each f n ++ f n ∷ []) k ≡ Some (f k)) (sym last) (subst (λ k. slice_get (each f n ++ f n ∷ []) k ≡ Some (f n)) (length_each f n) (at_last (each f n) (f n)))
       go (inr earlier) before = at_earlier (each f n) (f n) i (let all = length_each f n in omega (arith, all, earlier)) ∙ before earlier
 
-  -- no item was pushed
-  pub none_gathered : {Allows : ℕ → X → Type 0} (xs : List X) → xs ≡ [] → AreGathered Allows 0 xs
-  none_gathered xs none = rw none (record { count = refl; each = λ i x e. absurd (cc) })
+  -- one more item of a list, after the first ones
+  take_next : (xs : List X) (i : ℕ) (x : X) → slice_get xs i ≡ Some x → take (i + 1) xs ≡ take i xs ++ x ∷ []
+  take_next xs i x at = subst (λ n. take n xs ≡ take i xs ++ x ∷ []) (let next : suc i ≡ i + 1 = omega arith in next) (go xs i at)
+    where
+      go : (xs : List X) (i : ℕ) → slice_get xs i ≡ Some x → take (suc i) xs ≡ take i xs ++ x ∷ []
+      go [] i at = absurd (cc)
+      go (y ∷ ys) zero at = let same : y ≡ x = cc in ap (λ z. z ∷ []) same
+      go (y ∷ ys) (suc i) at = ap (λ zs. y ∷ zs) (go ys i at)
 
--- the images of the items are a list, if the image of each is at its index in the list
-all_seen : {X Y : Type 0} (see : X → Y) (xs : List X) (ys : List Y) → length xs ≡ length ys → ((i : ℕ) (x : X) → slice_get xs i ≡ Some x → slice_get ys i ≡ Some (see x)) → map see xs ≡ ys
-all_seen see [] [] e same = refl
-all_seen see [] (y ∷ ys) e same = absurd (omega (arith, e))
-all_seen see (x ∷ xs) [] e same = absurd (omega (arith, e))
-all_seen see (x ∷ xs) (y ∷ ys) e same =
-    let first : Some y ≡ Some (see x) = same zero x refl in
-    let head : see x ≡ y = cc in
-    ap (λ z. z ∷ map see xs) head ∙ ap (λ zs. y ∷ zs) (all_seen see xs ys (omega (arith, e)) (λ i z at. same (suc i) z at))
+  -- the item of a list at the next index was pushed onto the items before it
+  pub one_more : (xs all new : List X) (i : ℕ) (x : X) → slice_get xs i ≡ Some x → all ≡ take i xs → new ≡ all ++ x ∷ [] → new ≡ take (i + 1) xs
+  one_more xs all new i x at before pushed = pushed ∙ ap (λ zs. zs ++ x ∷ []) before ∙ sym (take_next xs i x at)
+
+  -- all items of the list were pushed
+  pub all_gathered : (xs all : List X) (i count : ℕ) → count ≡ length xs → all ≡ take i xs → count ≤ i → all ≡ xs
+  all_gathered xs all i count counted gathered end = gathered ∙ take_all i xs (omega (arith, counted, end))
+
+  -- one_more and all_gathered for the images of the numbers below n
+  pub one_more_each : (f : ℕ → X) (n : ℕ) (all new : List X) (i count : ℕ) → count ≡ n → i < count → all ≡ take i (each f n) → new ≡ all ++ f i ∷ [] → new ≡ take (i + 1) (each f n)
+  one_more_each f n all new i count counted less before pushed = one_more (each f n) all new i (f i) (at_each f n i (omega (arith, counted, less))) before pushed
+
+  pub all_gathered_each : (f : ℕ → X) (n : ℕ) (all : List X) (i count : ℕ) → count ≡ n → all ≡ take i (each f n) → count ≤ i → all ≡ each f n
+  all_gathered_each f n all i count counted gathered end = all_gathered (each f n) all i count (counted ∙ sym (length_each f n)) gathered end
+
+module _ {X Y : Type 0} (see : X → Y) where
+  -- one_more and all_gathered for the images of the items
+  pub one_more_seen : (ys : List Y) (all new : List X) (i : ℕ) (x : X) → slice_get ys i ≡ Some (see x) → map see all ≡ take i ys → new ≡ all ++ x ∷ [] → map see new ≡ take (i + 1) ys
+  one_more_seen ys all new i x at before pushed = one_more ys (map see all) (map see new) i (see x) at before (ap (map see) pushed ∙ map-append see all (x ∷ []))
+
+  pub all_gathered_seen : (ys : List Y) (all : List X) (i count : ℕ) → count ≡ length ys → map see all ≡ take i ys → count ≤ i → map see all ≡ ys
+  all_gathered_seen ys all i count counted gathered end = all_gathered ys (map see all) i count counted gathered end
+
+  -- the images of the items are a list, if the image of each is at its index in the list
+  all_seen : (xs : List X) (ys : List Y) → length xs ≡ length ys → ((i : ℕ) (x : X) → slice_get xs i ≡ Some x → slice_get ys i ≡ Some (see x)) → map see xs ≡ ys
+  all_seen [] [] e same = refl
+  all_seen [] (y ∷ ys) e same = absurd (omega (arith, e))
+  all_seen (x ∷ xs) [] e same = absurd (omega (arith, e))
+  all_seen (x ∷ xs) (y ∷ ys) e same =
+      let first : Some y ≡ Some (see x) = same zero x refl in
+      let head : see x ≡ y = cc in
+      ap (λ z. z ∷ map see xs) head ∙ ap (λ zs. y ∷ zs) (all_seen xs ys (omega (arith, e)) (λ i z at. same (suc i) z at))
 
 -- the images of f of all numbers below the length of a list are the list, if the image at each is what the list has there
 pub seen_each : {X Y : Type 0} (see : X → Y) (f : ℕ → X) (ys : List Y) → ((i : ℕ) → i < length ys → slice_get ys i ≡ Some (see (f i))) → map see (each f (length ys)) ≡ ys
@@ -53,22 +81,3 @@ seen_each see f ys at = all_seen see (each f (length ys)) ys (length_each f (len
     let here : Some x ≡ Some (f i) = sym e ∙ at_each f (length ys) i less in
     let same : f i ≡ x = cc in
     at i less ∙ ap (λ z. Some (see z)) same)
-
--- the same of items that were gathered
-gathered_all : {X Y : Type 0} {Allows : ℕ → X → Type 0} (n : ℕ) (see : X → Y) (xs : List X) (ys : List Y) → AreGathered Allows n xs → n ≡ length ys → ((i : ℕ) (x : X) → i < n → Allows i x → slice_get ys i ≡ Some (see x)) → map see xs ≡ ys
-gathered_all n see xs ys so count means = all_seen see xs ys (so.count ∙ count) (λ i x at. means i x (rw (← so.count) (slice_get_within xs i x at)) (so.each i x at))
-
-module _ {V E X : Type 0} {Allows : ℕ → X → Type 0} (items : V → List X) (n : ℕ) where
-  -- the images of the items that a call gathers are a list, if the image of each is at its index in the list
-  pub gathered_seen : {Y : Type 0} (see : X → Y) (ys : List Y) (r : Result V E) → IfOk r (λ all. AreGathered Allows n (items all)) → n ≡ length ys → ((i : ℕ) (x : X) → i < n → Allows i x → slice_get ys i ≡ Some (see x)) → IfOk r (λ all. map see (items all) ≡ ys)
-  gathered_seen see ys (Ok all) so count means = gathered_all n see (items all) ys so count means
-  gathered_seen see ys (Err e) so count means = tt
-
-  -- the items that a call gathers are a list, if each is at its index in the list
-  pub gathered : (ys : List X) (r : Result V E) → IfOk r (λ all. AreGathered Allows n (items all)) → n ≡ length ys → ((i : ℕ) (x : X) → i < n → Allows i x → slice_get ys i ≡ Some x) → IfOk r (λ all. items all ≡ ys)
-  gathered ys (Ok all) so count means = sym (map-id (items all)) ∙ gathered_all n (λ x. x) (items all) ys so count means
-  gathered ys (Err e) so count means = tt
-
-  -- the items that a call gathers are those of a function
-  pub gathered_each : (f : ℕ → X) (m : ℕ) (r : Result V E) → IfOk r (λ all. AreGathered Allows n (items all)) → n ≡ m → ((i : ℕ) (x : X) → Allows i x → x ≡ f i) → IfOk r (λ all. items all ≡ each f m)
-  gathered_each f m r so count means = gathered (each f m) r so (count ∙ sym (length_each f m)) (λ i x less allowed. at_each f m i (rw (← count) less) ∙ ap Some (sym (means i x allowed)))

@@ -1,7 +1,7 @@
 -- The blocks of the operations that use a block, gathered use by use.
-use Rattle.std.proofs.Common.{◌≡◌, ◌+◌, ◌++◌, ◌∷◌, ◌∙◌, ℕ, zero, suc, refl, sym, ap, inl, inr, Option, Some, None, List, [], IsSome, drop, slice_get}
+use Rattle.std.proofs.Common.{◌≡◌, ◌≤◌, ◌+◌, ◌++◌, ◌∷◌, ◌∙◌, ℕ, zero, suc, refl, sym, ap, inl, inr, Option, Some, None, List, [], IsSome, drop, length, slice_get}
 use Rattle.std.specs.Option.{option_map}
-use Rattle.std.proofs.lemmas.List.{drop_more}
+use Rattle.std.proofs.lemmas.List.{append-nil, drop_all, drop_more}
 use Rattle.std.proofs.lemmas.Option.{slice_get_within, get_or_from_slice_get}
 use Rattle.irtext_graph.specs.declared.arena.Entry.{Entry}
 use Rattle.irtext_graph.specs.declared.arena.Ptr.{Ptr}
@@ -60,3 +60,7 @@ module _ {O B T : Type 0} (g : GraphView O B T) where
   -- it has no parent
   pub missed : (us : List Site) (i : ℕ) (u : Site) (all : List (Ptr BasicBlock)) → slice_get us i ≡ Some u → parent_of (get g.operations (user u)) ≡ None → all ++ blocks_of g (drop i us) ≡ blocks_of g us → all ++ blocks_of g (drop (i + 1) us) ≡ blocks_of g us
   missed us i u all at e so = ap (λ bs. all ++ bs) (sym (next_use us i u at ∙ ap (λ p. put_first p (blocks_of g (drop (i + 1) us))) e)) ∙ so
+
+  -- all uses were gone through
+  pub all_met : (us : List Site) (i : ℕ) (all : List (Ptr BasicBlock)) → length us ≤ i → all ++ blocks_of g (drop i us) ≡ blocks_of g us → all ≡ blocks_of g us
+  all_met us i all end so = sym (append-nil all) ∙ ap (λ xs. all ++ blocks_of g xs) (sym (drop_all i us end)) ∙ so

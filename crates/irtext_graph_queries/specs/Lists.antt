@@ -1,5 +1,5 @@
 -- What the calls that list parts of objects return.
-use Rattle.std.specs.Prelude.{◌≡◌, ◌++◌, ◌∷◌, ℕ, zero, suc, List, [], length, slice_get, Option, Some, None}
+use Rattle.std.specs.Prelude.{◌≡◌, ◌++◌, ◌∷◌, ℕ, zero, suc, List, [], Option, Some, None}
 use Rattle.irtext_graph.specs.declared.arena.Ptr.{Ptr}
 use Rattle.irtext_graph.specs.declared.object.BasicBlock.{BasicBlock}
 use Rattle.irtext_graph.specs.declared.object.Defined.TheVariants.{OfBlock}
@@ -13,11 +13,6 @@ use Rattle.irtext_graph.specs.Used.{IsUse, user}
 abbrev pub each : {X : Type 0} → (ℕ → X) → ℕ → List X
 each f zero = []
 each f (suc n) = each f n ++ f n ∷ []
-
--- n elements, each of which its index allows
-pub record AreGathered {X : Type 0} (Allows : ℕ → X → Type 0) (n : ℕ) (xs : List X) : Type 0 where
-  pub count : length xs ≡ n
-  pub each : (i : ℕ) (x : X) → slice_get xs i ≡ Some x → Allows i x
 
 -- the list with the element, if there is one, in front
 abbrev pub put_first : {X : Type 0} → Option X → List X → List X

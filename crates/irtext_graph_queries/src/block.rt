@@ -10,7 +10,6 @@ ghost use Rattle.irtext_graph.specs.Parts.{arguments, operations_in, IsDefinedVa
 ghost use Rattle.irtext_graph.specs.Used.{IsUse};
 ghost use Rattle.irtext_graph_queries.specs.Lists.{each, ArePreds};
 
-use crate::gather::gather;
 use crate::value::UseSite;
 use irtext_graph::arena::Ptr;
 use irtext_graph::held::HasGraph;
@@ -78,7 +77,11 @@ impl BlockParts for Ptr<BasicBlock> {
 
     fn arguments<C: HasGraph>(self, ctx: &C) -> Result<Vec<Value>, AllocError> {
         let count = self.get_num_arguments(ctx);
-        gather(ctx.graph().allocator(), count, |i| Value::Argument(self, i))
+        let mut all = Vec::with_capacity(ctx.graph().allocator(), count)?;
+        for i in 0..count {
+            all.push(Value::Argument(self, i))?;
+        }
+        Ok(all)
     }
 
     fn has_pred<C: HasGraph>(self, ctx: &C) -> bool {
@@ -102,10 +105,10 @@ impl BlockParts for Ptr<BasicBlock> {
 
     fn operations<C: HasGraph>(self, ctx: &C) -> Result<Vec<Ptr<Operation>>, AllocError> {
         let count = self.num_operations(ctx);
-        gather(
-            ctx.graph().allocator(),
-            count,
-            |i| self.get_operation(ctx, i),
-        )
+        let mut all = Vec::with_capacity(ctx.graph().allocator(), count)?;
+        for i in 0..count {
+            all.push(self.get_operation(ctx, i))?;
+        }
+        Ok(all)
     }
 }

@@ -3,7 +3,6 @@
 #![tactic(auto)]
 
 pub mod block;
-mod gather;
 pub mod nested;
 pub mod operation;
 pub mod region;

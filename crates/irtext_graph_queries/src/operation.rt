@@ -11,7 +11,6 @@ ghost use Rattle.irtext_graph.specs.Used.{IsUse};
 ghost use Rattle.irtext_graph_queries.specs.Lists.{each};
 ghost use Rattle.irtext_graph_queries.specs.ResultUses.{IsUseOf};
 
-use crate::gather::gather;
 use irtext_graph::arena::Ptr;
 use irtext_graph::held::HasGraph;
 use irtext_graph::object::{BasicBlock, Defined, Operation, Region, Site, Value};
@@ -120,7 +119,11 @@ impl OperationParts for Ptr<Operation> {
 
     fn operands<C: HasGraph>(self, ctx: &C) -> Result<Vec<Value>, AllocError> {
         let count = self.get_num_operands(ctx);
-        gather(ctx.graph().allocator(), count, |i| self.get_operand(ctx, i))
+        let mut all = Vec::with_capacity(ctx.graph().allocator(), count)?;
+        for i in 0..count {
+            all.push(self.get_operand(ctx, i))?;
+        }
+        Ok(all)
     }
 
     fn get_num_successors<C: HasGraph>(self, ctx: &C) -> usize {
@@ -133,11 +136,11 @@ impl OperationParts for Ptr<Operation> {
 
     fn successors<C: HasGraph>(self, ctx: &C) -> Result<Vec<Ptr<BasicBlock>>, AllocError> {
         let count = self.get_num_successors(ctx);
-        gather(
-            ctx.graph().allocator(),
-            count,
-            |i| self.get_successor(ctx, i),
-        )
+        let mut all = Vec::with_capacity(ctx.graph().allocator(), count)?;
+        for i in 0..count {
+            all.push(self.get_successor(ctx, i))?;
+        }
+        Ok(all)
     }
 
     fn get_num_results<C: HasGraph>(self, ctx: &C) -> usize {
@@ -150,7 +153,11 @@ impl OperationParts for Ptr<Operation> {
 
     fn results<C: HasGraph>(self, ctx: &C) -> Result<Vec<Value>, AllocError> {
         let count = self.get_num_results(ctx);
-        gather(ctx.graph().allocator(), count, |i| Value::Result(self, i))
+        let mut all = Vec::with_capacity(ctx.graph().allocator(), count)?;
+        for i in 0..count {
+            all.push(Value::Result(self, i))?;
+        }
+        Ok(all)
     }
 
     fn has_use<C: HasGraph>(self, ctx: &C) -> bool {
@@ -187,6 +194,10 @@ impl OperationParts for Ptr<Operation> {
 
     fn regions<C: HasGraph>(self, ctx: &C) -> Result<Vec<Ptr<Region>>, AllocError> {
         let count = self.num_regions(ctx);
-        gather(ctx.graph().allocator(), count, |i| self.get_region(ctx, i))
+        let mut all = Vec::with_capacity(ctx.graph().allocator(), count)?;
+        for i in 0..count {
+            all.push(self.get_region(ctx, i))?;
+        }
+        Ok(all)
     }
 }

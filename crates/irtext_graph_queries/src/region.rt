@@ -4,7 +4,6 @@ ghost use Rattle.irtext_graph.specs.declared.object.Object.TheVariants.{TheRegio
 ghost use Rattle.irtext_graph.specs.Graph.{IsLive};
 ghost use Rattle.irtext_graph.specs.Parts.{blocks};
 
-use crate::gather::gather;
 use irtext_graph::arena::Ptr;
 use irtext_graph::held::HasGraph;
 use irtext_graph::object::{BasicBlock, Region};
@@ -34,7 +33,11 @@ impl RegionParts for Ptr<Region> {
 
     fn blocks<C: HasGraph>(self, ctx: &C) -> Result<Vec<Ptr<BasicBlock>>, AllocError> {
         let count = self.num_blocks(ctx);
-        gather(ctx.graph().allocator(), count, |i| self.get_block(ctx, i))
+        let mut all = Vec::with_capacity(ctx.graph().allocator(), count)?;
+        for i in 0..count {
+            all.push(self.get_block(ctx, i))?;
+        }
+        Ok(all)
     }
 
     fn get_entry_block<C: HasGraph>(self, ctx: &C) -> Option<Ptr<BasicBlock>> {

@@ -5,7 +5,6 @@ ghost use Rattle.irtext_graph.specs.declared.object.Object.TheVariants.{TheOpera
 ghost use Rattle.irtext_graph.specs.Graph.{IsLive};
 ghost use Rattle.irtext_graph.specs.Parts.{operands, results, value_at};
 
-use crate::gather::gather;
 use crate::operation::OperationParts;
 use irtext_graph::arena::Ptr;
 use irtext_graph::held::HasGraph;
@@ -62,19 +61,19 @@ impl GraphTypes for Ptr<Operation> {
 
     fn result_types<C: HasGraph>(self, ctx: &C) -> Result<Vec<&C::T>, AllocError> {
         let count = self.get_num_results(ctx);
-        gather(
-            ctx.graph().allocator(),
-            count,
-            |i| type_of_result(ctx, self, i),
-        )
+        let mut all = Vec::with_capacity(ctx.graph().allocator(), count)?;
+        for i in 0..count {
+            all.push(type_of_result(ctx, self, i))?;
+        }
+        Ok(all)
     }
 
     fn operand_types<C: HasGraph>(self, ctx: &C) -> Result<Vec<&C::T>, AllocError> {
         let count = self.get_num_operands(ctx);
-        gather(
-            ctx.graph().allocator(),
-            count,
-            |i| type_of_operand(ctx, self, i),
-        )
+        let mut all = Vec::with_capacity(ctx.graph().allocator(), count)?;
+        for i in 0..count {
+            all.push(type_of_operand(ctx, self, i))?;
+        }
+        Ok(all)
     }
 }

@@ -1,11 +1,12 @@
-use Rattle.std.proofs.Common.{◌≡◌, ◌∙◌, ap, Some, get_or, slice_get}
+use Rattle.std.proofs.Common.{◌≡◌, ◌++◌, ◌∙◌, ap, arith, Some, get_or, slice_get}
 use Rattle.std.proofs.lemmas.Option.{slice_get-get_or}
 use Rattle.irtext_graph.specs.declared.object.Defined.TheVariants.{OfBlock}
 use Rattle.irtext_graph.specs.declared.object.Site.TheVariants.{AtOperand}
 use Rattle.irtext_graph.specs.Graph.{parent_of}
 use Rattle.irtext_graph.specs.Store.{get}
 use Rattle.irtext_graph.specs.Used.{user}
-use Rattle.irtext_graph_queries.proofs.Preds.{met_at, same_block, user_is_live, found, missed}
+use Rattle.irtext_graph_queries.specs.Lists.{blocks_of}
+use Rattle.irtext_graph_queries.proofs.Preds.{met_at, same_block, user_is_live, found, missed, all_met}
 use Rattle.irtext_graph_queries.proofs.block.PtrBasicBlockBlockParts.preds.Goals.{in-Some+in_ok-push, in_default}
 use Rattle.irtext_graph_queries.proofs.block.PtrBasicBlockBlockParts.preds.Goals as goal
 
@@ -30,3 +31,13 @@ loop-u-preserved g c =
       | in-Some+in_ok-push w ↦ record { met = found v xs i u w.in-Some.block c.loop-u.all.items c.match-get_parent_block.all.items at (block ∙ w.in-Some.is) c.loop-u.invariant.met (ap (λ a. a.items) w.all-is ∙ w.in_ok-push.ensures.items) }
       | in_default w ↦ record { met = rw w.all-is (missed v xs i u c.loop-u.all.items at (block ∙ w.in_default.is) c.loop-u.invariant.met) }
     ]
+
+pub loop-u-init : goal.loop-u-init
+loop-u-init g c = record { met = ap (λ bs. bs ++ blocks_of (g.C.HasGraph.graph c.args.ctx.now) c.deref-u-items.result.now) c.new-all.ensures.items }
+
+pub returns : goal.returns
+returns g c = record {
+  uses = c.deref-u-items.result.now;
+  lists = rw c.deref-u-items.ensures.value (rw (← c.graph.ensures) c.in_ok-uses.ensures);
+  blocks = all_met (g.C.HasGraph.graph c.args.ctx.now) c.deref-u-items.result.now c.loop-u.u-index c.loop-u.all.items (let end = c.loop-u-test.false in omega (arith, end)) c.loop-u.invariant.met;
+}

@@ -1,6 +1,12 @@
 use Rattle.std.proofs.Common.{arith}
-use Rattle.irtext_graph_queries.proofs.FirstResults.{next_unused}
+use Rattle.irtext_graph_queries.proofs.FirstResults.{result_there, next_unused}
 use Rattle.irtext_graph_queries.proofs.operation.PtrOperationOperationParts.has_use.Goals as goal
+
+pub has_use-requires : goal.has_use-requires
+has_use-requires g c = rw c.graph.ensures (result_there (g.C.HasGraph.graph c.args.ctx.now) c.args.self c.loop-i.i c.count_results-i-end.result c.count_results-i-end.ensures.count c.loop-i-test.true)
+
+pub loop-i-init : goal.loop-i-init
+loop-i-init g c = record { unused = λ u m. let less = m.1 in omega (arith, less) }
 
 pub loop-i-preserved : goal.loop-i-preserved
 loop-i-preserved g c =

@@ -1,6 +1,9 @@
 use Rattle.std.proofs.Common.{arith}
-use Rattle.irtext_graph_queries.proofs.FirstResults.{next_counted, all_counted}
+use Rattle.irtext_graph_queries.proofs.FirstResults.{result_there, next_counted, all_counted}
 use Rattle.irtext_graph_queries.proofs.operation.PtrOperationOperationParts.num_uses.Goals as goal
+
+pub num_uses-uses-requires : goal.num_uses-uses-requires
+num_uses-uses-requires g c = rw c.graph.ensures (result_there (g.C.HasGraph.graph c.args.ctx.now) c.args.self c.loop-i.i c.count_results-i-end.result c.count_results-i-end.ensures.count c.loop-i-test.true)
 
 pub loop-i-preserved : goal.loop-i-preserved
 loop-i-preserved g c =

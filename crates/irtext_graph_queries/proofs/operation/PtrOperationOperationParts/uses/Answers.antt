@@ -1,6 +1,12 @@
 use Rattle.std.proofs.Common.{◌++◌, ◌∙◌, ap, arith}
-use Rattle.irtext_graph_queries.proofs.FirstResults.{next_listed, all_listed}
+use Rattle.irtext_graph_queries.proofs.FirstResults.{result_there, none_listed, next_listed, all_listed}
 use Rattle.irtext_graph_queries.proofs.operation.PtrOperationOperationParts.uses.Goals as goal
+
+pub uses-requires : goal.uses-requires
+uses-requires g c = rw c.graph-in-loop-i.ensures (result_there (g.C.HasGraph.graph c.args.ctx.now) c.args.self c.loop-i.i c.count_results-i-end.result c.count_results-i-end.ensures.count c.loop-i-test.true)
+
+pub loop-i-init : goal.loop-i-init
+loop-i-init g c = record { listed = rw c.new-all.ensures.items (none_listed (g.C.HasGraph.graph c.args.ctx.now) c.args.self) }
 
 pub loop-i-preserved : goal.loop-i-preserved
 loop-i-preserved g c =
