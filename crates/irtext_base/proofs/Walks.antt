@@ -68,19 +68,11 @@ resume_known : {W A : Type 0} (r : Rule W) (frames : List (Frame A)) (t : Taken 
 resume_known r [] t h = h
 resume_known r (f ∷ frames) t h = resume_known r frames t (closed_known r f (resume r frames t) h)
 
--- no source was visited
-pub reached_none : {W : Type 0} (r : Rule W) (w : W) → Reached r w w
-reached_none r w = record { sources = []; by_sources = refl }
-
 -- a turn whose sources are known is not the last one
 pub whole_of : {W A : Type 0} (r : Rule W) (frames : List (Frame A)) (t : Turn A) (w : W) → (begun r t w).known ≡ true → whole r frames t w ≡ resume r frames (begun r t w)
 whole_of r frames (Inside f l) w h = refl
 whole_of r frames (Done l) w h = refl
 whole_of r frames (Last l) w h = absurd (true≢false (sym h))
-
--- the first turn
-pub first_turn : {W A : Type 0} (r : Rule W) (frames : List (Frame A)) (t : Turn A) (w : W) (all : Taken W (LocationView A)) → frames ≡ [] → begun r t w ≡ all → all.known ≡ true → whole r frames t w ≡ all
-first_turn r frames t w all e h k = whole_of r frames t w (ap (λ x. x.known) h ∙ k) ∙ (ap (λ fs. resume r fs (begun r t w)) e ∙ h)
 
 -- a frame is opened
 module _ {A : Type 0} (old new : List (Frame A)) (f : Frame A) (e : new ≡ old ++ f ∷ []) (u : Turn A) (l : Bor (Location A)) (is : u ≡ Inside f l) where
@@ -111,11 +103,6 @@ module _ {A : Type 0} (old left : List (Frame A)) (f : Frame A) (e : old ≡ lef
   closing_less t h =
       let before : work old u ≡ stack_turns (left ++ f ∷ []) + 1 = ap₂ work e is in
       omega (arith, h, before, stack_push left f)
-
--- no frame is open
-pub turn_ends : {W A : Type 0} (r : Rule W) (w : W) (old : List (Frame A)) (u : Turn A) (copy : Location A) → length old ≡ 0 → u ≡ Done copy → still (location_view copy) w ≡ whole r old u w
-turn_ends r w [] u copy e is = ap (λ v. whole r [] v w) (sym is)
-turn_ends r w (f ∷ old) u copy e is = absurd (omega (arith, e))
 
 -- a list goes on with the next of its locations
 module _ {A : Type 0} (row : Row A) (next : Bor (Location A)) (others : Bor (List (Location A))) (s : row.left.now ≡ next.now ∷ others.now) where
