@@ -1,13 +1,12 @@
 -- Copies of locations with other sources: what they are, and what the open frames still make of the copy inside them.
-use Rattle.std.specs.Prelude.{◌≡◌, ℕ, ◌+◌, suc, Bool, true, ◌&&◌, List, [], ◌∷◌, fold, length, map, string_bytes, Vec}
-use Rattle.std.specs.declared.alloc.Global.{Global}
+use Rattle.std.specs.Prelude.{◌≡◌, ℕ, ◌+◌, suc, Bool, true, false, ◌&&◌, List, [], ◌∷◌, fold, length, map, string_bytes}
 use Rattle.irtext_base.specs.declared.location.Location.{Location}
 use Rattle.irtext_base.specs.declared.location.Source.{Source}
 use Rattle.irtext_base.specs.declared.location.walk.Row.{Row}
 use Rattle.irtext_base.specs.declared.location.walk.Frame.{Frame}
 use Rattle.irtext_base.specs.declared.location.walk.Frame.TheVariants as frame
 use Rattle.irtext_base.specs.declared.location.walk.Turn.{Turn}
-use Rattle.irtext_base.specs.declared.location.walk.Turn.TheVariants.{Inside, Done}
+use Rattle.irtext_base.specs.declared.location.walk.Turn.TheVariants.{Inside, Done, Last}
 use Rattle.irtext_base.specs.Locations.{LocationOf, LocationsOf, LocationView, LocationViews, src_pos, fused, named, call_site, unknown, no_location, location, location_view, attr_view_in, in_row}
 use Rattle.irtext_base.specs.Paths.{is_known, path_of}
 use Rattle.irtext_base.specs.Moves.{source_under, path_kept}
@@ -107,23 +106,35 @@ resume r (f ∷ frames) t = closed r f (resume r frames t)
 abbrev pub Copies : {W A : Type 0} → Rule W → Location A → W → Location A → W → Type 0
 Copies r l w copy u = still (location_view copy) u ≡ taken r w (location_view l)
 
--- the copy of what is inside the open frames
+-- what a turn makes: a finished copy, or that of a location inside the frame that it opens. The last turn makes nothing that is known.
 abbrev pub begun : {W A : Type 0} → Rule W → Turn A → W → Taken W (LocationView A)
-begun r (Inside l) w = taken r w (location_view l.now)
+begun r (Inside f l) w = closed r f (taken r w (location_view l.now))
 begun r (Done l) w = still (location_view l) w
+begun r (Last l) w = record { known = false; value = location_view l; after = w }
 
 -- what an open frame makes of this finished copy inside it
 abbrev pub closing : {W A : Type 0} → Frame A → Location A → Rule W → W → Taken W (LocationView A)
 closing f copy r w = closed r f (still (location_view copy) w)
 
--- from any state, what is now inside the new frames makes the same as `rest` inside the old ones
-abbrev pub Continues : {W A : Type 0} → Rule W → (Rule W → W → Taken W (LocationView A))
-    → Vec (Frame A) Global → Turn A → Vec (Frame A) Global → Type 0
-Continues {W} r rest old t new = (w : W) → resume r new.items (begun r t w) ≡ resume r old.items (rest r w)
+-- from any state, the turn makes this
+abbrev pub Begins : {W A : Type 0} → Rule W → Turn A → (Rule W → W → Taken W (LocationView A)) → Type 0
+Begins {W} r t rest = (w : W) → begun r t w ≡ rest r w
 
--- what is now inside the new frames makes the same as the location inside the old ones
-abbrev pub Opens : {W A : Type 0} → Rule W → Location A → W → Vec (Frame A) Global → Turn A → W → Vec (Frame A) Global → Type 0
-Opens r l w old t u new = resume r new.items (begun r t u) ≡ resume r old.items (taken r w (location_view l))
+-- from the state after it, the turn makes the copy of this location
+abbrev pub Opens : {W A : Type 0} → Rule W → LocationView A → W → Turn A → W → Type 0
+Opens r l w t u = begun r t u ≡ taken r w l
+
+-- whether a turn is not the last one
+abbrev pub is_open : {A : Type 0} → Turn A → Bool
+is_open (Inside f l) = true
+is_open (Done l) = true
+is_open (Last l) = false
+
+-- what a turn makes inside the open frames; the last one is the copy of the whole
+abbrev pub whole : {W A : Type 0} → Rule W → List (Frame A) → Turn A → W → Taken W (LocationView A)
+whole r frames (Inside f l) w = resume r frames (begun r (Inside f l) w)
+whole r frames (Done l) w = resume r frames (begun r (Done l) w)
+whole r frames (Last l) w = still (location_view l) w
 
 abbrev mutual
   -- the steps of the loop that a location takes: one to open it, and one after each location directly nested in it
@@ -155,10 +166,11 @@ abbrev pub stack_turns : {A : Type 0} → List (Frame A) → ℕ
 stack_turns [] = 0
 stack_turns (f ∷ frames) = frame_turns f + stack_turns frames
 
--- the steps of what is inside the open frames
+-- the steps of a turn
 abbrev pub turn_turns : {A : Type 0} → Turn A → ℕ
-turn_turns (Inside l) = turns (location_view l.now)
-turn_turns (Done l) = 0
+turn_turns (Inside f l) = suc (frame_turns f + turns (location_view l.now))
+turn_turns (Done l) = 1
+turn_turns (Last l) = 0
 
 -- all steps that are left
 abbrev pub work : {A : Type 0} → List (Frame A) → Turn A → ℕ

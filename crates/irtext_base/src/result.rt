@@ -290,10 +290,7 @@ impl<A> Display for Cause<A> {
     #[cycle(cause)]
     fn fmt<W: Write>(&self, f: &mut Formatter<W>) -> fmt::Result {
         match self {
-            Cause::Nested(error) => {
-                heading(error.kind, f)?;
-                error.err.fmt(f)
-            }
+            Cause::Nested(error) => (**error).fmt(f),
             Cause::Parse { at, cause } => {
                 write!(f, "Parse error at {at}\n")?;
                 (**cause).fmt(f)?;
@@ -307,6 +304,7 @@ impl<A> Display for Cause<A> {
 impl<A> Display for Error<A> {
     ghost output = { λ error. Some (error_text error) };
 
+    #[cycle(cause)]
     fn fmt<W: Write>(&self, f: &mut Formatter<W>) -> fmt::Result {
         heading(self.kind, f)?;
         self.err.fmt(f)

@@ -47,19 +47,20 @@ impl Display for Directive {
     ghost output = { λ d. Some (encode_utf8_all (directive_text (directive_of d))) };
 
     fn fmt<W: fmt::Write>(&self, f: &mut fmt::Formatter<W>) -> fmt::Result {
-        match self {
-            Directive::Literal(text) => fmt_literal(text.as_str(), f),
-            Directive::Operand(index) => fmt_index("$", *index, f),
-            Directive::Operands => fmt_word("operands", f),
-            Directive::Successor(index) => fmt_index("^", *index, f),
-            Directive::Successors => fmt_word("successors", f),
-            Directive::Attr(key) => print::fmt_key(key, f),
-            Directive::AttrDict => fmt_word("attr_dict", f),
-            Directive::ResultType(index) => fmt_closed("type($", *index, ")", f),
-            Directive::Region(index) => fmt_closed("{", *index, "}", f),
-            Directive::Regions => fmt_word("regions", f),
-            Directive::SymbolHeader => fmt_word("@name", f),
-        }
+        let word = match self {
+            Directive::Literal(text) => return fmt_literal(text.as_str(), f),
+            Directive::Operand(index) => return fmt_index("$", *index, f),
+            Directive::Successor(index) => return fmt_index("^", *index, f),
+            Directive::Attr(key) => return print::fmt_key(key, f),
+            Directive::ResultType(index) => return fmt_closed("type($", *index, ")", f),
+            Directive::Region(index) => return fmt_closed("{", *index, "}", f),
+            Directive::Operands => "operands",
+            Directive::Successors => "successors",
+            Directive::AttrDict => "attr_dict",
+            Directive::Regions => "regions",
+            Directive::SymbolHeader => "@name",
+        };
+        fmt_word(word, f)
     }
 }
 

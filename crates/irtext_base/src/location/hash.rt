@@ -47,18 +47,15 @@ fn hash_metadata<A: AttrText<A>, H: Hasher>(metadata: &Option<AttrObj<A>>, state
 }
 
 /// A visitor that feeds each location to a hasher, with the texts of these paths.
-#[derive(Drop)]
-struct Stable<'p>(&'p Paths);
-
-impl<'p, A: AttrText<A>, H: Hasher> Visitor<A, H> for Stable<'p> {
+impl<A: AttrText<A>, H: Hasher> Visitor<A, H> for Paths {
     ghost use Rattle.irtext_base.specs.Feeds.{hashing};
 
-    ghost visit = { λ v. hashing H.write A.hash_input v.0.now };
+    ghost visit = { λ paths. hashing H.write A.hash_input paths };
 
     fn place(&self, src: Source, at: &SourcePosition, state: &mut H) {
         state.write_u8(0);
-        hash_source(src, self.0, state);
-        at.stable_hash(self.0, state);
+        hash_source(src, self, state);
+        at.stable_hash(self, state);
     }
 
     fn fused(&self, metadata: &Option<AttrObj<A>>, count: usize, state: &mut H) {
@@ -84,7 +81,7 @@ impl<'p, A: AttrText<A>, H: Hasher> Visitor<A, H> for Stable<'p> {
 fn hash_location<A: AttrText<A>, H: Hasher>(location: &Location<A>, paths: &Paths, state: &mut H)
     ensures { state.new ≡ fold H.write state.old (location_writes A.hash_input paths.now (location_view location.now)) }
 {
-    visit(location, &Stable(paths), state);
+    visit(location, paths, state);
 }
 
 impl Source {

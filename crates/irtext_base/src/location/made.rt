@@ -7,15 +7,22 @@ use crate::location::Location;
 use crate::text::AttrText;
 use std::alloc::{AllocError, Global};
 
-fn copy_metadata<A: AttrText<A>>(
+/// Puts a value into a box.
+fn boxed<X: Drop>(alloc: Global, value: X) -> Result<Box<X>, AllocError>
+    ensures { IfOk result (λ b. b.value ≡ value) }
+{
+    Ok(Box::new(alloc, value)?)
+}
+
+fn boxed_metadata<A: AttrText<A>>(
     alloc: Global,
     metadata: &Option<AttrObj<A>>,
-) -> Result<Option<AttrObj<A>>, AllocError>
-    ensures { IfOk result (λ copy. attr_view_in copy ≡ attr_view_in metadata.now) }
+) -> Result<Box<Option<AttrObj<A>>>, AllocError>
+    ensures { IfOk result (λ copy. attr_view_in copy.value ≡ attr_view_in metadata.now) }
 {
     match metadata {
-        Some(attr) => Ok(Some(attr.try_clone(alloc)?)),
-        None => Ok(None),
+        Some(attr) => boxed(alloc, Some(attr.try_clone(alloc)?)),
+        None => boxed(alloc, None),
     }
 }
 
@@ -27,8 +34,8 @@ pub(super) fn fused<A: AttrText<A>>(
 ) -> Result<Location<A>, AllocError>
     ensures { IfOk result (λ l. location_view l ≡ fused (attr_view_in metadata.now) (in_row (map location_view locations.items))) }
 {
-    let metadata = Box::new(alloc, copy_metadata(alloc, metadata)?)?;
-    let locations = Box::new(alloc, locations)?;
+    let locations = boxed(alloc, locations)?;
+    let metadata = boxed_metadata(alloc, metadata)?;
     Ok(Location::Fused {
         metadata,
         locations,
@@ -43,8 +50,8 @@ pub(super) fn named<A: Drop>(
 ) -> Result<Location<A>, AllocError>
     ensures { IfOk result (λ l. location_view l ≡ named (string_bytes name.now) (location_view child)) }
 {
-    let name = Box::new(alloc, name.clone()?)?;
-    let child_loc = Box::new(alloc, child)?;
+    let child_loc = boxed(alloc, child)?;
+    let name = boxed(alloc, name.clone()?)?;
     Ok(Location::Named { name, child_loc })
 }
 
@@ -56,7 +63,7 @@ pub(super) fn call_site<A: Drop>(
 ) -> Result<Location<A>, AllocError>
     ensures { IfOk result (λ l. location_view l ≡ call_site (location_view callee) (location_view caller)) }
 {
-    let callee = Box::new(alloc, callee)?;
-    let caller = Box::new(alloc, caller)?;
+    let callee = boxed(alloc, callee)?;
+    let caller = boxed(alloc, caller)?;
     Ok(Location::CallSite { callee, caller })
 }

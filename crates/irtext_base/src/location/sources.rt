@@ -89,7 +89,7 @@ fn note_next<'a, A>(
     let Some((first, others)) = locations.split_first() else {
         return Ok(());
     };
-    waits.push(Waits::Row(others))?;
+    wait(waits, Waits::Row(others))?;
     note_one(first, waits, found)
 }
 
@@ -101,7 +101,7 @@ fn note_sources<A>(
     ensures { OnOk result (found.new.items ≡ all_noted found.old.items (location_view location.now)) }
 {
     let mut waits = Vec::new(alloc);
-    waits.push(Waits::One(location))?;
+    note_one(location, &mut waits, found)?;
     while let Some(next) = waits.pop() {
         note_next(next, &mut waits, found)?;
     }

@@ -1,7 +1,8 @@
 //! Copies locations with other sources, by a loop with a stack of frames, so that they may be nested to any depth.
-ghost use Rattle.std.specs.Prelude.{◌≡◌, ◌+◌, ◌<◌, IfOk, OnOk, OnErr, IsTrue};
+ghost use Rattle.std.specs.Prelude.{◌≡◌, ◌≤◌, ◌<◌, suc, IfOk, OnOk, OnErr, IsTrue};
 ghost use Rattle.irtext_base.specs.Locations.{location_view};
-ghost use Rattle.irtext_base.specs.Walks.{Reached, Continues, Opens, Copies, taken, row_rest, closing, row_turns, frame_turns, stack_turns, turns, work};
+ghost use Rattle.irtext_base.specs.declared.location.walk.Frame.TheVariants as frame;
+ghost use Rattle.irtext_base.specs.Walks.{Reached, Begins, Opens, Copies, taken, row_rest, begun, closing, is_open, whole, row_turns, frame_turns, turn_turns, turns, work};
 
 use crate::base::AttrObj;
 use crate::location::made::{call_site, fused, named};
@@ -48,13 +49,15 @@ pub(crate) enum Frame<'a, A> {
     Fused(Row<'a, A>),
 }
 
-/// What is inside the open frames.
+/// What is copied next, or what was copied last.
 #[derive(Drop)]
 pub(crate) enum Turn<'a, A> {
-    /// A location that is copied next.
-    Inside(&'a Location<A>),
+    /// A location that is copied next, and the frame that it opens around it.
+    Inside(Frame<'a, A>, &'a Location<A>),
     /// A finished copy.
     Done(Location<A>),
+    /// The copy of the whole: no frame is open.
+    Last(Location<A>),
 }
 
 /// Copies locations: the allocator of the copies, and how sources are replaced.
@@ -66,29 +69,17 @@ pub(super) struct Walk<'m, M> {
 
 impl<'m, M: NewSources> Walk<'m, M> {
     /// Continues with the next location of a row, or builds the row's copy if none is left.
-    fn go_on<'a, A: AttrText<A>>(
-        &self,
-        row: Row<'a, A>,
-        frames: &mut Vec<Frame<'a, A>>,
-    ) -> Result<Turn<'a, A>, AllocError>
-        ensures on { IfOk result (λ t. Continues (M.rule self.now.sources.now) (row_rest row.entry) frames.old t frames.new) }
-        ensures less { IfOk result (λ t. work frames.new.items t ≡ stack_turns frames.old.items + row_turns row.entry) }
+    fn go_on<'a, A: AttrText<A>>(&self, row: Row<'a, A>) -> Result<Turn<'a, A>, AllocError>
+        ensures on { IfOk result (λ t. Begins (M.rule self.now.sources.now) t (row_rest row.entry)) }
+        ensures less { IfOk result (λ t. turn_turns t ≤ suc (row_turns row.entry)) }
     {
-        let Row {
-            metadata,
-            copies,
-            left,
-        } = row;
+        let left = row.left;
         match left.split_first() {
             Some((next, left)) => {
-                frames.push(Frame::Fused(Row {
-                    metadata,
-                    copies,
-                    left,
-                }))?;
-                Ok(Turn::Inside(next))
+                let rest = Row { left, ..row };
+                Ok(Turn::Inside(Frame::Fused(rest), next))
             }
-            None => Ok(Turn::Done(fused(self.alloc, metadata, copies)?)),
+            None => Ok(Turn::Done(fused(self.alloc, row.metadata, row.copies)?)),
         }
     }
 
@@ -97,12 +88,11 @@ impl<'m, M: NewSources> Walk<'m, M> {
         &self,
         location: &'a Location<A>,
         state: &mut M::State,
-        frames: &mut Vec<Frame<'a, A>>,
     ) -> Result<Turn<'a, A>, AllocError>
         requires { IsTrue (taken (M.rule self.now.sources.now) state.old (location_view location.now)).known }
-        ensures on { IfOk result (λ t. Opens (M.rule self.now.sources.now) location.now state.old frames.old t state.new frames.new) }
+        ensures on { IfOk result (λ t. Opens (M.rule self.now.sources.now) (location_view location.now) state.old t state.new) }
         ensures reached { Reached (M.rule self.now.sources.now) state.old state.new }
-        ensures less { IfOk result (λ t. work frames.new.items t < stack_turns frames.old.items + turns (location_view location.now)) }
+        ensures less { IfOk result (λ t. turn_turns t ≤ turns (location_view location.now)) }
     {
         match location {
             Location::SrcPos { src, pos } => {
@@ -112,47 +102,63 @@ impl<'m, M: NewSources> Walk<'m, M> {
             Location::Fused {
                 metadata,
                 locations,
-            } => {
-                let row = Row {
-                    metadata,
-                    copies: Vec::with_capacity(self.alloc, locations.len())?,
-                    left: locations.as_slice(),
-                };
-                self.go_on(row, frames)
-            }
-            Location::Named { name, child_loc } => {
-                frames.push(Frame::Named(name))?;
-                Ok(Turn::Inside(child_loc))
-            }
+            } => self.go_on(Row {
+                metadata,
+                copies: Vec::with_capacity(self.alloc, locations.len())?,
+                left: locations.as_slice(),
+            }),
+            Location::Named { name, child_loc } => Ok(Turn::Inside(Frame::Named(name), child_loc)),
             Location::CallSite { callee, caller } => {
-                frames.push(Frame::Callee(caller))?;
-                Ok(Turn::Inside(callee))
+                Ok(Turn::Inside(Frame::Callee(caller), callee))
             }
             Location::Unknown => Ok(Turn::Done(Location::Unknown)),
         }
     }
 
-    /// Puts a copy into the innermost open frame.
+    /// Puts a copy into a frame.
     fn close<'a, A: AttrText<A>>(
         &self,
         frame: Frame<'a, A>,
         copy: Location<A>,
-        frames: &mut Vec<Frame<'a, A>>,
     ) -> Result<Turn<'a, A>, AllocError>
-        ensures on { IfOk result (λ t. Continues (M.rule self.now.sources.now) (closing frame.entry copy) frames.old t frames.new) }
-        ensures less { IfOk result (λ t. work frames.new.items t < stack_turns frames.old.items + frame_turns frame.entry) }
+        ensures on { IfOk result (λ t. Begins (M.rule self.now.sources.now) t (closing frame.entry copy)) }
+        ensures less { IfOk result (λ t. turn_turns t ≤ frame_turns frame.entry) }
     {
         match frame {
             Frame::Named(name) => Ok(Turn::Done(named(self.alloc, name, copy)?)),
-            Frame::Callee(caller) => {
-                frames.push(Frame::Caller(copy))?;
-                Ok(Turn::Inside(caller))
-            }
+            Frame::Callee(caller) => Ok(Turn::Inside(Frame::Caller(copy), caller)),
             Frame::Caller(callee) => Ok(Turn::Done(call_site(self.alloc, callee, copy)?)),
             Frame::Fused(mut row) => {
                 row.copies.push(copy)?;
-                self.go_on(row, frames)
+                self.go_on(row)
             }
+        }
+    }
+
+    /// Takes the next turn: opens a frame and the location inside it, or puts a copy into the innermost open frame.
+    fn next<'a, A: AttrText<A>>(
+        &self,
+        turn: Turn<'a, A>,
+        state: &mut M::State,
+        frames: &mut Vec<Frame<'a, A>>,
+    ) -> Result<Turn<'a, A>, AllocError>
+        requires known { IsTrue (whole (M.rule self.now.sources.now) frames.old.items turn state.old).known }
+        requires open { IsTrue (is_open turn) }
+        ensures on { IfOk result (λ t. whole (M.rule self.now.sources.now) frames.new.items t state.new ≡
+            whole (M.rule self.now.sources.now) frames.old.items turn.entry state.old) }
+        ensures reached { Reached (M.rule self.now.sources.now) state.old state.new }
+        ensures less { IfOk result (λ t. work frames.new.items t < work frames.old.items turn.entry) }
+    {
+        match turn {
+            Turn::Inside(frame, location) => {
+                frames.push(frame)?;
+                self.open(location, state)
+            }
+            Turn::Done(copy) => match frames.pop() {
+                Some(frame) => self.close(frame, copy),
+                None => Ok(Turn::Last(copy)),
+            },
+            Turn::Last(_) => unreachable!(),
         }
     }
 
@@ -166,20 +172,13 @@ impl<'m, M: NewSources> Walk<'m, M> {
         ensures ok { IfOk result (λ l. Copies (M.rule self.now.sources.now) location.now state.old l state.new) }
         ensures reached { Reached (M.rule self.now.sources.now) state.old state.new }
     {
+        let mut turn = self.open(location, state)?;
         let mut frames = Vec::new(self.alloc);
-        let mut turn = Turn::Inside(location);
         loop {
-            let copy = match turn {
-                Turn::Inside(location) => {
-                    turn = self.open(location, state, &mut frames)?;
-                    continue;
-                }
-                Turn::Done(copy) => copy,
-            };
-            let Some(frame) = frames.pop() else {
-                return Ok(copy);
-            };
-            turn = self.close(frame, copy, &mut frames)?;
+            match turn {
+                Turn::Last(copy) => return Ok(copy),
+                open => turn = self.next(open, state, &mut frames)?,
+            }
         }
     }
 }

@@ -6,10 +6,10 @@ use Rattle.std.proofs.Common.{refl}
 
 pub returns-clause-noted : goal.returns-clause-noted
 returns-clause-noted g c =
-    where_ok c.note_one-2.result (λ n. next_noted c.args.found.now.items c.note_one-2.new.found.items c.args.waits.now.items c.push.new.self.items c.note_one-2.new.waits.items (Row c.in-Some.others) c.args.next c.in-Row.locations c.in-Some.others c.in-Some.first.now
-    c.in-Row.is c.in-Some.ensures.cases.0 refl c.in_ok-push.ensures.items n) c.note_one-2.ensures.noted
+    where_ok c.note_one-2.result (λ n. next_noted c.args.found.now.items c.note_one-2.new.found.items c.args.waits.now.items c.wait.new.waits.items c.note_one-2.new.waits.items (Row c.in-Some.others) c.args.next c.in-Row.locations c.in-Some.others c.in-Some.first.now
+    c.in-Row.is c.in-Some.ensures.cases.0 refl c.in_ok-wait.ensures n) c.note_one-2.ensures.noted
 
 pub returns-clause-less : goal.returns-clause-less
 returns-clause-less g c =
-    where_ok c.note_one-2.result (λ n. next_less c.args.waits.now.items c.push.new.self.items c.note_one-2.new.waits.items (Row c.in-Some.others) c.args.next c.in-Row.locations c.in-Some.others c.in-Some.first.now
-    c.in-Row.is c.in-Some.ensures.cases.0 refl c.in_ok-push.ensures.items n) c.note_one-2.ensures.less
+    where_ok c.note_one-2.result (λ n. next_less c.args.waits.now.items c.wait.new.waits.items c.note_one-2.new.waits.items (Row c.in-Some.others) c.args.next c.in-Row.locations c.in-Some.others c.in-Some.first.now
+    c.in-Row.is c.in-Some.ensures.cases.0 refl c.in_ok-wait.ensures n) c.note_one-2.ensures.less
