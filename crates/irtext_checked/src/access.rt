@@ -1,5 +1,5 @@
 //! Access to operations and blocks that need not be known to be in the context.
-ghost use Rattle.std.specs.Prelude.{◌≡◌, ◌↔◌, ℕ, Some, None, false, IsSome, IsTrue, IfOk, IfErr, OnOk, OnErr, slice_get, option_map};
+ghost use Rattle.std.specs.Prelude.{◌≡◌, ◌≤◌, ◌↔◌, ℕ, Some, None, false, IsSome, IsTrue, IfOk, IfErr, IfSome, OnOk, OnErr, length, slice_get, option_map};
 ghost use Rattle.irtext_base.specs.declared.location.Location.{Unknown};
 ghost use Rattle.irtext_context.specs.Dictionary.{is_reserved_for};
 ghost use Rattle.irtext_graph.specs.Parts.{regions};
@@ -16,6 +16,7 @@ use irtext_base::text::{AttrText, IrText};
 use irtext_context::base::{
     BasicBlock, BlockAccess, Context, Operation, OperationAccess, Ptr, Region,
 };
+use irtext_graph::graph::Graph;
 use irtext_graph::held::HasGraph;
 use irtext_graph::object::Object;
 
@@ -81,6 +82,25 @@ fn has_texts(id: &OpId, dialect: &str, name: &str) -> bool
     id.dialect.as_str() == dialect && id.name.as_str() == name
 }
 
+/// Returns the region of an operation at an index, if the operation is live and has one there.
+fn region_at<O: Drop, B: Drop, T: Drop>(
+    graph: &Graph<O, B, T>,
+    op: Ptr<Operation>,
+    index: usize,
+) -> Option<Ptr<Region>>
+    ensures found { IfSome result (λ r. slice_get (regions graph.now op) index ≡ Some r) }
+    ensures none { result ≡ None → length (regions graph.now op) ≤ index }
+{
+    let parent = Object::TheOperation(op);
+    if !graph.contains(parent) || index >= graph.num_children(parent) {
+        return None;
+    }
+    match graph.get_child(parent, index) {
+        Object::TheRegion(child) => Some(child),
+        _ => unreachable!(),
+    }
+}
+
 impl TryAccess for Ptr<Operation> {
     ghost pointer = { λ p. p };
 
@@ -98,11 +118,10 @@ impl TryAccess for Ptr<Operation> {
         ctx: &Context<T, A>,
         index: usize,
     ) -> result::Result<Ptr<Region>, A> {
-        let is_live = ctx.graph().contains(Object::TheOperation(self));
-        if !is_live || index >= self.num_regions(ctx) {
-            return Err(unfit(ctx.allocator(), "the operation has no such region"));
+        match region_at(ctx.graph(), self, index) {
+            Some(region) => Ok(region),
+            None => Err(unfit(ctx.allocator(), "the operation has no such region")),
         }
-        Ok(self.get_region(ctx, index))
     }
 
     fn try_set_attribute<T: IrText<A>, A: AttrText<A>>(

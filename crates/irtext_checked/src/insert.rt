@@ -2,6 +2,7 @@
 ghost use Rattle.std.specs.Prelude.{◌≡◌, ◌↔◌, ℕ, IfErr, IsTrue, OnOk, OnErr};
 ghost use Rattle.irtext_base.specs.declared.location.Location.{Unknown};
 ghost use Rattle.irtext_graph.specs.Graph.{Appends, CanInsert, IsNew, KeepsOlder, IsLive};
+ghost use Rattle.irtext_graph.specs.Objects.{Fits};
 ghost use Rattle.irtext_checked.specs.Checked.{RefusesInsert};
 
 use crate::unfit;
@@ -9,7 +10,9 @@ use irtext_base::result;
 use irtext_base::result::{Cause, ErrorKind};
 use irtext_base::text::{AttrText, IrText};
 use irtext_context::base::{Context, Ptr};
+use irtext_graph::graph::Graph;
 use irtext_graph::held::{HasGraph, Holds, Kind};
+use irtext_graph::object::Object;
 
 /// Insertion that tests first what `insert_at_back` requires.
 pub trait TryInsert<K: Kind>: Sized {
@@ -40,19 +43,36 @@ pub trait TryInsert<K: Kind>: Sized {
 }
 
 /// Whether both objects are live, and the one can be inserted into the other.
-fn can_insert<K: Kind, H: Holds<K>, T: IrText<A>, A: AttrText<A>>(
-    ctx: &Context<T, A>,
-    item: Ptr<K>,
-    holder: Ptr<H>,
+fn can_insert<O: Drop, B: Drop, T: Drop>(
+    graph: &Graph<O, B, T>,
+    holder: Object,
+    item: Object,
 ) -> bool
-    ensures { IsTrue result ↔ (IsLive ctx.now.graph (H.object holder) × IsLive ctx.now.graph (K.object item)
-        × CanInsert ctx.now.graph (H.object holder) (K.object item)) }
+    ensures { IsTrue result ↔ (IsLive graph.now holder × IsLive graph.now item × CanInsert graph.now holder item) }
 {
-    let graph = ctx.graph();
-    if !graph.contains(H::object(holder)) || !graph.contains(K::object(item)) {
-        return false;
+    graph.contains(holder) && graph.contains(item) && graph.can_insert_at_back(holder, item)
+}
+
+/// Makes an object the last child of another one if it can be. If not, or if out of memory, the graph is unchanged.
+fn insert<O: Drop, B: Drop, T: Drop, A>(
+    graph: &mut Graph<O, B, T>,
+    holder: Object,
+    item: Object,
+) -> result::Result<(), A>
+    requires { Fits holder item }
+    ensures ok { OnOk result (Appends graph.old graph.new holder item) }
+    ensures err { OnErr result (graph.new ≡ graph.old) }
+    ensures refused { IfErr result (λ e. RefusesInsert graph.old holder item e.err) }
+    ensures kept { (m : ℕ) → IsNew m graph.old holder → IsNew m graph.old item → KeepsOlder m graph.old graph.new }
+    ensures kind { IfErr result (λ e. (e.kind ≡ ErrorKind.InvalidArgument) × (e.loc ≡ Unknown)) }
+{
+    if !can_insert(graph, holder, item) {
+        return Err(unfit(graph.allocator(), "the object cannot be inserted there"));
     }
-    item.can_insert_at_back(holder, ctx)
+    match graph.insert_at_back(holder, item) {
+        Ok(()) => Ok(()),
+        Err(_) => Err(crate::invalid(Cause::Memory)),
+    }
 }
 
 impl<K: Kind> TryInsert<K> for Ptr<K> {
@@ -63,12 +83,6 @@ impl<K: Kind> TryInsert<K> for Ptr<K> {
         holder: Ptr<H>,
         ctx: &mut Context<T, A>,
     ) -> result::Result<(), A> {
-        if !can_insert(ctx, self, holder) {
-            return Err(unfit(ctx.allocator(), "the object cannot be inserted there"));
-        }
-        match self.insert_at_back(holder, ctx) {
-            Ok(()) => Ok(()),
-            Err(_) => Err(crate::invalid(Cause::Memory)),
-        }
+        insert(ctx.graph_mut(), H::object(holder), K::object(self))
     }
 }

@@ -35,7 +35,7 @@ pub(crate) fn known_types<T: Drop>(
 
 /// Returns the error of a call whose other argument is not used. It drops the value: a function with many parts of a value at its exits
 /// takes long to be proved.
-pub(crate) fn failed<X: Drop, Y>(_unused: X, error: AllocError) -> Result<Y, AllocError>
+pub(crate) fn failed<X: Drop, Y, E>(_unused: X, error: E) -> Result<Y, E>
     ensures { result ≡ Err error }
 {
     Err(error)

@@ -11,6 +11,7 @@ ghost use Rattle.irtext_base.specs.Format.{Accepted};
 ghost use Rattle.irtext_base.specs.declared.location.Location.{Unknown};
 
 use crate::base::Context;
+use crate::base::types::failed;
 use crate::dialect::table::{empty, put_last};
 use crate::dialect::{Dialect, DialectName, invalid};
 use indexmap::IndexMap;
@@ -67,12 +68,12 @@ fn dialect_with<A>(
     ensures kind { IfErr result (λ e. (e.kind ≡ ErrorKind.InvalidArgument) × (e.loc ≡ Unknown)) }
 {
     let Ok((key, dialect)) = dialect_for(alloc, &id, index) else {
-        return Err(invalid(Cause::Memory));
+        return failed((id, format), invalid(Cause::Memory));
     };
     let mut dialect = dialect;
     match dialect.add_op(id, format, isolated) {
         Ok(()) => Ok((key, dialect)),
-        Err(error) => Err(error),
+        Err(error) => failed((key, dialect), error),
     }
 }
 

@@ -141,13 +141,16 @@ impl<'c, T: IrText<A>, A: AttrText<A>, U> StateStream<'c, T, A, U> {
         ensures lent { result.ghost_name ≡ self.entry.state.ctx.ghost_name }
         ensures now { result.now ≡ self.entry.state.ctx.now }
     {
-        let StateStream { stream: _, state } = self;
+        let StateStream { stream, state } = self;
+        drop(stream);
         let State {
             ctx,
             src: _,
-            aux_data: _,
-            marks: _,
+            aux_data,
+            marks,
         } = state;
+        drop(aux_data);
+        drop(marks);
         ctx
     }
 }

@@ -2,7 +2,7 @@
 ghost use Rattle.std.specs.Prelude.{◌≡◌, ◌⊎◌, ℕ, List, IfOk};
 ghost use Rattle.std.specs.Iterator.{Drains, IsFinite};
 ghost use Rattle.std.specs.Str.{encode_utf8_all};
-ghost use Rattle.irtext_parse_state.specs.FromText.{at_beginning, IsErrorOf, IsOutOfMemory, Passes, Runs, Ran};
+ghost use Rattle.irtext_parse_state.specs.FromText.{at_beginning, IsCauseOf, IsErrorOf, IsOutOfMemory, Passes, Runs, Ran};
 
 use crate::parsable::{State, StateStream};
 use irtext_base::location::{Location, Source};
@@ -12,22 +12,27 @@ use irtext_base::text::{AttrText, IrText};
 use irtext_context::base::Context;
 use std::alloc::{AllocError, Global};
 
+/// Returns the cause of the error for a parser that failed on a text in memory.
+fn cause_of<A: Drop>(alloc: Global, fault: ParseFault<A>) -> Cause<A>
+    ensures { IsCauseOf fault result }
+{
+    match Box::new(alloc, fault.cause) {
+        Ok(cause) => Cause::Parse {
+            at: fault.pos,
+            cause,
+        },
+        Err(_) => Cause::Memory,
+    }
+}
+
 /// Returns the error for a parser that failed on a text in memory.
 fn error_of<A: Drop>(alloc: Global, fault: ParseFault<A>) -> Error<A>
     ensures { IsErrorOf fault result }
 {
-    let ParseFault {
-        pos,
-        cause,
-        committed: _,
-    } = fault;
-    let err = match Box::new(alloc, cause) {
-        Ok(cause) => Cause::Parse { at: pos, cause },
-        Err(_) => Cause::Memory,
-    };
+    let pos = fault.pos;
     Error {
         kind: ErrorKind::InvalidInput,
-        err,
+        err: cause_of(alloc, fault),
         loc: Location::SrcPos {
             src: Source::InMemory,
             pos,
@@ -125,6 +130,20 @@ where
     answer.into_answer(alloc)
 }
 
+/// Makes a stream of the characters of a finite iterator. Fails only if an allocation fails.
+fn stream_of<I: Iterator<Item = char>>(
+    alloc: Global,
+    iterator: I,
+) -> std::result::Result<TextStream, AllocError>
+    requires can { I.can_next iterator }
+    requires finite { IsFinite (I.remaining iterator) }
+    ensures { IfOk result (λ stream. (items : List ℕ) × Drains I.next_gives iterator items
+        × (stream ≡ at_beginning (encode_utf8_all items))) }
+{
+    let text: String = iterator.collect(alloc)?;
+    TextStream::new(alloc, text.as_str())
+}
+
 /// Makes a stream of the characters of a finite iterator, which are collected first. Fails only if an allocation fails.
 pub fn state_stream_from_iterator<
     'c,
@@ -142,8 +161,8 @@ pub fn state_stream_from_iterator<
         × (s.stream ≡ at_beginning (encode_utf8_all items))) }
     ensures state { IfOk result (λ s. s.state ≡ state.entry) }
 {
-    let alloc = state.ctx.allocator();
-    let text: String = iterator.collect(alloc)?;
-    let stream = TextStream::new(alloc, text.as_str())?;
-    Ok(StateStream { stream, state })
+    match stream_of(state.ctx.allocator(), iterator) {
+        Ok(stream) => Ok(StateStream { stream, state }),
+        Err(error) => Err(error),
+    }
 }
