@@ -30,6 +30,7 @@ impl<A: Drop, P: Item<A>> Part<A> for Option<P> {
                 if fault.committed {
                     return Err(fault);
                 }
+                drop(fault);
                 Ok(None)
             }
         }

@@ -1,12 +1,12 @@
 -- Lists keep the rules that their items keep.
-use Rattle.std.proofs.Common.{◌≡◌, ℕ, Bool, true, false, Result, Ok, Err, List, [], ◌∷◌, ◌++◌, Vec, refl, sym, ◌∙◌, ap, subst, append_assoc, append-nil}
+use Rattle.std.proofs.Common.{◌≡◌, ℕ, Bool, true, false, Result, Ok, Err, List, [], ◌∷◌, ◌++◌, Vec, refl, sym, ◌∙◌, ap, subst, append_assoc, append-nil, inl, inr}
 use Rattle.std.specs.Fn.{Mut}
 use Rattle.std.specs.Borrow.{MutBor}
 use Rattle.std.specs.Char.{is_whitespace}
 use Rattle.irtext_base.specs.Text.{Text, begins}
-use Rattle.irtext_base.specs.Stream.{StreamView, advanced, advanced_by, after_failure}
+use Rattle.irtext_base.specs.Stream.{StreamView, advanced, advanced_by, after_taken, after_failure}
 use Rattle.irtext_base.specs.Faults.{Fault}
-use Rattle.irtext_base.specs.Answers.{SameStream, RunsOutHere, Commits, Passes}
+use Rattle.irtext_base.specs.Answers.{Outcome, Read, Missing, Bad, Answers, SameStream, Takes, RunsOutHere, Commits, Passes}
 use Rattle.irtext_base.specs.declared.parsable.fault.ParseFault.{ParseFault}
 use Rattle.irtext_base.proofs.Along.{front_after}
 use Rattle.irtext_tokens.specs.Lists.{Calls, AlwaysKeepsRules, KeepsRules, MovesOn, Insisted, Skips, Opens, Items, missing, bad, empty, no_room, more, SpacedItems, Tail, none, insisted, no_more_room, next, Separated, no_item, bad_item, no_first_room, an_item, Delimited, no_left, bad_inside, no_right, closed, Spaced, read, refused, refused_after, listed, prepended, skipped, spaces}
@@ -64,6 +64,11 @@ module _ {S : Type 0} (view : S → StreamView) (at : S → StreamView → S) wh
         let p = advanced_parts (view s).passed (view s).rest (view s).failed in
         record { taken = p.0; same = ap (λ w. p.0 ++ w.rest) v ∙ p.1; passed = ap (λ w. w.passed) v ∙ p.2; fails = ap (λ w. w.failed) v ∙ p.3 }
 
+    hands_taken : (taken rest : Text) (s t : S) → Takes view at taken rest s t → MovesOn view at s t
+    hands_taken taken rest s t k =
+        let v : view t ≡ after_taken (view s) taken rest = ap view k.is ∙ view_at s (after_taken (view s) taken rest) in
+        record { taken = taken; same = ap (λ w. taken ++ w.rest) v ∙ k.same; passed = ap (λ w. w.passed) v; fails = ap (λ w. w.failed) v }
+
     hands_opens : (c : ℕ) (s t : S) → Opens view at c s t → MovesOn view at s t
     hands_opens c s t o = hands_more s o.mid t (hands_advanced s o.mid o.taken) (hands_skips o.mid t o.skips)
 
@@ -89,6 +94,16 @@ module _ {S : Type 0} (view : S → StreamView) (at : S → StreamView → S) wh
       -- so does an error that is not committed
       pub passes_keeps : (Y : Type 0) (cause : Fault) (s : S) (fault : ParseFault A) (u : S) → Passes view at cause s fault u → KeepsRules view at {Y = Y} s (Err fault) u
       passes_keeps Y cause s fault u k = (λ e. k.left, λ e. absurd (let q : true ≡ false = sym e ∙ k.committed in cc))
+
+      -- so does what a parser with this outcome returns
+      pub answers_keep : {X Y : Type 0} (see : Y → X) (o : Outcome X) (s : S) (r : Result Y (ParseFault A)) (u : S) → Answers view at see o s r u → KeepsRules view at s r u
+      answers_keep see (Read x taken rest) s (Ok y) u h = hands_taken taken rest s u h.1
+      answers_keep see (Missing cause) s (Ok y) u h = absurd h
+      answers_keep see (Bad cause upto) s (Ok y) u h = absurd h
+      answers_keep {Y = Y} see o s (Err fault) u (inl h) = settles_keeps {Y = Y} s (Err fault) u (h.committed, same_stream_failed s u h.left)
+      answers_keep see (Read x taken rest) s (Err fault) u (inr h) = absurd h
+      answers_keep {Y = Y} see (Missing cause) s (Err fault) u (inr h) = passes_keeps Y cause s fault u h
+      answers_keep {Y = Y} see (Bad cause upto) s (Err fault) u (inr h) = commits_keeps Y cause upto s s fault u h
 
       module _ {F X : Type 0} (calls : F → S → Result X (ParseFault A) → F → S → Type 0) (keeps : (f : F) (s : S) (r : Result X (ParseFault A)) (g : F) (t : S) → calls f s r g t → KeepsRules view at s r t) where
         items_settle : (f : F) (s : S) (r : Result (List X) (ParseFault A)) (u : S) → Items view at calls f s r u → Settles s r u

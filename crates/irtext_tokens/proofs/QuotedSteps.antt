@@ -16,7 +16,7 @@ use Rattle.irtext_tokens.proofs.Spelling.{begins_the, takes_next}
 use Rattle.irtext_tokens.specs.Digits.{value_in}
 use Rattle.irtext_tokens.proofs.QuotedNumbers.{named_some, named_none}
 use Rattle.irtext_tokens.proofs.Words.{encodes-front_hexdigits}
-use Rattle.irtext_tokens.proofs.QuotedUnits.{unit_takes, never_missing, whole, whole_nil, whole_run, whole_unit, whole_bad, unit_unescaped, unit_unknown, unit_unicode, unicode_unopened, braced_none, braced_some, closed_open}
+use Rattle.irtext_tokens.proofs.QuotedUnits.{unit_takes, never_missing, whole, whole_nil, whole_run, whole_unit, whole_bad, unit_unescaped, unit_unknown, unit_escaped, unit_plain, unit_ended, unit_unicode, unicode_unopened, braced_none, braced_some, closed_open}
 
 -- the bytes of one more character
 encodes-one : (cs : Text) (c : ℕ) → encode_utf8_all (cs ++ (c ∷ [])) ≡ encode_utf8_all cs ++ encode_utf8 c
@@ -120,6 +120,25 @@ module _ {S : Type 0} (view : S → StreamView) (at : S → StreamView → S) wh
         let l = takes_next view at view_at at_view at_at mid new b y.0 y.1 n in
         rw (rest_after mid new (b ∷ []) y.0 l) (takes_more view at view_at at_at old mid new (92 ∷ []) x.0 (b ∷ []) y.0 k l)
 
+    -- at the end of the text nothing is taken
+    none_taken : (now next : S) → None ≡ first_of (view now).rest → next ≡ at now (advanced (view now)) → next ≡ now
+    none_taken now next f n =
+        let r : (view now).rest ≡ [] = first_none (view now).rest f in
+        n ∙ (ap (λ z. at now (advanced_by (view now).passed z (view now).failed)) r ∙ (ap (λ (z : Text). at now (let v : StreamView = record { passed = (view now).passed; rest = z; failed = (view now).failed } in v)) (sym r) ∙ at_view now))
+
+    -- a character that denotes itself is taken
+    pub plain_read : (old mid : S) (a : ℕ) → (a ≡ 92 → ⊥) → Some a ≡ first_of (view old).rest → mid ≡ at old (advanced (view old)) → Gives view at (unit_at (view old).rest) old a mid
+    plain_read old mid a q e m =
+        let x = first_some (view old).rest a e in
+        rw (unit_plain (view old).rest x.0 a (sym x.1) q) (refl, takes_next view at view_at at_view at_at old mid a x.0 x.1 m)
+
+    -- an escape that denotes a character is taken
+    pub escape_read : (old mid last : S) (a b c : ℕ) → a ≡ 92 → Some a ≡ first_of (view old).rest → mid ≡ at old (advanced (view old)) → Some b ≡ first_of (view mid).rest → last ≡ at mid (advanced (view mid)) → (b ≡ 117 → ⊥) → Some c ≡ escape_of b
+        → Gives view at (unit_at (view old).rest) old c last
+    escape_read old mid last a b c p e m f n q h =
+        let k = two_taken old mid last a b p e m f n in
+        rw (unit_escaped (view old).rest (view last).rest b c k.same q h) (refl, k)
+
     -- a stream after `\u{` of an escape
     pub record Opened (before now : S) : Type 0 where
       pub takes : Takes view at (codes "\\u{") (view now).rest before now
@@ -184,6 +203,13 @@ module _ {S : Type 0} (view : S → StreamView) (at : S → StreamView → S) wh
           (view before).failed ≡ false → RunsOutHere view at mid fault new ⊎ FailsAfter view at cause (view before).passed mid fault new → RunsOut view at before fault new ⊎ Refuses view at (unit_at (view before).rest) before fault new
       refused_before before mid new t r cause fault k u f h = rw u (refuses_before view at view_at at_at cause before mid new t r fault f k h)
 
+      -- the end of the text in place of a unit
+      pub no_unit : (old mid new : S) (fault : ParseFault A) → None ≡ first_of (view old).rest → mid ≡ at old (advanced (view old)) →
+          Commits view at (Unexpected (first_of (view mid).rest) (Word (codes "\""))) [] mid fault new → RunsOut view at old fault new ⊎ Refuses view at (unit_at (view old).rest) old fault new
+      no_unit old mid new fault f n c =
+          let d : Commits view at (Unexpected (first_of (view old).rest) (Word (codes "\""))) [] old fault new = subst (λ z. Commits view at (Unexpected (first_of (view z).rest) (Word (codes "\""))) [] z fault new) (none_taken old mid f n) c in
+          rw (unit_ended (view old).rest (first_none (view old).rest f)) (inr (subst (λ z. Commits view at (Unexpected z (Word (codes "\""))) [] old fault new) (sym f) d))
+
       -- an escape that ends with its backslash
       pub unescaped : (old mid last new : S) (a : ℕ) (fault : ParseFault A) → a ≡ 92 → Some a ≡ first_of (view old).rest → mid ≡ at old (advanced (view old)) → None ≡ first_of (view mid).rest → last ≡ at mid (advanced (view mid)) →
           Commits view at (Unexpected (first_of (view last).rest) AnEscapedCharacter) [] last fault new → RunsOut view at old fault new ⊎ Refuses view at (unit_at (view old).rest) old fault new
@@ -191,7 +217,7 @@ module _ {S : Type 0} (view : S → StreamView) (at : S → StreamView → S) wh
           let x = first_some (view old).rest a e in
           let k = takes_next view at view_at at_view at_at old mid 92 x.0 (x.1 ∙ ap (λ z. z ∷ x.0) p) m in
           let r : (view mid).rest ≡ [] = first_none (view mid).rest f in
-          let same : last ≡ mid = n ∙ (ap (λ z. at mid (advanced_by (view mid).passed z (view mid).failed)) r ∙ (ap (λ (z : Text). at mid (let v : StreamView = record { passed = (view mid).passed; rest = z; failed = (view mid).failed } in v)) (sym r) ∙ at_view mid)) in
+          let same : last ≡ mid = none_taken mid last f n in
           let d : Commits view at (Unexpected (first_of (view mid).rest) AnEscapedCharacter) [] mid fault new = subst (λ z. Commits view at (Unexpected (first_of (view z).rest) AnEscapedCharacter) [] z fault new) same c in
           let i : Commits view at (Unexpected None AnEscapedCharacter) [] mid fault new = subst (λ z. Commits view at (Unexpected z AnEscapedCharacter) [] mid fault new) (sym f) d in
           let u : (view old).rest ≡ 92 ∷ [] = x.1 ∙ (ap (λ z. z ∷ x.0) p ∙ ap (λ z. 92 ∷ z) (sym (rest_after old mid (92 ∷ []) x.0 k) ∙ r)) in

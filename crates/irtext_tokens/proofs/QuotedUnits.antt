@@ -184,6 +184,26 @@ unit_unknown text rest b e q h =
     let v : escape_at (b ∷ rest) ≡ escaped (escape_of b) b rest = ap (λ z. cond z (unicode_at rest) (escaped (escape_of b) b rest)) (not_eqb b 117 q) in
     rw (sym e) (v ∙ u)
 
+-- an escape that denotes a character
+pub unit_escaped : (text rest : Text) (b c : ℕ) → 92 ∷ b ∷ rest ≡ text → (b ≡ 117 → ⊥) → Some c ≡ escape_of b → unit_at text ≡ Read c (92 ∷ b ∷ []) rest
+unfolding unit_at
+unit_escaped text rest b c e q h =
+    let u : escaped (escape_of b) b rest ≡ Read c (92 ∷ b ∷ []) rest = ap (λ z. escaped z b rest) (sym h) in
+    let v : escape_at (b ∷ rest) ≡ escaped (escape_of b) b rest = ap (λ z. cond z (unicode_at rest) (escaped (escape_of b) b rest)) (not_eqb b 117 q) in
+    rw (sym e) (v ∙ u)
+
+-- a character that denotes itself
+pub unit_plain : (text rest : Text) (c : ℕ) → c ∷ rest ≡ text → (c ≡ 92 → ⊥) → unit_at text ≡ Read c (c ∷ []) rest
+unfolding unit_at
+unit_plain text rest c e q =
+    let u : unit_at (c ∷ rest) ≡ Read c (c ∷ []) rest = ap (λ z. cond z (escape_at rest) (Read c (c ∷ []) rest)) (not_eqb c 92 q) in
+    rw (sym e) u
+
+-- the end of the text
+pub unit_ended : (text : Text) → text ≡ [] → unit_at text ≡ Bad (Unexpected None (Word (codes "\""))) []
+unfolding unit_at
+unit_ended text e = rw e refl
+
 -- the parts of an escape by number
 pub unit_unicode : (text rest : Text) → codes "\\u" ++ rest ≡ text → unit_at text ≡ unicode_at rest
 unfolding unit_at

@@ -17,15 +17,19 @@ fn fmt_escape(byte: u8, f: &mut String) -> fmt::Result
     requires { is_escaped byte ≡ true }
     ensures { OnOk result (string_bytes f.new ≡ string_bytes f.old ++ image_of byte) }
 {
-    match byte {
-        b'\0' => f.push_str("\\0")?,
-        b'\t' => f.push_str("\\t")?,
-        b'\n' => f.push_str("\\n")?,
-        b'\r' => f.push_str("\\r")?,
-        b'"' => f.push_str("\\\"")?,
-        b'\\' => f.push_str("\\\\")?,
-        _ => write!(f, "\\u{{{byte:x}}}")?,
-    }
+    let escape = match byte {
+        b'\0' => "\\0",
+        b'\t' => "\\t",
+        b'\n' => "\\n",
+        b'\r' => "\\r",
+        b'"' => "\\\"",
+        b'\\' => "\\\\",
+        _ => {
+            write!(f, "\\u{{{byte:x}}}")?;
+            return Ok(());
+        }
+    };
+    f.push_str(escape)?;
     Ok(())
 }
 

@@ -166,5 +166,6 @@ pub(crate) fn unless_committed<X: Drop, A: Drop>(
     if is_committed(&fault) {
         return Err(fault);
     }
+    drop(fault);
     Ok(value)
 }

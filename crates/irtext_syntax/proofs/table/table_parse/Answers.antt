@@ -11,3 +11,10 @@ returns g c =
     let h = may_read alone (λ w. w) (dotted_at g.W.Table.word refusal demand) c.args.stream.now c.dotted_there.new.stream (Ok c.in-Some.word) (c.in-Some.ensures refusal demand) in
     let m = rw c.in_default-parse_known.ensures at c.parse.ensures in
     begun_by alone g.W.Table.following h (last alone (begins_with alone g.W.Table.following h) m)
+
+pub returns-in-Some-parse_known : goal.returns-in-Some-parse_known
+returns-in-Some-parse_known g c =
+    let refusal = c.args.refusal.now in
+    let demand = demand_of c.args.expected in
+    let h = may_read alone (λ w. w) (dotted_at g.W.Table.word refusal demand) c.args.stream.now c.dotted_there.new.stream (Ok c.in-Some.word) (c.in-Some.ensures refusal demand) in
+    begun_by alone g.W.Table.following h (last alone (begins_with alone g.W.Table.following h) c.in-Some-parse_known.ensures)

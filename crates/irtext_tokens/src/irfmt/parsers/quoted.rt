@@ -107,7 +107,6 @@ fn escaped(c: char) -> Option<char>
 }
 
 /// Parses one unit: an escape, or a character that denotes itself.
-#[tactic(auto, unfolding(crate::specs::QuotedTexts::unit_at))]
 fn unit_parse<S: CharStream, A>(stream: &mut S) -> ParseResult<char, A>
     requires { (S.view stream.old).failed ≡ false }
     ensures { Answers S.view S.at (λ c. c) (unit_at (S.view stream.old).rest) stream.old result stream.new }

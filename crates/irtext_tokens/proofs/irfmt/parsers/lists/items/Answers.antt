@@ -1,4 +1,4 @@
-use Rattle.std.proofs.Common.{rules, of_calls, refl, ◌≡◌, ◌<◌, Ok, Err, ◌++◌, ◌∷◌, [], append-nil, length, sym}
+use Rattle.std.proofs.Common.{of_calls, refl, ◌≡◌, ◌<◌, Ok, Err, ◌++◌, ◌∷◌, [], append-nil, length, sym, not, ap, ◌∙◌}
 use Rattle.irtext_tokens.specs.Lists.{Calls, Items, listed, empty, no_room, missing, bad, more, MovesOn}
 use Rattle.irtext_tokens.proofs.ListSteps.{called_at, rules_at, passed_says, failed_says, unless_error, none_taken, some_taken, skipped_lt, prepended-more}
 use Rattle.irtext_tokens.proofs.irfmt.parsers.lists.items.Goals as goal
@@ -42,7 +42,8 @@ loop-x-preserved g c =
     let m = g.S.CharStream in
     let called : Calls (λ r. r) g.F.FnMut c.loop-x.item c.loop-x.stream (Ok c.in-Ok.x) c.item.new.self c.item.new.arg2 = called_at c.in-Ok.ensures refl in
     let hands : MovesOn m.view m.at c.loop-x.stream c.item.new.arg2 = rules_at m.view m.at c.requires.rules _ _ _ _ _ called in
-    let grown : c.push.new.self.items ≡ c.loop-x.found.items ++ (c.in-Ok.x ∷ []) = search rules in
+    let pushed = c.is_err.ensures.negation ∙ ap not c.if-is_err.false in
+    let grown : c.push.new.self.items ≡ c.loop-x.found.items ++ (c.in-Ok.x ∷ []) = rw pushed at c.push.ensures.items in
     let less : length (m.view c.item.new.arg2).rest < length (m.view c.loop-x.stream).rest = some_taken m.view m.at _ _ hands (failed_says (hands.taken ≡ []) (hands.taken ≡ [] → ⊥) c.is_still_at.result (c.is_still_at.ensures _ _ (sym hands.passed) c.position-start.ensures) c.if-is_still_at.false) in (
       search of_calls,
       λ r u later. rw (grown, ← prepended-more c.loop-x.found.items c.in-Ok.x r)

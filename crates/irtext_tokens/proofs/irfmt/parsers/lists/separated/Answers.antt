@@ -1,4 +1,4 @@
-use Rattle.std.proofs.Common.{rules, refl, ◌≡◌, Ok, Err, ◌∷◌, []}
+use Rattle.std.proofs.Common.{refl, ◌≡◌, Ok, Err, ◌++◌, ◌∷◌, [], ◌∙◌, ap, not}
 use Rattle.irtext_tokens.specs.Lists.{Calls, Separated, listed, no_item, bad_item, no_first_room, an_item}
 use Rattle.irtext_tokens.proofs.ListSteps.{called_at, unless_error}
 use Rattle.irtext_tokens.proofs.irfmt.parsers.lists.separated.Goals as goal
@@ -19,5 +19,7 @@ returns-in-Err g c =
 pub returns : goal.returns
 returns g c =
     let called : Calls (λ r. r) g.F.FnMut c.args.item c.args.stream.now (Ok c.in-Ok.x) c.item.new.self c.item.new.arg2 = called_at c.in-Ok.ensures refl in
-    let grown : c.push.new.self.items ≡ c.in-Ok.x ∷ [] = search rules in
+    let pushed = c.is_err.ensures.negation ∙ ap not c.if-is_err.false in
+    let added : c.push.new.self.items ≡ c.new-found.result.items ++ (c.in-Ok.x ∷ []) = rw pushed at c.push.ensures.items in
+    let grown = added ∙ ap (λ z. z ++ (c.in-Ok.x ∷ [])) c.new-found.ensures.items in
     an_item _ _ _ _ _ _ _ _ called c.skip_white_space.ensures.is (rw grown at c.tail.ensures)

@@ -40,3 +40,10 @@ returns g c = λ before k p.
     let m = g.met.S.CharStream in
     let h = digits_counted g.S.CharStream.view g.S.CharStream.at m.view_at m.at_view m.at_at before c.args.stream.now c.take.new.self c.take_digits-number.new.stream k (sym c.next_is.ensures ∙ c.if-not-next_is.false) c.take.ensures.after (sym c.begins.ensures ∙ c.if-not-begins.false) c.take_digits-number.ensures.takes in
     braces_closed g.S.CharStream.view g.S.CharStream.at m.view_at m.at_view m.at_at before c.take_digits-number.new.stream c.take-2.new.self (front is_ascii_hexdigit (g.S.CharStream.view c.take.new.self).rest) c.in-Some.c h (sym c.next_is-2.ensures ∙ c.if-not-next_is-2.false) (c.in-Some.ensures ∙ ap character_of c.take_digits-number.ensures.value) c.take-2.ensures.after
+
+pub no_character-requires : goal.no_character-requires
+no_character-requires g c =
+    let m = g.met.S.CharStream in
+    let opens = g.S.CharStream.view c.take.new.self in
+    let s = sym (ap (λ v. v.passed) (seen_after g.S.CharStream.view g.S.CharStream.at m.view_at m.at_at c.take.new.self c.take_digits-number.new.stream _ _ c.take_digits-number.ensures.takes)) in
+    (opens.passed, front is_ascii_hexdigit opens.rest, s, c.position-digits.ensures)

@@ -2,7 +2,7 @@ use Rattle.std.proofs.Common.{◌∙◌, sym, ap, subst, ◌∷◌, []}
 use Rattle.irtext_base.specs.Answers.{Takes}
 use Rattle.irtext_base.specs.Faults.{fault_of}
 use Rattle.irtext_base.proofs.Compose.{takes_fine, takes_same_stream}
-use Rattle.irtext_tokens.proofs.QuotedSteps.{two_taken, unescaped, unknown_escape}
+use Rattle.irtext_tokens.proofs.QuotedSteps.{two_taken, plain_read, escape_read, no_unit, unescaped, unknown_escape}
 use Rattle.irtext_tokens.proofs.SetBack.{set_within}
 use Rattle.irtext_tokens.proofs.Steps.{lens}
 use Rattle.irtext_tokens.proofs.irfmt.parsers.quoted.unit_parse.Goals as goal
@@ -33,3 +33,20 @@ returns-in-None g c =
     let s = set_within (lens g.S.CharStream.view g.S.CharStream.at m.view_at m.at_view m.at_at) c.args.stream.now c.take-2.new.self (takes_same_stream g.S.CharStream.view g.S.CharStream.at m.view_at m.at_at _ _ _ _ k) in
     unknown_escape g.S.CharStream.view g.S.CharStream.at m.view_at m.at_view m.at_at c.args.stream.now c.take.new.self c.take-2.new.self c.refuse_at.new.stream c.in-Some.c c.in-Some-take.c c.refuse_at.result
     c.if-c-ne92.false c.in-Some.ensures.value c.take.ensures.after c.in-Some-take.ensures.value c.take-2.ensures.after c.if-c-eq117.false c.in-None.ensures c.requires (record { because = ap fault_of r.cause; committed = r.committed; place = r.at (g.S.CharStream.view c.args.stream.now).passed (g.S.CharStream.view c.args.stream.now).rest s c.position-place.ensures; left = r.left })
+
+pub returns-in_default : goal.returns-in_default
+returns-in_default g c =
+    let m = g.met.S.CharStream in
+    no_unit g.S.CharStream.view g.S.CharStream.at m.view_at m.at_view m.at_at c.args.stream.now c.take.new.self c.commit_unexpected.new.stream c.commit_unexpected.result
+    (sym c.in_default.is ∙ c.take.ensures.value) c.take.ensures.after c.commit_unexpected.ensures
+
+pub returns-then-c-ne92 : goal.returns-then-c-ne92
+returns-then-c-ne92 g c =
+    let m = g.met.S.CharStream in
+    plain_read g.S.CharStream.view g.S.CharStream.at m.view_at m.at_view m.at_at c.args.stream.now c.take.new.self c.in-Some.c c.if-c-ne92.true c.in-Some.ensures.value c.take.ensures.after
+
+pub returns-in-Some-escaped : goal.returns-in-Some-escaped
+returns-in-Some-escaped g c =
+    let m = g.met.S.CharStream in
+    escape_read g.S.CharStream.view g.S.CharStream.at m.view_at m.at_view m.at_at c.args.stream.now c.take.new.self c.take-2.new.self c.in-Some.c c.in-Some-take.c c.in-Some-escaped.c
+    c.if-c-ne92.false c.in-Some.ensures.value c.take.ensures.after c.in-Some-take.ensures.value c.take-2.ensures.after c.if-c-eq117.false c.in-Some-escaped.ensures
