@@ -1,5 +1,5 @@
 //! Results as texts: the value, or the error.
-ghost use Rattle.std.specs.Prelude.{◌≡◌, IfOk};
+ghost use Rattle.std.specs.Prelude.{◌≡◌, IfOk, Ok};
 
 use irtext_base::base::Identifier;
 use irtext_base::parsable::{ParseFault, ParseResult, SourcePosition, TextStream};
@@ -8,11 +8,16 @@ use std::alloc::Global;
 use std::fmt;
 use std::test::Fail;
 
+/// The text of a value.
+fn shown<X: fmt::Display>(alloc: Global, value: &X) -> Result<String, Fail> {
+    Ok(format!(in alloc; "{value}")?)
+}
+
 /// The text of a result: its value, or its error.
 pub fn printed<X: fmt::Display, A>(alloc: Global, answer: &Answer<X, A>) -> Result<String, Fail> {
     match answer {
-        Ok(value) => Ok(format!(in alloc; "{value}")?),
-        Err(error) => Ok(format!(in alloc; "{error}")?),
+        Ok(value) => shown(alloc, value),
+        Err(error) => shown(alloc, error),
     }
 }
 
@@ -22,8 +27,8 @@ pub fn value_or_cause<X: fmt::Display, A>(
     answer: &Answer<X, A>,
 ) -> Result<String, Fail> {
     match answer {
-        Ok(value) => Ok(format!(in alloc; "{value}")?),
-        Err(error) => Ok(format!(in alloc; "{}", error.err)?),
+        Ok(value) => shown(alloc, value),
+        Err(error) => shown(alloc, &error.err),
     }
 }
 
@@ -34,8 +39,8 @@ pub fn done_or_cause<X, A>(
     done: &str,
 ) -> Result<String, Fail> {
     match answer {
-        Ok(_) => Ok(String::from_str(alloc, done)?),
-        Err(error) => Ok(format!(in alloc; "{}", error.err)?),
+        Ok(_) => shown(alloc, &done),
+        Err(error) => shown(alloc, &error.err),
     }
 }
 
@@ -48,7 +53,7 @@ pub fn result_text<A>(alloc: Global, fault: &ParseFault<A>) -> Result<String, Fa
 /// The text of the result of a parser: its value, or its fault.
 pub fn line<X: fmt::Display, A>(alloc: Global, answer: &ParseResult<X, A>) -> Result<String, Fail> {
     match answer {
-        Ok(value) => Ok(format!(in alloc; "{value}")?),
+        Ok(value) => shown(alloc, value),
         Err(fault) => result_text(alloc, fault),
     }
 }
@@ -106,8 +111,17 @@ pub fn said_next<
 >(alloc: Global, stream: &mut TextStream, read: F) -> Result<String, Fail>
     requires { F.IsAlwaysCallable read }
 {
-    let answer = read(stream);
-    line(alloc, &answer)
+    told(alloc, read(stream))
+}
+
+/// The text of the result of a parser, which ends here.
+fn told<X: fmt::Display + Drop, A: Drop>(
+    alloc: Global,
+    answer: ParseResult<X, A>,
+) -> Result<String, Fail> {
+    let text = line(alloc, &answer);
+    drop(answer);
+    text
 }
 
 /// The identifier with this text; fails if the text is no identifier.
@@ -115,8 +129,23 @@ pub fn named(alloc: Global, text: &str) -> Result<Identifier, Fail>
     ensures { IfOk result (λ name. name ≡ text.now) }
 {
     let name: Answer<Identifier, ()> = Identifier::try_new(alloc, text);
-    match name {
-        Ok(name) => Ok(name),
-        Err(_) => Err(Fail::from("no identifier")),
+    accepted(name, "no identifier")
+}
+
+/// The value of a call that has to succeed. A failed one fails for this reason, and its error ends here.
+pub(crate) fn accepted<X, A: Drop>(answer: Answer<X, A>, why: &str) -> Result<X, Fail>
+    ensures { IfOk result (λ x. answer ≡ Ok x) }
+{
+    match answer {
+        Ok(value) => Ok(value),
+        Err(error) => {
+            drop(error);
+            Err(Fail::from(why))
+        }
     }
+}
+
+/// This error in place of a result; what was held for it ends here.
+pub(crate) fn failed<H: Drop, X, E>(_held: H, error: E) -> Result<X, E> {
+    Err(error)
 }

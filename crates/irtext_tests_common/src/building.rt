@@ -2,6 +2,7 @@
 ghost use Rattle.std.specs.Prelude.{IsSome, OnOk};
 ghost use Rattle.irtext_context.specs.Context.{operation};
 
+use crate::answers::{accepted, failed};
 use crate::contexts::{Ctx, named};
 use crate::formats::format_or_canonical;
 use irtext_base::base::{AttrObj, Identifier, OpId, SYM_NAME_KEY};
@@ -18,6 +19,7 @@ use irtext_context::base::{
 use irtext_context::dialect::{Dialect, DialectName};
 use irtext_demo::{Characters, DemoAttr, DemoType, IntegerType, Signedness, Width};
 use irtext_few::Few;
+use irtext_graph::graph::Graph;
 use irtext_graph::held::HasGraph;
 use irtext_graph::object::Object;
 use std::alloc::Global;
@@ -42,7 +44,10 @@ pub fn id(alloc: Global, words: (&str, &str)) -> Result<OpId, Fail> {
 }
 
 fn add(ctx: &mut Ctx, dialect: &DialectName, id: OpId, format: OpFormat) -> Answer<(), DemoAttr> {
-    Dialect::register(ctx, dialect)?.add_op(id, format, false)
+    match Dialect::register(ctx, dialect) {
+        Ok(dialect) => dialect.add_op(id, format, false),
+        Err(error) => failed((id, format), error),
+    }
 }
 
 /// Registers the operation of these two words with the format of these letters.
@@ -64,9 +69,11 @@ fn register_with(
     words: (&str, &str),
     letters: &str,
 ) -> Result<(), Fail> {
-    let format = format_or_canonical(alloc, letters)?;
     let id = id(alloc, words)?;
-    Ok(add(ctx, dialect, id, format).ok().ok_or("refused")?)
+    match format_or_canonical(alloc, letters) {
+        Ok(format) => accepted(add(ctx, dialect, id, format), "refused"),
+        Err(fail) => failed(id, fail),
+    }
 }
 
 /// Signed integers of this width.
@@ -104,7 +111,7 @@ pub fn operation(
     regions: usize,
 ) -> Result<Ptr<Operation>, Fail> {
     let answer = Operation::try_new(ctx, id, types, operands, successors, regions);
-    Ok(answer.ok().ok_or("refused")?)
+    accepted(answer, "refused")
 }
 
 /// Makes `builtin.module` with this name and one region.
@@ -130,8 +137,10 @@ pub fn block(
     label: &str,
     types: Few<DemoType>,
 ) -> Result<Ptr<BasicBlock>, Fail> {
-    let label = label_of(alloc, label)?;
-    Ok(BasicBlock::new(ctx, label, types).ok().ok_or("refused")?)
+    match label_of(alloc, label) {
+        Ok(label) => accepted(BasicBlock::new(ctx, label, types), "refused"),
+        Err(fail) => failed(types, fail),
+    }
 }
 
 /// Makes such a block last in the first region of an operation.
@@ -149,8 +158,7 @@ pub fn block_inside(
 
 /// Puts an operation, or a placeholder, last into a block.
 pub fn into_block(ctx: &mut Ctx, op: Ptr<Operation>, block: Ptr<BasicBlock>) -> Result<(), Fail> {
-    let put = op.try_insert_at_back(block, ctx);
-    Ok(put.ok().ok_or("not to be inserted")?)
+    accepted(op.try_insert_at_back(block, ctx), "not to be inserted")
 }
 
 /// Puts a block last into a region of an operation.
@@ -160,10 +168,8 @@ pub fn into_region(
     op: Ptr<Operation>,
     index: usize,
 ) -> Result<(), Fail> {
-    let region = op.try_get_region(ctx, index);
-    let region = region.ok().ok_or("no such region")?;
-    let put = block.try_insert_at_back(region, ctx);
-    Ok(put.ok().ok_or("not to be inserted")?)
+    let region = accepted(op.try_get_region(ctx, index), "no such region")?;
+    accepted(block.try_insert_at_back(region, ctx), "not to be inserted")
 }
 
 fn set(
@@ -186,8 +192,10 @@ pub fn give(
     key: &str,
     attr: AttrObj<DemoAttr>,
 ) -> Result<(), Fail> {
-    let key = named(alloc, key)?;
-    Ok(set(ctx, item, key, attr).ok().ok_or("refused")?)
+    match named(alloc, key) {
+        Ok(key) => accepted(set(ctx, item, key, attr), "refused"),
+        Err(fail) => failed(attr, fail),
+    }
 }
 
 /// Gives an operation its symbol's name.
@@ -250,10 +258,17 @@ fn object_of(item: Item) -> Object {
 
 /// Erases an operation or a block that nothing outside of it uses.
 pub fn erase(ctx: &mut Ctx, item: Item) -> Result<(), Fail> {
-    let (graph, object) = (ctx.graph_mut(), object_of(item));
-    if !graph.contains(object) || !graph.can_erase(object) {
+    if !erases(ctx.graph_mut(), object_of(item)) {
         return Err(Fail::from("not to be erased"));
     }
-    graph.erase(object);
     Ok(())
+}
+
+/// Erases an object that nothing outside of it uses, and returns whether it is one.
+fn erases<O: Drop, B: Drop, T: Drop>(graph: &mut Graph<O, B, T>, object: Object) -> bool {
+    if !graph.contains(object) || !graph.can_erase(object) {
+        return false;
+    }
+    graph.erase(object);
+    true
 }

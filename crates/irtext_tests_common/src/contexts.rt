@@ -1,4 +1,5 @@
 //! Contexts of the demo types, passed to a closure: nothing else owns one here, so that a test has one call and no context.
+use crate::answers::accepted;
 pub use crate::answers::named;
 use irtext_base::location::Source;
 use irtext_base::parsable::TextStream;
@@ -39,7 +40,9 @@ pub fn with_counters<X, F: FnOnce(Global, &mut Ctx) -> Result<X, Fail> + Drop>(
         return Err(Fail::from("no place"));
     }
     let mut ctx: Ctx = Context::with_counters(alloc, values, places);
-    call(alloc, &mut ctx)
+    let result = call(alloc, &mut ctx);
+    drop(ctx);
+    result
 }
 
 /// The result of a call with a context that has the demo dialects.
@@ -49,7 +52,10 @@ pub fn with_demo<X, F: FnOnce(Global, &mut Ctx) -> Result<X, Fail> + Drop>(
 ) -> Result<X, Fail>
     requires { F.IsAlwaysCallable call }
 {
-    registered(alloc, &mut Context::new(alloc), call)
+    let mut ctx: Ctx = Context::new(alloc);
+    let result = registered(alloc, &mut ctx, call);
+    drop(ctx);
+    result
 }
 
 /// Registers the demo dialects with this context, and returns the result of the call with it.
@@ -60,15 +66,13 @@ fn registered<X, F: FnOnce(Global, &mut Ctx) -> Result<X, Fail> + Drop>(
 ) -> Result<X, Fail>
     requires { F.IsAlwaysCallable call }
 {
-    if !is_demo(ctx) {
-        return Err(Fail::from("not registered"));
-    }
+    add_demo(ctx)?;
     call(alloc, ctx)
 }
 
-/// Registers the demo dialects with this context, and returns whether there was enough memory.
-fn is_demo(ctx: &mut Ctx) -> bool {
-    register_demo(ctx).is_ok()
+/// Registers the demo dialects with this context.
+fn add_demo(ctx: &mut Ctx) -> Result<(), Fail> {
+    accepted(register_demo(ctx), "not registered")
 }
 
 /// The result of a call with two empty contexts.
@@ -79,7 +83,9 @@ pub fn with_contexts<X, F: FnOnce(Global, &mut Ctx, &mut Ctx) -> Result<X, Fail>
     requires { F.IsAlwaysCallable call }
 {
     let mut ctx: Ctx = Context::new(alloc);
-    beside(alloc, &mut ctx, call)
+    let result = beside(alloc, &mut ctx, call);
+    drop(ctx);
+    result
 }
 
 /// The result of a call with this context and an empty one.
@@ -91,7 +97,9 @@ fn beside<X, F: FnOnce(Global, &mut Ctx, &mut Ctx) -> Result<X, Fail> + Drop>(
     requires { F.IsAlwaysCallable call }
 {
     let mut other: Ctx = Context::new(alloc);
-    call(alloc, ctx, &mut other)
+    let result = call(alloc, ctx, &mut other);
+    drop(other);
+    result
 }
 
 /// The result of a function on a stream over a text, with a context of its own.
@@ -106,5 +114,8 @@ pub fn in_context<F: FnOnce(Global, &mut Stream<'_>) -> Result<String, Fail> + D
     let mut ctx: Ctx = Context::new(alloc);
     let state = State::new(&mut ctx, Source::InMemory, ());
     let mut s = StateStream { stream, state };
-    read(alloc, &mut s)
+    let text = read(alloc, &mut s);
+    drop(s);
+    drop(ctx);
+    text
 }

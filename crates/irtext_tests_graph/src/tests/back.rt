@@ -8,68 +8,46 @@ ghost use Rattle.irtext_graph.specs.declared.object.Region.{Region};
 ghost use Rattle.irtext_graph.specs.declared.object.Object.TheVariants.{TheOperation};
 
 use crate::tests::checks::Numbers;
-use crate::tests::nesting::is_child_at;
+use crate::tests::nesting::{is_child_at, make_operation};
 use irtext_few::Few;
 use irtext_graph::arena::Ptr;
 use irtext_graph::object::{Object, Operation, Region};
 use std::process::Abort;
 
-/// The objects of each kind that were made, in that order: an operation, a block and a region.
-#[derive(Clone, Copy)]
-struct Three {
-    operation: Object,
-    block: Object,
-    region: Object,
-}
+/// An object of each kind that were made: an operation, a block and a region.
+type Three = [Object; 3];
 
 /// Makes an object of each kind.
 fn makes_three(rt: &impl Abort, graph: &mut Numbers, data: u32) -> Three
     ensures kept { (m : ℕ) → m ≤ graph.old.made → KeepsOlder m graph.old graph.new }
 {
-    let operation = Object::TheOperation(
-        graph
-            .make_operation(data, Few::none(), &[], &[])
-            .expect(rt, "out of memory"),
-    );
-    let block = Object::TheBlock(
-        graph
-            .make_block(data, Few::none())
-            .expect(rt, "out of memory"),
-    );
-    let region = Object::TheRegion(graph.make_region().expect(rt, "out of memory"));
-    Three {
-        operation,
-        block,
-        region,
+    let operation = make_operation(rt, graph, data);
+    let block = graph
+        .make_block(data, Few::none())
+        .expect(rt, "out of memory");
+    let region = graph.make_region().expect(rt, "out of memory");
+    [
+        Object::TheOperation(operation),
+        Object::TheBlock(block),
+        Object::TheRegion(region),
+    ]
+}
+
+/// How many of these objects are live.
+fn num_live(graph: &Numbers, objects: &[Object]) -> usize {
+    let mut count: usize = 0;
+    for o in objects {
+        if graph.contains(*o) {
+            count = count.wrapping_add(1);
+        }
     }
-}
-
-/// Whether three objects are live.
-fn all_are_live(graph: &Numbers, three: &Three) -> bool {
-    graph.contains(three.operation) && graph.contains(three.block) && graph.contains(three.region)
-}
-
-/// Whether one of three objects is live.
-fn one_is_live(graph: &Numbers, three: &Three) -> bool {
-    graph.contains(three.operation) || graph.contains(three.block) || graph.contains(three.region)
-}
-
-/// Whether there are six objects, these three among them.
-fn has_six(graph: &Numbers, newer: &Three) -> bool {
-    graph.num_live() == 6 && all_are_live(graph, newer)
-}
-
-/// Whether the older three objects are the only ones.
-fn has_only(graph: &Numbers, older: &Three, newer: &Three) -> bool {
-    graph.num_live() == 3 && all_are_live(graph, older) && !one_is_live(graph, newer)
+    count
 }
 
 /// Makes the seventh object, and returns whether it is an operation at the second place, with the next generation there.
 fn goes_on(rt: &impl Abort, graph: &mut Numbers) -> bool {
-    let again = graph
-        .make_operation(3, Few::none(), &[], &[])
-        .expect(rt, "out of memory");
-    again.place() == 2 && again.generation() == 2 && graph.made() == 7
+    let again = make_operation(rt, graph, 3);
+    (again.place() == 2) & (again.generation() == 2) & (graph.made() == 7)
 }
 
 /// Whether what was made after a mark is removed, older objects are live, and places are used again with their next generation.
@@ -77,10 +55,11 @@ pub(crate) fn gives_back(rt: &impl Abort, graph: &mut Numbers) -> bool {
     let older = makes_three(rt, graph, 1);
     let mark = graph.made();
     let newer = makes_three(rt, graph, 2);
-    let before = has_six(graph, &newer);
+    let before = (graph.num_live() == 6) & (num_live(graph, &newer) == 3);
     graph.roll_back(mark);
-    let gone = has_only(graph, &older, &newer);
-    goes_on(rt, graph) & before & gone
+    let left = (graph.num_live() == 3) & (num_live(graph, &older) == 3);
+    let gone = num_live(graph, &newer) == 0;
+    goes_on(rt, graph) & before & left & gone
 }
 
 /// Whether an operation has two regions in this order, and there is no other object.

@@ -1,10 +1,8 @@
 //! The checks of a graph whose data and types are numbers: each looks at a graph of its own.
 use crate::tests::back::{gives_back, gives_regions_back};
-use crate::tests::counters::{numbers_are_apart, numbers_end};
-use crate::tests::nesting::{holds_many, nests, nests_deep};
-use crate::tests::parts::{has_any_number, has_parts, writes};
-use crate::tests::using::{uses, uses_often};
-use crate::tests::walks::{goes_deep, goes_through};
+use crate::tests::nesting::{holds_many, nests_deep};
+use crate::tests::using::uses_often;
+use crate::tests::walks::goes_deep;
 use irtext_graph::graph::Graph;
 use std::alloc::Global;
 use std::process::Abort;
@@ -17,14 +15,6 @@ pub(crate) type Numbers = Graph<u32, u32, u8>;
 enum Check {
     GivesBack,
     GivesRegionsBack,
-    NumbersAreApart,
-    NumbersEnd,
-    Nests,
-    HasParts,
-    HasAnyNumber,
-    Writes,
-    Uses,
-    GoesThrough,
     HoldsMany,
     UsesOften,
     GoesDeep,
@@ -32,17 +22,7 @@ enum Check {
 }
 
 /// The checks of a few objects.
-const FEW: &[Check] = &[
-    Check::GivesBack,
-    Check::GivesRegionsBack,
-    Check::NumbersAreApart,
-    Check::Nests,
-    Check::HasParts,
-    Check::HasAnyNumber,
-    Check::Writes,
-    Check::Uses,
-    Check::GoesThrough,
-];
+const FEW: &[Check] = &[Check::GivesBack, Check::GivesRegionsBack];
 
 /// The checks of a hundred thousand objects.
 const MANY: &[Check] = &[Check::HoldsMany, Check::UsesOften];
@@ -52,14 +32,6 @@ fn result(rt: &impl Abort, graph: &mut Numbers, alloc: Global, check: Check) -> 
     match check {
         Check::GivesBack => gives_back(rt, graph),
         Check::GivesRegionsBack => gives_regions_back(rt, graph),
-        Check::NumbersAreApart => numbers_are_apart(rt, graph),
-        Check::NumbersEnd => numbers_end(rt, graph),
-        Check::Nests => nests(rt, graph),
-        Check::HasParts => has_parts(rt, graph),
-        Check::HasAnyNumber => has_any_number(rt, graph, alloc),
-        Check::Writes => writes(rt, graph),
-        Check::Uses => uses(rt, graph),
-        Check::GoesThrough => goes_through(rt, graph),
         Check::HoldsMany => holds_many(rt, graph),
         Check::UsesOften => uses_often(rt, graph, alloc, 100000),
         Check::GoesDeep => goes_deep(rt, graph),
@@ -82,30 +54,27 @@ fn failing(rt: &impl Abort, alloc: Global, checks: &[Check]) -> Option<usize> {
     None
 }
 
+/// Ends the test if something differs, which has this number.
+pub(crate) fn ends(rt: &impl Abort, differing: Option<usize>) {
+    assert_eq!(rt; differing, None);
+}
+
 #[test]
 fn few_objects(rt: HostRuntime) {
-    assert_eq!(rt; failing(&rt, rt.alloc(), FEW), None);
-    assert!(rt;
-        holds(
-            &rt,
-            Graph::with_counters(rt.alloc(), u64::MAX - 1, 1),
-            rt.alloc(),
-            Check::NumbersEnd
-        )
-    );
+    ends(&rt, failing(&rt, rt.alloc(), FEW));
 }
 
 #[test]
 fn a_hundred_thousand_objects(rt: HostRuntime) {
-    assert_eq!(rt; failing(&rt, rt.alloc(), MANY), None);
+    ends(&rt, failing(&rt, rt.alloc(), MANY));
 }
 
 #[test]
 fn a_million_are_met(rt: HostRuntime) {
-    assert!(rt; holds(&rt, Graph::new(rt.alloc()), rt.alloc(), Check::GoesDeep));
+    ends(&rt, failing(&rt, rt.alloc(), &[Check::GoesDeep]));
 }
 
 #[test]
 fn a_million_levels(rt: HostRuntime) {
-    assert!(rt; holds(&rt, Graph::new(rt.alloc()), rt.alloc(), Check::NestsDeep));
+    ends(&rt, failing(&rt, rt.alloc(), &[Check::NestsDeep]));
 }

@@ -150,11 +150,13 @@ pub(crate) fn agree(rt: &impl Abort, graph: &Numbers, model: &Model, random: &mu
     if !has_as_many(graph, model, random) {
         return false;
     }
-    let (Some(item), Some(other)) = (model.any(random), model.any(random)) else {
+    if model.items.is_empty() {
         return true;
-    };
+    }
+    let item = model.any(rt, random);
+    let other = model.any(rt, random);
     let alike = is_alike(graph, model, &item);
-    let used = match model.any_defined(random) {
+    let used = match model.any_defined(rt, random) {
         Some(d) => has_uses(rt, graph, model, d),
         None => true,
     };

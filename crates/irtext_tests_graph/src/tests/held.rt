@@ -4,6 +4,7 @@ ghost use Rattle.irtext_graph.specs.Graph.{IsLive};
 ghost use Rattle.irtext_graph.specs.declared.object.Object.TheVariants.{TheOperation, TheBlock, TheRegion};
 
 use crate::tests::checks::Numbers;
+use crate::tests::nesting::make_operation;
 use crate::tests::results::uses_of_results;
 use crate::tests::used::uses_and_lists;
 use irtext_few::Few;
@@ -95,16 +96,26 @@ fn looks_up(holder: &Holder, c: Chain) -> bool {
     if !all_live_in(holder, c) {
         return false;
     }
-    let of_inner = (c.inner.get_parent_block(holder) == Some(c.block))
-        & (c.inner.get_parent_region(holder) == Some(c.region))
-        & (c.inner.get_parent_op(holder) == Some(c.op));
-    let of_block = (c.block.get_parent_region(holder) == Some(c.region))
-        & (c.block.get_parent_op(holder) == Some(c.op))
-        & (c.block.get_parent_block(holder) == None);
-    let of_region = (c.region.get_parent_op(holder) == Some(c.op))
-        & (c.region.get_parent_block(holder) == None)
-        & (c.region.get_parent_region(holder) == None);
-    of_inner & of_block & of_region & (c.op.get_parent_op(holder) == None)
+    let ops = [
+        c.inner.get_parent_op(holder),
+        c.block.get_parent_op(holder),
+        c.region.get_parent_op(holder),
+        c.op.get_parent_op(holder),
+    ];
+    let regions = [
+        c.inner.get_parent_region(holder),
+        c.block.get_parent_region(holder),
+        c.region.get_parent_region(holder),
+    ];
+    let blocks = [
+        c.inner.get_parent_block(holder),
+        c.block.get_parent_block(holder),
+        c.region.get_parent_block(holder),
+    ];
+    let (op, region, block) = (Some(c.op), Some(c.region), Some(c.block));
+    (ops.as_slice() == [op, op, op, None].as_slice())
+        & (regions.as_slice() == [region, region, None].as_slice())
+        & (blocks.as_slice() == [block, None, None].as_slice())
 }
 
 /// Whether each object of the chain has the next as its only child.
@@ -137,25 +148,16 @@ fn comes_apart(holder: &mut Holder, c: Chain) -> bool {
 
 /// Makes a chain, looks at it from both ends, and takes it apart.
 fn goes_round(rt: &impl Abort, holder: &mut Holder) -> bool {
+    let graph = &mut holder.graph;
     let chain = Chain {
-        op: holder
-            .graph
-            .make_operation(1, Few::none(), &[], &[])
-            .expect(rt, "out of memory"),
-        region: holder.graph.make_region().expect(rt, "out of memory"),
-        block: holder
-            .graph
-            .make_block(2, Few::none())
-            .expect(rt, "out of memory"),
-        inner: holder
-            .graph
-            .make_operation(3, Few::none(), &[], &[])
-            .expect(rt, "out of memory"),
+        op: make_operation(rt, graph, 1),
+        region: graph.make_region().expect(rt, "out of memory"),
+        block: graph.make_block(2, Few::none()).expect(rt, "out of memory"),
+        inner: make_operation(rt, graph, 3),
     };
     let put = put_together(rt, holder, chain);
-    let seen = looks_up(holder, chain) && looks_down(holder, chain);
-    let apart = comes_apart(holder, chain);
-    put && seen && apart
+    let seen = looks_up(holder, chain) & looks_down(holder, chain);
+    comes_apart(holder, chain) & put & seen
 }
 
 /// A check of a holder.

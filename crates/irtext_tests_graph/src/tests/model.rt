@@ -70,6 +70,14 @@ impl Parts {
             successors: Vec::new(alloc),
         }
     }
+
+    /// Adds a value or a block that is used.
+    pub(crate) fn add(&mut self, rt: &impl Abort, used: Defined) {
+        match used {
+            Defined::OfValue(v) => self.operands.push(v).expect(rt, "out of memory"),
+            Defined::OfBlock(b) => self.successors.push(b).expect(rt, "out of memory"),
+        }
+    }
 }
 
 impl Item {
@@ -113,17 +121,20 @@ impl Model {
         None
     }
 
-    /// One of the objects.
-    pub(crate) fn any(&self, random: &mut Random) -> Option<Item> {
-        self.items.get(random.below(self.items.len())).copied()
+    /// One of the objects, if there are any.
+    pub(crate) fn any(&self, rt: &impl Abort, random: &mut Random) -> Item {
+        *self
+            .items
+            .get(random.below(self.items.len()))
+            .expect(rt, "no object")
     }
 
     /// A value or a block that one of the objects defines, if it defines any.
-    pub(crate) fn any_defined(&self, random: &mut Random) -> Option<Defined> {
-        match self.any(random) {
-            Some(item) => item.defined(random),
-            None => None,
+    pub(crate) fn any_defined(&self, rt: &impl Abort, random: &mut Random) -> Option<Defined> {
+        if self.items.is_empty() {
+            return None;
         }
+        self.any(rt, random).defined(random)
     }
 
     /// Adds an object that was made of these parts.
@@ -151,17 +162,17 @@ impl Model {
     fn add_uses(&mut self, rt: &impl Abort, p: Ptr<Operation>, parts: &Parts) {
         let user = Object::TheOperation(p);
         for (i, v) in parts.operands.iter().enumerate() {
-            let (site, used) = (Site::AtOperand(p, i), Defined::OfValue(*v));
-            self.uses
-                .push(Use { user, site, used })
-                .expect(rt, "out of memory");
+            self.add_use(rt, user, Site::AtOperand(p, i), Defined::OfValue(*v));
         }
         for (i, b) in parts.successors.iter().enumerate() {
-            let (site, used) = (Site::AtSuccessor(p, i), Defined::OfBlock(*b));
-            self.uses
-                .push(Use { user, site, used })
-                .expect(rt, "out of memory");
+            self.add_use(rt, user, Site::AtSuccessor(p, i), Defined::OfBlock(*b));
         }
+    }
+
+    fn add_use(&mut self, rt: &impl Abort, user: Object, site: Site, used: Defined) {
+        self.uses
+            .push(Use { user, site, used })
+            .expect(rt, "out of memory");
     }
 
     /// How many objects are in one.

@@ -18,35 +18,34 @@ struct Both {
 }
 
 /// Makes an operation with a result, and a block.
-fn make_both(rt: &impl Abort, script: &mut Script) -> Option<Both> {
+fn make_both(rt: &impl Abort, script: &mut Script) -> Both {
     let op = script.make(rt, Kind::Operation, &Parts::new(script.alloc, 1, 1));
     let block = script.make(rt, Kind::Block, &Parts::new(script.alloc, 2, 0));
-    if let (Some(Object::TheOperation(p)), Some(Object::TheBlock(b))) = (op, block) {
-        let value = Defined::OfValue(Value::Result(p, 0));
-        let block = Defined::OfBlock(b);
-        return Some(Both { value, block });
+    Both {
+        value: defined_by(rt, op),
+        block: defined_by(rt, block),
     }
-    None
 }
 
-/// Makes an operation that uses the value once and the block twice.
-fn make_user(rt: &impl Abort, script: &mut Script, both: Both) -> Option<Object> {
-    let mut parts = Parts::new(script.alloc, 3, 0);
-    if let (Defined::OfValue(v), Defined::OfBlock(b)) = (both.value, both.block) {
-        parts.operands.push(v).expect(rt, "out of memory");
-        parts.successors.push(b).expect(rt, "out of memory");
-        parts.successors.push(b).expect(rt, "out of memory");
+/// The first result of an operation, or the block.
+fn defined_by(rt: &impl Abort, o: Object) -> Defined {
+    match o {
+        Object::TheOperation(p) => Defined::OfValue(Value::Result(p, 0)),
+        Object::TheBlock(b) => Defined::OfBlock(b),
+        Object::TheRegion(_) => rt.panic("a region defines nothing"),
     }
-    script.make(rt, Kind::Operation, &parts)
 }
 
-/// Makes five users.
+/// Makes five operations that use the value once and the block twice.
 fn make_users(rt: &impl Abort, script: &mut Script, both: Both) -> Vec<Object> {
+    let mut parts = Parts::new(script.alloc, 3, 0);
+    parts.add(rt, both.value);
+    parts.add(rt, both.block);
+    parts.add(rt, both.block);
     let mut users = Vec::new(script.alloc);
     for _ in 0..USERS {
-        if let Some(user) = make_user(rt, script, both) {
-            users.push(user).expect(rt, "out of memory");
-        }
+        let user = script.make(rt, Kind::Operation, &parts);
+        users.push(user).expect(rt, "out of memory");
     }
     users
 }
@@ -88,13 +87,10 @@ fn go_in_order(
 
 /// The number of the first order with a wrong result.
 pub(crate) fn differing_order(rt: &impl Abort, script: &mut Script) -> Option<usize> {
-    let Some(both) = make_both(rt, script) else {
-        return Some(0);
-    };
+    let both = make_both(rt, script);
     for order in 0..ORDERS {
         let erased = go_in_order(rt, script, both, order, false);
-        let dropped = go_in_order(rt, script, both, order, true);
-        if !erased || !dropped {
+        if !(go_in_order(rt, script, both, order, true) & erased) {
             return Some(order);
         }
     }

@@ -8,7 +8,7 @@ use crate::random::Random;
 use crate::tests::checks::Numbers;
 use crate::tests::compared::{agree, is_defined, type_of};
 use crate::tests::model::{Model, Parts};
-use crate::tests::nesting::put;
+use crate::tests::nesting::{erases, put};
 use irtext_few::Few;
 use irtext_graph::arena::Ptr;
 use irtext_graph::object::{BasicBlock, Defined, Object, Operation, Value};
@@ -31,7 +31,7 @@ pub(crate) struct Script {
 }
 
 /// Whether an object of k's kind can hold one of c's kind.
-fn fits(k: Object, c: Object) -> bool
+pub(crate) fn fits(k: Object, c: Object) -> bool
     ensures { IsTrue result ↔ Fits k c }
 {
     match k {
@@ -52,7 +52,7 @@ fn are_alike(d: Defined, e: Defined) -> bool
 }
 
 /// The types of so many values, by their numbers.
-fn types(rt: &impl Abort, alloc: Global, first: u64, count: usize) -> Few<u8> {
+pub(crate) fn types(rt: &impl Abort, alloc: Global, first: u64, count: usize) -> Few<u8> {
     let mut types = Vec::new(alloc);
     for i in 0..count {
         types
@@ -93,15 +93,13 @@ fn use_some(rt: &impl Abort, model: &Model, random: &mut Random, kind: Kind, par
         return;
     }
     for _ in 0..random.below(6) {
-        match model.any_defined(random) {
-            Some(Defined::OfValue(v)) => parts.operands.push(v).expect(rt, "out of memory"),
-            Some(Defined::OfBlock(b)) => parts.successors.push(b).expect(rt, "out of memory"),
-            None => {}
+        if let Some(used) = model.any_defined(rt, random) {
+            parts.add(rt, used);
         }
     }
 }
 
-/// Makes an operation that uses these values and blocks, if they are live.
+/// Makes an operation that uses these values and blocks, which have to be live.
 pub(crate) fn make_using(
     rt: &impl Abort,
     graph: &mut Numbers,
@@ -109,49 +107,39 @@ pub(crate) fn make_using(
     types: Few<u8>,
     operands: &[Value],
     successors: &[Ptr<BasicBlock>],
-) -> Option<Ptr<Operation>>
+) -> Ptr<Operation>
     ensures kept { (m : ℕ) → m ≤ graph.old.made → KeepsOlder m graph.old graph.new }
 {
-    if !graph.contains_values(operands) || !graph.contains_blocks(successors) {
-        return None;
-    }
-    let p = graph
+    assert!(rt; graph.contains_values(operands) && graph.contains_blocks(successors));
+    graph
         .make_operation(value, types, operands, successors)
-        .expect(rt, "out of memory");
-    Some(p)
+        .expect(rt, "out of memory")
 }
 
-/// Makes an object of these parts, if everything that it uses is live.
-fn make(
+/// Makes an object of these parts. Everything that it uses has to be live.
+pub(crate) fn make(
     rt: &impl Abort,
     graph: &mut Numbers,
     kind: Kind,
     parts: &Parts,
     types: Few<u8>,
-) -> Option<Object>
+) -> Object
     ensures kept { (m : ℕ) → m ≤ graph.old.made → KeepsOlder m graph.old graph.new }
 {
+    let (value, operands, successors) = (parts.value, &parts.operands, &parts.successors);
     match kind {
-        Kind::Region => Some(Object::TheRegion(graph.make_region().expect(rt, "out of memory"))),
-        Kind::Block => Some(Object::TheBlock(
-            graph
-                .make_block(parts.value, types)
-                .expect(rt, "out of memory"),
-        )),
+        Kind::Region => Object::TheRegion(graph.make_region().expect(rt, "out of memory")),
+        Kind::Block => Object::TheBlock(graph.make_block(value, types).expect(rt, "out of memory")),
         Kind::Operation => {
-            match make_using(
-                rt,
-                graph,
-                parts.value,
-                types,
-                &parts.operands,
-                &parts.successors,
-            ) {
-                Some(p) => Some(Object::TheOperation(p)),
-                None => None,
-            }
+            Object::TheOperation(make_using(rt, graph, value, types, operands, successors))
         }
     }
+}
+
+/// Rolls all objects back.
+pub(crate) fn clears(graph: &mut Numbers) -> bool {
+    graph.roll_back(0);
+    graph.num_live() == 0
 }
 
 impl Script {
@@ -165,64 +153,59 @@ impl Script {
         }
     }
 
-    /// Makes an object of these parts, if everything that it uses is live.
-    pub(crate) fn make(&mut self, rt: &impl Abort, kind: Kind, parts: &Parts) -> Option<Object>
+    /// Makes an object of these parts. Everything that it uses has to be live.
+    pub(crate) fn make(&mut self, rt: &impl Abort, kind: Kind, parts: &Parts) -> Object
         ensures kept { (m : ℕ) → m ≤ self.old.graph.made → KeepsOlder m self.old.graph self.new.graph }
     {
         let types = types(rt, self.alloc, self.model.values, parts.count);
-        let Some(object) = make(rt, &mut self.graph, kind, parts, types) else {
-            return None;
-        };
+        let object = make(rt, &mut self.graph, kind, parts, types);
         self.model.add(rt, object, parts);
-        Some(object)
+        object
     }
 
-    /// Makes an object of up to three results or arguments, and returns whether the graph had everything that it was to use.
-    fn make_one(&mut self, rt: &impl Abort) -> bool
+    /// Makes an object of up to three results or arguments.
+    fn make_one(&mut self, rt: &impl Abort)
         ensures kept { (m : ℕ) → m ≤ self.old.graph.made → KeepsOlder m self.old.graph self.new.graph }
     {
         let kind = any_kind(&mut self.random);
         let count = any_count(&mut self.random, kind);
         let mut parts = Parts::new(self.alloc, (self.model.made % 1000) as u32, count);
         use_some(rt, &self.model, &mut self.random, kind, &mut parts);
-        self.make(rt, kind, &parts).is_some()
+        self.make(rt, kind, &parts);
     }
 
-    /// Makes three objects, and returns whether each could be made.
-    fn make_three(&mut self, rt: &impl Abort) -> bool
+    /// Makes three objects.
+    fn make_three(&mut self, rt: &impl Abort)
         ensures kept { (m : ℕ) → m ≤ self.old.graph.made → KeepsOlder m self.old.graph self.new.graph }
     {
-        let first = self.make_one(rt);
-        let second = self.make_one(rt);
-        let third = self.make_one(rt);
-        first & second & third
+        self.make_one(rt);
+        self.make_one(rt);
+        self.make_one(rt);
     }
 
-    /// Makes nine objects, and returns whether each could be made.
-    fn make_nine(&mut self, rt: &impl Abort) -> bool
+    /// Makes nine objects.
+    fn make_nine(&mut self, rt: &impl Abort)
         ensures kept { (m : ℕ) → m ≤ self.old.graph.made → KeepsOlder m self.old.graph self.new.graph }
     {
-        let first = self.make_three(rt);
-        let second = self.make_three(rt);
-        let third = self.make_three(rt);
-        first & second & third
+        self.make_three(rt);
+        self.make_three(rt);
+        self.make_three(rt);
     }
 
     /// Makes nine objects, compares, and rolls them back.
     fn make_and_give_back(&mut self, rt: &impl Abort) -> bool {
         let mark = self.graph.made();
-        let made = self.make_nine(rt);
+        self.make_nine(rt);
         let same = agree(rt, &self.graph, &self.model, &mut self.random);
         self.graph.roll_back(mark);
         self.model.roll_back(rt, mark);
-        made & same
+        same
     }
 
     /// Rolls all objects back.
-    pub(crate) fn clear(&mut self, rt: &impl Abort) -> bool {
-        self.graph.roll_back(0);
+    fn clear(&mut self, rt: &impl Abort) -> bool {
         self.model.roll_back(rt, 0);
-        self.graph.num_live() == 0
+        clears(&mut self.graph)
     }
 
     /// Puts an object into another if their kinds fit, and returns whether the graph allows it exactly if the model does.
@@ -239,10 +222,11 @@ impl Script {
     }
 
     /// Makes each use of one value or block one of another.
-    fn replace(&mut self) -> bool {
-        let d = self.model.any_defined(&mut self.random);
-        let e = self.model.any_defined(&mut self.random);
-        let (Some(d), Some(e)) = (d, e) else {
+    fn replace(&mut self, rt: &impl Abort) -> bool {
+        let Some(d) = self.model.any_defined(rt, &mut self.random) else {
+            return true;
+        };
+        let Some(e) = self.model.any_defined(rt, &mut self.random) else {
             return true;
         };
         if !is_defined(&self.graph, d) || !is_defined(&self.graph, e) {
@@ -261,12 +245,11 @@ impl Script {
         if !self.graph.contains(o) {
             return false;
         }
-        if !self.graph.can_erase(o) {
-            return !can;
+        if erases(&mut self.graph, o) {
+            self.model.erase(rt, o);
+            return can;
         }
-        self.graph.erase(o);
-        self.model.erase(rt, o);
-        can
+        !can
     }
 
     /// Detaches an object from its parent, or drops the uses by the operations nested in it.
@@ -288,7 +271,7 @@ impl Script {
     fn change(&mut self, rt: &impl Abort, o: Object, p: Object) -> bool {
         match self.random.below(24) {
             0..=10 => self.insert(rt, o, p),
-            11..=13 => self.replace(),
+            11..=13 => self.replace(rt),
             14 => self.loosen(rt, o, true),
             15 => self.loosen(rt, o, false),
             _ => self.erase(rt, o),
@@ -297,19 +280,20 @@ impl Script {
 
     /// Makes the next call.
     fn step(&mut self, rt: &impl Abort) -> bool {
-        let objects = (
-            self.model.any(&mut self.random),
-            self.model.any(&mut self.random),
-        );
-        let (Some(one), Some(other)) = objects else {
-            return self.make_one(rt);
-        };
-        let (o, p) = (one.object, other.object);
+        if self.model.items.is_empty() {
+            self.make_one(rt);
+            return true;
+        }
+        let one = self.model.any(rt, &mut self.random).object;
+        let other = self.model.any(rt, &mut self.random).object;
         match self.random.below(2000) {
             0 => self.clear(rt),
             1..=20 => self.make_and_give_back(rt),
-            21..=800 if self.model.items.len() < MOST => self.make_one(rt),
-            _ => self.change(rt, o, p),
+            21..=800 if self.model.items.len() < MOST => {
+                self.make_one(rt);
+                true
+            }
+            _ => self.change(rt, one, other),
         }
     }
 }

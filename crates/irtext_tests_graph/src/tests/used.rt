@@ -5,7 +5,7 @@ ghost use Rattle.irtext_graph.specs.declared.object.Object.TheVariants.{TheOpera
 
 use crate::tests::checks::Numbers;
 use crate::tests::held::Holder;
-use crate::tests::nesting::put;
+use crate::tests::nesting::{make_operation, put};
 use crate::tests::script::make_using;
 use irtext_few::Few;
 use irtext_graph::arena::Ptr;
@@ -15,6 +15,7 @@ use irtext_graph_queries::operation::OperationParts;
 use irtext_graph_queries::region::RegionParts;
 use irtext_graph_queries::types::GraphTypes;
 use irtext_graph_queries::value::{UseSite, ValueUses};
+use std::alloc::AllocError;
 use std::process::Abort;
 
 /// An operation with a region of two blocks, the first of which has two arguments and two operations: one with two results, and
@@ -39,22 +40,19 @@ fn make_user(
 ) -> Ptr<Operation> {
     let result = Value::Result(maker, 0);
     let argument = Value::Argument(first, 1);
-    let user = make_using(
+    make_using(
         rt,
         graph,
         3,
         Few::none(),
         &[result, argument, result],
         &[second],
-    );
-    user.unwrap_or(maker)
+    )
 }
 
 /// Makes all of a scene and puts it together.
 fn make_scene(rt: &impl Abort, graph: &mut Numbers) -> Scene {
-    let root = graph
-        .make_operation(1, Few::none(), &[], &[])
-        .expect(rt, "out of memory");
+    let root = make_operation(rt, graph, 1);
     let region = graph.make_region().expect(rt, "out of memory");
     let first = graph
         .make_block(4, Few::two(10, 11))
@@ -110,8 +108,12 @@ fn alive(holder: &Holder, s: Scene) -> bool
 }
 
 /// Whether these are the items of a list.
-fn are<X: PartialEq + Drop>(list: Vec<X>, items: &[X]) -> bool {
-    list.as_slice() == items
+pub(crate) fn are<X: PartialEq + Drop>(
+    rt: &impl Abort,
+    list: Result<Vec<X>, AllocError>,
+    items: &[X],
+) -> bool {
+    list.expect(rt, "out of memory").as_slice() == items
 }
 
 /// The children of each object, as lists.
@@ -119,47 +121,23 @@ fn lists_children(rt: &impl Abort, holder: &Holder, s: Scene) -> bool {
     if !alive(holder, s) {
         return false;
     }
-    let regions = are(
-        s.root.regions(holder).expect(rt, "out of memory"),
-        &[s.region],
-    );
-    let blocks = are(
-        s.region.blocks(holder).expect(rt, "out of memory"),
-        &[s.first, s.second],
-    );
-    let operations = are(
-        s.first.operations(holder).expect(rt, "out of memory"),
-        &[s.maker, s.user],
-    );
+    let regions = are(rt, s.root.regions(holder), &[s.region]);
+    let blocks = are(rt, s.region.blocks(holder), &[s.first, s.second]);
+    let operations = are(rt, s.first.operations(holder), &[s.maker, s.user]);
     let entry = s.region.get_entry_block(holder) == Some(s.first);
     entry & regions & blocks & operations
 }
 
-/// The index of a region in its operation, if it is in one.
-fn index_of_region(holder: &Holder, region: Ptr<Region>) -> Option<usize> {
-    let o = Object::TheRegion(region);
+/// The index of an object in its parent, if it is in one.
+fn index_of(holder: &Holder, o: Object) -> Option<usize> {
     if !holder.graph.contains(o) || holder.graph.get_parent(o).is_none() {
         return None;
     }
-    Some(region.find_index_in_parent(holder))
-}
-
-/// The index of a block in its region, if it is in one.
-fn index_of_block(holder: &Holder, block: Ptr<BasicBlock>) -> Option<usize> {
-    let o = Object::TheBlock(block);
-    if !holder.graph.contains(o) || holder.graph.get_parent(o).is_none() {
-        return None;
-    }
-    Some(block.find_index_in_parent(holder))
-}
-
-/// The index of an operation in its block, if it is in one.
-fn index_of_operation(holder: &Holder, op: Ptr<Operation>) -> Option<usize> {
-    let o = Object::TheOperation(op);
-    if !holder.graph.contains(o) || holder.graph.get_parent(o).is_none() {
-        return None;
-    }
-    Some(op.find_index_in_parent(holder))
+    Some(match o {
+        Object::TheRegion(region) => region.find_index_in_parent(holder),
+        Object::TheBlock(block) => block.find_index_in_parent(holder),
+        Object::TheOperation(op) => op.find_index_in_parent(holder),
+    })
 }
 
 /// The object so many levels around another, if that one is live.
@@ -172,14 +150,19 @@ fn live_ancestor(holder: &Holder, o: Object, levels: usize) -> Option<Object> {
 
 /// The index of each object, and the objects around it.
 fn finds(holder: &Holder, s: Scene) -> bool {
-    let user = Object::TheOperation(s.user);
-    let indices = index_of_region(holder, s.region) == Some(0)
-        && index_of_block(holder, s.second) == Some(1)
-        && index_of_operation(holder, s.user) == Some(1)
-        && index_of_operation(holder, s.root) == None;
-    indices
-        && live_ancestor(holder, user, 3) == Some(Object::TheOperation(s.root))
-        && live_ancestor(holder, user, 4) == None
+    let (user, root) = (Object::TheOperation(s.user), Object::TheOperation(s.root));
+    let indices = [
+        index_of(holder, Object::TheRegion(s.region)),
+        index_of(holder, Object::TheBlock(s.second)),
+        index_of(holder, user),
+        index_of(holder, root),
+    ];
+    let around = [
+        live_ancestor(holder, user, 3),
+        live_ancestor(holder, user, 4),
+    ];
+    (indices.as_slice() == [Some(0), Some(1), Some(1), None].as_slice())
+        & (around.as_slice() == [Some(root), None].as_slice())
 }
 
 /// The operands and the successors, one by one and as lists.
@@ -188,20 +171,16 @@ fn lists_uses(rt: &impl Abort, holder: &Holder, s: Scene) -> bool {
         return false;
     }
     let result = Value::Result(s.maker, 0);
-    let operands = are(
-        s.user.operands(holder).expect(rt, "out of memory"),
-        &[result, Value::Argument(s.first, 1), result],
-    );
-    let successors = are(
-        s.user.successors(holder).expect(rt, "out of memory"),
-        &[s.second],
-    );
+    let argument = Value::Argument(s.first, 1);
+    let operands = are(rt, s.user.operands(holder), &[result, argument, result]);
+    let successors = are(rt, s.user.successors(holder), &[s.second]);
     if s.user.get_num_operands(holder) != 3 || s.user.get_num_successors(holder) != 1 {
         return false;
     }
-    let each = s.user.get_operand(holder, 2) == result
-        && s.user.get_successor(holder, 0) == s.second;
-    each & operands & successors
+    (s.user.get_operand(holder, 2) == result)
+        & (s.user.get_successor(holder, 0) == s.second)
+        & operands
+        & successors
 }
 
 /// The results with their types, one by one and as lists.
@@ -209,15 +188,14 @@ fn lists_results(rt: &impl Abort, holder: &Holder, s: Scene) -> bool {
     if !alive(holder, s) || s.maker.get_num_results(holder) != 2 {
         return false;
     }
-    let results = s.maker.results(holder).expect(rt, "out of memory");
-    let types = s.maker.result_types(holder).expect(rt, "out of memory");
-    let mut sum: u8 = 0;
-    for of_type in &types {
-        sum = sum.wrapping_add(**of_type);
-    }
     let second = s.maker.get_result(holder, 1);
     let typed = *holder.graph.type_of(second) == 13;
-    typed && sum == 25 && results.as_slice() == [Value::Result(s.maker, 0), second].as_slice()
+    are(
+        rt,
+        s.maker.results(holder),
+        &[Value::Result(s.maker, 0), second],
+    ) & are(rt, s.maker.result_types(holder), &[&12, &13])
+        & typed
 }
 
 /// The arguments, one by one and as a list, and the predecessors of a block.
@@ -227,13 +205,11 @@ fn lists_arguments(rt: &impl Abort, holder: &Holder, s: Scene) -> bool {
     }
     let one = s.first.get_argument(holder, 0);
     let arguments = are(
-        s.first.arguments(holder).expect(rt, "out of memory"),
+        rt,
+        s.first.arguments(holder),
         &[one, Value::Argument(s.first, 1)],
     );
-    let preds = are(
-        s.second.preds(holder).expect(rt, "out of memory"),
-        &[s.first],
-    );
+    let preds = are(rt, s.second.preds(holder), &[s.first]);
     let counted = s.second.has_pred(holder)
         & (s.second.num_preds(holder) == 1)
         & !s.first.has_pred(holder);
@@ -307,7 +283,7 @@ fn goes(holder: &mut Holder, s: Scene) -> bool {
     }
     let late = erases(holder, s.maker);
     let root = erases(holder, s.root);
-    !early && late && root && holder.graph.num_live() == 0
+    !early & late & root & (holder.graph.num_live() == 0)
 }
 
 /// All lists.

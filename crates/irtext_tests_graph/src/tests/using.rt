@@ -8,44 +8,37 @@ use irtext_graph::object::{BasicBlock, Defined, Object, Operation, Site, Value};
 use std::alloc::Global;
 use std::process::Abort;
 
-/// An operation with one operand, if the value is live.
-fn use_value(rt: &impl Abort, graph: &mut Numbers, v: Value) -> Option<Ptr<Operation>> {
-    make_using(rt, graph, 0, Few::none(), &[v], &[])
-}
-
 /// Whether a value is live and has so many uses, by each of the three calls.
-fn has_uses(rt: &impl Abort, graph: &Numbers, v: Value, count: usize) -> bool {
+pub(crate) fn has_uses(rt: &impl Abort, graph: &Numbers, v: Value, count: usize) -> bool {
     if !graph.contains_value(v) {
         return false;
     }
     let d = Defined::OfValue(v);
     let listed = graph.uses(d).expect(rt, "out of memory");
-    graph.num_uses(d) == count && listed.len() == count && graph.has_use(d) == (count > 0)
+    (graph.num_uses(d) == count) & (listed.len() == count) & (graph.has_use(d) == (count > 0))
 }
 
-/// Whether the use of a block is the only one in the list of its uses.
-fn is_only_use(rt: &impl Abort, graph: &Numbers, b: Ptr<BasicBlock>, op: Ptr<Operation>) -> bool {
+/// Whether the first successor of an operation is the only one in the list of a block's uses.
+pub(crate) fn is_only_use(
+    rt: &impl Abort,
+    graph: &Numbers,
+    b: Ptr<BasicBlock>,
+    op: Ptr<Operation>,
+) -> bool {
     if !graph.contains(Object::TheBlock(b)) {
         return false;
     }
     let listed = graph.uses(Defined::OfBlock(b)).expect(rt, "out of memory");
-    listed.len() == 1 && listed.get(0) == Some(&Site::AtSuccessor(op, 0))
+    listed.as_slice() == [Site::AtSuccessor(op, 0)].as_slice()
 }
 
 /// Makes each use of a value one of another, if both are live.
-fn replace(graph: &mut Numbers, v: Value, w: Value) -> bool {
+pub(crate) fn replace(graph: &mut Numbers, v: Value, w: Value) -> bool {
     if !graph.contains_value(v) || !graph.contains_value(w) {
         return false;
     }
     graph.replace_all_uses(Defined::OfValue(v), Defined::OfValue(w));
     true
-}
-
-/// An operation with two results.
-fn two_results(rt: &impl Abort, graph: &mut Numbers) -> Ptr<Operation> {
-    graph
-        .make_operation(0, Few::two(7, 8), &[], &[])
-        .expect(rt, "out of memory")
 }
 
 /// Whether the two results of an operation are live and have so many uses.
@@ -60,29 +53,6 @@ fn are_used(
     has_uses(rt, graph, Value::Result(op, 1), second) & one
 }
 
-/// Makes an operation with a block as its successor, and returns whether that is the block's only use.
-fn is_branched_to(rt: &impl Abort, graph: &mut Numbers, block: Ptr<BasicBlock>) -> bool {
-    match make_using(rt, graph, 0, Few::none(), &[], &[block]) {
-        Some(jump) => is_only_use(rt, graph, block, jump),
-        None => false,
-    }
-}
-
-/// Two uses of a result and one of a block, and then the other result in place of the first.
-pub(crate) fn uses(rt: &impl Abort, graph: &mut Numbers) -> bool {
-    let op = two_results(rt, graph);
-    let (first, second) = (Value::Result(op, 0), Value::Result(op, 1));
-    let block = graph.make_block(0, Few::none()).expect(rt, "out of memory");
-    let one = use_value(rt, graph, first);
-    let two = use_value(rt, graph, first);
-    let made = one.is_some() && two.is_some() && one != two;
-    let jumps = is_branched_to(rt, graph, block);
-    let before = are_used(rt, graph, op, 2, 0);
-    let done = replace(graph, first, second) & replace(graph, second, second);
-    let after = are_used(rt, graph, op, 0, 2);
-    made & before & jumps & done & after
-}
-
 /// Makes so many operations that use a value.
 fn make_users(
     rt: &impl Abort,
@@ -93,9 +63,8 @@ fn make_users(
 ) -> Vec<Ptr<Operation>> {
     let mut users = Vec::new(alloc);
     for _ in 0..count {
-        if let Some(user) = use_value(rt, graph, v) {
-            users.push(user).expect(rt, "out of memory");
-        }
+        let user = make_using(rt, graph, 0, Few::none(), &[v], &[]);
+        users.push(user).expect(rt, "out of memory");
     }
     users
 }
@@ -116,7 +85,7 @@ pub(crate) fn uses_often(
     alloc: Global,
     count: usize,
 ) -> bool {
-    let op = two_results(rt, graph);
+    let op = make_using(rt, graph, 0, Few::two(7, 8), &[], &[]);
     let users = make_users(rt, graph, alloc, Value::Result(op, 0), count);
     changes_users(rt, graph, op, &users) & (users.len() == count)
 }

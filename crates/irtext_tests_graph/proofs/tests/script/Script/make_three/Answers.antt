@@ -3,5 +3,5 @@ use Rattle.irtext_tests_graph.proofs.tests.script.Script.make_three.Goals as goa
 
 pub returns : goal.returns
 returns g c = record {
-  kept = keeps_thrice _ _ _ _ c.make_one-first.ensures.kept c.make_one-second.ensures.kept c.make_one-third.ensures.kept;
+  kept = keeps_thrice _ _ _ _ c.make_one.ensures.kept c.make_one-2.ensures.kept c.make_one-3.ensures.kept;
 }
