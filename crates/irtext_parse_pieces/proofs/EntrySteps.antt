@@ -23,6 +23,7 @@ use Rattle.irtext_grammar.specs.Contexts.Held.{attribute_of}
 use Rattle.irtext_grammar.specs.Grammar.Tree.{Name, Attribute}
 use Rattle.irtext_grammar.specs.Spelling.AttrText.{attr_tree}
 use Rattle.irtext_parse_spec.specs.Heads.{name_of, name_at, entry_by, dictionary_by, dictionary_at}
+use Rattle.irtext_parse_pieces.specs.Beside.{closed}
 use Rattle.irtext_parse_pieces.specs.declared.entries.Key.{Key}
 use Rattle.irtext_parse_pieces.specs.Entries.{IsKey, IsEntry, AreEntries, MustEntries, EntriesAfter, dictionary_if}
 use Rattle.irtext_parse_pieces.specs.Named.{whole, Optional, MayMean, MustMean}
@@ -139,3 +140,8 @@ module _ {S A : Type 0} (l : Lens S) (attr : Text → Outcome (AttrView A)) (ins
         means = subst (λ t. AreEntries t entries (list.meant entries)) (passed_whole l entries_next) list.means;
         read = last_seen l (λ _. list.meant entries) (λ _. list.meant entries) entries refl end_next h;
       }
+
+      -- all of it was parsed, or there is no closing bracket
+      pub bracket_ended : (w : Result (Unit {0}) (ParseFault A)) {r : Result (Vec (Key × AttrObj A) Global) (ParseFault A)} {new : S} → r ≡ closed entries w → MustRead {Y = Unit {0}} l.view l.at (λ u. u) (text_at (codes "]")) listed w new → MustEntries l.view l.at (dictionary_by attr inside) old r new
+      bracket_ended (Ok u) e h = rw e (bracketed h)
+      bracket_ended (Err fault) e h = rw e (no_end h)

@@ -1,6 +1,7 @@
 -- How far the parser of a list has come, whose items represent those of the text.
 use Rattle.std.proofs.Common.{◌≡◌, ℕ, suc, Bool, true, false, cond, Result, Ok, Err, List, [], ◌∷◌, ◌++◌, length, refl, sym, ◌∙◌, subst, ◌⊎◌, inl, inr, true≢false, arith, ◌<◌}
 use Rattle.std.specs.Char.{is_whitespace}
+use Rattle.std.specs.Prelude.{IfErr}
 use Rattle.irtext_base.specs.Text.{Text, begins, front, after}
 use Rattle.irtext_base.specs.Reading.{the}
 use Rattle.irtext_base.specs.Stream.{advanced}
@@ -16,9 +17,9 @@ use Rattle.irtext_tokens.proofs.Steps.{Lens, Passed, first, more, took, spaced, 
 use Rattle.irtext_grammar.specs.Grammar.Tree.{Name}
 use Rattle.irtext_parse_pieces.specs.declared.names.ReadName.{ReadName}
 use Rattle.irtext_parse_pieces.specs.Arguments.{IsArgument, MustArguments, ArgumentsAfter}
-use Rattle.irtext_parse_pieces.specs.Lists.{IsAfterComma, Appends}
+use Rattle.irtext_parse_pieces.specs.Lists.{IsAfterComma, Appends, KeptNext, KeepsNext}
 use Rattle.irtext_parse_pieces.specs.Named.{whole, Represents, Each, MayMean, MustMean, MayName, MustNames, NamesAfter}
-use Rattle.irtext_parse_pieces.proofs.Meanings.{passed_whole, takes_whole, may_whole, must_refuse}
+use Rattle.irtext_parse_pieces.proofs.Meanings.{passed_whole, takes_whole, may_whole, must_refuse, insisted_mean}
 
 -- one more of each, after the others
 pub each_more : {X Y : Type 0} (Means : Y → X → Type 0) (ys : List Y) (xs : List X) (y : Y) (x : X) → Each Means ys xs → Means y x → Each Means (ys ++ (y ∷ [])) (xs ++ (x ∷ []))
@@ -169,6 +170,15 @@ pub turn_falls : {S X Y A : Type 0} (l : Lens S) (item : Text → Outcome X) {no
     → length (l.view new).rest < length (l.view now).rest
 turn_falls {A = A} l item {now = now} comma m a = subst (λ s. length (l.view s).rest < length (l.view now).rest) (sym a.appended.1) (item_falls l item {A = A} comma.comes comma.taken comma.spaced m.read a.spaced)
 
+-- the same, of the next item if it was one
+pub kept_falls : {S X Y A : Type 0} (l : Lens S) (item : Text → Outcome X) {now later parsed new : S} {found more : List Y} {Means : Y → X → Type 0} → IsAfterComma l.view l.at now later → (answer : Result Y (ParseFault A)) → MayMean {A = A} l.view l.at Means item later answer parsed
+    → KeepsNext {A = A} l.view l.at found answer parsed (Ok more) new → length (l.view new).rest < length (l.view now).rest
+kept_falls {Y = Y} {A = A} l item {now = now} {later = later} {new = new} {found = found} {more = more} {Means = Means} comma answer m k = go k.item (insisted_mean l answer k.item m k.demands) k.kept
+  where
+    go : (i : Result Y (ParseFault A)) → MustMean l.view l.at Means item later i k.mid → KeptNext {A = A} l.view l.at found i k.mid (Ok more) new → length (l.view new).rest < length (l.view now).rest
+    go (Ok y) h a = turn_falls l item comma h a
+    go (Err fault) h a = let e = a.0 in absurd (cc)
+
 -- one turn of a loop over items: `,` and white space, an item and the white space after it
 module _ {S X Y A : Type 0} (l : Lens S) (item : Text → Outcome X) {begun : List X} {old now later : S} {found : List Y} (comma : IsAfterComma l.view l.at now later) where
   -- the item is an error
@@ -193,6 +203,27 @@ module _ {S X Y A : Type 0} (l : Lens S) (item : Text → Outcome X) {begun : Li
     -- there was no memory to append it
     pub turn_ran_out : {W : Type 0} {MeansAll : W → List X → Type 0} {fault : ParseFault A} {new : S} → Appends l.view l.at found y next (Err fault) new → MustMean l.view l.at MeansAll (λ t. items_after 44 item (length t) begun t) old (Err fault) new
     turn_ran_out a = must_refuse l (listing_ran_out l item (λ _. []) (turn_more a.spaced) a.appended)
+
+  module _ {parsed : S} (Means Other : Text → Y → X → Type 0) (on : (y : Y) (x : X) → Means (whole (l.view old)) y x → Other (whole (l.view old)) y x) (answer : Result Y (ParseFault A))
+      (m : MayMean {A = A} l.view l.at (Other (whole (l.view later))) item later answer parsed) where
+    -- the next item is one more
+    pub turn_kept : {more : List Y} {new : S} → Listing l item (Means (whole (l.view old))) begun old now found → KeepsNext {A = A} l.view l.at found answer parsed (Ok more) new → Listing l item (Other (whole (l.view old))) begun old new more
+    turn_kept {more = more} {new = new} p k = go k.item (insisted_mean l answer k.item m k.demands) k.kept
+      where
+        go : (i : Result Y (ParseFault A)) → MustMean l.view l.at (Other (whole (l.view later))) item later i k.mid → KeptNext {A = A} l.view l.at found i k.mid (Ok more) new → Listing l item (Other (whole (l.view old))) begun old new more
+        go (Ok y) h a = turn_keeps Means Other on h p a
+        go (Err fault) h a = let e = a.0 in absurd (cc)
+
+    -- it is an error, or there was no memory to append it
+    pub turn_unkept : {W : Type 0} {MeansAll : W → List X → Type 0} {fault : ParseFault A} {new : S} → Listing l item (Means (whole (l.view old))) begun old now found → KeepsNext {A = A} l.view l.at found answer parsed (Err fault) new
+        → MustMean l.view l.at MeansAll (λ t. items_after 44 item (length t) begun t) old (Err fault) new
+    turn_unkept {W = W} {MeansAll = MeansAll} {fault = fault} {new = new} p k = go k.item (insisted_mean l answer k.item m k.demands) k.kept
+      where
+        go : (i : Result Y (ParseFault A)) → MustMean l.view l.at (Other (whole (l.view later))) item later i k.mid → KeptNext {A = A} l.view l.at found i k.mid (Err fault) new → MustMean l.view l.at MeansAll (λ t. items_after 44 item (length t) begun t) old (Err fault) new
+        go (Ok y) h a = turn_ran_out Means Other on h p a
+        go (Err other) h a =
+            subst (λ s. MustMean l.view l.at MeansAll (λ t. items_after 44 item (length t) begun t) old (Err fault) s) (sym a.1)
+            (subst (λ r. IfErr r (λ f. MustMean l.view l.at MeansAll (λ t. items_after 44 item (length t) begun t) old (Err f) k.mid)) (sym a.0) (turn_refused p h))
 
 module _ {S X Y A : Type 0} (l : Lens S) (item : Text → Outcome X) {Means : Y → X → Type 0} {begun : List X} {old now new : S} {found : List Y} where
   -- no `,` comes next, so these are all

@@ -1,7 +1,7 @@
 -- Between functions: the turns of a loop over items that are separated by `,`.
 use Rattle.std.specs.Prelude.{◌≡◌, Bool, true, false, List, [], ◌∷◌, ◌++◌, MatchBool, Result, Ok, Err}
 use Rattle.std.specs.Char.{is_whitespace}
-use Rattle.irtext_base.specs.Answers.{RunsOutHere}
+use Rattle.irtext_base.specs.Answers.{RunsOutHere, DemandsOf}
 use Rattle.irtext_base.specs.Reading.{the}
 use Rattle.irtext_base.specs.Stream.{StreamView, advanced}
 use Rattle.irtext_base.specs.Text.{begins}
@@ -31,3 +31,16 @@ module _ {S X A : Type 0} (view : S → StreamView) (at : S → StreamView → S
     pub mid : S
     pub spaced : TakesFront view at is_whitespace old mid
     pub appended : Appended mid result new
+
+module _ {S X A : Type 0} (view : S → StreamView) (at : S → StreamView → S) (items : List X) where
+  -- a required item was appended to the others, with the white space after it consumed; or it is the error
+  abbrev pub KeptNext : Result X (ParseFault A) → S → Result (List X) (ParseFault A) → S → Type 0
+  KeptNext (Ok item) mid result new = Appends view at items item mid result new
+  KeptNext (Err fault) mid result new = (result ≡ Err fault) × (new ≡ mid)
+
+  -- the next item was demanded and appended to the others
+  pub record KeepsNext (answer : Result X (ParseFault A)) (old : S) (result : Result (List X) (ParseFault A)) (new : S) : Type 0 where
+    pub item : Result X (ParseFault A)
+    pub mid : S
+    pub demands : DemandsOf view at answer old item mid
+    pub kept : KeptNext item mid result new

@@ -5,8 +5,8 @@ ghost use Rattle.irtext_parse_spec.specs.Heads.{argument_at};
 ghost use Rattle.irtext_parse_pieces.specs.Arguments.{IsArgument, MustArguments, ArgumentsAfter};
 ghost use Rattle.irtext_parse_pieces.specs.Named.{MayMean, NamesRead, whole};
 
-use crate::beside::failed;
-use crate::lists::{NameKind, comma_taken, none_named, unless_committed, with_spaced};
+use crate::beside::beside;
+use crate::lists::{NameKind, comma_taken, next_kept, none_named, unless_committed};
 use crate::names::{ReadName, name_parse};
 use irtext_base::parsable::{CharStream, ParseResult};
 use irtext_base::text::{AttrText, IrText};
@@ -28,11 +28,16 @@ fn argument_parse<S: OwnStream, V: Copy, B: Copy, T: IrText<A>, A: AttrText<A>>(
         (argument_at T.IrText.reading (attr_at A.IrText.reading)) stream.old result stream.new }
     ensures names { NamesRead names.old names.new }
 {
-    let name = name_parse(stream, names)?;
-    spaced_text_demanded(stream, ":")?;
+    let name = match name_parse(stream, names) {
+        Ok(name) => name,
+        Err(fault) => return Err(fault),
+    };
+    if let Err(fault) = spaced_text_demanded(stream, ":") {
+        return Err(fault);
+    }
     let answer = stream.read_own();
-    let ty = committed(stream, answer)?;
-    Ok((name, ty))
+    let ty = committed(stream, answer);
+    beside(name, ty)
 }
 
 /// Parses the arguments after the first one, as long as `,` comes next.
@@ -48,11 +53,10 @@ fn more_arguments<S: OwnStream, V: Copy, B: Copy, T: IrText<A>, A: AttrText<A>>(
     let mut found = Few::one(first);
     while comma_taken(stream) {
         let answer = argument_parse(stream, names);
-        let next = match committed(stream, answer) {
-            Ok(next) => next,
-            Err(fault) => return failed(found, fault),
+        found = match next_kept(stream, found, answer) {
+            Ok(more) => more,
+            Err(fault) => return Err(fault),
         };
-        found = with_spaced(stream, found, next)?;
     }
     Ok(found)
 }

@@ -78,9 +78,14 @@ fn names_between<S: OwnStream, V: Copy, B: Copy, T: IrText<A>, A: AttrText<A>>(
         stream.old result stream.new }
     ensures names { NamesRead names.old names.new }
 {
-    word_parse(stream, opening)?;
+    if let Err(fault) = word_parse(stream, opening) {
+        return Err(fault);
+    }
     skip_white_space(stream);
-    let found = names_parse(stream, names, kind, inside)?;
+    let found = match names_parse(stream, names, kind, inside) {
+        Ok(found) => found,
+        Err(fault) => return Err(fault),
+    };
     let answer = word_parse(stream, closing);
     closed_by(found, answer)
 }
@@ -110,9 +115,14 @@ fn parenthesized_parse<S: OwnStream, T: IrText<A>, A: AttrText<A>>(
         MustSteps S.CharStream.view S.CharStream.at names T.IrText.reading (attr_at A.IrText.reading) inside
         type_steps type_pieces stream.old result stream.new }
 {
-    word_parse(stream, "(")?;
+    if let Err(fault) = word_parse(stream, "(") {
+        return Err(fault);
+    }
     skip_white_space(stream);
-    let types = types_parse(stream)?;
+    let types = match types_parse(stream) {
+        Ok(types) => types,
+        Err(fault) => return Err(fault),
+    };
     let answer = word_parse(stream, ")");
     closed_by(types, answer)
 }
@@ -127,9 +137,16 @@ fn signature_parse<S: OwnStream, T: IrText<A>, A: AttrText<A>>(
         MustSteps S.CharStream.view S.CharStream.at names T.IrText.reading (attr_at A.IrText.reading) inside
         signature_steps signature_pieces stream.old result stream.new }
 {
-    word_parse(stream, ":")?;
-    word_parse(stream, "<")?;
-    let inputs = parenthesized_parse(stream, inside)?;
+    if let Err(fault) = word_parse(stream, ":") {
+        return Err(fault);
+    }
+    if let Err(fault) = word_parse(stream, "<") {
+        return Err(fault);
+    }
+    let inputs = match parenthesized_parse(stream, inside) {
+        Ok(inputs) => inputs,
+        Err(fault) => return Err(fault),
+    };
     if let Err(fault) = word_parse(stream, "->") {
         return failed(inputs, fault);
     }
@@ -157,14 +174,17 @@ pub(crate) fn canonical_parse<S: OwnStream, V: Copy, B: Copy, T: IrText<A>, A: A
         canonical_front pieces_of stream.old result stream.new }
     ensures names { NamesRead names.old names.new }
 {
-    let operands = names_between::<S, V, B, T, A>(
+    let operands = match names_between::<S, V, B, T, A>(
         stream,
         names,
         NameKind::Value,
         inside,
         "(",
         ")",
-    )?;
+    ) {
+        Ok(operands) => operands,
+        Err(fault) => return Err(fault),
+    };
     let successors = match names_between::<S, V, B, T, A>(
         stream,
         names,

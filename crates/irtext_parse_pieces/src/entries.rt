@@ -1,5 +1,6 @@
 //! Parsing of dictionaries: attributes under keys. Repeated keys are accepted here, and inside a region also reserved ones.
-ghost use Rattle.std.specs.Prelude.{◌≡◌};
+ghost use Rattle.std.specs.Prelude.{◌≡◌, ◌++◌, ◌∷◌, [], IfOk, IfErr, OnOk};
+ghost use Rattle.irtext_base.specs.Answers.{RunsOutHere};
 ghost use Rattle.irtext_base.specs.Format.{same_text, given_names_key};
 ghost use Rattle.irtext_tokens.specs.AttrTexts.{attr_at};
 ghost use Rattle.irtext_tokens.specs.ListOutcomes.{separated_at};
@@ -11,8 +12,9 @@ ghost use Rattle.irtext_parse_spec.specs.Heads.{name_at, pair_at, entry_by, dict
 ghost use Rattle.irtext_parse_pieces.specs.Entries.{IsKey, IsEntry, TakesWord, Allows, MustEntries, EntriesAfter, MustDictionaryIf};
 ghost use Rattle.irtext_parse_pieces.specs.Named.{MayMean, whole};
 
+use crate::beside::{beside, closed_by, failed};
 use crate::keys::Keys;
-use crate::lists::{NameKind, comma_taken, none_named, unless_committed};
+use crate::lists::{NameKind, comma_taken, ended, none_named, unless_committed};
 use irtext_base::base::{AttrObj, Identifier};
 use irtext_base::parsable::{CharStream, ParseResult, Place};
 use irtext_base::result::{Cause, Expected};
@@ -107,10 +109,15 @@ fn pair_parse<S: OwnStream, A: AttrText<A>>(
     ensures { MayMean S.CharStream.view S.CharStream.at (IsEntry (whole (S.CharStream.view stream.old)))
         (pair_at (attr_at A.IrText.reading)) stream.old result stream.new }
 {
-    let key = key_parse(stream, keys, index)?;
-    spaced_text_demanded(stream, ":")?;
-    let attr = attr_demanded(stream)?;
-    Ok((key, attr))
+    let key = match key_parse(stream, keys, index) {
+        Ok(key) => key,
+        Err(fault) => return Err(fault),
+    };
+    if let Err(fault) = spaced_text_demanded(stream, ":") {
+        return failed(key, fault);
+    }
+    let answer = attr_demanded(stream);
+    beside(key, answer)
 }
 
 /// Whether an attribute gives names.
@@ -152,6 +159,7 @@ fn allowed<S: CharStream, A: AttrText<A>>(
         Err(fault) => return Err(fault),
     };
     if !may_hold(&key.name, &attr) {
+        ended(attr);
         return Err(refuse_at(stream, at, Cause::ReservedKey(key.name)));
     }
     Ok((key, attr))
@@ -177,6 +185,26 @@ fn entry_parse<S: OwnStream, A: AttrText<A>>(
     allowed(stream, at, answer)
 }
 
+/// Returns the items with one more appended. Fails only when out of memory.
+#[inline(always)]
+fn with_last<S: CharStream, X: Drop, A>(
+    stream: &mut S,
+    mut items: Vec<X>,
+    item: X,
+) -> ParseResult<Vec<X>, A>
+    ensures more { IfOk result (λ more. more.items ≡ items.items ++ item ∷ []) }
+    ensures stream { OnOk result (stream.new ≡ stream.old) }
+    ensures ran_out { IfErr result (λ fault. RunsOutHere S.view S.at stream.old fault stream.new) }
+{
+    match items.push(item) {
+        Ok(()) => Ok(items),
+        Err(lost) => {
+            ended((items, lost));
+            Err(out_of_memory(stream))
+        }
+    }
+}
+
 /// Parses the entries after the first one, as long as `,` comes next.
 fn more_entries<S: OwnStream, A: AttrText<A>>(
     stream: &mut S,
@@ -187,16 +215,21 @@ fn more_entries<S: OwnStream, A: AttrText<A>>(
     ensures { EntriesAfter S.CharStream.view S.CharStream.at (entry_by (attr_at A.IrText.reading) inside)
         first stream.old result stream.new }
 {
-    let mut found = Vec::new(stream.allocator());
-    let Ok(()) = found.push(first) else {
-        return Err(out_of_memory(stream));
+    let none = Vec::new(stream.allocator());
+    let mut found = match with_last(stream, none, first) {
+        Ok(only) => only,
+        Err(fault) => return Err(fault),
     };
     while comma_taken(stream) {
         let answer = entry_parse(stream, keys, found.len(), inside);
-        let next = committed(stream, answer)?;
+        let next = match committed(stream, answer) {
+            Ok(next) => next,
+            Err(fault) => return failed(found, fault),
+        };
         skip_white_space(stream);
-        let Ok(()) = found.push(next) else {
-            return Err(out_of_memory(stream));
+        found = match with_last(stream, found, next) {
+            Ok(more) => more,
+            Err(fault) => return Err(fault),
         };
     }
     Ok(found)
@@ -234,11 +267,16 @@ fn bracketed_parse<S: OwnStream, A: AttrText<A>>(
     ensures { MustEntries S.CharStream.view S.CharStream.at
         (dictionary_by (attr_at A.IrText.reading) inside) stream.old result stream.new }
 {
-    text_demanded(stream, "[")?;
+    if let Err(fault) = text_demanded(stream, "[") {
+        return Err(fault);
+    }
     skip_white_space(stream);
-    let entries = entries_parse(stream, keys, inside)?;
-    text_demanded(stream, "]")?;
-    Ok(entries)
+    let entries = match entries_parse(stream, keys, inside) {
+        Ok(entries) => entries,
+        Err(fault) => return Err(fault),
+    };
+    let answer = text_demanded(stream, "]");
+    closed_by(entries, answer)
 }
 
 /// Parses a dictionary: entries in brackets, separated by `,`, each a key, `:` and an attribute, as `[key: attribute]`. Repeated keys are
@@ -277,6 +315,8 @@ pub fn dictionary_if_parse<S: OwnStream, A: AttrText<A>>(
     if !next_is(stream, '[') {
         return Ok(None);
     }
-    let entries = dictionary_parse(stream, keys, true)?;
-    Ok(Some(entries))
+    match dictionary_parse(stream, keys, true) {
+        Ok(entries) => Ok(Some(entries)),
+        Err(fault) => Err(fault),
+    }
 }

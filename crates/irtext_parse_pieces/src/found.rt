@@ -6,6 +6,7 @@ ghost use Rattle.irtext_parse_pieces.specs.Found.{with_words};
 ghost use Rattle.irtext_parse_pieces.specs.Forms.{form_pieces};
 
 use crate::canonical::CanonicalPieces;
+use crate::lists::ended;
 use crate::pieces::ReadPiece;
 use std::alloc::{AllocError, Global};
 use std::marker::Model;
@@ -67,10 +68,15 @@ fn push_roomy<X: Drop>(items: &mut Vec<X>, item: X) -> Result<(), AllocError>
     ensures err { OnErr result (items.new.items ≡ items.old.items) }
 {
     if items.is_empty() {
-        items.reserve(ROOM)?;
+        if let Err(error) = items.reserve(ROOM) {
+            ended(item);
+            return Err(error);
+        }
     }
-    items.push(item)?;
-    Ok(())
+    match items.push(item) {
+        Ok(()) => Ok(()),
+        Err(_) => Err(AllocError),
+    }
 }
 
 impl<T, A> CustomPieces<T, A> {
@@ -115,7 +121,9 @@ impl<T: Drop, A: Drop> CustomPieces<T, A> {
         requires { length self.old + 1 < 2 ^ 64 }
         ensures { OnOk result (self.new ≡ self.old ++ piece ∷ []) }
     {
-        push_roomy(&mut self.found, (self.words, piece))?;
+        if let Err(error) = push_roomy(&mut self.found, (self.words, piece)) {
+            return Err(error);
+        }
         self.words = 0;
         self.count = self.count + 1;
         Ok(())

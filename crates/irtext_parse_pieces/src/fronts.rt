@@ -105,7 +105,9 @@ fn step_found<S: OwnStream, V: Copy, B: Copy, T: IrText<A>, A: AttrText<A>>(
     ensures names { NamesRead names.old names.new }
 {
     if let Some(word) = word_of(step) {
-        text_demanded(stream, word)?;
+        if let Err(fault) = text_demanded(stream, word) {
+            return Err(fault);
+        }
         found.push_word();
         return Ok(());
     }
@@ -178,8 +180,10 @@ fn canonical_pieces<S: OwnStream, V: Copy, B: Copy, T: IrText<A>, A: AttrText<A>
     ensures count { IfOk result (HasFront canonical_steps) }
     ensures names { NamesRead names.old names.new }
 {
-    let pieces = canonical_parse(stream, names, inside, keys)?;
-    Ok(Pieces::canonical(pieces))
+    match canonical_parse(stream, names, inside, keys) {
+        Ok(pieces) => Ok(Pieces::canonical(pieces)),
+        Err(fault) => Err(fault),
+    }
 }
 
 /// Parses what the steps of a format describe, up to the first step that parses regions, one piece for each step, with white space before
@@ -206,8 +210,10 @@ pub fn front_parse<S: OwnStream, V: Copy, B: Copy, T: IrText<A>, A: AttrText<A>>
     match format {
         OpFormat::Canonical => canonical_pieces(stream, names, inside, keys),
         OpFormat::Custom(directives) => {
-            let pieces = pieces_parse(stream, names, directives, inside, keys)?;
-            Ok(Pieces::custom(pieces))
+            match pieces_parse(stream, names, directives, inside, keys) {
+                Ok(pieces) => Ok(Pieces::custom(pieces)),
+                Err(fault) => Err(fault),
+            }
         }
     }
 }

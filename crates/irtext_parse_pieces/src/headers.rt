@@ -10,6 +10,7 @@ use crate::arguments::arguments_parse;
 use crate::beside::{beside, failed};
 use crate::entries::{ReadEntry, dictionary_if_parse};
 use crate::keys::Keys;
+use crate::lists::ended;
 use crate::marks::{ReadMark, mark_parse};
 use crate::names::{ReadName, label_demanded};
 use irtext_base::parsable::{CharStream, ParseResult};
@@ -41,7 +42,9 @@ fn dictionary_alone<S: OwnStream, A: AttrText<A>>(
         stream.new }
 {
     let mut keys = Keys::none(stream.allocator());
-    dictionary_if_parse(stream, &mut keys)
+    let entries = dictionary_if_parse(stream, &mut keys);
+    ended(keys);
+    entries
 }
 
 /// Parses the end of a block's header, on a stream that has not failed: a mark if `!` comes next, and `:`, with white space before each.
@@ -52,10 +55,15 @@ fn mark_end_parse<S: CharStream, A>(stream: &mut S) -> ParseResult<Option<ReadMa
         stream.old result stream.new }
 {
     skip_white_space(stream);
-    let mark = mark_parse(stream)?;
+    let mark = match mark_parse(stream) {
+        Ok(mark) => mark,
+        Err(fault) => return Err(fault),
+    };
     skip_white_space(stream);
-    text_demanded(stream, ":")?;
-    Ok(mark)
+    match text_demanded(stream, ":") {
+        Ok(()) => Ok(mark),
+        Err(fault) => Err(fault),
+    }
 }
 
 /// Parses what a block's header has after its arguments: `)`, a dictionary if `[` comes next, a mark if `!` comes next, and `:`. Every
@@ -65,9 +73,14 @@ fn head_end_parse<S: OwnStream, A: AttrText<A>>(stream: &mut S) -> ParseResult<H
     ensures { MustHeadEnd S.CharStream.view S.CharStream.at (attr_at A.IrText.reading) stream.old result
         stream.new }
 {
-    text_demanded(stream, ")")?;
+    if let Err(fault) = text_demanded(stream, ")") {
+        return Err(fault);
+    }
     skip_white_space(stream);
-    let attributes = dictionary_alone(stream)?;
+    let attributes = match dictionary_alone(stream) {
+        Ok(attributes) => attributes,
+        Err(fault) => return Err(fault),
+    };
     let answer = mark_end_parse(stream);
     beside(attributes, answer)
 }
@@ -83,9 +96,17 @@ pub fn block_head_parse<S: OwnStream, V: Copy, B: Copy, T: IrText<A>, A: AttrTex
         (attr_at A.IrText.reading) stream.old result stream.new }
     ensures names { NamesRead names.old names.new }
 {
-    let label = label_demanded(stream, names)?;
-    spaced_text_demanded(stream, "(")?;
-    let arguments = arguments_parse(stream, names)?;
+    let label = match label_demanded(stream, names) {
+        Ok(label) => label,
+        Err(fault) => return Err(fault),
+    };
+    if let Err(fault) = spaced_text_demanded(stream, "(") {
+        return Err(fault);
+    }
+    let arguments = match arguments_parse(stream, names) {
+        Ok(arguments) => arguments,
+        Err(fault) => return Err(fault),
+    };
     let (attributes, mark) = match head_end_parse(stream) {
         Ok(end) => end,
         Err(fault) => return failed(arguments, fault),

@@ -132,8 +132,10 @@ fn id_after<'c, S: CharStream, T: IrText<A>, A: AttrText<A>>(
         None => {
             stream.reset(at);
             let answer = id_parse(stream);
-            let id = demand_if(stream, led, answer)?;
-            registered(stream, ctx, start, at, id)
+            match demand_if(stream, led, answer) {
+                Ok(id) => registered(stream, ctx, start, at, id),
+                Err(fault) => Err(fault),
+            }
         }
     }
 }
@@ -149,9 +151,13 @@ fn lead_parse<S: CharStream, V: Copy, B: Copy, A: Drop>(
     ensures names { NamesRead names.old names.new }
 {
     skip_white_space(stream);
-    let results = results_parse(stream, names)?;
-    skip_white_space(stream);
-    Ok(results)
+    match results_parse(stream, names) {
+        Ok(results) => {
+            skip_white_space(stream);
+            Ok(results)
+        }
+        Err(fault) => Err(fault),
+    }
 }
 
 /// What precedes an operation's own parts: the names of its results, its id, and its registered information.
@@ -173,7 +179,10 @@ pub fn results_and_id_parse<'c, S: CharStream, V: Copy, B: Copy, T: IrText<A>, A
         return Err(refuse(stream, Cause::StreamFailed));
     }
     let start = stream.position();
-    let results = lead_parse(stream, names)?;
+    let results = match lead_parse(stream, names) {
+        Ok(results) => results,
+        Err(fault) => return Err(fault),
+    };
     let led = !stream.text_since(start).is_empty();
     let (id, info) = match id_after(stream, ctx, start, led) {
         Ok(op) => op,

@@ -123,9 +123,13 @@ impl Keys {
         requires { IsTrue (is_identifier text.now) }
         ensures { IfOk result (λ key. key ≡ text.now) }
     {
-        let key = Identifier::from_word(alloc, text)?;
-        self.keep(index, &key);
-        Ok(key)
+        match Identifier::from_word(alloc, text) {
+            Ok(key) => {
+                self.keep(index, &key);
+                Ok(key)
+            }
+            Err(error) => Err(error),
+        }
     }
 
     /// Returns the key with this text, which must be that of an identifier. If the key that is kept at this place has the text, shares it

@@ -2,7 +2,7 @@
 ghost use Rattle.std.specs.Prelude.{◌≡◌, ◌++◌, ◌∷◌, [], ◌&&◌, not, cond, IfOk, Ok, Err};
 ghost use Rattle.irtext_base.specs.Text.{begins};
 ghost use Rattle.irtext_tokens.specs.ListOutcomes.{separated_at};
-ghost use Rattle.irtext_parse_pieces.specs.Lists.{TakesComma, Appends};
+ghost use Rattle.irtext_parse_pieces.specs.Lists.{TakesComma, Appends, KeepsNext};
 ghost use Rattle.irtext_parse_pieces.specs.Named.{MayName, MustNames, NamesAfter, NamesRead};
 ghost use Rattle.irtext_parse_pieces.specs.Kinds.{beginning, named_at};
 
@@ -27,9 +27,18 @@ fn many<X: Drop>(alloc: Global, first: X, second: X, third: X) -> Result<Few<X>,
     ensures { IfOk result (λ items. items ≡ first ∷ second ∷ third ∷ []) }
 {
     let mut items = Vec::new(alloc);
-    items.push(first)?;
-    items.push(second)?;
-    items.push(third)?;
+    let Ok(()) = items.push(first) else {
+        ended((items, second, third));
+        return Err(AllocError);
+    };
+    let Ok(()) = items.push(second) else {
+        ended((items, third));
+        return Err(AllocError);
+    };
+    let Ok(()) = items.push(third) else {
+        ended(items);
+        return Err(AllocError);
+    };
     Ok(Few::from_vec(items))
 }
 
@@ -41,10 +50,10 @@ fn with_item<X: Drop>(alloc: Global, items: Few<X>, item: X) -> Result<Few<X>, A
         Items::Nothing => Ok(Few::one(item)),
         Items::One(first) => Ok(Few::two(first, item)),
         Items::Two(first, second) => many(alloc, first, second, item),
-        Items::Many(mut found) => {
-            found.push(item)?;
-            Ok(Few::from_vec(found))
-        }
+        Items::Many(mut found) => match found.push(item) {
+            Ok(()) => Ok(Few::from_vec(found)),
+            Err(_) => Err(AllocError),
+        },
     }
 }
 
@@ -62,6 +71,21 @@ pub(crate) fn with_spaced<S: CharStream, X: Drop, A>(
     match with_item(stream.allocator(), items, item) {
         Ok(more) => Ok(more),
         Err(AllocError) => Err(out_of_memory(stream)),
+    }
+}
+
+/// Demands the next item, consumes the white space after it, and returns the items with this one appended. Every error is committed.
+#[inline(always)]
+pub(crate) fn next_kept<S: CharStream, X: Drop, A: Drop>(
+    stream: &mut S,
+    items: Few<X>,
+    answer: ParseResult<X, A>,
+) -> ParseResult<Few<X>, A>
+    ensures { KeepsNext S.view S.at items answer stream.old result stream.new }
+{
+    match committed(stream, answer) {
+        Ok(item) => with_spaced(stream, items, item),
+        Err(fault) => failed(items, fault),
     }
 }
 
@@ -121,7 +145,9 @@ pub(crate) fn named_parse<S: CharStream, V: Copy, B: Copy, A>(
     match kind {
         NameKind::Value => used_parse(stream, names, inside),
         NameKind::Block => {
-            text_parse(stream, "^")?;
+            if let Err(fault) = text_parse(stream, "^") {
+                return Err(fault);
+            }
             let answer = used_parse(stream, names, inside);
             committed(stream, answer)
         }
@@ -144,11 +170,10 @@ fn more_names<S: CharStream, V: Copy, B: Copy, A: Drop>(
     let mut found = Few::one(first);
     while comma_taken(stream) {
         let answer = named_parse(stream, names, kind, inside);
-        let next = match committed(stream, answer) {
-            Ok(next) => next,
-            Err(fault) => return failed(found, fault),
+        found = match next_kept(stream, found, answer) {
+            Ok(more) => more,
+            Err(fault) => return Err(fault),
         };
-        found = with_spaced(stream, found, next)?;
     }
     Ok(found)
 }

@@ -28,8 +28,10 @@ fn mark_there<S: CharStream, A>(stream: &mut S) -> ParseResult<Option<ReadMark>,
         return Ok(None);
     }
     let at = stream.position();
-    let index = index_demanded(stream)?;
-    Ok(Some(ReadMark { index, at }))
+    match index_demanded(stream) {
+        Ok(index) => Ok(Some(ReadMark { index, at })),
+        Err(fault) => Err(fault),
+    }
 }
 
 /// Parses a mark, `!` and an index, as `!3`. If `!` does not come next, returns `None`. Every error is committed.

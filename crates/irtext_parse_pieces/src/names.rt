@@ -36,8 +36,10 @@ pub fn symbol_demanded<S: CharStream, A>(stream: &mut S) -> ParseResult<Symbol, 
         stream.new }
 {
     let at = stream.position();
-    let name = demanded::symbol_demanded(stream)?;
-    Ok(Symbol { name, at })
+    match demanded::symbol_demanded(stream) {
+        Ok(name) => Ok(Symbol { name, at }),
+        Err(fault) => Err(fault),
+    }
 }
 
 /// Returns the error for a name where none begins: uncommitted, with the stream unchanged; on a stream that has failed it is committed.
@@ -93,13 +95,17 @@ pub fn label_demanded<S: CharStream, V: Copy, B: Copy, A>(
     ensures names { NamesRead names.old names.new }
 {
     let at = stream.position();
-    text_demanded(stream, "^")?;
+    if let Err(fault) = text_demanded(stream, "^") {
+        return Err(fault);
+    }
     let answer = name_parse(stream, names);
-    let label = committed(stream, answer)?;
-    Ok(ReadName {
-        name: label.name,
-        at,
-    })
+    match committed(stream, answer) {
+        Ok(label) => Ok(ReadName {
+            name: label.name,
+            at,
+        }),
+        Err(fault) => Err(fault),
+    }
 }
 
 /// Returns the error for a name that is used where no scope is open, at the name. If no name comes next, the error is uncommitted and the

@@ -15,6 +15,7 @@ ghost use Rattle.irtext_parse_pieces.specs.Pieces.{seen_attribute, Accepts, AnyP
 ghost use Rattle.irtext_parse_pieces.specs.Named.{NamesRead};
 ghost use Rattle.irtext_parse_pieces.specs.Steps.{seen_step};
 
+use crate::beside::failed;
 use crate::entries::{ReadEntry, attr_demanded, dictionary_parse};
 use crate::keys::Keys;
 use crate::lists::{NameKind, named_parse, names_parse};
@@ -80,8 +81,10 @@ fn outlined_or_demanded<S: OwnStream, A: AttrText<A>>(
     if accepts(stream, "!outlined") {
         return Ok(None);
     }
-    let attr = attr_demanded(stream)?;
-    Ok(Some(attr))
+    match attr_demanded(stream) {
+        Ok(attr) => Ok(Some(attr)),
+        Err(fault) => Err(fault),
+    }
 }
 
 /// Parses a fixed text.
@@ -92,8 +95,10 @@ fn word_piece<S: OwnStream, T: IrText<A>, A: AttrText<A>>(
     ensures { AnyPiece S.CharStream.view S.CharStream.at
         (text_at (characters text.now) ⇒ λ _. word (characters text.now)) stream.old result stream.new }
 {
-    text_demanded(stream, text)?;
-    Ok(ReadPiece::Word)
+    match text_demanded(stream, text) {
+        Ok(()) => Ok(ReadPiece::Word),
+        Err(fault) => Err(fault),
+    }
 }
 
 /// Parses the name of an operand or the label of a successor, the one at this place.
@@ -109,10 +114,12 @@ fn name_piece<S: OwnStream, V: Copy, B: Copy, T: IrText<A>, A: AttrText<A>>(
     ensures names { NamesRead names.old names.new }
 {
     let answer = named_parse(stream, names, kind, inside);
-    let name = committed(stream, answer)?;
-    match kind {
-        NameKind::Value => Ok(ReadPiece::Operand(index, name)),
-        NameKind::Block => Ok(ReadPiece::Successor(index, name)),
+    match committed(stream, answer) {
+        Ok(name) => match kind {
+            NameKind::Value => Ok(ReadPiece::Operand(index, name)),
+            NameKind::Block => Ok(ReadPiece::Successor(index, name)),
+        },
+        Err(fault) => Err(fault),
     }
 }
 
@@ -127,10 +134,12 @@ fn names_piece<S: OwnStream, V: Copy, B: Copy, T: IrText<A>, A: AttrText<A>>(
         (separated_at 44 (named_at kind inside) ⇒ names_tree kind) stream.old result stream.new }
     ensures names { NamesRead names.old names.new }
 {
-    let found = names_parse(stream, names, kind, inside)?;
-    match kind {
-        NameKind::Value => Ok(ReadPiece::Operands(found)),
-        NameKind::Block => Ok(ReadPiece::Successors(found)),
+    match names_parse(stream, names, kind, inside) {
+        Ok(found) => match kind {
+            NameKind::Value => Ok(ReadPiece::Operands(found)),
+            NameKind::Block => Ok(ReadPiece::Successors(found)),
+        },
+        Err(fault) => Err(fault),
     }
 }
 
@@ -142,10 +151,13 @@ fn attr_piece<S: OwnStream, T: IrText<A>, A: AttrText<A>>(
     ensures { AnyPiece S.CharStream.view S.CharStream.at
         (outlined_or_at (attr_at A.IrText.reading) ⇒ attribute key.now) stream.old result stream.new }
 {
-    let attr = outlined_or_demanded(stream)?;
+    let attr = match outlined_or_demanded(stream) {
+        Ok(attr) => attr,
+        Err(fault) => return Err(fault),
+    };
     match key.clone() {
         Ok(key) => Ok(ReadPiece::Attr(key, attr)),
-        Err(_) => Err(out_of_memory(stream)),
+        Err(_) => failed(attr, out_of_memory(stream)),
     }
 }
 
@@ -158,8 +170,10 @@ fn dictionary_piece<S: OwnStream, T: IrText<A>, A: AttrText<A>>(
     ensures { AnyPiece S.CharStream.view S.CharStream.at
         (dictionary_by (attr_at A.IrText.reading) inside ⇒ dictionary) stream.old result stream.new }
 {
-    let entries = dictionary_parse(stream, keys, inside)?;
-    Ok(ReadPiece::Dictionary(entries))
+    match dictionary_parse(stream, keys, inside) {
+        Ok(entries) => Ok(ReadPiece::Dictionary(entries)),
+        Err(fault) => Err(fault),
+    }
 }
 
 /// Parses the type of a result.
@@ -171,8 +185,10 @@ fn type_piece<S: OwnStream, T: IrText<A>, A: AttrText<A>>(
         (T.IrText.reading ⇒ result_type index) stream.old result stream.new }
 {
     let answer = stream.read_own();
-    let ty = committed(stream, answer)?;
-    Ok(ReadPiece::ResultType(index, ty))
+    match committed(stream, answer) {
+        Ok(ty) => Ok(ReadPiece::ResultType(index, ty)),
+        Err(fault) => Err(fault),
+    }
 }
 
 /// Parses a symbol's name.
@@ -180,8 +196,10 @@ fn header_piece<S: OwnStream, T: IrText<A>, A: AttrText<A>>(stream: &mut S) -> P
     ensures { AnyPiece S.CharStream.view S.CharStream.at (symbol_at ⇒ header)
         stream.old result stream.new }
 {
-    let symbol = symbol_demanded(stream)?;
-    Ok(ReadPiece::Header(symbol))
+    match symbol_demanded(stream) {
+        Ok(symbol) => Ok(ReadPiece::Header(symbol)),
+        Err(fault) => Err(fault),
+    }
 }
 
 /// Parses a list of types, in the canonical form.
@@ -189,8 +207,10 @@ fn types_piece<S: OwnStream, T: IrText<A>, A: AttrText<A>>(stream: &mut S) -> Pi
     ensures { AnyPiece S.CharStream.view S.CharStream.at
         (separated_at 44 T.IrText.reading ⇒ types) stream.old result stream.new }
 {
-    let found = types_parse(stream)?;
-    Ok(ReadPiece::Types(found))
+    match types_parse(stream) {
+        Ok(found) => Ok(ReadPiece::Types(found)),
+        Err(fault) => Err(fault),
+    }
 }
 
 /// Returns the error for a step that parses a region, which is no piece: an operation was expected.

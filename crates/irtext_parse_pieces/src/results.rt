@@ -83,10 +83,15 @@ fn results_there<S: CharStream, V: Copy, B: Copy, A: Drop>(
         stream.old result stream.new }
     ensures names { NamesRead names.old names.new }
 {
-    let Some(found) = names_there(stream, names)? else {
+    let found = match names_there(stream, names) {
+        Ok(found) => found,
+        Err(fault) => return Err(fault),
+    };
+    let Some(found) = found else {
         return Ok(None);
     };
     if !next_is(stream, '=') {
+        ended(found);
         return Ok(None);
     }
     let _ = stream.take();
@@ -109,7 +114,11 @@ pub fn results_parse<S: CharStream, V: Copy, B: Copy, A: Drop>(
         return Ok(Few::none());
     }
     let place = stream.position();
-    match results_there(stream, names)? {
+    let found = match results_there(stream, names) {
+        Ok(found) => found,
+        Err(fault) => return Err(fault),
+    };
+    match found {
         Some(results) => Ok(results),
         None => {
             stream.reset(place);

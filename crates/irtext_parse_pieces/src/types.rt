@@ -4,12 +4,11 @@ ghost use Rattle.irtext_tokens.specs.ListOutcomes.{separated_at};
 ghost use Rattle.irtext_parse_pieces.specs.Pieces.{MustTypes, TypesAfter};
 ghost use Rattle.irtext_parse_pieces.specs.Named.{MayMean};
 
-use crate::beside::failed;
-use crate::lists::{comma_taken, unless_committed, with_spaced};
+use crate::lists::{comma_taken, next_kept, unless_committed};
 use irtext_base::parsable::{CharStream, ParseResult};
 use irtext_base::text::IrText;
 use irtext_few::Few;
-use irtext_tokens::irfmt::faults::{committed, next_is};
+use irtext_tokens::irfmt::faults::next_is;
 use irtext_tokens::irfmt::parsers::skip_white_space;
 use irtext_tokens::parsable::OwnStream;
 
@@ -32,11 +31,10 @@ fn more_types<S: OwnStream, T: IrText<A>, A: Drop>(
     let mut found = Few::one(first);
     while comma_taken(stream) {
         let answer = type_parse(stream);
-        let next = match committed(stream, answer) {
-            Ok(next) => next,
-            Err(fault) => return failed(found, fault),
+        found = match next_kept(stream, found, answer) {
+            Ok(more) => more,
+            Err(fault) => return Err(fault),
         };
-        found = with_spaced(stream, found, next)?;
     }
     Ok(found)
 }

@@ -1,6 +1,6 @@
 use Rattle.irtext_tokens.specs.AttrTexts.{attr_at}
 use Rattle.irtext_parse_spec.specs.Heads.{argument_at}
-use Rattle.irtext_parse_pieces.proofs.Meanings.{names_more}
+use Rattle.irtext_parse_pieces.proofs.Meanings.{names_more, names_none}
 use Rattle.irtext_parse_pieces.specs.declared.lists.NameKind.TheVariants as kind
 use Rattle.irtext_parse_pieces.proofs.Absences.{missing_followed, no_name_begins, list_unbegun}
 use Rattle.irtext_parse_pieces.proofs.Listings.{list_unread, list_arguments}
@@ -20,3 +20,9 @@ returns-in-Ok-clause-names g c = names_more _ _ _ c.in-Ok.ensures.names c.more_a
 pub returns-in-Err-clause-read : goal.returns-in-Err-clause-read
 returns-in-Err-clause-read g c =
     list_unread (lens_of g.world g.met.S.CharStream) (argument_at g.T.IrText.reading (attr_at g.A.IrText.reading)) c.none-in-Err.result c.unless_committed.result (rw c.none-in-Err.ensures tt) c.in-Err.ensures.read c.unless_committed.ensures
+
+pub returns-then-none_named-clause-names : goal.returns-then-none_named-clause-names
+returns-then-none_named-clause-names g c = names_none c.args.names.now
+
+pub returns-in-Err-clause-names : goal.returns-in-Err-clause-names
+returns-in-Err-clause-names g c = c.in-Err.ensures.names

@@ -1,5 +1,4 @@
 use Rattle.std.proofs.Common.{◌≡◌, refl, sym, ap, codes}
-use Rattle.irtext_tokens.proofs.Exits.{propagated}
 use Rattle.irtext_tokens.specs.AttrTexts.{attr_at}
 use Rattle.irtext_tokens.specs.ListOutcomes.{separated_at}
 use Rattle.irtext_grammar.specs.Grammar.Tree as tree
@@ -11,19 +10,17 @@ use Rattle.irtext_parse_pieces.proofs.PieceSteps.{each_same}
 use Rattle.irtext_parse_pieces.proofs.Lenses.{lens_of}
 use Rattle.irtext_parse_pieces.proofs.canonical.parenthesized_parse.Goals as goal
 
-pub returns-in_err-word_parse : goal.returns-in_err-word_parse
-returns-in_err-word_parse g c = λ names fine.
-    rw (propagated c.from_residual.result c.from_residual.ensures.1)
-    (unopened (lens_of g.world g.met.S.CharStream) g.T.IrText.reading (attr_at g.A.IrText.reading) c.args.inside (codes "(") (codes ")") types (separated_at 44 g.T.IrText.reading) tree.types (λ u. refl)
-    (λ names text. Each ◌≡◌) read.Types (λ names text y x m. ap tree.types (sym (each_same y x m))) fine names c.in_err-word_parse.ensures)
+pub returns-in-Err : goal.returns-in-Err
+returns-in-Err g c = λ names fine.
+    unopened (lens_of g.world g.met.S.CharStream) g.T.IrText.reading (attr_at g.A.IrText.reading) c.args.inside (codes "(") (codes ")") types (separated_at 44 g.T.IrText.reading) tree.types (λ u. refl)
+    (λ names text. Each ◌≡◌) read.Types (λ names text y x m. ap tree.types (sym (each_same y x m))) fine names c.in-Err.ensures
 
-pub returns-in_err-types : goal.returns-in_err-types
-returns-in_err-types g c = λ names fine.
-    rw (propagated c.from_residual-in_err-types.result c.from_residual-in_err-types.ensures.1)
-    (unfilled (lens_of g.world g.met.S.CharStream) g.T.IrText.reading (attr_at g.A.IrText.reading) c.args.inside (codes "(") (codes ")") types (separated_at 44 g.T.IrText.reading) tree.types (λ u. refl)
-    (λ names text. Each ◌≡◌) read.Types (λ names text y x m. ap tree.types (sym (each_same y x m))) fine c.in_ok-word_parse.ensures c.skip_white_space.ensures names c.in_err-types.ensures)
+pub returns-in-Err-types_parse : goal.returns-in-Err-types_parse
+returns-in-Err-types_parse g c = λ names fine.
+    unfilled (lens_of g.world g.met.S.CharStream) g.T.IrText.reading (attr_at g.A.IrText.reading) c.args.inside (codes "(") (codes ")") types (separated_at 44 g.T.IrText.reading) tree.types (λ u. refl)
+    (λ names text. Each ◌≡◌) read.Types (λ names text y x m. ap tree.types (sym (each_same y x m))) fine c.in_default.ensures c.skip_white_space.ensures names c.in-Err-types_parse.ensures
 
 pub returns : goal.returns
 returns g c = λ names fine.
     ended (lens_of g.world g.met.S.CharStream) g.T.IrText.reading (attr_at g.A.IrText.reading) c.args.inside (codes "(") (codes ")") types (separated_at 44 g.T.IrText.reading) tree.types (λ u. refl)
-    (λ names text. Each ◌≡◌) read.Types (λ names text y x m. ap tree.types (sym (each_same y x m))) fine c.in_ok-word_parse.ensures c.skip_white_space.ensures names c.in_ok-types.ensures c.word_parse-answer.result c.closed_by.ensures c.word_parse-answer.ensures
+    (λ names text. Each ◌≡◌) read.Types (λ names text y x m. ap tree.types (sym (each_same y x m))) fine c.in_default.ensures c.skip_white_space.ensures names c.in-Ok.ensures c.word_parse-answer.result c.closed_by.ensures c.word_parse-answer.ensures

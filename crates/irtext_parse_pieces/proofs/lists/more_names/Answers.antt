@@ -1,9 +1,7 @@
-use Rattle.std.proofs.Common.{Ok, Err}
-use Rattle.irtext_tokens.proofs.Exits.{propagated}
 use Rattle.irtext_parse_pieces.specs.Kinds.{named_at}
 use Rattle.irtext_parse_pieces.specs.Named.{whole, Represents, Each}
-use Rattle.irtext_parse_pieces.proofs.Meanings.{names_none, names_more, insisted_mean, names_still_represent}
-use Rattle.irtext_parse_pieces.proofs.Listings.{listing_starts, turn_refused, turn_falls, turn_keeps, turn_ran_out, turn_ends}
+use Rattle.irtext_parse_pieces.proofs.Meanings.{names_none, names_more, names_still_represent}
+use Rattle.irtext_parse_pieces.proofs.Listings.{listing_starts, turn_kept, turn_unkept, kept_falls, turn_ends}
 use Rattle.irtext_parse_pieces.proofs.Lenses.{lens_of}
 use Rattle.irtext_parse_pieces.proofs.lists.more_names.Goals as goal
 
@@ -12,30 +10,20 @@ loop-kind-init g c = (names_none c.args.names.now, λ name means fine. listing_s
 
 pub returns-in-Err-clause-read : goal.returns-in-Err-clause-read
 returns-in-Err-clause-read g c = λ name means fine.
-    let l = lens_of g.world g.met.S.CharStream in
-    let m = insisted_mean l c.named_parse-answer.result (Err _) c.named_parse-answer.ensures.read c.in-Err.ensures in
-    rw c.failed.ensures (turn_refused l (named_at c.args.kind c.args.inside) c.loop-kind-test.ensures (c.loop-kind.invariant.1 name means fine) m)
-
-pub returns-in_err-found : goal.returns-in_err-found
-returns-in_err-found g c = record {
-  read = λ name means fine.
-      let m = insisted_mean (lens_of g.world g.met.S.CharStream) c.named_parse-answer.result (Ok c.in-Ok.next) c.named_parse-answer.ensures.read c.in-Ok.ensures in
-      rw (propagated c.from_residual.result c.from_residual.ensures.1)
-      (turn_ran_out (lens_of g.world g.met.S.CharStream) (named_at c.args.kind c.args.inside) c.loop-kind-test.ensures (Represents c.loop-kind.names.names) (Represents c.named_parse-answer.new.names.names) (names_still_represent c.named_parse-answer.ensures.names) m (c.loop-kind.invariant.1 name means fine) c.in_err-found.ensures);
-  names = names_more _ _ _ c.loop-kind.invariant.0 c.named_parse-answer.ensures.names;
-}
+    turn_unkept (lens_of g.world g.met.S.CharStream) (named_at c.args.kind c.args.inside) c.loop-kind-test.ensures (Represents c.loop-kind.names.names) (Represents c.named_parse-answer.new.names.names)
+    (names_still_represent c.named_parse-answer.ensures.names) c.named_parse-answer.result c.named_parse-answer.ensures.read (c.loop-kind.invariant.1 name means fine) c.in-Err.ensures
 
 pub loop-kind-preserved : goal.loop-kind-preserved
 loop-kind-preserved g c = (
   names_more _ _ _ c.loop-kind.invariant.0 c.named_parse-answer.ensures.names,
   λ name means fine.
-      turn_keeps (lens_of g.world g.met.S.CharStream) (named_at c.args.kind c.args.inside) c.loop-kind-test.ensures (Represents c.loop-kind.names.names) (Represents c.named_parse-answer.new.names.names) (names_still_represent c.named_parse-answer.ensures.names) (insisted_mean (lens_of g.world g.met.S.CharStream) c.named_parse-answer.result (Ok c.in-Ok.next) c.named_parse-answer.ensures.read c.in-Ok.ensures) (c.loop-kind.invariant.1 name means fine) c.in_ok-found.ensures,
+      turn_kept (lens_of g.world g.met.S.CharStream) (named_at c.args.kind c.args.inside) c.loop-kind-test.ensures (Represents c.loop-kind.names.names) (Represents c.named_parse-answer.new.names.names)
+      (names_still_represent c.named_parse-answer.ensures.names) c.named_parse-answer.result c.named_parse-answer.ensures.read (c.loop-kind.invariant.1 name means fine) c.in-Ok.ensures,
 )
 
 pub loop-kind-smaller : goal.loop-kind-smaller
 loop-kind-smaller g c =
-    let l = lens_of g.world g.met.S.CharStream in
-    turn_falls l (named_at c.args.kind c.args.inside) c.loop-kind-test.ensures (insisted_mean l c.named_parse-answer.result (Ok c.in-Ok.next) c.named_parse-answer.ensures.read c.in-Ok.ensures) c.in_ok-found.ensures
+    kept_falls (lens_of g.world g.met.S.CharStream) (named_at c.args.kind c.args.inside) c.loop-kind-test.ensures c.named_parse-answer.result c.named_parse-answer.ensures.read c.in-Ok.ensures
 
 pub returns-clause-read : goal.returns-clause-read
 returns-clause-read g c = λ name means fine.

@@ -1,6 +1,6 @@
 use Rattle.std.proofs.Common.{sym, ◌∙◌}
 use Rattle.irtext_parse_pieces.specs.Kinds.{named_at}
-use Rattle.irtext_parse_pieces.proofs.Meanings.{names_more}
+use Rattle.irtext_parse_pieces.proofs.Meanings.{names_more, names_none}
 use Rattle.irtext_parse_pieces.proofs.Absences.{none_begins, list_unbegun}
 use Rattle.irtext_parse_pieces.proofs.Listings.{only_first, list_unread, list_names}
 use Rattle.irtext_parse_pieces.proofs.Lenses.{lens_of}
@@ -25,3 +25,12 @@ returns-else-not-next_is-clause-names g c = names_more _ _ _ c.in-Ok.ensures.nam
 
 pub returns-in-Err-clause-read : goal.returns-in-Err-clause-read
 returns-in-Err-clause-read g c = list_unread (lens_of g.world g.met.S.CharStream) (named_at c.args.kind c.args.inside) c.none-in-Err.result c.unless_committed.result (rw c.none-in-Err.ensures tt) c.in-Err.ensures.read c.unless_committed.ensures
+
+pub returns-then-none_named-clause-names : goal.returns-then-none_named-clause-names
+returns-then-none_named-clause-names g c = names_none c.args.names.now
+
+pub returns-then-not-next_is-clause-names : goal.returns-then-not-next_is-clause-names
+returns-then-not-next_is-clause-names g c = c.in-Ok.ensures.names
+
+pub returns-in-Err-clause-names : goal.returns-in-Err-clause-names
+returns-in-Err-clause-names g c = c.in-Err.ensures.names

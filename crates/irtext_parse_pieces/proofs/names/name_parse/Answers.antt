@@ -6,6 +6,7 @@ use Rattle.irtext_parse_pieces.proofs.Interned.{words_with}
 use Rattle.irtext_parse_pieces.specs.Named.{AreWords}
 use Rattle.irtext_parse_pieces.proofs.NameSteps.{unstored, name_there}
 use Rattle.irtext_parse_pieces.proofs.Lenses.{lens_of}
+use Rattle.irtext_parse_pieces.proofs.Meanings.{names_none}
 use Rattle.irtext_parse_pieces.proofs.names.name_parse.Goals as goal
 
 pub text_since-requires : goal.text_since-requires
@@ -34,3 +35,9 @@ returns-in-Ok g c =
 
 pub returns-in-Err-clause-read : goal.returns-in-Err-clause-read
 returns-in-Err-clause-read g c = unstored (lens_of g.world g.met.S.CharStream) c.name_unstored.result (sym c.has_failed.ensures ∙ c.if-has_failed.false) c.skip_class.ensures c.name_unstored.ensures
+
+pub returns-then-has_failed-clause-names : goal.returns-then-has_failed-clause-names
+returns-then-has_failed-clause-names g c = names_none c.args.names.now
+
+pub returns-then-not-begins-clause-names : goal.returns-then-not-begins-clause-names
+returns-then-not-begins-clause-names g c = names_none c.args.names.now

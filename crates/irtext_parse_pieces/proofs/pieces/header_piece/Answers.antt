@@ -1,13 +1,12 @@
 use Rattle.std.proofs.Common.{refl}
-use Rattle.irtext_tokens.proofs.Exits.{propagated}
 use Rattle.irtext_grammar.specs.Grammar.Tree as tree
 use Rattle.irtext_parse_pieces.proofs.PieceSteps.{no_tree, piece_there, piece_refused}
 use Rattle.irtext_parse_pieces.specs.declared.pieces.ReadPiece.TheVariants as read
 use Rattle.irtext_parse_pieces.proofs.Lenses.{lens_of}
 use Rattle.irtext_parse_pieces.proofs.pieces.header_piece.Goals as goal
 
-pub returns-in_err-symbol : goal.returns-in_err-symbol
-returns-in_err-symbol g c = λ names. rw (propagated c.from_residual.result c.from_residual.ensures.1) (piece_refused (lens_of g.world g.met.S.CharStream) tree.header no_tree c.in_err-symbol.ensures.read)
+pub returns-in-Err : goal.returns-in-Err
+returns-in-Err g c = λ names. piece_refused (lens_of g.world g.met.S.CharStream) tree.header no_tree c.in-Err.ensures.read
 
-pub returns : goal.returns
-returns g c = λ names. piece_there (lens_of g.world g.met.S.CharStream) tree.header (read.Header c.in_ok-symbol.symbol) c.in_ok-symbol.ensures (_, refl, c.in_ok-symbol.ensures.means)
+pub returns-in-Ok : goal.returns-in-Ok
+returns-in-Ok g c = λ names. piece_there (lens_of g.world g.met.S.CharStream) tree.header (read.Header c.in-Ok.symbol) c.in-Ok.ensures (_, refl, c.in-Ok.ensures.means)

@@ -7,6 +7,7 @@ use Rattle.irtext_tokens.specs.Tokens.{text_at}
 use Rattle.irtext_tokens.proofs.Characters.{encodes-characters}
 use Rattle.irtext_grammar.specs.Grammar.Tree as tree
 use Rattle.irtext_parse_pieces.specs.Pieces.{MustPiece}
+use Rattle.irtext_parse_pieces.proofs.Meanings.{names_none}
 use Rattle.irtext_parse_pieces.proofs.pieces.piece_parse.Goals as goal
 
 pub returns-in-Literal-clause-read : goal.returns-in-Literal-clause-read
@@ -46,3 +47,36 @@ returns-in-Region-clause-read g c = rw c.in-Region.is (c.no_piece.ensures c.args
 
 pub returns-in-Regions-clause-read : goal.returns-in-Regions-clause-read
 returns-in-Regions-clause-read g c = rw c.in-Regions.is (c.no_piece-in-Regions.ensures c.args.names.now.names)
+
+pub returns-in-Literal-clause-names : goal.returns-in-Literal-clause-names
+returns-in-Literal-clause-names g c = names_none c.args.names.now
+
+pub returns-in-Attr-clause-names : goal.returns-in-Attr-clause-names
+returns-in-Attr-clause-names g c = names_none c.args.names.now
+
+pub returns-in-AttrDict-clause-names : goal.returns-in-AttrDict-clause-names
+returns-in-AttrDict-clause-names g c = names_none c.args.names.now
+
+pub returns-in-ResultType-clause-names : goal.returns-in-ResultType-clause-names
+returns-in-ResultType-clause-names g c = names_none c.args.names.now
+
+pub returns-in-SymbolHeader-clause-names : goal.returns-in-SymbolHeader-clause-names
+returns-in-SymbolHeader-clause-names g c = names_none c.args.names.now
+
+pub returns-in-Region-clause-names : goal.returns-in-Region-clause-names
+returns-in-Region-clause-names g c = names_none c.args.names.now
+
+pub returns-in-Regions-clause-names : goal.returns-in-Regions-clause-names
+returns-in-Regions-clause-names g c = names_none c.args.names.now
+
+pub returns-in-Operand-clause-names : goal.returns-in-Operand-clause-names
+returns-in-Operand-clause-names g c = c.name_piece.ensures.names
+
+pub returns-in-Operands-clause-names : goal.returns-in-Operands-clause-names
+returns-in-Operands-clause-names g c = c.names_piece.ensures.names
+
+pub returns-in-Successor-clause-names : goal.returns-in-Successor-clause-names
+returns-in-Successor-clause-names g c = c.name_piece-in-Successor.ensures.names
+
+pub returns-in-Successors-clause-names : goal.returns-in-Successors-clause-names
+returns-in-Successors-clause-names g c = c.names_piece-in-Successors.ensures.names

@@ -3,6 +3,7 @@ use Rattle.irtext_base.specs.FormatViews.{directive_of}
 use Rattle.irtext_tokens.specs.AttrTexts.{attr_at}
 use Rattle.irtext_parse_pieces.specs.Pieces.{MustPiece}
 use Rattle.irtext_parse_pieces.proofs.FormatSteps.{step_reads}
+use Rattle.irtext_parse_pieces.proofs.Meanings.{names_none}
 use Rattle.irtext_parse_pieces.proofs.pieces.step_parse.Goals as goal
 
 pub returns-in-Directive-clause-read : goal.returns-in-Directive-clause-read
@@ -28,3 +29,24 @@ returns-in-Types-clause-read g c = rw c.in-Types.is (c.types_piece.ensures c.arg
 
 pub returns-in-Regions-clause-read : goal.returns-in-Regions-clause-read
 returns-in-Regions-clause-read g c = rw c.in-Regions.is (c.no_piece.ensures c.args.names.now.names)
+
+pub returns-in-Word-clause-names : goal.returns-in-Word-clause-names
+returns-in-Word-clause-names g c = names_none c.args.names.now
+
+pub returns-in-Dictionary-clause-names : goal.returns-in-Dictionary-clause-names
+returns-in-Dictionary-clause-names g c = names_none c.args.names.now
+
+pub returns-in-Types-clause-names : goal.returns-in-Types-clause-names
+returns-in-Types-clause-names g c = names_none c.args.names.now
+
+pub returns-in-Regions-clause-names : goal.returns-in-Regions-clause-names
+returns-in-Regions-clause-names g c = names_none c.args.names.now
+
+pub returns-in-Directive-clause-names : goal.returns-in-Directive-clause-names
+returns-in-Directive-clause-names g c = c.piece_parse.ensures.names
+
+pub returns-in-Operands-clause-names : goal.returns-in-Operands-clause-names
+returns-in-Operands-clause-names g c = c.names_piece.ensures.names
+
+pub returns-in-Successors-clause-names : goal.returns-in-Successors-clause-names
+returns-in-Successors-clause-names g c = c.names_piece-in-Successors.ensures.names

@@ -1,14 +1,13 @@
 use Rattle.std.proofs.Common.{refl}
 use Rattle.irtext_base.specs.Faults.{characters}
-use Rattle.irtext_tokens.proofs.Exits.{propagated}
 use Rattle.irtext_grammar.specs.Grammar.Tree as tree
 use Rattle.irtext_parse_pieces.specs.declared.pieces.ReadPiece.TheVariants as read
 use Rattle.irtext_parse_pieces.proofs.PieceSteps.{no_tree, plain_there, piece_refused}
 use Rattle.irtext_parse_pieces.proofs.Lenses.{lens_of}
 use Rattle.irtext_parse_pieces.proofs.pieces.word_piece.Goals as goal
 
-pub returns-in_err-text_demanded : goal.returns-in_err-text_demanded
-returns-in_err-text_demanded g c = λ names. rw (propagated c.from_residual.result c.from_residual.ensures.1) (piece_refused (lens_of g.world g.met.S.CharStream) (λ _. tree.word (characters c.args.text.now)) no_tree c.in_err-text_demanded.ensures)
+pub returns-in-Err : goal.returns-in-Err
+returns-in-Err g c = λ names. piece_refused (lens_of g.world g.met.S.CharStream) (λ _. tree.word (characters c.args.text.now)) no_tree c.in-Err.ensures
 
-pub returns : goal.returns
-returns g c = λ names. plain_there (lens_of g.world g.met.S.CharStream) (λ _. tree.word (characters c.args.text.now)) read.Word c.in_ok-text_demanded.ensures (_, refl)
+pub returns-in-Ok : goal.returns-in-Ok
+returns-in-Ok g c = λ names. plain_there (lens_of g.world g.met.S.CharStream) (λ _. tree.word (characters c.args.text.now)) read.Word c.in-Ok.ensures (_, refl)
