@@ -33,7 +33,7 @@ use Rattle.irtext_parse_spec.specs.Readers.Streams.{itself, replaced}
 use Rattle.irtext_parse_spec.proofs.Readers.Answered.{answered}
 use Rattle.irtext_parse_spec.proofs.Readers.Honest.{honest_title, honest_nothing}
 use Rattle.irtext_parse_spec.proofs.Readers.PlainStream.{alone}
-use Rattle.irtext_parse_spec.proofs.Readers.Steps.{mapped_is_followed, Passed, starts, turned, more, more_seen, first, last, spaced, refuses, ran_out, ends, mapped_followed, mapped_mapped}
+use Rattle.irtext_parse_spec.proofs.Readers.Steps.{mapped_is_followed, Passed, starts, turned, more, first, last, spaced, refuses, ran_out, ends, mapped_followed, mapped_mapped}
 use Rattle.irtext_parse_spec.proofs.Locations.LocationRests.{within_metadata}
 use Rattle.irtext_parse_spec.proofs.Locations.RestLengths.{Within, ◌then◌, ◌so◌, seen, within_either, within_honest, leaves_read, leaves_missing, leaves_bad, leaves_prefixed, leaves_followed, leaves_honest, leaves_word}
 use Rattle.irtext_parse_locations.specs.declared.location.frame.Frame.{Frame}
@@ -97,14 +97,6 @@ module _ {A : Type 0} where
     row_ends b =
         turned alone (row_end_at m row)
         (ap (λ z. cond z (followed (text_at (codes ",") mid.rest) (λ _ u. mapped (λ _. inside (for_row m row)) (space_at u))) (mapped (λ _. whole (fused m row)) (text_at (codes "]") mid.rest))) b) spaced_row
-
--- out of memory for a call site after its bracket
-pub caller_runs_out : {A B : Type 0} (f : FrameOf Source A) (callee caller : LocationOf Source A) {old mid new : StreamView} {fault : ParseFault B} → f ≡ for_caller callee → old.failed ≡ false
-    → MustRead {A = B} {Y = Unit {0}} itself replaced (λ u. u) (spaced_at (codes ")")) old (Ok tt) mid → RunsOutHere itself replaced mid fault new → MustRead {Y = Progress A} itself replaced progress_view (after_at f caller) old (Err fault) new
-caller_runs_out f callee caller {old = old} {new = new} {fault = fault} e fine h k =
-    let ends_site : Text → Outcome (ProgressOf Source _) = λ t. mapped (λ _. whole (call_site callee caller)) (spaced_at (codes ")") t) in
-    subst (λ z. MustRead itself replaced progress_view (after_at z caller) old (Err fault) new) (sym e)
-    (ran_out alone (more_seen alone (λ _. whole (call_site callee caller)) (starts alone ends_site ends_site old fine refl) h) k)
 
 -- ---- over other sources
 cond_natural : {X Y : Type 0} (see : X → Y) (b : Bool) (o p : Outcome X) (q r : Outcome Y) → mapped see o ≡ q → mapped see p ≡ r → mapped see (cond b o p) ≡ cond b q r

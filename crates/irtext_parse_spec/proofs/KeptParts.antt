@@ -1,6 +1,6 @@
 -- What the types of an operation's parts keep, put together.
 use Rattle.std.proofs.Math.Seq.{drop-cons}
-use Rattle.std.proofs.Common.{◌≡◌, ◌∙◌, ◌<◌, ◌+◌, Bool, true, false, not, ◌&&◌, ◌||◌, suc, ℕ, List, [], ◌∷◌, length, get_or, drop, map, Option, Some, None, refl, sym, ap, ap₂, subst, true≢false, arith}
+use Rattle.std.proofs.Common.{◌≡◌, ◌∙◌, ◌<◌, ◌≤◌, ◌+◌, Bool, true, false, not, ◌&&◌, ◌||◌, zero, suc, ℕ, List, [], ◌∷◌, length, get_or, drop, map, Option, Some, None, refl, sym, ap, ap₂, subst, true≢false, arith}
 use Rattle.std.proofs.lemmas.Option.{same_Some}
 use Rattle.std.specs.Cmp.Lexicographic.{nat_list_eq_equiv}
 use Rattle.std.specs.List.{list_all}
@@ -43,6 +43,13 @@ next_kept H Q cons items i x l e h before rest =
     let after : suc i ≡ i + 1 = omega arith in
     let left : drop i items ≡ x ∷ drop (i + 1) items = drop-cons items i x l ∙ ap (λ z. z ∷ drop (suc i) items) (sym e) ∙ ap (λ n. x ∷ drop n items) after in
     before (subst Q (sym left) (cons x (drop (i + 1) items) h rest))
+
+-- at the end nothing is left, so the conclusion follows
+pub none_left : {X G : Type 0} (Q : List X → Type 0) → Q [] → (items : List X) (i : ℕ) → length items ≤ i → (Q (drop i items) → G) → G
+none_left Q none [] zero h rest = rest none
+none_left Q none [] (suc i) h rest = rest none
+none_left Q none (x ∷ items) zero h rest = absurd (omega (arith, h))
+none_left Q none (x ∷ items) (suc i) h rest = none_left Q none items i (omega (arith, h)) rest
 
 either : (b g : Bool) → not (b && not g) ≡ true → (not b || g) ≡ true
 either true true h = refl

@@ -4,7 +4,11 @@ use Rattle.irtext_base.specs.Paths.{KeepsPaths, path_of}
 use Rattle.irtext_base.specs.declared.location.Source.TheVariants.{File}
 use Rattle.irtext_base.proofs.PathKeys.{path_found, path_known, paths_stay}
 use Rattle.irtext_context.specs.Context.{with_paths}
+use Rattle.irtext_parse_spec.specs.Readers.NewPaths.{AddsPaths}
 use Rattle.irtext_parse_spec.proofs.Readers.PlainStream.{alone}
+use Rattle.irtext_tokens.proofs.Exits.{propagated}
+use Rattle.irtext_parse_spec.proofs.Readers.NewPaths.{adds_none}
+use Rattle.irtext_parse_spec.proofs.Readers.PartSteps.{part_refused, part_ran_out}
 use Rattle.irtext_parse_spec.proofs.Readers.Steps.{seen_alone}
 use Rattle.irtext_parse_locations.proofs.location.source.path_demanded.Goals as goal
 
@@ -23,3 +27,14 @@ returns g c =
       };
       paths = kept ∙ sym (ap (path_kept old) found);
     }
+
+pub returns-in_err-path : goal.returns-in_err-path
+returns-in_err-path g c =
+    rw (propagated c.from_residual.result c.from_residual.ensures.1) (record { adds = adds_none c.args.ctx.now; read = record { known = tt; read = part_refused Some c.in_err-path.ensures }; paths = tt })
+
+pub returns-in_default : goal.returns-in_default
+returns-in_default g c = record {
+  adds = subst (λ ctx. AddsPaths c.args.ctx.now ctx) (sym c.in_default.ensures.err) (adds_none c.args.ctx.now);
+  read = record { known = tt; read = part_ran_out Some c.in_ok-path.ensures c.out_of_memory.ensures };
+  paths = tt;
+}
