@@ -7,8 +7,7 @@ subtracted, and if a text is printed its parsing too. Printing is done ten times
 parsing. Then come lists of integers and of quoted texts that are parsed, a text that is printed between quotation marks, with a
 plain copy of the same bytes for comparison, positions at the end of a text, and locations nested in one another a million deep. Last
 come the instructions of an item, with its budget, counted by valgrind if it is installed (the program's reading of its input is
-subtracted), and those of calls on graphs and names, by the program of crates/irtext_bench_graphs: they are the same on a busy
-machine."""
+subtracted), and those of calls on graphs and names: they are the same on a busy machine."""
 import os
 import re
 import shutil
@@ -21,7 +20,6 @@ from shapes import SHAPES
 
 HERE = os.path.dirname(os.path.abspath(__file__))
 PROGRAM = os.path.join(HERE, "..", "crates", "irtext_bench", "out", "irtext_bench")
-GRAPHS = os.path.join(HERE, "..", "crates", "irtext_bench_graphs", "out", "irtext_bench_graphs")
 PRINTS = 10
 LINES = "builtin.module @module_{} \n{{\n  \n}} !0\n\noutlined_attributes:\n!0 = @[<in-memory>: line: {}, column: 1], []\n"
 
@@ -84,10 +82,10 @@ def seconds(path, words):
 LOOPS = {"GLIBC_TUNABLES": ":".join("glibc.cpu.x86_rep_%sb_threshold=%d" % (it, 1 << 30) for it in ("movs", "stos"))}
 
 
-def counted(path, words, program, tool, count):
+def counted(path, words, tool, count):
     """The count of this tool of valgrind for a run, found in its output by a pattern."""
     with open(path, "rb") as source:
-        run = subprocess.run(["valgrind"] + tool + [program] + words, env={**os.environ, **LOOPS},
+        run = subprocess.run(["valgrind"] + tool + [PROGRAM] + words, env={**os.environ, **LOOPS},
                              stdin=source, stdout=subprocess.DEVNULL, stderr=subprocess.PIPE, check=True)
     return int(re.search(count, run.stderr).group(1).replace(b",", b""))
 
@@ -97,14 +95,14 @@ def reading(path, word):
     return instructions(path, [word]) - instructions(path, ["copied"])
 
 
-def instructions(path, words, program=PROGRAM):
+def instructions(path, words):
     """The instructions of a run."""
-    return counted(path, words, program, ["--tool=callgrind", "--callgrind-out-file=/dev/null"], rb"Collected : (\d+)")
+    return counted(path, words, ["--tool=callgrind", "--callgrind-out-file=/dev/null"], rb"Collected : (\d+)")
 
 
-def allocations(path, words, program=PROGRAM):
+def allocations(path, words):
     """The allocations of a run."""
-    return counted(path, words, program, ["--tool=memcheck", "--leak-check=no"], rb"total heap usage: ([\d,]+) allocs")
+    return counted(path, words, ["--tool=memcheck", "--leak-check=no"], rb"total heap usage: ([\d,]+) allocs")
 
 
 def roots(count):
@@ -159,7 +157,8 @@ BUDGETS = (
     ("byte of a quoted text", "strings", quoted, 1000, 1001000, 9, None),
 )
 
-# What is counted on graphs and names: the words of a run, those of a run without it, and how often it is done in the difference.
+# What is counted on graphs and names: the words of a run after `graphs`, those of a run without it, and how often it is done in the
+# difference.
 CALLS = (
     ("operation with a result and an operand, made and erased", "make 1 11000", "make 1 1000", 10000),
     ("the same among 1,000 operations", "make 1000 11000", "make 1000 1000", 10000),
@@ -240,7 +239,7 @@ def print_calls(path):
     print("| Call | instructions | requests for memory |")
     print("|---|---|---|")
     for name, more, less, times in CALLS:
-        took, asked = ((count(path, more.split(), GRAPHS) - count(path, less.split(), GRAPHS)) / times
+        took, asked = ((count(path, ["graphs"] + more.split()) - count(path, ["graphs"] + less.split())) / times
                        for count in (instructions, allocations))
         print("| %s | %.1f | %.2f |" % (name, took, asked))
 

@@ -3,13 +3,14 @@
 //! `copied`: the text is quoted or copied once for each further argument. `positions`: the position of its end is requested a million
 //! times for each further argument. The other words test texts from outside. `erased`: roots are erased as they are parsed, once for
 //! each further argument. `prints`: texts are parsed, and their printed texts are parsed again. `formats`: the same for texts with
-//! operations in given formats.
+//! operations in given formats. `graphs` needs no text: calls are made on graphs and names, which the further arguments select (`graphs.rt`).
 #![tactic(auto)]
 
 mod again;
 mod directives;
 mod erased;
 mod formats;
+mod graphs;
 mod lists;
 mod positions;
 mod prints;
@@ -78,34 +79,36 @@ impl Task {
     }
 }
 
-/// Returns the task that the first argument selects, if there is one, and the number of arguments after it.
-fn selected(rt: &HostRuntime) -> io::Result<Option<(Task, usize)>> {
-    let mut words = env::args(rt)?.skip(1);
-    match words.next() {
-        Some(word) => Ok(Some((Task::of(word.as_str()), words.count()))),
-        None => Ok(None),
-    }
-}
-
-/// Does what the arguments select, and appends the line.
-fn append_line(rt: &HostRuntime, out: &mut String) -> io::Result<()> {
-    let Some((task, times)) = selected(rt)? else {
-        return Err(io::Error::from(io::ErrorKind::InvalidInput));
-    };
+/// Does a task with the text from standard input, once for each argument after the first, and appends the line.
+fn append_task(rt: &HostRuntime, task: Task, words: &[String], out: &mut String) -> io::Result<()> {
     let text = io::read_to_string(rt.alloc(), rt.reader())?;
+    let times = words.len().saturating_sub(1);
     task.measured(rt.alloc(), times, text.as_str(), out)
 }
 
+/// Makes the calls that the arguments after the first select, and appends the line.
+fn append_calls(rt: &HostRuntime, words: &[String], out: &mut String) -> io::Result<()> {
+    if graphs::append_line(rt.alloc(), words, out)? {
+        return Ok(());
+    }
+    Err(io::Error::from(io::ErrorKind::InvalidInput))
+}
+
 /// Does what the arguments select, and writes the line, which is empty before.
-fn write_line(rt: &HostRuntime, out: &mut String) -> io::Result<()> {
-    append_line(rt, out)?;
+fn write_line(rt: &HostRuntime, words: &[String], out: &mut String) -> io::Result<()> {
+    match words.first() {
+        Some(word) if word.as_str() == "graphs" => append_calls(rt, words, out)?,
+        Some(word) => append_task(rt, Task::of(word.as_str()), words, out)?,
+        None => return Err(io::Error::from(io::ErrorKind::InvalidInput)),
+    }
     println!(rt; "{out}")
 }
 
-/// Does the same with a new line.
+/// Does the same with the program's arguments and a new line.
 fn measure(rt: &HostRuntime) -> io::Result<()> {
+    let words: Vec<String> = env::args(rt)?.skip(1).collect(rt.alloc())?;
     let mut out = String::new(rt.alloc());
-    write_line(rt, &mut out)
+    write_line(rt, &words, &mut out)
 }
 
 fn main(rt: HostRuntime) -> ExitCode {

@@ -1,5 +1,5 @@
 use Rattle.irtext_names.specs.Tied.{MatchesGraph}
-use Rattle.irtext_bench_graphs.proofs.named.leave_all.Given as goal
+use Rattle.irtext_bench.proofs.graphs.named.repeat.Given as goal
 
 abbrev pub invariant-loop : goal.invariant-loop
 invariant-loop l = record { tied : MatchesGraph l.names.values l.names.labels l.graph }

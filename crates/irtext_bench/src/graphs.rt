@@ -1,16 +1,13 @@
-//! The program with which the benchmark counts calls on graphs and names. Its arguments say what is done, with how many objects or names,
-//! and how often. Then come the calls that are made for each name, if names and a graph are counted together.
-#![tactic(auto)]
+//! Calls on graphs and names, which the benchmark counts. After `graphs` the arguments say what is done, with how many objects or names, and
+//! how often. Then come the calls that are made for each name, if names and a graph are counted together.
 
 mod named;
 mod names;
 mod objects;
 
-use crate::named::Call;
+use crate::graphs::named::Call;
 use std::alloc::{AllocError, Global};
 use std::fmt::Write;
-use std::process::ExitCode;
-use std::{env, io};
 
 /// Does what the word selects. Returns whether each call returned what it should.
 fn done(
@@ -41,10 +38,10 @@ fn number(word: Option<&String>) -> Option<usize> {
     word?.as_str().parse::<usize>().ok()
 }
 
-/// Returns the calls that the words from the fourth on denote, or `None` if one denotes none.
+/// Returns the calls that the words from the fifth on denote, or `None` if one denotes none.
 fn calls_of(alloc: Global, words: &[String]) -> Result<Option<Vec<Call>>, AllocError> {
     let mut calls = Vec::new(alloc);
-    for word in words.iter().skip(3) {
+    for word in words.iter().skip(4) {
         match named::call_of(word.as_str()) {
             Some(call) => calls.push(call)?,
             None => return Ok(None),
@@ -53,43 +50,19 @@ fn calls_of(alloc: Global, words: &[String]) -> Result<Option<Vec<Call>>, AllocE
     Ok(Some(calls))
 }
 
-/// Does what the words select, and appends a line that says whether it was done. Returns whether the words select something.
-fn append_line(alloc: Global, words: &[String], out: &mut String) -> Result<bool, AllocError> {
+/// Does what the words after the first select, and appends a line about it. Returns whether each call returned what it should.
+pub fn append_line(alloc: Global, words: &[String], out: &mut String) -> Result<bool, AllocError> {
     let (Some(word), Some(size), Some(times)) = (
-        words.first(),
-        number(words.get(1)),
+        words.get(1),
         number(words.get(2)),
+        number(words.get(3)),
     ) else {
         return Ok(false);
     };
     let Some(calls) = calls_of(alloc, words)? else {
         return Ok(false);
     };
-    let said = if done(alloc, word.as_str(), size, times, &calls)? {
-        "done"
-    } else {
-        "refused"
-    };
-    match write!(out, "{word} {size} {times}: {said}") {
-        Ok(()) => Ok(true),
-        Err(_) => Err(AllocError),
-    }
-}
-
-/// Does what the program's arguments select, and writes the line.
-fn measure(rt: &HostRuntime) -> io::Result<()> {
-    let words: Vec<String> = env::args(rt)?.skip(1).collect(rt.alloc())?;
-    let mut line = String::new(rt.alloc());
-    if append_line(rt.alloc(), &words, &mut line)? {
-        println!(rt; "{line}")
-    } else {
-        Err(io::Error::from(io::ErrorKind::InvalidInput))
-    }
-}
-
-fn main(rt: HostRuntime) -> ExitCode {
-    match measure(&rt) {
-        Ok(()) => ExitCode::from(0),
-        Err(_) => ExitCode::from(1),
-    }
+    let all = done(alloc, word.as_str(), size, times, &calls)?;
+    write!(out, "{word} {size} {times}: done")?;
+    Ok(all)
 }

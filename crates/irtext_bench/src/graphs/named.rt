@@ -1,7 +1,7 @@
 //! Calls on names and a graph together.
 ghost use Rattle.irtext_names.specs.Tied.{MatchesGraph};
 
-use crate::names::texts;
+use crate::graphs::names::texts;
 use irtext_few::Few;
 use irtext_graph::arena::Ptr;
 use irtext_graph::graph::Graph;

@@ -1,7 +1,7 @@
 use Rattle.irtext_graph.specs.declared.object.Defined.TheVariants.{OfBlock}
 use Rattle.irtext_names.proofs.Added.{added_ties, made_none}
 use Rattle.irtext_names.proofs.Gained.{block_added}
-use Rattle.irtext_bench_graphs.proofs.named.define_label_number.Goals as goal
+use Rattle.irtext_bench.proofs.graphs.named.define_label_number.Goals as goal
 
 pub define_name-requires-clause-tied : goal.define_name-requires-clause-tied
 define_name-requires-clause-tied c = added_ties (block_added c.in-Ok.made c.in-Ok.ensures.made) c.args.names.now.values c.args.names.now.labels c.requires
