@@ -72,12 +72,20 @@ fn more_parse<T: IrText<A>, A: AttrText<A>, U>(
     let mut entries = entries;
     let mut keys = keys;
     while next_is(&s.stream, '!') {
-        let entry = entry_parse(s, Some(&entries.seen), &mut keys)?;
+        let entry = match entry_parse(s, Some(&entries.seen), &mut keys) {
+            Ok(entry) => entry,
+            Err(fault) => {
+                drop((entries, keys));
+                return Err(fault);
+            }
+        };
         if entry_noted(&mut entries, entry).is_err() {
+            drop((entries, keys));
             return Err(out_of_memory(&mut s.stream));
         }
         skip_white_space(&mut s.stream);
     }
+    drop(keys);
     match Box::new(s.stream.allocator(), entries) {
         Ok(all) => Ok(Entries::All(all)),
         Err(_) => Err(out_of_memory(&mut s.stream)),

@@ -147,6 +147,7 @@ fn list_parse<A: AttrText<A>>(
             if fault.committed {
                 return Err(fault);
             }
+            drop(fault);
             Ok(Vec::new(stream.allocator()))
         }
     }

@@ -221,16 +221,18 @@ fn step_undone<T: IrText<A>, A: AttrText<A>>(ctx: &mut Context<T, A>, step: Step
     let Step {
         item,
         before,
-        location: _,
-        label: _,
+        location,
+        label,
     } = step;
+    drop((location, label));
     let Some(before) = before else {
         return;
     };
     if !is_live(ctx, item) {
+        drop(before);
         return;
     }
-    let _ = item_swapped(ctx, item, before);
+    drop(item_swapped(ctx, item, before));
 }
 
 /// Undoes the steps, the last one first.
@@ -316,12 +318,16 @@ fn step_finished<T: IrText<A>, A: AttrText<A>>(ctx: &mut Context<T, A>, step: St
 {
     let Step {
         item,
-        before: _,
+        before,
         location,
         label,
     } = step;
+    drop(before);
     match item {
-        Item::Operation(op) => operation_finished(ctx, op, location),
+        Item::Operation(op) => {
+            drop(label);
+            operation_finished(ctx, op, location)
+        }
         Item::Block(at) => block_finished(ctx, at, location, label),
     }
 }

@@ -1,7 +1,6 @@
 use Rattle.std.proofs.Common.{true, sym, ap, ◌∙◌}
 use Rattle.irtext_parse_state.specs.States.{marks_of}
 use Rattle.irtext_tokens.specs.AttrTexts.{attr_at}
-use Rattle.irtext_tokens.proofs.Exits.{propagated}
 use Rattle.irtext_parse_spec.specs.Readers.Marks.{may_follow}
 use Rattle.irtext_parse_spec.proofs.Readers.NewPaths.{only_none, only_more}
 use Rattle.irtext_parse_section.specs.Entries.{noted}
@@ -15,41 +14,41 @@ loop-s-init g c = (only_none c.args.s.now.state, λ old h. h)
 pub loop-s-preserved : goal.loop-s-preserved
 loop-s-preserved g c =
     let i = c.loop-s.invariant in
-    let e = c.in_ok-entry.ensures in (
+    let e = c.in-Ok.ensures in (
       only_more i.0 e.only,
-      λ old h. entries_more (attr_at g.A.IrText.reading) old c.loop-s.s (noted c.loop-s.entries) (i.1 old h) (sym c.next_is.ensures ∙ c.loop-s-test.true) c.entry_parse.new.s c.in_ok-entry.entry e.read c.skip_white_space.new.stream c.skip_white_space.ensures
+      λ old h. entries_more (attr_at g.A.IrText.reading) old c.loop-s.s (noted c.loop-s.entries) (i.1 old h) (sym c.next_is.ensures ∙ c.loop-s-test.true) c.entry_parse.new.s c.in-Ok.entry e.read c.skip_white_space.new.stream c.skip_white_space.ensures
           (noted c.entry_noted.new.entries) e.only.rest e.only.marks e.only.adds e.paths (unless_err c.entry_noted.result (sym c.is_err.ensures.value ∙ c.if-is_err.false) c.entry_noted.ensures),
     )
 
 pub loop-s-smaller : goal.loop-s-smaller
 loop-s-smaller g c =
     let marks = marks_of c.loop-s.s.state in
-    entries_shorter (attr_at g.A.IrText.reading) (may_follow marks c.loop-s.entries.seen) (rules_of marks) c.in_ok-entry.ensures.read c.skip_white_space.ensures
+    entries_shorter (attr_at g.A.IrText.reading) (may_follow marks c.loop-s.entries.seen) (rules_of marks) c.in-Ok.ensures.read c.skip_white_space.ensures
 
-pub returns-in_err-entry-clause-only : goal.returns-in_err-entry-clause-only
-returns-in_err-entry-clause-only g c = only_more c.loop-s.invariant.0 c.in_err-entry.ensures.only
+pub returns-in-Err-clause-only : goal.returns-in-Err-clause-only
+returns-in-Err-clause-only g c = only_more c.loop-s.invariant.0 c.in-Err.ensures.only
 
-pub returns-in_err-entry-clause-read : goal.returns-in_err-entry-clause-read
-returns-in_err-entry-clause-read g c = λ old h.
-    rw (propagated c.from_residual.result c.from_residual.ensures.1) (entries_refused (attr_at g.A.IrText.reading) old c.loop-s.s (noted c.loop-s.entries) (c.loop-s.invariant.1 old h) (sym c.next_is.ensures ∙ c.loop-s-test.true) c.entry_parse.new.s.state.ctx.now.paths c.in_err-entry.ensures.read)
+pub returns-in-Err-clause-read : goal.returns-in-Err-clause-read
+returns-in-Err-clause-read g c = λ old h.
+    entries_refused (attr_at g.A.IrText.reading) old c.loop-s.s (noted c.loop-s.entries) (c.loop-s.invariant.1 old h) (sym c.next_is.ensures ∙ c.loop-s-test.true) c.entry_parse.new.s.state.ctx.now.paths c.in-Err.ensures.read
 
 pub returns-then-is_err-clause-only : goal.returns-then-is_err-clause-only
-returns-then-is_err-clause-only g c = only_more c.loop-s.invariant.0 c.in_ok-entry.ensures.only
+returns-then-is_err-clause-only g c = only_more c.loop-s.invariant.0 c.in-Ok.ensures.only
 
 pub returns-then-is_err-clause-read : goal.returns-then-is_err-clause-read
 returns-then-is_err-clause-read g c = λ old h.
-    entries_ran_out (attr_at g.A.IrText.reading) old c.loop-s.s (noted c.loop-s.entries) (c.loop-s.invariant.1 old h) (sym c.next_is.ensures ∙ c.loop-s-test.true) c.entry_parse.new.s c.in_ok-entry.entry c.in_ok-entry.ensures.read c.out_of_memory.ensures
+    entries_ran_out (attr_at g.A.IrText.reading) old c.loop-s.s (noted c.loop-s.entries) (c.loop-s.invariant.1 old h) (sym c.next_is.ensures ∙ c.loop-s-test.true) c.entry_parse.new.s c.in-Ok.entry c.in-Ok.ensures.read c.out_of_memory.ensures
 
-pub returns-in-Ok-clause-only : goal.returns-in-Ok-clause-only
-returns-in-Ok-clause-only g c = c.loop-s.invariant.0
+pub returns-in-Ok-new-clause-only : goal.returns-in-Ok-new-clause-only
+returns-in-Ok-new-clause-only g c = c.loop-s.invariant.0
 
-pub returns-in-Ok-clause-read : goal.returns-in-Ok-clause-read
-returns-in-Ok-clause-read g c = λ old h.
-    all_entries (attr_at g.A.IrText.reading) old c.loop-s.s (noted c.loop-s.entries) (c.loop-s.invariant.1 old h) _ (ap (λ n. n.items.items) c.in-Ok.ensures.ok) (ap (λ n. n.once.entries) c.in-Ok.ensures.ok) (sym c.next_is.ensures ∙ c.loop-s-test.false)
+pub returns-in-Ok-new-clause-read : goal.returns-in-Ok-new-clause-read
+returns-in-Ok-new-clause-read g c = λ old h.
+    all_entries (attr_at g.A.IrText.reading) old c.loop-s.s (noted c.loop-s.entries) (c.loop-s.invariant.1 old h) _ (ap (λ n. n.items.items) c.in-Ok-new.ensures.ok) (ap (λ n. n.once.entries) c.in-Ok-new.ensures.ok) (sym c.next_is.ensures ∙ c.loop-s-test.false)
 
 pub returns-clause-only : goal.returns-clause-only
 returns-clause-only g c = c.loop-s.invariant.0
 
 pub returns-clause-read : goal.returns-clause-read
 returns-clause-read g c = λ old h.
-    ran_out_so_far (attr_at g.A.IrText.reading) old c.loop-s.s (noted c.loop-s.entries) (c.loop-s.invariant.1 old h) c.out_of_memory-in-Err.ensures
+    ran_out_so_far (attr_at g.A.IrText.reading) old c.loop-s.s (noted c.loop-s.entries) (c.loop-s.invariant.1 old h) c.out_of_memory-in-Err-new.ensures
