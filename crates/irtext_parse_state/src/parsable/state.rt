@@ -141,16 +141,13 @@ impl<'c, T: IrText<A>, A: AttrText<A>, U> StateStream<'c, T, A, U> {
         ensures lent { result.ghost_name ≡ self.entry.state.ctx.ghost_name }
         ensures now { result.now ≡ self.entry.state.ctx.now }
     {
-        let StateStream { stream, state } = self;
-        drop(stream);
+        let StateStream { stream: _, state } = self;
         let State {
             ctx,
             src: _,
-            aux_data,
-            marks,
+            aux_data: _,
+            marks: _,
         } = state;
-        drop(aux_data);
-        drop(marks);
         ctx
     }
 }
