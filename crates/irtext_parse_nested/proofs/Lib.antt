@@ -48,3 +48,4 @@ pub mod LaterPieces
 pub mod LaterRead
 pub mod NamesLeft
 pub mod RegionCreated
+pub mod Unmoved

@@ -117,7 +117,13 @@ fn front_read<T: IrText<A>, A: AttrText<A>>(
         Ok(led) => led,
         Err(fault) => return Err(commit_if(stream, inside, fault)),
     };
-    let pieces = front_parse(stream, names, &info.format, inside, keys)?;
+    let pieces = match front_parse(stream, names, &info.format, inside, keys) {
+        Ok(pieces) => pieces,
+        Err(fault) => {
+            ended((results, id));
+            return Err(fault);
+        }
+    };
     names.keeps_names();
     Ok(ReadFront {
         names: results,
@@ -280,7 +286,13 @@ fn begin_read<T: IrText<A>, A: AttrText<A>, U>(
     let step = pieces.len();
     let ctx = &mut *s.state.ctx;
     ctx.made();
-    let (op, results) = created(s, names, &id, &key, loc, pieces)?;
+    let (op, results) = match created(s, names, &id, &key, loc, pieces) {
+        Ok(made) => made,
+        Err(fault) => {
+            ended((defined, id, key));
+            return Err(fault);
+        }
+    };
     let ctx = &mut *s.state.ctx;
     ended(key);
     let Ok(()) = placed(ctx, block, op) else {
@@ -343,6 +355,11 @@ pub fn operation_begin<T: IrText<A>, A: AttrText<A>, U>(
     let loc = s.loc();
     let ctx = &mut *s.state.ctx;
     ctx.made();
-    let front = front_read(&mut s.stream, ctx, names, keys, block.is_some())?;
-    begin_read(s, names, block, at, loc, front)
+    match front_read(&mut s.stream, ctx, names, keys, block.is_some()) {
+        Ok(front) => begin_read(s, names, block, at, loc, front),
+        Err(fault) => {
+            ended(loc);
+            Err(fault)
+        }
+    }
 }

@@ -152,7 +152,13 @@ fn head_made<T: IrText<A>, A: AttrText<A>, U>(
         ended(entries);
         return Err(NotGathered::Memory);
     };
-    let attributes = block_attributes(alloc, names, entries, &arguments)?;
+    let attributes = match block_attributes(alloc, names, entries, &arguments) {
+        Ok(attributes) => attributes,
+        Err(refusal) => {
+            ended((arguments, types));
+            return Err(refusal);
+        }
+    };
     let loc = location_at(s, label.at);
     let ctx = &mut *s.state.ctx;
     match block_made(
@@ -276,8 +282,12 @@ fn head_named<T: IrText<A>, A: AttrText<A>, U>(
     ensures kept { (m : ℕ) → IsClosedBelow m s.old.state.ctx.now.graph → IsSound m names.old s.old.state
         → KeepsOlder m s.old.state.ctx.now s.new.state.ctx.now }
 {
-    arguments_defined(s, names, arguments, block)?;
-    note_mark(s, mark, Item::Block(block))?;
+    if let Err(fault) = arguments_defined(s, names, arguments, block) {
+        return Err(fault);
+    }
+    if let Err(fault) = note_mark(s, mark, Item::Block(block)) {
+        return Err(fault);
+    }
     label_defined(s, names, label, block)
 }
 
@@ -285,7 +295,6 @@ fn head_named<T: IrText<A>, A: AttrText<A>, U>(
 /// with its label, its attributes, its location and the types of its arguments. Then its arguments are defined, its mark is recorded, and
 /// its label is defined. Fails with `ReservedKey` at a key of its dictionary, with `MultipleDefinitions` at a name, and with
 /// `DuplicateIndex` at its mark. Every error is committed.
-#[tactic(auto, using(irtext_tokens::proofs::Exits::propagated))]
 pub fn block_begin<T: IrText<A>, A: AttrText<A>, U>(
     s: &mut StateStream<'_, T, A, U>,
     names: &mut Names,
@@ -327,16 +336,24 @@ pub fn block_begin<T: IrText<A>, A: AttrText<A>, U>(
         → IsNew m s.old.state.ctx.now.graph (TheRegion region)
         → KeepsOlder m s.old.state.ctx.now s.new.state.ctx.now }
 {
+    let head = match head_parse(&mut s.stream, names) {
+        Ok(head) => head,
+        Err(fault) => return Err(fault),
+    };
     let BlockHead {
         label,
         arguments,
         attributes,
         mark,
-    } = head_parse(&mut s.stream, names)?;
+    } = head;
     let (block, arguments) = match head_made(s, names, keys, region, label, arguments, attributes) {
         Ok(made) => made,
         Err(refusal) => return Err(refusal_fault(&mut s.stream, refusal)),
     };
-    head_named(s, names, label, &arguments, mark, block)?;
+    if let Err(fault) = head_named(s, names, label, &arguments, mark, block) {
+        ended(arguments);
+        return Err(fault);
+    }
+    ended(arguments);
     Ok(BegunBlock { block, first: true })
 }

@@ -14,6 +14,7 @@ use crate::operation_parts::{NotGathered, entry_stored};
 use irtext_context::base::AttributeDict;
 use irtext_few::{Few, Items};
 use irtext_parse_objects::keys::is_label_key;
+use irtext_parse_objects::making::failed;
 use irtext_parse_objects::memory::ended;
 use irtext_parse_objects::names::Names;
 use irtext_parse_pieces::entries::ReadEntry;
@@ -74,7 +75,9 @@ pub(crate) fn entries_stored<A: Drop>(
     ensures refused { IfErr result (Forbids (rule_of holder) entries.items) }
 {
     for entry in entries {
-        held_entry_stored(attributes, holder, entry)?;
+        if let Err(refusal) = held_entry_stored(attributes, holder, entry) {
+            return Err(refusal);
+        }
     }
     Ok(())
 }
@@ -111,7 +114,10 @@ pub(crate) fn block_attributes<A: Drop>(
     ensures refused { IfErr result (Forbids block_may_hold (entries_in entries)) }
 {
     let mut attributes = AttributeDict::new(alloc);
-    dictionary_stored(&mut attributes, entries)?;
+    if let Err(refusal) = dictionary_stored(&mut attributes, entries) {
+        ended(attributes);
+        return Err(refusal);
+    }
     match names_stored(alloc, names, arguments, &mut attributes) {
         Ok(()) => Ok(attributes),
         Err(AllocError) => {
@@ -131,9 +137,14 @@ fn argument_split<T: Drop>(
     ensures types { OnOk result (types.new.items ≡ types.old.items ++ argument.1 ∷ []) }
 {
     let (name, of_type) = argument;
-    names.push(name)?;
-    types.push(of_type)?;
-    Ok(())
+    let Ok(()) = names.push(name) else {
+        ended(of_type);
+        return Err(AllocError);
+    };
+    match types.push(of_type) {
+        Ok(()) => Ok(()),
+        Err(_) => Err(AllocError),
+    }
 }
 
 /// Splits arguments into their names and their types.
@@ -147,7 +158,9 @@ fn many_split<T: Drop>(
     let mut names = Vec::new(alloc);
     let mut types = Vec::new(alloc);
     for argument in arguments {
-        argument_split(&mut names, &mut types, argument)?;
+        if let Err(error) = argument_split(&mut names, &mut types, argument) {
+            return failed((names, types), error);
+        }
     }
     Ok((Few::from_vec(names), Few::from_vec(types)))
 }

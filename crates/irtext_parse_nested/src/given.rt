@@ -14,6 +14,7 @@ use irtext_base::text::{AttrText, IrText};
 use irtext_context::base::{AttributeDict, Context};
 use irtext_few::Few;
 use irtext_parse_objects::keys::{key_of, neighbour_key, stored};
+use irtext_parse_objects::making::failed;
 use irtext_parse_objects::name_errors::identifier_of;
 use irtext_parse_objects::names::Names;
 use irtext_parse_pieces::names::ReadName;
@@ -29,13 +30,18 @@ fn given_names(
     requires { AreKnown (length names.now.names) (numbers_of read.now) }
     ensures { IfOk result (λ given. given.items ≡ map (slice_get names.now.names) (numbers_of read.now)) }
 {
-    let mut given = Vec::with_capacity(alloc, read.len())?;
+    let mut given = match Vec::with_capacity(alloc, read.len()) {
+        Ok(given) => given,
+        Err(error) => return Err(error),
+    };
     for index in 0..read.len() {
         let number = number_at(read, index);
         let Some(name) = identifier_of(alloc, names.name(number)) else {
             return Err(AllocError);
         };
-        given.push(Some(name))?;
+        let Ok(()) = given.push(Some(name)) else {
+            return failed(given, AllocError);
+        };
     }
     Ok(given)
 }

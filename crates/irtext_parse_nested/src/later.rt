@@ -38,6 +38,7 @@ use irtext_base::parsable::{CharStream, ParseResult, TextStream};
 use irtext_base::text::{AttrText, IrText};
 use irtext_context::base::{AttributeDict, Context, Operation, Ptr};
 use irtext_parse_objects::keys::symbol_key;
+use irtext_parse_objects::memory::ended;
 use irtext_parse_objects::names::Names;
 use irtext_parse_pieces::keys::Keys;
 use irtext_parse_pieces::names::Symbol;
@@ -139,7 +140,9 @@ fn piece_read<T: IrText<A>, A: AttrText<A>>(
     begun.coming = None;
     begun.step = step_after(&info.format, begun.step);
     let mut keys = Keys::none(stream.allocator());
-    step_parse(stream, names, step, true, &mut keys)
+    let answer = step_parse(stream, names, step, true, &mut keys);
+    ended(keys);
+    answer
 }
 
 /// Stores what a piece gives an operation. On an error, the operation's attributes may have been changed.
@@ -214,7 +217,10 @@ pub fn operation_piece<T: IrText<A>, A: AttrText<A>, U>(
         → KeepsOlder m s.old.state.ctx.now s.new.state.ctx.now }
 {
     let ctx = &mut *s.state.ctx;
-    let piece = piece_read(&mut s.stream, ctx, names, begun)?;
+    let piece = match piece_read(&mut s.stream, ctx, names, begun) {
+        Ok(piece) => piece,
+        Err(fault) => return Err(fault),
+    };
     names.keeps_names();
     piece_done(s, names, begun.op, piece)
 }

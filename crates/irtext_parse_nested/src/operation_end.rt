@@ -212,7 +212,9 @@ fn close<T: IrText<A>, A: AttrText<A>, U>(
         → IsNew m s.old.state.ctx.now.graph (TheOperation begun.now.op)
         → KeepsOlder m s.old.state.ctx.now s.new.state.ctx.now }
 {
-    results_defined(s, names, begun)?;
+    if let Err(fault) = results_defined(s, names, begun) {
+        return Err(fault);
+    }
     let alloc = s.stream.allocator();
     let ctx = &mut *s.state.ctx;
     let stored = given_kept(ctx, alloc, names, begun);
@@ -264,7 +266,6 @@ pub(crate) fn note_mark<T: IrText<A>, A: AttrText<A>, U>(
 /// results and stored as its given names. Then its mark is parsed, if one comes next, and recorded. Every error is committed:
 /// `ResultCount` at the beginning of the operation; `NoActiveScope` or `MultipleDefinitions` at a name; `DuplicateIndex` at the mark; and
 /// `Memory` if an allocation fails.
-#[tactic(auto, using(irtext_tokens::proofs::Exits::propagated))]
 pub fn operation_end<T: IrText<A>, A: AttrText<A>, U>(
     s: &mut StateStream<'_, T, A, U>,
     names: &mut Names,
@@ -302,7 +303,12 @@ pub fn operation_end<T: IrText<A>, A: AttrText<A>, U>(
         → IsNew m s.old.state.ctx.now.graph (TheOperation begun.now.op)
         → KeepsOlder m s.old.state.ctx.now s.new.state.ctx.now }
 {
-    close(s, names, begun)?;
-    let mark = end_parse(&mut s.stream)?;
+    if let Err(fault) = close(s, names, begun) {
+        return Err(fault);
+    }
+    let mark = match end_parse(&mut s.stream) {
+        Ok(mark) => mark,
+        Err(fault) => return Err(fault),
+    };
     note_mark(s, mark, Item::Operation(begun.op))
 }

@@ -22,6 +22,7 @@ use irtext_few::Few;
 use irtext_names::kinds::{Blank, Referent};
 use irtext_parse_objects::gathered::{Gathered, Objects, Placed};
 use irtext_parse_objects::keys::{stored, symbol_key};
+use irtext_parse_objects::memory::ended;
 use irtext_parse_objects::names::Names;
 use irtext_parse_objects::uses::name_placed;
 use irtext_parse_pieces::canonical::CanonicalPieces;
@@ -113,14 +114,19 @@ where
     ensures steady { KeepsScopes names.old names.new graph.old graph.new }
 {
     if used.len() == 0 {
+        ended(used);
         return Ok(());
     }
     if !K::has_scope(names) {
-        return Err(NotGathered::NoActiveScope(used[0]));
+        let first = used[0];
+        ended(used);
+        return Err(NotGathered::NoActiveScope(first));
     }
     let Ok(()) = names_used(names, graph, &used, &mut placed.list) else {
+        ended(used);
         return Err(NotGathered::Memory);
     };
+    ended(used);
     Ok(())
 }
 
@@ -273,7 +279,9 @@ fn custom_gathered<T: Drop, A: Drop>(
 {
     for found in pieces.into_found() {
         let (_, piece) = found;
-        piece_gathered(alloc, names, graph, gathered, key, piece)?;
+        if let Err(refusal) = piece_gathered(alloc, names, graph, gathered, key, piece) {
+            return Err(refusal);
+        }
     }
     Ok(())
 }
@@ -300,9 +308,18 @@ fn canonical_gathered<T: Drop, A: Drop>(
         inputs,
         results,
     } = pieces;
-    names_gathered(names, graph, &mut gathered.operands, operands)?;
-    names_gathered(names, graph, &mut gathered.successors, successors)?;
-    dictionary_gathered(gathered, entries)?;
+    if let Err(refusal) = names_gathered(names, graph, &mut gathered.operands, operands) {
+        ended((successors, entries, inputs, results));
+        return Err(refusal);
+    }
+    if let Err(refusal) = names_gathered(names, graph, &mut gathered.successors, successors) {
+        ended((entries, inputs, results));
+        return Err(refusal);
+    }
+    if let Err(refusal) = dictionary_gathered(gathered, entries) {
+        ended((inputs, results));
+        return Err(refusal);
+    }
     types_gathered(gathered, inputs);
     types_gathered(gathered, results);
     Ok(())

@@ -78,11 +78,15 @@ pub fn region_begin<T: IrText<A>, A: AttrText<A>, U>(
         → KeepsOlder m s.old.state.ctx.now s.new.state.ctx.now }
 {
     let at = s.stream.position();
-    enter_here(s, names, isolated)?;
+    if let Err(fault) = enter_here(s, names, isolated) {
+        return Err(fault);
+    }
     let Ok(region) = create(s, op) else {
         return Err(out_of_memory(&mut s.stream));
     };
-    brace_demanded(&mut s.stream)?;
+    if let Err(fault) = brace_demanded(&mut s.stream) {
+        return Err(fault);
+    }
     Ok(BegunRegion {
         region,
         isolated,
@@ -146,6 +150,8 @@ pub fn region_end<T: IrText<A>, A: AttrText<A>, U>(
     ensures sound { OnOk result ((m : ℕ) → IsSound m names.old s.old.state
         → IsSound m names.new s.new.state) }
 {
-    text_demanded(&mut s.stream, "}")?;
+    if let Err(fault) = text_demanded(&mut s.stream, "}") {
+        return Err(fault);
+    }
     leave(&mut s.stream, names, graph_of(&s.state), region)
 }

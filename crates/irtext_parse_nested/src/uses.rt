@@ -42,8 +42,13 @@ where
     ensures steady { KeepsScopes names.old names.new graph.old graph.new }
 {
     for index in 0..used.len() {
-        let referent = name_used(names, graph, number_at(used, index))?;
-        referents.push(referent)?;
+        let referent = match name_used(names, graph, number_at(used, index)) {
+            Ok(referent) => referent,
+            Err(error) => return Err(error),
+        };
+        let Ok(()) = referents.push(referent) else {
+            return Err(AllocError);
+        };
     }
     Ok(())
 }

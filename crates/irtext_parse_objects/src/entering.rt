@@ -128,7 +128,11 @@ pub fn create<T: IrText<A>, A: AttrText<A>, U>(
 pub fn brace_demanded<A>(stream: &mut TextStream) -> ParseResult<(), A>
     ensures { MustRead itself replaced (λ u. u) (word (codes "{") ▷ space_at) stream.old result stream.new }
 {
-    text_demanded(stream, "{")?;
-    skip_white_space(stream);
-    Ok(())
+    match text_demanded(stream, "{") {
+        Ok(()) => {
+            skip_white_space(stream);
+            Ok(())
+        }
+        Err(fault) => Err(fault),
+    }
 }

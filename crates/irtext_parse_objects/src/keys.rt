@@ -5,6 +5,8 @@ ghost use Rattle.std.specs.Str.{bytes_eq};
 ghost use Rattle.irtext_base.specs.Format.{block_label_key, given_names_key, sym_name_key};
 ghost use Rattle.irtext_context.specs.Context.{operation};
 ghost use Rattle.irtext_context.specs.Dictionary.{RefusesEntry};
+ghost use Rattle.irtext_graph.specs.Graph.{IsLive};
+ghost use Rattle.irtext_graph.specs.declared.object.Object.TheVariants.{TheOperation};
 ghost use Rattle.irtext_grammar.specs.Contexts.Held.{attribute_of, entries_of};
 ghost use Rattle.irtext_grammar.specs.Graphs.Build.{put_all};
 ghost use Rattle.irtext_grammar.specs.Names.Acts.{may_hold};
@@ -13,6 +15,9 @@ use irtext_base::base::{AttrObj, GIVEN_NAMES_KEY, Identifier, Refusal};
 use irtext_base::text::{AttrText, IrText};
 use irtext_context::base::{AttributeDict, Context, Operation, OperationAccess, Ptr};
 use irtext_context::dialect::OpInfo;
+use irtext_graph::graph::Graph;
+use irtext_graph::held::HasGraph;
+use irtext_graph::object::Object;
 use std::alloc::{AllocError, Global};
 
 /// Stores an attribute under a key. On an error nothing changes.
@@ -72,6 +77,23 @@ fn last_key<A: Drop>(attributes: &AttributeDict<A>) -> Option<Identifier>
     }
 }
 
+/// Returns the child before the last one of an operation's parent, if there is one. Asked of the graph, since these calls on a context
+/// take seconds each to prove.
+fn before_last<O: Drop, B: Drop, T: Drop>(
+    graph: &Graph<O, B, T>,
+    op: Ptr<Operation>,
+) -> Option<Object>
+    requires { IsLive graph.now (TheOperation op) }
+{
+    let Some(parent) = graph.get_parent(Object::TheOperation(op)) else {
+        return None;
+    };
+    let Some(index) = graph.num_children(parent).checked_sub(2) else {
+        return None;
+    };
+    Some(graph.get_child(parent, index))
+}
+
 /// Returns the operation before the last one of an operation's block, if there is one.
 fn neighbour<T: IrText<A>, A: AttrText<A>>(
     ctx: &Context<T, A>,
@@ -82,9 +104,9 @@ fn neighbour<T: IrText<A>, A: AttrText<A>>(
     if !ctx.contains_operation(op) {
         return None;
     }
-    let block = op.get_parent_block(ctx)?;
-    let index = block.num_operations(ctx).checked_sub(2)?;
-    let before = block.get_operation(ctx, index);
+    let Some(Object::TheOperation(before)) = before_last(ctx.graph(), op) else {
+        return None;
+    };
     if !ctx.contains_operation(before) {
         return None;
     }
@@ -100,8 +122,10 @@ pub fn neighbour_key<T: IrText<A>, A: AttrText<A>>(
 ) -> Option<Identifier>
     ensures { IfSome result (λ key. key ≡ given_names_key) }
 {
-    let before = neighbour(ctx, op)?;
-    last_key(before.attributes(ctx))
+    match neighbour(ctx, op) {
+        Some(before) => last_key(before.attributes(ctx)),
+        None => None,
+    }
 }
 
 /// Returns the key of given names: this one, or a new one.

@@ -8,6 +8,7 @@ ghost use Rattle.irtext_parse_objects.specs.Gathered.{types_made};
 ghost use Rattle.irtext_parse_objects.specs.Gathered.{AllUsesLive};
 
 use crate::gathered::{Gathered, Placed};
+use crate::memory::ended;
 use irtext_base::base::OpId;
 use irtext_base::location::Location;
 use irtext_base::text::{AttrText, IrText};
@@ -44,6 +45,7 @@ fn ordered<X: Drop>(alloc: Global, mut items: Vec<(usize, X)>) -> Result<Vec<X>,
             all.push(item)?;
         }
     }
+    ended(items);
     Ok(all)
 }
 
@@ -53,11 +55,17 @@ fn all_placed<X: Drop>(alloc: Global, placed: Placed<X>) -> Result<Vec<X>, Alloc
 {
     let Placed { single, list } = placed;
     if single.len() == 0 {
+        ended(single);
         return Ok(list);
     }
-    let mut all = ordered(alloc, single)?;
+    let mut all = match ordered(alloc, single) {
+        Ok(all) => all,
+        Err(error) => return failed(list, error),
+    };
     for item in list {
-        all.push(item)?;
+        let Ok(()) = all.push(item) else {
+            return failed(all, AllocError);
+        };
     }
     Ok(all)
 }
@@ -71,19 +79,30 @@ fn result_types<T: Drop>(
     ensures { IfOk result (λ types. types ≡ types_made single.items listed) }
 {
     if single.len() == 0 {
+        ended(single);
         return Ok(listed);
     }
-    let all = ordered(alloc, single)?;
-    Ok(Few::from_vec(all))
+    match ordered(alloc, single) {
+        Ok(all) => {
+            ended(listed);
+            Ok(Few::from_vec(all))
+        }
+        Err(error) => failed(listed, error),
+    }
 }
 
 /// Returns a copy of the id that shares its texts.
 fn copied(id: &OpId) -> Result<OpId, AllocError>
     ensures { IfOk result (λ copy. copy ≡ id.now) }
 {
-    let dialect = id.dialect.clone()?;
-    let name = id.name.clone()?;
-    Ok(OpId { dialect, name })
+    let dialect = match id.dialect.clone() {
+        Ok(dialect) => dialect,
+        Err(error) => return Err(error),
+    };
+    match id.name.clone() {
+        Ok(name) => Ok(OpId { dialect, name }),
+        Err(error) => failed(dialect, error),
+    }
 }
 
 /// Ends what was to be used, and returns the error.
@@ -111,8 +130,10 @@ pub fn make_bare<T: IrText<A>, A: AttrText<A>>(
         Ok(id) => id,
         Err(error) => return failed((loc, attributes), error),
     };
-    let op = ctx.make_operation(id, attributes, loc)?;
-    Ok((op, 0))
+    match ctx.make_operation(id, attributes, loc) {
+        Ok(op) => Ok((op, 0)),
+        Err(error) => Err(error),
+    }
 }
 
 /// What a new operation has besides its id, its attributes and its location, in its order.
@@ -136,14 +157,22 @@ fn parts_of<T: Drop>(
         in_order successors.single.items ++ successors.list.items) }
     ensures types { IfOk result (λ p. p.types ≡ types_made types.items listed) }
 {
-    let types = result_types(alloc, types, listed)?;
-    let operands = all_placed(alloc, operands)?;
-    let successors = all_placed(alloc, successors)?;
-    Ok(Parts {
-        operands,
-        successors,
-        types,
-    })
+    let types = match result_types(alloc, types, listed) {
+        Ok(types) => types,
+        Err(error) => return failed((operands, successors), error),
+    };
+    let operands = match all_placed(alloc, operands) {
+        Ok(operands) => operands,
+        Err(error) => return failed((successors, types), error),
+    };
+    match all_placed(alloc, successors) {
+        Ok(successors) => Ok(Parts {
+            operands,
+            successors,
+            types,
+        }),
+        Err(error) => failed((operands, types), error),
+    }
 }
 
 /// Creates a detached operation without regions, with this id and these parts. Returns it with the number of its results. If an
@@ -170,8 +199,13 @@ fn make_of<T: IrText<A>, A: AttrText<A>>(
         types,
     } = parts;
     let results = types.len();
-    let op = ctx.make_operation_with(id, attributes, loc, types, &operands, &successors)?;
-    Ok((op, results))
+    match ctx.make_operation_with(id, attributes, loc, types, &operands, &successors) {
+        Ok(op) => {
+            ended((operands, successors));
+            Ok((op, results))
+        }
+        Err(error) => failed((operands, successors), error),
+    }
 }
 
 /// Creates a detached operation without regions from what its pieces gave. Returns it with the number of its results. If an allocation

@@ -12,6 +12,7 @@ use irtext_context::base::context::making::Making;
 use irtext_context::base::{AttributeDict, BasicBlock, Context, Operation, Ptr, Region};
 use irtext_few::Few;
 use irtext_graph::held::HasGraph;
+use irtext_graph::object::Object;
 use std::alloc::AllocError;
 
 /// Creates a block with arguments of these types, and appends it to a region. If the block was created but could not be appended, it stays
@@ -30,10 +31,16 @@ pub fn place_block<T: IrText<A>, A: AttrText<A>>(
     ensures kept { (m : ℕ) → m ≤ ctx.old.graph.made → IsNew m ctx.old.graph (TheRegion region)
         → KeepsOlder m ctx.old ctx.new }
 {
-    let block = ctx.make_block(label, attributes, loc, types)?;
+    let block = match ctx.make_block(label, attributes, loc, types) {
+        Ok(block) => block,
+        Err(error) => return Err(error),
+    };
     ctx.graph().keeps_nesting();
-    block.insert_at_back(region, ctx)?;
-    Ok(block)
+    let graph = ctx.graph_mut();
+    match graph.insert_at_back(Object::TheRegion(region), Object::TheBlock(block)) {
+        Ok(()) => Ok(block),
+        Err(error) => Err(error),
+    }
 }
 
 /// Appends a detached and empty operation to the block, if one is given. If an allocation fails, nothing changes.
@@ -55,5 +62,6 @@ pub fn placed<T: IrText<A>, A: AttrText<A>>(
         return Ok(());
     };
     ctx.graph().keeps_nesting();
-    op.insert_at_back(block, ctx)
+    let graph = ctx.graph_mut();
+    graph.insert_at_back(Object::TheBlock(block), Object::TheOperation(op))
 }

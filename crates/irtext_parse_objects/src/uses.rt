@@ -49,7 +49,12 @@ where
         × TakesName (defined_as K.kind) (use_of K.kind) name names.old names.new graph.old graph.new v) }
     ensures steady { KeepsScopes names.old names.new graph.old graph.new }
 {
-    let referent = name_used(names, graph, name)?;
-    single.push((index, referent))?;
+    let referent = match name_used(names, graph, name) {
+        Ok(referent) => referent,
+        Err(error) => return Err(error),
+    };
+    let Ok(()) = single.push((index, referent)) else {
+        return Err(AllocError);
+    };
     Ok(())
 }

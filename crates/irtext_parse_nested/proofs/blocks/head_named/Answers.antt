@@ -1,5 +1,4 @@
 use Rattle.std.proofs.Common.{◌≡◌, ◌<◌, ◌∙◌, inl, inr, true, length, sym, ap, subst}
-use Rattle.irtext_tokens.proofs.Exits.{propagated}
 use Rattle.irtext_grammar.specs.Contexts.Held.{whole}
 use Rattle.irtext_scopes.specs.Scopes.{is_open}
 use Rattle.irtext_names.specs.Tied.{MatchesGraph}
@@ -15,107 +14,106 @@ use Rattle.irtext_parse_nested.proofs.Marking.{on_ok, always_err, if_err, gains_
 use Rattle.irtext_parse_nested.proofs.blocks.head_named.Goals as goal
 
 -- ---- an argument is an error
-pub returns-in_err-arguments_defined-clause-refused : goal.returns-in_err-arguments_defined-clause-refused
-returns-in_err-arguments_defined-clause-refused g c = rw (propagated c.from_residual.result c.from_residual.ensures.1) (elim c.in_err-arguments_defined.ensures.refused [ inl ran_out ↦ inl ran_out | inr r ↦ inr (same_argument r) ])
+pub returns-in-Err-clause-refused : goal.returns-in-Err-clause-refused
+returns-in-Err-clause-refused g c = (elim c.in-Err.ensures.refused [ inl ran_out ↦ inl ran_out | inr r ↦ inr (same_argument r) ])
 
-pub returns-in_err-arguments_defined-clause-labels : goal.returns-in_err-arguments_defined-clause-labels
-returns-in_err-arguments_defined-clause-labels g c = ap length c.in_err-arguments_defined.ensures.names.1
+pub returns-in-Err-clause-labels : goal.returns-in-Err-clause-labels
+returns-in-Err-clause-labels g c = ap length c.in-Err.ensures.names.1
 
-pub returns-in_err-arguments_defined-clause-dialects : goal.returns-in_err-arguments_defined-clause-dialects
-returns-in_err-arguments_defined-clause-dialects g c = ap (λ x. x.dialects) c.in_err-arguments_defined.ensures.ctx
+pub returns-in-Err-clause-dialects : goal.returns-in-Err-clause-dialects
+returns-in-Err-clause-dialects g c = ap (λ x. x.dialects) c.in-Err.ensures.ctx
 
 -- ---- the mark is an error
-pub returns-in_err-note_mark-clause-refused : goal.returns-in_err-note_mark-clause-refused
-returns-in_err-note_mark-clause-refused g c =
-    let a = c.in_ok-arguments_defined.ensures in
-    rw (propagated c.from_residual-in_err-note_mark.result c.from_residual-in_err-note_mark.ensures.1)
-    (mark_stops c.args.block c.args.label c.args.arguments.now c.args.mark c.args.names.now c.arguments_defined.new.names c.args.s.now.state c.arguments_defined.new.s.state c.note_mark.new.s.state (whole c.args.s.now.stream)
-    a.defines a.marks c.in_err-note_mark.ensures.ctx (whole c.arguments_defined.new.s.stream) _ (ap whole a.stream) c.in_err-note_mark.ensures.refused)
+pub returns-in-Err-note_mark-clause-refused : goal.returns-in-Err-note_mark-clause-refused
+returns-in-Err-note_mark-clause-refused g c =
+    let a = c.in_default.ensures in
+    mark_stops c.args.block c.args.label c.args.arguments.now c.args.mark c.args.names.now c.arguments_defined.new.names c.args.s.now.state c.arguments_defined.new.s.state c.note_mark.new.s.state (whole c.args.s.now.stream)
+    a.defines a.marks c.in-Err-note_mark.ensures.ctx (whole c.arguments_defined.new.s.stream) _ (ap whole a.stream) c.in-Err-note_mark.ensures.refused
 
-pub returns-in_err-note_mark-clause-loses : goal.returns-in_err-note_mark-clause-loses
-returns-in_err-note_mark-clause-loses g c = subst (λ x. LosesPlaceholders c.args.s.now.state.ctx.now.graph x.graph) (sym c.in_err-note_mark.ensures.ctx) c.in_ok-arguments_defined.ensures.loses
+pub returns-in-Err-note_mark-clause-loses : goal.returns-in-Err-note_mark-clause-loses
+returns-in-Err-note_mark-clause-loses g c = subst (λ x. LosesPlaceholders c.args.s.now.state.ctx.now.graph x.graph) (sym c.in-Err-note_mark.ensures.ctx) c.in_default.ensures.loses
 
-pub returns-in_err-note_mark-clause-dialects : goal.returns-in_err-note_mark-clause-dialects
-returns-in_err-note_mark-clause-dialects g c = ap (λ x. x.dialects) c.in_err-note_mark.ensures.ctx ∙ ap (λ x. x.dialects) c.in_ok-arguments_defined.ensures.ctx
+pub returns-in-Err-note_mark-clause-dialects : goal.returns-in-Err-note_mark-clause-dialects
+returns-in-Err-note_mark-clause-dialects g c = ap (λ x. x.dialects) c.in-Err-note_mark.ensures.ctx ∙ ap (λ x. x.dialects) c.in_default.ensures.ctx
 
-pub returns-in_err-note_mark-clause-labels : goal.returns-in_err-note_mark-clause-labels
-returns-in_err-note_mark-clause-labels g c = ap length c.in_ok-arguments_defined.ensures.names.1
+pub returns-in-Err-note_mark-clause-labels : goal.returns-in-Err-note_mark-clause-labels
+returns-in-Err-note_mark-clause-labels g c = ap length c.in_default.ensures.names.1
 
-pub returns-in_err-note_mark-clause-sound : goal.returns-in_err-note_mark-clause-sound
-returns-in_err-note_mark-clause-sound g c = λ m h. same_sound c.arguments_defined.new.names c.arguments_defined.new.s.state c.note_mark.new.s.state c.in_err-note_mark.ensures.ctx m (c.in_ok-arguments_defined.ensures.sound m h)
+pub returns-in-Err-note_mark-clause-sound : goal.returns-in-Err-note_mark-clause-sound
+returns-in-Err-note_mark-clause-sound g c = λ m h. same_sound c.arguments_defined.new.names c.arguments_defined.new.s.state c.note_mark.new.s.state c.in-Err-note_mark.ensures.ctx m (c.in_default.ensures.sound m h)
 
-pub returns-in_err-note_mark-clause-kept : goal.returns-in_err-note_mark-clause-kept
-returns-in_err-note_mark-clause-kept g c = λ m closed h. subst (λ x. KeepsOlder m c.args.s.now.state.ctx.now x) (sym c.in_err-note_mark.ensures.ctx) (c.in_ok-arguments_defined.ensures.kept m closed h)
+pub returns-in-Err-note_mark-clause-kept : goal.returns-in-Err-note_mark-clause-kept
+returns-in-Err-note_mark-clause-kept g c = λ m closed h. subst (λ x. KeepsOlder m c.args.s.now.state.ctx.now x) (sym c.in-Err-note_mark.ensures.ctx) (c.in_default.ensures.kept m closed h)
 
 -- ---- the label
 pub label_defined-requires-clause-open : goal.label_defined-requires-clause-open
-label_defined-requires-clause-open g c = subst (λ ls. is_open ls ≡ true) (sym c.in_ok-arguments_defined.ensures.names.1) c.requires.labels
+label_defined-requires-clause-open g c = subst (λ ls. is_open ls ≡ true) (sym c.in_default.ensures.names.1) c.requires.labels
 
 pub label_defined-requires-clause-known : goal.label_defined-requires-clause-known
-label_defined-requires-clause-known g c = subst (λ ns. c.args.label.name < length ns) (sym c.in_ok-arguments_defined.ensures.names.0) c.requires.label
+label_defined-requires-clause-known g c = subst (λ ns. c.args.label.name < length ns) (sym c.in_default.ensures.names.0) c.requires.label
 
 pub label_defined-requires-clause-tied : goal.label_defined-requires-clause-tied
-label_defined-requires-clause-tied g c = subst (λ x. MatchesGraph c.arguments_defined.new.names.values c.arguments_defined.new.names.labels x.graph) (sym c.in_ok-note_mark.ensures.ctx) c.in_ok-arguments_defined.ensures.tied
+label_defined-requires-clause-tied g c = subst (λ x. MatchesGraph c.arguments_defined.new.names.values c.arguments_defined.new.names.labels x.graph) (sym c.in_default-note_mark.ensures.ctx) c.in_default.ensures.tied
 
 pub label_defined-requires-clause-there : goal.label_defined-requires-clause-there
-label_defined-requires-clause-there g c = subst (λ x. IsLive x.graph (TheBlock c.args.block)) (sym c.in_ok-note_mark.ensures.ctx)
-    (block_stays c.args.s.now.state.ctx.now.graph c.arguments_defined.new.s.state.ctx.now.graph c.in_ok-arguments_defined.ensures.loses c.args.block c.requires.inside c.requires.there)
+label_defined-requires-clause-there g c = subst (λ x. IsLive x.graph (TheBlock c.args.block)) (sym c.in_default-note_mark.ensures.ctx)
+    (block_stays c.args.s.now.state.ctx.now.graph c.arguments_defined.new.s.state.ctx.now.graph c.in_default.ensures.loses c.args.block c.requires.inside c.requires.there)
 
 pub label_defined-requires-clause-no_placeholder : goal.label_defined-requires-clause-no_placeholder
 label_defined-requires-clause-no_placeholder g c =
-    let a = c.in_ok-arguments_defined.ensures in
+    let a = c.in_default.ensures in
     waits_for_none c.arguments_defined.new.s.state.ctx.now.graph c.args.block c.arguments_defined.new.names.values c.arguments_defined.new.names.labels a.tied
     (inside_stays c.args.s.now.state.ctx.now.graph c.arguments_defined.new.s.state.ctx.now.graph a.loses c.args.block c.requires.inside)
 
 pub returns-clause-names : goal.returns-clause-names
 returns-clause-names g c =
-    let a = c.in_ok-arguments_defined.ensures in
-    let n = c.in_ok-note_mark.ensures in
+    let a = c.in_default.ensures in
+    let n = c.in_default-note_mark.ensures in
     on_ok c.label_defined.result (λ follows. names_head c.args.block c.args.label c.args.arguments.now c.args.mark c.args.names.now c.arguments_defined.new.names c.args.s.now.state c.arguments_defined.new.s.state c.note_mark.new.s.state
     (whole c.args.s.now.stream) a.defines a.marks n.ctx n.notes c.label_defined.new.names c.label_defined.new.s.state c.label_defined.ensures.marks follows) c.label_defined.ensures.follows
 
 pub returns-clause-stream : goal.returns-clause-stream
-returns-clause-stream g c = on_ok c.label_defined.result (λ e. e ∙ (c.in_ok-note_mark.ensures.stream ∙ c.in_ok-arguments_defined.ensures.stream)) c.label_defined.ensures.stream
+returns-clause-stream g c = on_ok c.label_defined.result (λ e. e ∙ (c.in_default-note_mark.ensures.stream ∙ c.in_default.ensures.stream)) c.label_defined.ensures.stream
 
 pub returns-clause-refused : goal.returns-clause-refused
 returns-clause-refused g c =
-    let a = c.in_ok-arguments_defined.ensures in
-    let n = c.in_ok-note_mark.ensures in
+    let a = c.in_default.ensures in
+    let n = c.in_default-note_mark.ensures in
     if_err c.label_defined.result (λ f u. label_stops c.args.block c.args.label c.args.arguments.now c.args.mark c.args.names.now c.arguments_defined.new.names c.args.s.now.state c.arguments_defined.new.s.state c.note_mark.new.s.state
     (whole c.args.s.now.stream) a.defines a.marks n.ctx n.notes (whole c.note_mark.new.s.stream) f (ap whole (n.stream ∙ a.stream)) u) c.label_defined.ensures.refused
 
 pub returns-clause-loses : goal.returns-clause-loses
-returns-clause-loses g c = loses_more c.in_ok-arguments_defined.ensures.loses (subst (λ x. LosesPlaceholders x.graph c.label_defined.new.s.state.ctx.now.graph) c.in_ok-note_mark.ensures.ctx c.label_defined.ensures.loses)
+returns-clause-loses g c = loses_more c.in_default.ensures.loses (subst (λ x. LosesPlaceholders x.graph c.label_defined.new.s.state.ctx.now.graph) c.in_default-note_mark.ensures.ctx c.label_defined.ensures.loses)
 
 pub returns-clause-dialects : goal.returns-clause-dialects
-returns-clause-dialects g c = ap (λ x. x.dialects) c.label_defined.ensures.ctx ∙ (ap (λ x. x.dialects) c.in_ok-note_mark.ensures.ctx ∙ ap (λ x. x.dialects) c.in_ok-arguments_defined.ensures.ctx)
+returns-clause-dialects g c = ap (λ x. x.dialects) c.label_defined.ensures.ctx ∙ (ap (λ x. x.dialects) c.in_default-note_mark.ensures.ctx ∙ ap (λ x. x.dialects) c.in_default.ensures.ctx)
 
 pub returns-clause-same : goal.returns-clause-same
-returns-clause-same g c = c.label_defined.ensures.names.0 ∙ c.in_ok-arguments_defined.ensures.names.0
+returns-clause-same g c = c.label_defined.ensures.names.0 ∙ c.in_default.ensures.names.0
 
 pub returns-clause-values : goal.returns-clause-values
-returns-clause-values g c = ap length c.label_defined.ensures.names.1 ∙ c.in_ok-arguments_defined.ensures.values
+returns-clause-values g c = ap length c.label_defined.ensures.names.1 ∙ c.in_default.ensures.values
 
 pub returns-clause-labels : goal.returns-clause-labels
-returns-clause-labels g c = c.label_defined.ensures.labels ∙ ap length c.in_ok-arguments_defined.ensures.names.1
+returns-clause-labels g c = c.label_defined.ensures.labels ∙ ap length c.in_default.ensures.names.1
 
 pub returns-clause-sound : goal.returns-clause-sound
-returns-clause-sound g c = λ m h. c.label_defined.ensures.sound m (same_sound c.arguments_defined.new.names c.arguments_defined.new.s.state c.note_mark.new.s.state c.in_ok-note_mark.ensures.ctx m (c.in_ok-arguments_defined.ensures.sound m h))
+returns-clause-sound g c = λ m h. c.label_defined.ensures.sound m (same_sound c.arguments_defined.new.names c.arguments_defined.new.s.state c.note_mark.new.s.state c.in_default-note_mark.ensures.ctx m (c.in_default.ensures.sound m h))
 
 pub returns-clause-kept : goal.returns-clause-kept
 returns-clause-kept g c = λ m closed h.
-    let a = c.in_ok-arguments_defined.ensures in
-    let e = c.in_ok-note_mark.ensures.ctx in
+    let a = c.in_default.ensures in
+    let e = c.in_default-note_mark.ensures.ctx in
     kept_twice c.args.s.now.state.ctx.now c.arguments_defined.new.s.state.ctx.now c.note_mark.new.s.state.ctx.now c.label_defined.new.s.state.ctx.now m e closed (a.kept m closed h)
     (λ closed_there. c.label_defined.ensures.kept m closed_there (same_sound c.arguments_defined.new.names c.arguments_defined.new.s.state c.note_mark.new.s.state e m (a.sound m h)))
 
 -- ---- after an error, its mark may be recorded
-pub returns-in_err-arguments_defined-clause-unnoted : goal.returns-in_err-arguments_defined-clause-unnoted
-returns-in_err-arguments_defined-clause-unnoted g c = rw (propagated c.from_residual.result c.from_residual.ensures.1) (gains_nothing c.in_err-arguments_defined.ensures.marks)
+pub returns-in-Err-clause-unnoted : goal.returns-in-Err-clause-unnoted
+returns-in-Err-clause-unnoted g c = (gains_nothing c.in-Err.ensures.marks)
 
-pub returns-in_err-note_mark-clause-unnoted : goal.returns-in_err-note_mark-clause-unnoted
-returns-in_err-note_mark-clause-unnoted g c =
-    rw (propagated c.from_residual-in_err-note_mark.result c.from_residual-in_err-note_mark.ensures.1) (gains_nothing (c.in_err-note_mark.ensures.unnoted ∙ c.in_ok-arguments_defined.ensures.marks))
+pub returns-in-Err-note_mark-clause-unnoted : goal.returns-in-Err-note_mark-clause-unnoted
+returns-in-Err-note_mark-clause-unnoted g c =
+    gains_nothing (c.in-Err-note_mark.ensures.unnoted ∙ c.in_default.ensures.marks)
 
 pub returns-clause-unnoted : goal.returns-clause-unnoted
-returns-clause-unnoted g c = always_err c.label_defined.result (gains_mark c.args.mark (item.Block c.args.block) c.in_ok-arguments_defined.ensures.marks c.in_ok-note_mark.ensures.notes c.label_defined.ensures.marks)
+returns-clause-unnoted g c = always_err c.label_defined.result (gains_mark c.args.mark (item.Block c.args.block) c.in_default.ensures.marks c.in_default-note_mark.ensures.notes c.label_defined.ensures.marks)

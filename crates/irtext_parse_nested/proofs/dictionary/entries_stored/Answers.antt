@@ -1,4 +1,4 @@
-use Rattle.std.proofs.Common.{rules, arith}
+use Rattle.std.proofs.Common.{Err, refl, rules, arith}
 use Rattle.irtext_grammar.specs.Contexts.Held.{entries_of}
 use Rattle.irtext_parse_nested.specs.Gathered.{rule_of}
 use Rattle.irtext_parse_nested.proofs.EntriesStored.{stores_none, stores_more, stores_refused, all_stored}
@@ -9,11 +9,11 @@ pub loop-entry-init : goal.loop-entry-init
 loop-entry-init g c = stores_none (rule_of c.args.holder) (entries_of c.args.attributes.now) c.args.entries.items c.into_iter-entry-iterator.result.rest.items (search rules)
 
 pub loop-entry-preserved : goal.loop-entry-preserved
-loop-entry-preserved g c = stores_more (rule_of c.args.holder) c.loop-entry.invariant c.in-Some.ensures.steps.0 c.in_ok-held_entry_stored.ensures.stored c.in_ok-held_entry_stored.ensures.allowed
+loop-entry-preserved g c = stores_more (rule_of c.args.holder) c.loop-entry.invariant c.in-Some.ensures.steps.0 c.in_default.ensures.stored c.in_default.ensures.allowed
 
-pub returns-in_err-held_entry_stored-clause-refused : goal.returns-in_err-held_entry_stored-clause-refused
-returns-in_err-held_entry_stored-clause-refused g c =
-    stores_refused (rule_of c.args.holder) c.loop-entry.invariant c.in-Some.ensures.steps.0 c.from_residual.result _ c.from_residual.ensures.1 c.in_err-held_entry_stored.ensures.refused
+pub returns-in-Err-clause-refused : goal.returns-in-Err-clause-refused
+returns-in-Err-clause-refused g c =
+    stores_refused (rule_of c.args.holder) c.loop-entry.invariant c.in-Some.ensures.steps.0 {X = Unit {0}} (Err c.in-Err.refusal) c.in-Err.refusal refl c.in-Err.ensures.refused
 
 pub returns-clause-stored : goal.returns-clause-stored
 returns-clause-stored g c =

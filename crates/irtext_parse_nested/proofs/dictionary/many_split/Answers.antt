@@ -6,7 +6,7 @@ use Rattle.irtext_parse_nested.proofs.dictionary.many_split.Goals as goal
 pub loop-argument-preserved : goal.loop-argument-preserved
 loop-argument-preserved g c =
     let l = c.loop-argument in
-    let e = c.in_ok-argument_split.ensures in
+    let e = c.in_default.ensures in
     let s = c.in-Some.ensures.steps.0 in
     record {
       names = split_more (λ a. a.0) l.names.items _ _ c.in-Some.argument _ _ e.names s l.invariant.names;

@@ -7,6 +7,7 @@ use Rattle.irtext_names.specs.Rows.{AreKnown}
 use Rattle.irtext_parse_nested.specs.Ends.{numbers_of, no_scope, defined_twice}
 use Rattle.irtext_parse_objects.proofs.Losing.{loses_nothing}
 use Rattle.irtext_parse_nested.proofs.Numbered.{item_there, number_there, known_at}
+use Rattle.irtext_names.proofs.Lists.{older_itself}
 use Rattle.irtext_parse_nested.proofs.operation_end.define_results.Goals as goal
 
 pub returns-then-not-has_value_scope-clause-refused : goal.returns-then-not-has_value_scope-clause-refused
@@ -55,3 +56,21 @@ returns-in-Err-clause-refused g c =
       | inr r ↦ inr (defined_twice c.in-Err.undefined.index r.read r.is counts (c.in-Err.ensures.fails r.twice)
           (subst (λ ns. IsFaultOf ns (whole c.args.stream.now) causes.MultipleDefinitions r.read c.undefined_error.result) c.in-Err.ensures.rest.0 r.says))
     ]
+
+pub returns-then-len-begun-clause-kept : goal.returns-then-len-begun-clause-kept
+returns-then-len-begun-clause-kept g c = λ m own closed waits. older_itself m c.args.graph.now
+
+pub returns-then-begun-eq0-clause-kept : goal.returns-then-begun-eq0-clause-kept
+returns-then-begun-eq0-clause-kept g c = λ m own closed waits. older_itself m c.args.graph.now
+
+pub returns-then-not-has_value_scope-clause-kept : goal.returns-then-not-has_value_scope-clause-kept
+returns-then-not-has_value_scope-clause-kept g c = λ m own closed waits. older_itself m c.args.graph.now
+
+pub returns-then-len-begun-clause-waiting : goal.returns-then-len-begun-clause-waiting
+returns-then-len-begun-clause-waiting g c = λ m own waits. waits
+
+pub returns-then-begun-eq0-clause-waiting : goal.returns-then-begun-eq0-clause-waiting
+returns-then-begun-eq0-clause-waiting g c = λ m own waits. waits
+
+pub returns-then-not-has_value_scope-clause-waiting : goal.returns-then-not-has_value_scope-clause-waiting
+returns-then-not-has_value_scope-clause-waiting g c = λ m own waits. waits

@@ -2,7 +2,6 @@ use Rattle.std.proofs.Common.{rules, arith, ◌≡◌, ◌∷◌, [], sym, subst
 use Rattle.irtext_parse_pieces.specs.Found.{with_words}
 use Rattle.irtext_parse_nested.specs.Gathered.{CanGather, Gathers, RefusesGathering}
 use Rattle.irtext_parse_objects.proofs.Steady.{steady_itself, steady_both}
-use Rattle.irtext_parse_nested.proofs.Stores.{exit_from}
 use Rattle.irtext_parse_nested.proofs.Gathers.{can_first, can_after, gathers_then, fails_at_then}
 use Rattle.irtext_parse_objects.proofs.Ordering.{none_left}
 use Rattle.irtext_parse_nested.proofs.Pieces.{gather_refused_first, gather_refused_from}
@@ -42,7 +41,7 @@ loop-found-preserved g c =
     let ps = with_words c.next.new.self.rest.items i.words in
     let steps = c.in-Some.ensures.steps.0 in
     let s = c.piece_gathered.ensures.steady in
-    let t = c.in_ok-piece_gathered.ensures.gathers in
+    let t = c.in_default.ensures.gathers in
     let new = c.piece_gathered.new in
     record {
       words = i.words;
@@ -58,18 +57,17 @@ loop-found-preserved g c =
           (gather_refused_from ps (f.1 ∷ ps) l.names new.names l.graph new.graph s.names (λ is cause k. fails_at_then f.1 ps s.names t k) r h)));
     }
 
-pub returns-in_err-piece_gathered-clause-steady : goal.returns-in_err-piece_gathered-clause-steady
-returns-in_err-piece_gathered-clause-steady g c = steady_both c.loop-found.invariant.steady c.piece_gathered.ensures.steady
+pub returns-in-Err-clause-steady : goal.returns-in-Err-clause-steady
+returns-in-Err-clause-steady g c = steady_both c.loop-found.invariant.steady c.piece_gathered.ensures.steady
 
-pub returns-in_err-piece_gathered-clause-refused : goal.returns-in_err-piece_gathered-clause-refused
-returns-in_err-piece_gathered-clause-refused g c =
+pub returns-in-Err-clause-refused : goal.returns-in-Err-clause-refused
+returns-in-Err-clause-refused g c =
     let l = c.loop-found in
     let f = c.in-Some.found in
     let ps = with_words c.next.new.self.rest.items l.invariant.words in
     let steps = c.in-Some.ensures.steps.0 in
-    exit_from c.from_residual.result c.from_residual.ensures.1 (RefusesGathering (f.1 ∷ []) l.names l.graph) (RefusesGathering c.args.pieces c.args.names.now c.args.graph.now)
-    (λ r h. l.invariant.fails r (subst (λ fs. RefusesGathering (with_words fs l.invariant.words) l.names l.graph r) (sym steps)
-    (words_refused l.names l.graph l.gathered f.0 (f.1 ∷ ps) r (gather_refused_first f.1 ps l.names l.graph r h)))) c.in_err-piece_gathered.ensures.refused
+    l.invariant.fails _ (subst (λ fs. RefusesGathering (with_words fs l.invariant.words) l.names l.graph c.in-Err.refusal) (sym steps)
+    (words_refused l.names l.graph l.gathered f.0 (f.1 ∷ ps) _ (gather_refused_first f.1 ps l.names l.graph _ c.in-Err.ensures.refused)))
 
 pub returns-clause-steady : goal.returns-clause-steady
 returns-clause-steady g c = c.loop-found.invariant.steady

@@ -7,7 +7,7 @@ use Rattle.irtext_parse_nested.proofs.operation_parts.names_gathered.Goals as go
 pub returns-then-not-has_scope-clause-refused : goal.returns-then-not-has_scope-clause-refused
 returns-then-not-has_scope-clause-refused g c =
     let there : 0 < length c.args.used = omega (arith, c.len.ensures, c.if-len-eq0.false) in
-    list_outside c.args.names.now c.args.graph.now g.K.Referent.kind c.args.used c.index.result.now (item_there c.args.used 0 c.index.result.now there c.index.ensures) (sym c.has_scope.ensures ∙ c.if-not-has_scope.true)
+    list_outside c.args.names.now c.args.graph.now g.K.Referent.kind c.args.used c.index-first.result.now (item_there c.args.used 0 c.index-first.result.now there c.index-first.ensures) (sym c.has_scope.ensures ∙ c.if-not-has_scope.true)
 
 pub returns-then-not-has_scope-clause-steady : goal.returns-then-not-has_scope-clause-steady
 returns-then-not-has_scope-clause-steady g c = steady_itself c.args.names.now c.args.graph.now c.requires.tied

@@ -1,5 +1,4 @@
 use Rattle.std.proofs.Common.{refl, subst, ℕ}
-use Rattle.std.proofs.lemmas.Result.{err_from_is_err_and}
 use Rattle.irtext_grammar.specs.Contexts.Held.{whole}
 use Rattle.irtext_grammar.specs.Names.History as history
 use Rattle.irtext_grammar.specs.Names.History.{leave}
@@ -11,15 +10,14 @@ use Rattle.irtext_parse_nested.proofs.Leaving.{unclosed, closed, unleft}
 use Rattle.irtext_parse_nested.proofs.Marking.{on_both, if_err}
 use Rattle.irtext_parse_nested.proofs.regions.region_end.Goals as goal
 
-pub returns-in_err-text_demanded-clause-refused : goal.returns-in_err-text_demanded-clause-refused
-returns-in_err-text_demanded-clause-refused g c =
-    let p = err_from_is_err_and c.from_residual.result c.from_residual.ensures.1 in
-    rw (p.1, p.2) (λ place r. unclosed g.T.IrText.reading (attr_at g.A.IrText.reading) c.args.names.now c.args.s.now c.args.region place _ _ c.requires.fine c.in_err-text_demanded.ensures)
+pub returns-in-Err-clause-refused : goal.returns-in-Err-clause-refused
+returns-in-Err-clause-refused g c =
+    (λ place r. unclosed g.T.IrText.reading (attr_at g.A.IrText.reading) c.args.names.now c.args.s.now c.args.region place _ _ c.requires.fine c.in-Err.ensures)
 
 pub returns-clause-ends : goal.returns-clause-ends
-returns-clause-ends g c = on_both c.leave.result (λ takes stream. λ place r. closed g.T.IrText.reading (attr_at g.A.IrText.reading) c.args.names.now c.args.s.now c.args.region place _ c.in_ok-text_demanded.ensures
+returns-clause-ends g c = on_both c.leave.result (λ takes stream. λ place r. closed g.T.IrText.reading (attr_at g.A.IrText.reading) c.args.names.now c.args.s.now c.args.region place _ c.in_default.ensures
     c.leave.new.names _ refl stream (subst (λ k. (a : ℕ) → Takes (leave c.args.region.isolated a) (history.left c.args.region.isolated) c.args.names.now c.leave.new.names k) c.graph_of.ensures takes)) c.leave.ensures.takes c.leave.ensures.stream
 
 pub returns-clause-refused : goal.returns-clause-refused
-returns-clause-refused g c = if_err c.leave.result (λ f u. λ place r. unleft g.T.IrText.reading (attr_at g.A.IrText.reading) c.args.names.now c.args.s.now c.args.region place _ c.in_ok-text_demanded.ensures f r.placed
+returns-clause-refused g c = if_err c.leave.result (λ f u. λ place r. unleft g.T.IrText.reading (attr_at g.A.IrText.reading) c.args.names.now c.args.s.now c.args.region place _ c.in_default.ensures f r.placed
     (subst (λ k. UnlessMemory (IsUnresolved c.args.names.now k (whole c.text_demanded.new.stream) c.args.region) f) c.graph_of.ensures u)) c.leave.ensures.refused

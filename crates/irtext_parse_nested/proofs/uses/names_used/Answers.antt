@@ -26,25 +26,25 @@ name_used-requires-clause-known g c =
 pub name_used-requires-clause-tied : goal.name_used-requires-clause-tied
 name_used-requires-clause-tied g c = c.loop-index.invariant.steady.tied
 
-pub returns-in_err-referent-clause-steady : goal.returns-in_err-referent-clause-steady
-returns-in_err-referent-clause-steady g c = steady_both c.loop-index.invariant.steady c.name_used.ensures.steady
+pub returns-in-Err-clause-steady : goal.returns-in-Err-clause-steady
+returns-in-Err-clause-steady g c = steady_both c.loop-index.invariant.steady c.name_used.ensures.steady
 
-pub returns-in_err-push-clause-steady : goal.returns-in_err-push-clause-steady
-returns-in_err-push-clause-steady g c = steady_both c.loop-index.invariant.steady c.name_used.ensures.steady
+pub returns-in_default-clause-steady : goal.returns-in_default-clause-steady
+returns-in_default-clause-steady g c = steady_both c.loop-index.invariant.steady c.name_used.ensures.steady
 
 pub loop-index-preserved : goal.loop-index-preserved
 loop-index-preserved g c =
     let of = defined_as g.K.Referent.kind in
     let by = use_of g.K.Referent.kind in
     let i = c.loop-index.invariant in
-    let s = c.in_ok-referent.ensures.takes in
-    let v = c.in_ok-referent.referent in
+    let s = c.in-Ok.ensures.takes in
+    let v = c.in-Ok.referent in
     let ns = map (λ n. n.name) c.args.used.now in
     let more = use_more of by (take c.loop-index.index ns) c.number_at.result c.args.names.now c.loop-index.names c.name_used.new.names c.args.graph.now c.loop-index.graph c.name_used.new.graph i.uses.0 v i.steady.names i.uses.2 s.still s.there s.follows in
     record {
       uses = (
         i.uses.0 ++ v ∷ [],
-        c.in_ok-push.ensures.items ∙ (ap (λ xs. xs ++ v ∷ []) i.uses.1 ∙ append_assoc c.args.referents.now.items i.uses.0 (v ∷ [])),
+        c.in-Ok-push.ensures.items ∙ (ap (λ xs. xs ++ v ∷ []) i.uses.1 ∙ append_assoc c.args.referents.now.items i.uses.0 (v ∷ [])),
         subst (λ zs. UsesRow of by zs c.args.names.now c.name_used.new.names c.args.graph.now c.name_used.new.graph (i.uses.0 ++ v ∷ [])) (sym (number_more ns c.loop-index.index c.number_at.result c.number_at.ensures)) more,
       );
       steady = steady_both i.steady c.name_used.ensures.steady;
