@@ -1,11 +1,29 @@
--- The definitions in reading order: texts and their grammar, then trees, names, graphs, what is printed of them, and what a context
--- contains.
+-- The definitions: texts and their grammar, trees, names, graphs, what is printed of them, and what a context contains; what a text parses
+-- as, with the cause and place of each error; and what the parsers of nested text return, operation by operation.
+pub mod Agrees
+pub mod Back
+pub mod Both
+pub mod Building
+pub mod ContextParts
 pub mod Contexts
+pub mod Entries
+pub mod Exact
 pub mod Grammar
 pub mod Graphs
+pub mod Grows
+pub mod Heads
 pub mod Names
+pub mod Naming
+pub mod Promises
+pub mod Reached
+pub mod Readers
+pub mod Resume
+pub mod RootParts
 pub mod Spelling
+pub mod Tracks
+pub mod Unchanged
 pub mod UniqueNames
+pub mod Uses
 pub use Rattle.irtext_base.specs.Answers
 pub use Rattle.irtext_base.specs.Causes
 pub use Rattle.irtext_base.specs.Faults

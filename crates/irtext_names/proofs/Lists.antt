@@ -3,7 +3,7 @@ use Rattle.std.proofs.Common.{◌≡◌, ◌<◌, ◌≤◌, ◌+◌, ◌∙◌,
 use Rattle.std.proofs.lemmas.List.{take_more}
 use Rattle.irtext_graph.specs.Graph.{GraphView, KeepsOlder}
 use Rattle.irtext_names.specs.Rows.{AreKnown}
-use Rattle.irtext_names.proofs.Rows.{map-through}
+use Rattle.irtext_names.proofs.NamesInRow.{map-through}
 
 -- each number is known
 pub known_at : {X : Type 0} (f : X → ℕ) (count : ℕ) (xs : List X) (i : ℕ) (x : X) → i < length xs → AreKnown count (map f xs) → f (get_or xs i x) < count

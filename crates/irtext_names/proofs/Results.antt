@@ -27,7 +27,7 @@ use Rattle.irtext_names.proofs.Loses.{Loses}
 use Rattle.irtext_names.proofs.Pairs.{lost}
 use Rattle.irtext_names.proofs.Ties.{waited}
 use Rattle.irtext_names.proofs.Linked.Kept.{made_defined}
-use Rattle.irtext_names.proofs.Rows.{run_through, map-through, split, none_follows, rest_fails}
+use Rattle.irtext_names.proofs.NamesInRow.{run_through, map-through, split, none_follows, rest_fails}
 
 -- the definitions of a list's names, of one of them, and of those after it
 definitions_through : (place : ℕ → Place) (i : ℕ) (ws : List (Name ℕ)) (w : Name ℕ) (xs : List (Name ℕ))

@@ -17,7 +17,7 @@ use Rattle.irtext_names.specs.Rows.{UsesRow}
 use Rattle.irtext_names.specs.Tied.{MatchesGraph, KeepsTies}
 use Rattle.irtext_names.proofs.ByKind.{made_there}
 use Rattle.irtext_names.proofs.Lists.{older_itself}
-use Rattle.irtext_names.proofs.Rows.{no_uses, use_more, use_there, use_open}
+use Rattle.irtext_names.proofs.NamesInRow.{no_uses, use_more, use_there, use_open}
 
 module _ {O B T : Type 0} where
   -- nothing was used

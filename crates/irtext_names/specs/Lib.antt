@@ -1,6 +1,23 @@
+-- What the names of a parse refer to, what is made of parsed parts, and what is promised of what was parsed.
+pub mod Alone
+pub mod Gathered
+pub mod Given
+pub mod Held
+pub mod Items
 pub mod Kinds
+pub mod Leaves
 pub mod Linked
+pub mod Located
+pub mod LosesPlaceholders
+pub mod NameFaults
 pub mod OfItems
+pub mod OnlyNew
+pub mod Placed
 pub mod Placeholders
+pub mod Placing
+pub mod PrintedRoot
+pub mod Promises
 pub mod Rows
 pub mod Tied
+pub mod Uses
+pub mod WithSection

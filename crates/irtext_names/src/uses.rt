@@ -1,5 +1,5 @@
 //! Uses of names, one by one or one after another, as the operands and the successors of an operation.
-ghost use Rattle.std.specs.Prelude.{◌≡◌, ◌<◌, ◌++◌, List, length, map, slice_get, true, Some, OnOk, OnErr, IfOk};
+ghost use Rattle.std.specs.Prelude.{◌≡◌, ◌<◌, ◌++◌, List, length, map, slice_get, true, Some, OnOk, OnErr, IfOk, ◌∷◌, []};
 ghost use Rattle.irtext_graph.specs.Used.{IsDefined};
 ghost use Rattle.irtext_grammar.specs.Names.Script.{User};
 ghost use Rattle.irtext_grammar.specs.Names.TextScopes.{Word};
@@ -9,6 +9,7 @@ ghost use Rattle.irtext_names.specs.Linked.{TakesUse};
 ghost use Rattle.irtext_names.specs.Placeholders.{Uses, IsUnchanged};
 ghost use Rattle.irtext_names.specs.Tied.{MatchesGraph, KeepsTies};
 ghost use Rattle.irtext_names.specs.Rows.{AreKnown, UsesRow};
+ghost use Rattle.irtext_names.specs.Uses.{KeepsScopes, TakesName};
 
 use crate::kinds::{Blank, Names, Referent};
 use crate::named::Named;
@@ -77,5 +78,52 @@ where
         let referent = use_name(names, graph, name.number(), with)?;
         referents.push(referent)?;
     }
+    Ok(())
+}
+
+/// Returns what a used name refers to, while a scope of its kind is open. If an allocation fails, or a counter is full, the scopes are
+/// unchanged.
+pub fn name_used<K: Referent<B>, O: Drop, B: Drop, T: Drop>(
+    names: &mut Names,
+    graph: &mut Graph<Option<O>, B, Option<T>>,
+    name: usize,
+) -> Result<K, AllocError>
+where
+    K::Blank: Blank,
+    requires open { is_open (scopes_of K.kind names.old) ≡ true }
+    requires known { name < length names.old.names }
+    requires tied { MatchesGraph names.old.values names.old.labels graph.old }
+    ensures takes { IfOk result (TakesName (defined_as K.kind) (use_of K.kind) name names.old names.new
+        graph.old graph.new) }
+    ensures steady { KeepsScopes names.old names.new graph.old graph.new }
+{
+    let with = K::Blank::blank(graph.allocator());
+    use_name(names, graph, name, with)
+}
+
+/// Appends what a name refers to, with its place, to those that have places of their own, while a scope of its kind is open.
+pub fn name_placed<K: Referent<B>, O: Drop, B: Drop, T: Drop>(
+    names: &mut Names,
+    graph: &mut Graph<Option<O>, B, Option<T>>,
+    single: &mut Vec<(usize, K)>,
+    index: usize,
+    name: usize,
+) -> Result<(), AllocError>
+where
+    K::Blank: Blank,
+    requires open { is_open (scopes_of K.kind names.old) ≡ true }
+    requires known { name < length names.old.names }
+    requires tied { MatchesGraph names.old.values names.old.labels graph.old }
+    ensures placed { OnOk result ((v : K) × (single.new.items ≡ single.old.items ++ (index, v) ∷ [])
+        × TakesName (defined_as K.kind) (use_of K.kind) name names.old names.new graph.old graph.new v) }
+    ensures steady { KeepsScopes names.old names.new graph.old graph.new }
+{
+    let referent = match name_used(names, graph, name) {
+        Ok(referent) => referent,
+        Err(error) => return Err(error),
+    };
+    let Ok(()) = single.push((index, referent)) else {
+        return Err(AllocError);
+    };
     Ok(())
 }

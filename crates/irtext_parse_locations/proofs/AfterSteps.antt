@@ -10,12 +10,12 @@ use Rattle.irtext_base.specs.declared.location.Source.{Source}
 use Rattle.irtext_base.specs.declared.parsable.fault.ParseFault.{ParseFault}
 use Rattle.irtext_tokens.specs.MustRead.{MustRead}
 use Rattle.irtext_tokens.specs.Tokens.{text_at}
-use Rattle.irtext_parse_spec.specs.Readers.NewPaths.{Makes}
-use Rattle.irtext_parse_spec.specs.Readers.Positions.{spaced_at}
-use Rattle.irtext_parse_spec.specs.Readers.Streams.{itself, replaced}
-use Rattle.irtext_parse_spec.proofs.Readers.PartSteps.{part_read, part_refused, part_ran_out}
-use Rattle.irtext_parse_spec.proofs.Readers.PlainStream.{alone}
-use Rattle.irtext_parse_spec.proofs.Readers.Steps.{seen_alone}
+use Rattle.irtext_grammar.specs.Readers.NewPaths.{Makes}
+use Rattle.irtext_grammar.specs.Readers.Positions.{spaced_at}
+use Rattle.irtext_grammar.specs.Readers.Streams.{itself, replaced}
+use Rattle.irtext_grammar.proofs.Readers.PartSteps.{part_read, part_refused, part_ran_out}
+use Rattle.irtext_grammar.proofs.Readers.PlainStream.{alone}
+use Rattle.irtext_grammar.proofs.Readers.Steps.{seen_alone}
 use Rattle.irtext_parse_locations.specs.declared.location.frame.Frame.TheVariants as frame
 use Rattle.irtext_parse_locations.specs.declared.location.frame.Progress.{Progress}
 use Rattle.irtext_parse_locations.specs.declared.location.frame.Progress.TheVariants as progress

@@ -10,14 +10,14 @@ use Rattle.irtext_base.specs.Locations.{AttrView, LocationOf, fused, named, call
 use Rattle.irtext_base.specs.Paths.{Written}
 use Rattle.irtext_tokens.specs.Infix.{Reader}
 use Rattle.irtext_tokens.specs.Tokens.{text_at}
-use Rattle.irtext_parse_spec.specs.Readers.Locations.{WrittenRow, begins_source, begins_location, name_at, place_at, metadata_at, after_location, row_of, row_at, more_at, fused_at, named_at, call_site_at, kind_at, location_within, more_within, location_at}
-use Rattle.irtext_parse_spec.specs.Readers.NewPaths.{joined_rows}
-use Rattle.irtext_parse_spec.specs.Readers.Positions.{space_at, spaced_at}
-use Rattle.irtext_parse_spec.specs.Readers.RestLengths.{LeavesNoMore}
-use Rattle.irtext_parse_spec.proofs.Readers.Steps.{prefixed-prefixed, mapped_is_followed}
-use Rattle.irtext_parse_spec.proofs.Locations.Begins.{is_missing, none_begins, one_begins}
-use Rattle.irtext_parse_spec.proofs.Locations.Bounds.{kind_same, more_same, within_enough}
-use Rattle.irtext_parse_spec.proofs.Locations.LocationRests.{within_location}
+use Rattle.irtext_grammar.specs.Readers.Locations.{WrittenRow, begins_source, begins_location, name_at, place_at, metadata_at, after_location, row_of, row_at, more_at, fused_at, named_at, call_site_at, kind_at, location_within, more_within, location_at}
+use Rattle.irtext_grammar.specs.Readers.NewPaths.{joined_rows}
+use Rattle.irtext_grammar.specs.Readers.Positions.{space_at, spaced_at}
+use Rattle.irtext_grammar.specs.Readers.RestLengths.{LeavesNoMore}
+use Rattle.irtext_grammar.proofs.Readers.Steps.{prefixed-prefixed, mapped_is_followed}
+use Rattle.irtext_grammar.proofs.Locations.Begins.{is_missing, none_begins, one_begins}
+use Rattle.irtext_grammar.proofs.Locations.Bounds.{kind_same, more_same, within_enough}
+use Rattle.irtext_grammar.proofs.Locations.LocationRests.{within_location}
 use Rattle.irtext_parse_locations.specs.Frames.{FrameOf, for_name, for_callee, for_caller, for_row, ProgressOf, whole, inside, with_one, after_at, call_site_head_at, row_opening_at, fused_opening_at, opening_at, further_at, frame_rest, progress_rest}
 
 -- ---- outcomes

@@ -25,17 +25,17 @@ use Rattle.irtext_tokens.specs.MustRead.{MustRead}
 use Rattle.irtext_tokens.specs.Tokens.{text_at, word}
 use Rattle.irtext_tokens.proofs.Honest.{honest_attr, honest_word, honest_spaced, honest_space, leaves_no_more}
 use Rattle.irtext_grammar.specs.Contexts.Held.{location_over}
-use Rattle.irtext_parse_spec.specs.Readers.Locations.{begins_source, begins_location, location_within, location_at, place_at, metadata_at}
-use Rattle.irtext_parse_spec.specs.Readers.NewPaths.{Makes, MustReadOver, MustReadWithin, known_location}
-use Rattle.irtext_parse_spec.specs.Readers.Positions.{space_at, spaced_at}
-use Rattle.irtext_parse_spec.specs.Readers.RestLengths.{Leaves, LeavesNoMore}
-use Rattle.irtext_parse_spec.specs.Readers.Streams.{itself, replaced}
-use Rattle.irtext_parse_spec.proofs.Readers.Answered.{answered}
-use Rattle.irtext_parse_spec.proofs.Readers.Honest.{honest_title, honest_nothing}
-use Rattle.irtext_parse_spec.proofs.Readers.PlainStream.{alone}
-use Rattle.irtext_parse_spec.proofs.Readers.Steps.{mapped_is_followed, Passed, starts, turned, more, first, last, spaced, refuses, ran_out, ends, mapped_followed, mapped_mapped}
-use Rattle.irtext_parse_spec.proofs.Locations.LocationRests.{within_metadata}
-use Rattle.irtext_parse_spec.proofs.Locations.RestLengths.{Within, ◌then◌, ◌so◌, seen, within_either, within_honest, leaves_read, leaves_missing, leaves_bad, leaves_prefixed, leaves_followed, leaves_honest, leaves_word}
+use Rattle.irtext_grammar.specs.Readers.Locations.{begins_source, begins_location, location_within, location_at, place_at, metadata_at}
+use Rattle.irtext_grammar.specs.Readers.NewPaths.{Makes, MustReadOver, MustReadWithin, known_location}
+use Rattle.irtext_grammar.specs.Readers.Positions.{space_at, spaced_at}
+use Rattle.irtext_grammar.specs.Readers.RestLengths.{Leaves, LeavesNoMore}
+use Rattle.irtext_grammar.specs.Readers.Streams.{itself, replaced}
+use Rattle.irtext_grammar.proofs.Readers.Answered.{answered}
+use Rattle.irtext_grammar.proofs.Readers.Honest.{honest_title, honest_nothing}
+use Rattle.irtext_grammar.proofs.Readers.PlainStream.{alone}
+use Rattle.irtext_grammar.proofs.Readers.Steps.{mapped_is_followed, Passed, starts, turned, more, first, last, spaced, refuses, ran_out, ends, mapped_followed, mapped_mapped}
+use Rattle.irtext_grammar.proofs.Locations.LocationRests.{within_metadata}
+use Rattle.irtext_grammar.proofs.Locations.RestLengths.{Within, ◌then◌, ◌so◌, seen, within_either, within_honest, leaves_read, leaves_missing, leaves_bad, leaves_prefixed, leaves_followed, leaves_honest, leaves_word}
 use Rattle.irtext_parse_locations.specs.declared.location.frame.Frame.{Frame}
 use Rattle.irtext_parse_locations.specs.declared.location.frame.Frame.TheVariants as frame
 use Rattle.irtext_parse_locations.specs.declared.location.frame.Progress.{Progress}

@@ -15,12 +15,12 @@ use Rattle.irtext_base.specs.declared.parsable.fault.ParseFault.{ParseFault}
 use Rattle.irtext_base.proofs.LocationViews.{seen-unknown}
 use Rattle.irtext_tokens.specs.MustRead.{MustRead}
 use Rattle.irtext_tokens.specs.Tokens.{text_at}
-use Rattle.irtext_parse_spec.specs.Readers.Locations.{begins_source, name_at}
-use Rattle.irtext_parse_spec.specs.Readers.NewPaths.{MustReadOver}
-use Rattle.irtext_parse_spec.specs.Readers.Streams.{itself, replaced}
-use Rattle.irtext_parse_spec.proofs.Readers.PartSteps.{part_refused}
-use Rattle.irtext_parse_spec.proofs.Readers.PlainStream.{alone}
-use Rattle.irtext_parse_spec.proofs.Readers.Steps.{seen_alone}
+use Rattle.irtext_grammar.specs.Readers.Locations.{begins_source, name_at}
+use Rattle.irtext_grammar.specs.Readers.NewPaths.{MustReadOver}
+use Rattle.irtext_grammar.specs.Readers.Streams.{itself, replaced}
+use Rattle.irtext_grammar.proofs.Readers.PartSteps.{part_refused}
+use Rattle.irtext_grammar.proofs.Readers.PlainStream.{alone}
+use Rattle.irtext_grammar.proofs.Readers.Steps.{seen_alone}
 use Rattle.irtext_parse_locations.specs.declared.location.frame.Frame.TheVariants as frame
 use Rattle.irtext_parse_locations.specs.declared.location.frame.Progress.TheVariants as progress
 use Rattle.irtext_parse_locations.specs.Frames.{for_name, for_callee, whole, inside, progress_over, progress_kept, known_progress, opening_at, call_site_head_at}

@@ -13,11 +13,11 @@ use Rattle.irtext_base.specs.declared.parsable.fault.ParseFault.{ParseFault}
 use Rattle.irtext_grammar.specs.Contexts.Held.{location_over}
 use Rattle.irtext_tokens.specs.MustRead.{MustRead}
 use Rattle.irtext_tokens.proofs.Steps.{Passed, alone, first, turned, mapped_followed}
-use Rattle.irtext_parse_spec.specs.Readers.Locations.{begins_source, source_at, place_at, location_within, more_within}
-use Rattle.irtext_parse_spec.specs.Readers.NewPaths.{MustReadOver, MustReadWithin, known_location}
-use Rattle.irtext_parse_spec.specs.Readers.Positions.{spaced_at, position_at}
-use Rattle.irtext_parse_spec.specs.Readers.Streams.{itself, replaced}
-use Rattle.irtext_parse_spec.proofs.Locations.Begins.{is_place}
+use Rattle.irtext_grammar.specs.Readers.Locations.{begins_source, source_at, place_at, location_within, more_within}
+use Rattle.irtext_grammar.specs.Readers.NewPaths.{MustReadOver, MustReadWithin, known_location}
+use Rattle.irtext_grammar.specs.Readers.Positions.{spaced_at, position_at}
+use Rattle.irtext_grammar.specs.Readers.Streams.{itself, replaced}
+use Rattle.irtext_grammar.proofs.Locations.Begins.{is_place}
 use Rattle.irtext_parse_locations.specs.Plain.{after_source_at}
 use Rattle.irtext_parse_locations.proofs.Plain.{gets_must}
 

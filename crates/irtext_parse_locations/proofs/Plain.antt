@@ -22,8 +22,8 @@ use Rattle.irtext_tokens.specs.MustRead.{MustRead}
 use Rattle.irtext_tokens.specs.Tokens.{is_sign, sign_of, after_sign, value_of, number_at, integer_of, integer_at}
 use Rattle.irtext_tokens.proofs.Steps.{alone, mapped_followed}
 use Rattle.irtext_tokens.proofs.Spelling.{prefixed-prefixed}
-use Rattle.irtext_parse_spec.specs.Readers.Positions.{spaced_at, labelled_at}
-use Rattle.irtext_parse_spec.specs.Readers.Streams.{itself, replaced}
+use Rattle.irtext_grammar.specs.Readers.Positions.{spaced_at, labelled_at}
+use Rattle.irtext_grammar.specs.Readers.Streams.{itself, replaced}
 use Rattle.irtext_stream.specs.declared.position.SourcePosition.{SourcePosition}
 use Rattle.irtext_parse_locations.specs.Plain.{TakesDigits, TakesNumber, DigitsAfter, NumberAfter, Looks, Gets, line_at, column_at, after_source_at}
 

@@ -7,8 +7,8 @@ use Rattle.irtext_base.specs.Answers.{Outcome, Bad, Missing, Answers, Commits, P
 use Rattle.irtext_base.specs.declared.parsable.fault.ParseFault.{ParseFault}
 use Rattle.irtext_base.proofs.Compose.{answers_demanded, refuses_first_demanded}
 use Rattle.irtext_tokens.specs.MustRead.{MustRead}
-use Rattle.irtext_parse_spec.specs.Readers.Streams.{itself, replaced}
-use Rattle.irtext_parse_spec.proofs.Readers.PlainStream.{alone}
+use Rattle.irtext_grammar.specs.Readers.Streams.{itself, replaced}
+use Rattle.irtext_grammar.proofs.Readers.PlainStream.{alone}
 
 module _ {A : Type 0} where
   -- the same result, where the outcome is stated in other words

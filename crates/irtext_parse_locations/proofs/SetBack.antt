@@ -7,7 +7,7 @@ use Rattle.irtext_stream.specs.Places.{IsPlaceAfter, IsPlaceOf, AtPlace}
 use Rattle.irtext_stream.specs.Stream.{moved}
 use Rattle.irtext_tokens.proofs.SetBack.{set_back, set_within}
 use Rattle.irtext_tokens.proofs.Steps.{alone}
-use Rattle.irtext_parse_spec.specs.Readers.Streams.{itself, replaced}
+use Rattle.irtext_grammar.specs.Readers.Streams.{itself, replaced}
 
 module _ (place : Place) (old mid : StreamView) (k : SameStream itself replaced old.failed old mid) (positioned : IsPlaceAfter place old.passed) where
   -- the place is one of the stream

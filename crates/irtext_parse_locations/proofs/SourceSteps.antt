@@ -11,12 +11,12 @@ use Rattle.irtext_base.specs.declared.location.Source.TheVariants.{InMemory}
 use Rattle.irtext_base.specs.declared.parsable.fault.ParseFault.{ParseFault}
 use Rattle.irtext_tokens.specs.MustRead.{MustRead}
 use Rattle.irtext_tokens.specs.Tokens.{text_at}
-use Rattle.irtext_parse_spec.specs.Readers.Locations.{path_at, source_at}
-use Rattle.irtext_parse_spec.specs.Readers.NewPaths.{MustReadOver}
-use Rattle.irtext_parse_spec.specs.Readers.Streams.{itself, replaced}
-use Rattle.irtext_parse_spec.proofs.Readers.PartSteps.{part_refused}
-use Rattle.irtext_parse_spec.proofs.Readers.PlainStream.{alone}
-use Rattle.irtext_parse_spec.proofs.Readers.Steps.{seen_alone}
+use Rattle.irtext_grammar.specs.Readers.Locations.{path_at, source_at}
+use Rattle.irtext_grammar.specs.Readers.NewPaths.{MustReadOver}
+use Rattle.irtext_grammar.specs.Readers.Streams.{itself, replaced}
+use Rattle.irtext_grammar.proofs.Readers.PartSteps.{part_refused}
+use Rattle.irtext_grammar.proofs.Readers.PlainStream.{alone}
+use Rattle.irtext_grammar.proofs.Readers.Steps.{seen_alone}
 use Rattle.irtext_parse_locations.proofs.Refusals.{in_words, none_comes}
 
 is_path : (text : Text) → begins (the 34) text ≡ true → path_at text ≡ source_at text

@@ -15,10 +15,10 @@ use Rattle.irtext_tokens.specs.AttrTexts.{attr_at}
 use Rattle.irtext_tokens.specs.Infix.{Reader, nothing, either, ◌▷◌, ◌▶◌, ◌⇒◌}
 use Rattle.irtext_tokens.specs.MustRead.{MustRead}
 use Rattle.irtext_tokens.specs.Tokens.{word}
-use Rattle.irtext_parse_spec.specs.Readers.Locations.{WrittenRow, begins_source, begins_location, name_at, place_at, metadata_at, after_location, location_at, more_within}
-use Rattle.irtext_parse_spec.specs.Readers.NewPaths.{MustReadOver, joined_rows}
-use Rattle.irtext_parse_spec.specs.Readers.Positions.{space_at, spaced_at}
-use Rattle.irtext_parse_spec.specs.Readers.Streams.{itself, replaced}
+use Rattle.irtext_grammar.specs.Readers.Locations.{WrittenRow, begins_source, begins_location, name_at, place_at, metadata_at, after_location, location_at, more_within}
+use Rattle.irtext_grammar.specs.Readers.NewPaths.{MustReadOver, joined_rows}
+use Rattle.irtext_grammar.specs.Readers.Positions.{space_at, spaced_at}
+use Rattle.irtext_grammar.specs.Readers.Streams.{itself, replaced}
 use Rattle.irtext_parse_locations.specs.declared.location.frame.Frame.{Frame}
 use Rattle.irtext_parse_locations.specs.declared.location.frame.Frame.TheVariants as frame
 use Rattle.irtext_parse_locations.specs.declared.location.frame.Progress.{Progress}

@@ -8,8 +8,8 @@ use Rattle.irtext_base.specs.Answers.{Read, Takes, Gives, SameStream}
 use Rattle.irtext_tokens.specs.Infix.{Reader, ◌▷◌}
 use Rattle.irtext_stream.specs.Stream.{Comes}
 use Rattle.irtext_tokens.specs.Tokens.{value_of, integer_at}
-use Rattle.irtext_parse_spec.specs.Readers.Positions.{spaced_at, labelled_at, position_at}
-use Rattle.irtext_parse_spec.specs.Readers.Streams.{itself, replaced}
+use Rattle.irtext_grammar.specs.Readers.Positions.{spaced_at, labelled_at, position_at}
+use Rattle.irtext_grammar.specs.Readers.Streams.{itself, replaced}
 use Rattle.irtext_stream.specs.declared.position.SourcePosition.{SourcePosition}
 
 -- digits come next and were consumed, and their number fits 64 bits

@@ -10,10 +10,10 @@ use Rattle.irtext_base.specs.declared.location.Source.{Source}
 use Rattle.irtext_base.specs.declared.parsable.fault.ParseFault.{ParseFault}
 use Rattle.irtext_context.specs.Context.{ContextView}
 use Rattle.irtext_grammar.specs.Contexts.Held.{location_over}
-use Rattle.irtext_parse_spec.specs.Readers.NewPaths.{AddsPaths, MustReadOver, MustReadWithin, known_location}
-use Rattle.irtext_parse_spec.specs.Promises.Section.{known_given, given_over}
-use Rattle.irtext_parse_spec.specs.Readers.Locations.{location_within}
-use Rattle.irtext_parse_spec.specs.Readers.Section.{entry_location_at}
+use Rattle.irtext_grammar.specs.Readers.NewPaths.{AddsPaths, MustReadOver, MustReadWithin, known_location}
+use Rattle.irtext_grammar.specs.Promises.Section.{known_given, given_over}
+use Rattle.irtext_grammar.specs.Readers.Locations.{location_within}
+use Rattle.irtext_grammar.specs.Readers.Section.{entry_location_at}
 use Rattle.irtext_tokens.specs.AttrTexts.{attr_at}
 
 -- of what was parsed, the paths are kept

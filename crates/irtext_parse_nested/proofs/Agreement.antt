@@ -11,8 +11,8 @@ use Rattle.irtext_grammar.specs.Names.TextScopes.{Failure}
 use Rattle.irtext_names.specs.Linked.{IsInPlace, NamesAgree, Takes, FailsBy}
 use Rattle.irtext_names.specs.Tied.{MatchesGraph}
 use Rattle.irtext_names.proofs.Linked.Steps.{agrees_kept}
-use Rattle.irtext_parse_spec.specs.Promises.Section.{indices_of}
-use Rattle.irtext_parse_objects.specs.Items.{Made, Names, Pledge, MachineAgrees}
+use Rattle.irtext_grammar.specs.Promises.Section.{indices_of}
+use Rattle.irtext_names.specs.Items.{Made, Names, Pledge, MachineAgrees}
 
 module _ {T A U : Type 0} {path : ℕ → Path} {items : Made} {pledges : List Pledge} {o : Outcome} where
   -- an edit that keeps what is defined and what is in place

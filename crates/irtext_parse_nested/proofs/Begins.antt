@@ -35,9 +35,9 @@ use Rattle.irtext_names.specs.Tied.{MatchesGraph, ArePending}
 use Rattle.irtext_names.proofs.SameBut.{same_defined, data_in, data_is}
 use Rattle.irtext_names.proofs.Linked.Placed.{appended_ties, appended_agrees}
 use Rattle.irtext_names.specs.Rows.{AreHeldBy}
-use Rattle.irtext_names.proofs.Rows.{rest_fails}
-use Rattle.irtext_parse_objects.specs.declared.gathered.Placed.{Placed}
-use Rattle.irtext_parse_objects.specs.Items.{Names}
+use Rattle.irtext_names.proofs.NamesInRow.{rest_fails}
+use Rattle.irtext_names.specs.declared.gathered.Placed.{Placed}
+use Rattle.irtext_names.specs.Items.{Names}
 use Rattle.irtext_parse_nested.specs.Gathered.{IsInHand, AreInHand}
 
 -- ---- lists

@@ -8,8 +8,8 @@ use Rattle.irtext_grammar.specs.Grammar.Tree as tree
 use Rattle.irtext_grammar.specs.Grammar.Tree.{Name, Piece, Part, parts_of, views, in_order, directive_of_piece, operand_names, successor_labels}
 use Rattle.irtext_grammar.proofs.Lists.InOrder.{firsts, firsts_length}
 use Rattle.irtext_grammar.proofs.Lists.Numbering.{in_order_length}
-use Rattle.irtext_parse_spec.specs.Heads.{Step, flat, types, one, all, step_of, steps_of, canonical_steps, front_steps, region_steps}
-use Rattle.irtext_parse_spec.specs.Naming.{body_of, canonical_of, unmarked, single_operands, single_successors}
+use Rattle.irtext_grammar.specs.Heads.{Step, flat, types, one, all, step_of, steps_of, canonical_steps, front_steps, region_steps}
+use Rattle.irtext_grammar.specs.Naming.{body_of, canonical_of, unmarked, single_operands, single_successors}
 use Rattle.irtext_parse_pieces.specs.declared.names.ReadName.{ReadName}
 use Rattle.irtext_parse_pieces.specs.declared.pieces.ReadPiece.{ReadPiece}
 use Rattle.irtext_parse_pieces.specs.Named.{Each}

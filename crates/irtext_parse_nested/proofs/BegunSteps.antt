@@ -5,10 +5,10 @@ use Rattle.irtext_base.specs.Format.{Format, Id}
 use Rattle.irtext_grammar.specs.Grammar.Tree.{Part, Attribute, views, parts_of, operand_names, successor_labels}
 use Rattle.irtext_grammar.specs.Graphs.Build.{put, put_all, stored}
 use Rattle.irtext_grammar.specs.Names.Acts.{result_types}
-use Rattle.irtext_parse_spec.specs.Heads.{Step}
-use Rattle.irtext_parse_spec.specs.Naming.{body_of, unmarked}
-use Rattle.irtext_parse_spec.specs.Resume.{OpenOperation, with_steps}
-use Rattle.irtext_parse_spec.specs.Unchanged.{OwnSoFar}
+use Rattle.irtext_grammar.specs.Heads.{Step}
+use Rattle.irtext_grammar.specs.Naming.{body_of, unmarked}
+use Rattle.irtext_grammar.specs.Resume.{OpenOperation, with_steps}
+use Rattle.irtext_grammar.specs.Unchanged.{OwnSoFar}
 use Rattle.irtext_parse_nested.specs.Beginning.{HasBegun, IsPartOf, ArePartsOf}
 use Rattle.irtext_parse_nested.proofs.BegunParts.{views_both}
 

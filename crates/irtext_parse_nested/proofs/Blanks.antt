@@ -14,8 +14,8 @@ use Rattle.irtext_graph.specs.Parts.{operation_at}
 use Rattle.irtext_graph.specs.Store.{get}
 use Rattle.irtext_names.specs.Tied.{MatchesGraph, ArePending}
 use Rattle.irtext_parse_state.specs.declared.parsable.state.State as code
-use Rattle.irtext_parse_objects.specs.Placeholders.{BlanksHaveResults, LosesPlaceholders}
-use Rattle.irtext_parse_objects.specs.Items.{BlanksDefine, IsSound, Names}
+use Rattle.irtext_names.specs.LosesPlaceholders.{BlanksHaveResults, LosesPlaceholders}
+use Rattle.irtext_names.specs.Items.{BlanksDefine, IsSound, Names}
 
 -- an operation, as a context keeps it
 abbrev Stored : (T A : Type 0) → Type 0

@@ -23,9 +23,9 @@ use Rattle.irtext_graph.proofs.Same.{ptr_tells}
 use Rattle.irtext_grammar.specs.Grammar.Tree.{Name, Attribute, Head}
 use Rattle.irtext_grammar.specs.Graphs.Build.{put_all, read_names, plain_entry}
 use Rattle.irtext_grammar.specs.Names.Acts.{entries_if}
-use Rattle.irtext_parse_spec.specs.Grows.{with_last_block, BlockCame, RegionGains}
-use Rattle.irtext_parse_spec.specs.Unchanged.{HasHead, IsThere, ModifiesOnly}
-use Rattle.irtext_parse_spec.proofs.Edits.{spares_then, spares_fewer, made_head, block_was_new, block_came, block_came_last, block_came_spares}
+use Rattle.irtext_grammar.specs.Grows.{with_last_block, BlockCame, RegionGains}
+use Rattle.irtext_grammar.specs.Unchanged.{HasHead, IsThere, ModifiesOnly}
+use Rattle.irtext_grammar.proofs.Edits.{spares_then, spares_fewer, made_head, block_was_new, block_came, block_came_last, block_came_spares}
 use Rattle.irtext_context.specs.Made.{made_block}
 use Rattle.irtext_parse_pieces.specs.declared.entries.Key.{Key}
 use Rattle.irtext_parse_pieces.specs.declared.headers.BlockHead.{BlockHead}
@@ -34,16 +34,15 @@ use Rattle.irtext_parse_pieces.specs.Headers.{IsHead}
 use Rattle.irtext_parse_pieces.specs.Named.{Leaves, Each}
 use Rattle.irtext_names.proofs.SameBut.{results_in, results_are}
 use Rattle.irtext_parse_nested.specs.Blocks.{entries_in, MakesHead}
-use Rattle.irtext_parse_objects.specs.Placeholders.{LosesPlaceholders}
+use Rattle.irtext_names.specs.LosesPlaceholders.{LosesPlaceholders}
 use Rattle.irtext_parse_nested.specs.Gathered.{entry_read}
-use Rattle.irtext_parse_objects.specs.Items.{KeepsLive}
-use Rattle.irtext_parse_objects.specs.Located.{IsLocated, IsLocatedAt}
-use Rattle.irtext_parse_objects.specs.Placing.{PlacesBlock}
-use Rattle.irtext_parse_objects.proofs.BlockKept.{block_new}
-use Rattle.irtext_parse_objects.proofs.Lasting.{lasts_then}
+use Rattle.irtext_names.specs.Items.{KeepsLive}
+use Rattle.irtext_names.specs.Located.{IsLocated, IsLocatedAt}
+use Rattle.irtext_names.specs.Placing.{PlacesBlock}
+use Rattle.irtext_names.proofs.BlockKept.{block_new}
+use Rattle.irtext_names.proofs.Lasting.{lasts_then, loses_lasts}
 use Rattle.irtext_parse_nested.proofs.Faults.{place_is_there, named_each}
 use Rattle.irtext_parse_nested.proofs.Headers.{keys_each, arguments_named, arguments_typed}
-use Rattle.irtext_parse_objects.proofs.Lasting.{loses_lasts}
 use Rattle.irtext_parse_nested.proofs.Sparing.{loses_spares, live_region_view}
 
 some_mapped : {X Y : Type 0} (f : X → Y) (o : Option X) → IsSome o → IsSome (option_map f o)

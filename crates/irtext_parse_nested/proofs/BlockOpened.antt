@@ -23,11 +23,11 @@ use Rattle.irtext_scopes.specs.Names.{AreDistinct}
 use Rattle.irtext_grammar.specs.Contexts.Held.{whole}
 use Rattle.irtext_grammar.specs.Grammar.Tree.{Head}
 use Rattle.irtext_names.specs.Tied.{MatchesGraph, ArePending}
-use Rattle.irtext_parse_spec.specs.Promises.Root.{UnlessMemory}
-use Rattle.irtext_parse_spec.specs.Readers.Streams.{itself, replaced}
-use Rattle.irtext_parse_spec.specs.Heads.{head_at}
-use Rattle.irtext_parse_spec.specs.Grows.{BlockCame, RegionGains}
-use Rattle.irtext_parse_spec.specs.Unchanged.{ModifiesOnly}
+use Rattle.irtext_grammar.specs.Promises.Root.{UnlessMemory}
+use Rattle.irtext_grammar.specs.Readers.Streams.{itself, replaced}
+use Rattle.irtext_grammar.specs.Heads.{head_at}
+use Rattle.irtext_grammar.specs.Grows.{BlockCame, RegionGains}
+use Rattle.irtext_grammar.specs.Unchanged.{ModifiesOnly}
 use Rattle.irtext_names.specs.Rows.{AreKnown}
 use Rattle.irtext_parse_pieces.specs.declared.headers.BlockHead.{BlockHead}
 use Rattle.irtext_parse_pieces.specs.declared.names.ReadName.{ReadName}
@@ -35,10 +35,10 @@ use Rattle.irtext_parse_pieces.specs.Headers.{MustHead}
 use Rattle.irtext_parse_pieces.specs.Named.{NamesRead}
 use Rattle.irtext_parse_nested.specs.Blocks.{entries_in, MakesHead, NamesHead, RefusesHead}
 use Rattle.irtext_parse_nested.specs.Definitions.{ValuesReady}
-use Rattle.irtext_parse_objects.specs.Placeholders.{LosesPlaceholders}
+use Rattle.irtext_names.specs.LosesPlaceholders.{LosesPlaceholders}
 use Rattle.irtext_parse_nested.specs.Ends.{numbers_of, noted_as}
-use Rattle.irtext_parse_objects.specs.Items.{Names, IsSound, KeepsLive}
-use Rattle.irtext_parse_objects.specs.Located.{IsLocated}
+use Rattle.irtext_names.specs.Items.{Names, IsSound, KeepsLive}
+use Rattle.irtext_names.specs.Located.{IsLocated}
 use Rattle.irtext_parse_nested.specs.Read.{BeginsBlock, RefusesBlock}
 use Rattle.irtext_parse_nested.proofs.BlockBegun as begun
 use Rattle.irtext_parse_nested.proofs.BlockReady.{within, named_known, made_ties, made_ready, made_inside, made_there, made_sound}
@@ -46,7 +46,7 @@ use Rattle.irtext_parse_nested.proofs.BlockTurn.{made, same_head, names_refused,
 use Rattle.irtext_parse_nested.proofs.Faults.{named_each}
 use Rattle.irtext_parse_nested.proofs.HeadNamed.{inside_stays, block_stays}
 use Rattle.irtext_parse_nested.proofs.Headers.{arguments_named}
-use Rattle.irtext_parse_objects.proofs.Lasting.{live_block_view}
+use Rattle.irtext_names.proofs.Lasting.{live_block_view}
 
 -- ---- other names that were parsed
 -- they match the graph

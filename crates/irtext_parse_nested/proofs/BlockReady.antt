@@ -33,11 +33,11 @@ use Rattle.irtext_parse_nested.specs.Blocks.{PlacesLabelled, MakesHead}
 use Rattle.irtext_parse_nested.specs.Definitions.{ValuesReady}
 use Rattle.irtext_parse_nested.specs.Ends.{numbers_of}
 use Rattle.irtext_parse_nested.specs.Gathered.{entry_read, AreAllowed}
-use Rattle.irtext_parse_objects.specs.Items.{Names, IsSound, BlanksDefine}
+use Rattle.irtext_names.specs.Items.{Names, IsSound, BlanksDefine}
 use Rattle.irtext_parse_nested.proofs.Blanks.{blanks_on}
-use Rattle.irtext_parse_objects.proofs.Losing.{blanks_by}
-use Rattle.irtext_parse_objects.specs.Located.{IsLocatedAt}
-use Rattle.irtext_parse_objects.specs.Placing.{PlacesBlock}
+use Rattle.irtext_names.proofs.Losing.{blanks_by}
+use Rattle.irtext_names.specs.Located.{IsLocatedAt}
+use Rattle.irtext_names.specs.Placing.{PlacesBlock}
 use Rattle.irtext_parse_nested.proofs.BlockPlaced.{placed_ties, placed_waits, arguments_ready}
 
 -- an index at which a list has an element is below its length

@@ -29,11 +29,11 @@ use Rattle.irtext_scopes.specs.Names.{AreDistinct}
 use Rattle.irtext_grammar.specs.Contexts.Held.{whole}
 use Rattle.irtext_grammar.specs.Grammar.Tree.{Head}
 use Rattle.irtext_grammar.specs.Names.Acts.{block_may_hold}
-use Rattle.irtext_parse_spec.specs.Promises.Root.{UnlessMemory}
-use Rattle.irtext_parse_spec.specs.Readers.Streams.{itself, replaced}
-use Rattle.irtext_parse_spec.proofs.Readers.Answered.{Answered, answered}
-use Rattle.irtext_parse_spec.proofs.Readers.Honest.{honest_nothing}
-use Rattle.irtext_parse_spec.specs.Heads.{name_at, name_of, label_at, pair_at, dictionary_by, dictionary_at, argument_at, head_at}
+use Rattle.irtext_grammar.specs.Promises.Root.{UnlessMemory}
+use Rattle.irtext_grammar.specs.Readers.Streams.{itself, replaced}
+use Rattle.irtext_grammar.proofs.Readers.Answered.{Answered, answered}
+use Rattle.irtext_grammar.proofs.Readers.Honest.{honest_nothing}
+use Rattle.irtext_grammar.specs.Heads.{name_at, name_of, label_at, pair_at, dictionary_by, dictionary_at, argument_at, head_at}
 use Rattle.irtext_parse_pieces.specs.declared.entries.Key.{Key}
 use Rattle.irtext_parse_pieces.specs.declared.headers.BlockHead.{BlockHead}
 use Rattle.irtext_parse_pieces.specs.Headers.{IsHead, MustHead}
@@ -45,7 +45,7 @@ use Rattle.irtext_parse_nested.specs.declared.operation_parts.NotGathered.TheVar
 use Rattle.irtext_parse_nested.specs.Blocks.{entries_in, IsOfEntries, IsRefusalFault, RefusesKeys, MakesHead, NamesHead, RefusesHead}
 use Rattle.irtext_parse_nested.specs.Ends.{noted_as}
 use Rattle.irtext_parse_nested.specs.Gathered.{Forbids}
-use Rattle.irtext_parse_objects.specs.Items.{Names, ActFails, ActsWith}
+use Rattle.irtext_names.specs.Items.{Names, ActFails, ActsWith}
 use Rattle.irtext_parse_nested.specs.Read.{heads_of, BeginsBlock, RefusesBlock}
 use Rattle.irtext_parse_nested.proofs.OperationClosed.{noted_is}
 use Rattle.irtext_parse_nested.proofs.Ended.{within_honest, honest_mark}

@@ -1,7 +1,7 @@
 -- Names that keep their numbers, with as many scopes open.
 use Rattle.std.proofs.Common.{◌≡◌, ◌∙◌, length, Some, slice_get, sym, ap, subst}
 use Rattle.irtext_parse_pieces.specs.Named.{NamesRead}
-use Rattle.irtext_parse_objects.specs.Items.{Names, KeepsDepths}
+use Rattle.irtext_names.specs.Items.{Names, KeepsDepths}
 
 -- names were parsed
 pub depths_read : (old new : Names) → NamesRead old new → KeepsDepths old new

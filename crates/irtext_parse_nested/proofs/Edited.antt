@@ -26,7 +26,7 @@ use Rattle.irtext_parse_state.specs.declared.parsable.state.State as code
 use Rattle.irtext_grammar.specs.Names.History.{Outcome}
 use Rattle.irtext_grammar.specs.Names.Script.{Path}
 use Rattle.irtext_names.specs.Tied.{MatchesGraph}
-use Rattle.irtext_parse_objects.specs.Items.{Made, Names, Pledge, MachineAgrees, KeepsLive, IsSound}
+use Rattle.irtext_names.specs.Items.{Made, Names, Pledge, MachineAgrees, KeepsLive, IsSound}
 use Rattle.irtext_parse_nested.proofs.NamesLeft.{LeavesNames, sound_left, agrees_left}
 
 module _ {O B T : Type 0} (g k : GraphView (Option O) B T) (op : Ptr Operation) (change : O → O) (edits : graphs.EditsOperation g k op (option_map change)) where

@@ -18,13 +18,13 @@ use Rattle.irtext_parse_state.specs.declared.parsable.state.State as code
 use Rattle.irtext_parse_state.specs.declared.parsable.state.StateStream.{StateStream}
 use Rattle.irtext_grammar.specs.Contexts.Held.{whole}
 use Rattle.irtext_grammar.specs.Grammar.Tree.{Mark}
-use Rattle.irtext_parse_spec.specs.Promises.Root.{UnlessMemory}
-use Rattle.irtext_parse_spec.specs.Promises.Section.{indices_of}
-use Rattle.irtext_parse_spec.specs.Readers.Streams.{itself, replaced}
-use Rattle.irtext_parse_spec.proofs.Readers.Answered.{Answered, answered}
-use Rattle.irtext_parse_spec.proofs.Readers.Honest.{honest_nothing}
-use Rattle.irtext_parse_spec.specs.Heads.{mark_at, mark_if_at}
-use Rattle.irtext_parse_spec.specs.Resume.{OpenOperation}
+use Rattle.irtext_grammar.specs.Promises.Root.{UnlessMemory}
+use Rattle.irtext_grammar.specs.Promises.Section.{indices_of}
+use Rattle.irtext_grammar.specs.Readers.Streams.{itself, replaced}
+use Rattle.irtext_grammar.proofs.Readers.Answered.{Answered, answered}
+use Rattle.irtext_grammar.proofs.Readers.Honest.{honest_nothing}
+use Rattle.irtext_grammar.specs.Heads.{mark_at, mark_if_at}
+use Rattle.irtext_grammar.specs.Resume.{OpenOperation}
 use Rattle.irtext_parse_pieces.specs.declared.marks.ReadMark.{ReadMark}
 use Rattle.irtext_parse_pieces.specs.Marks.{IsMarkIf}
 use Rattle.irtext_parse_pieces.specs.Named.{MustMean}
@@ -32,7 +32,7 @@ use Rattle.irtext_parse_pieces.proofs.Meanings.{must_whole}
 use Rattle.irtext_parse_nested.specs.declared.frame.BegunOperation.{BegunOperation}
 use Rattle.irtext_parse_nested.specs.OpenOperation.{pledge_of}
 use Rattle.irtext_parse_nested.specs.Ends.{closes_at, NotesMark, noted_as, RefusesMark}
-use Rattle.irtext_parse_objects.specs.Items.{Names, Acts}
+use Rattle.irtext_names.specs.Items.{Names, Acts}
 use Rattle.irtext_parse_nested.specs.Read.{EndsOperation, RefusesEnd, no_mark, same_mark}
 use Rattle.irtext_parse_nested.proofs.OperationClosed.{noted_is}
 use Rattle.irtext_parse_nested.proofs.Faults.{StaysWithin, must_demand}

@@ -23,19 +23,19 @@ use Rattle.irtext_grammar.specs.Names.TextScopes.{Act, Failure, act_failures}
 use Rattle.irtext_names.specs.Linked.{Known, NamesAgree}
 use Rattle.irtext_names.proofs.Linked.Moving.{onto_nothing}
 use Rattle.irtext_names.proofs.Linked.Outside.{value_definition_outside}
-use Rattle.irtext_parse_spec.specs.Promises.Section.{indices_of}
+use Rattle.irtext_grammar.specs.Promises.Section.{indices_of}
 use Rattle.irtext_scopes.specs.Scopes.{is_open}
-use Rattle.irtext_parse_spec.specs.Naming.{body_of}
-use Rattle.irtext_parse_spec.specs.Resume.{OpenOperation}
+use Rattle.irtext_grammar.specs.Naming.{body_of}
+use Rattle.irtext_grammar.specs.Resume.{OpenOperation}
 use Rattle.irtext_names.specs.Rows.{AreNamed}
-use Rattle.irtext_names.proofs.Rows.{rest_fails}
+use Rattle.irtext_names.proofs.NamesInRow.{rest_fails}
 use Rattle.irtext_parse_pieces.specs.declared.names.ReadName.{ReadName}
 use Rattle.irtext_parse_pieces.specs.Named.{Represents}
 use Rattle.irtext_parse_nested.specs.declared.frame.BegunOperation.{BegunOperation}
 use Rattle.irtext_parse_nested.specs.OpenOperation.{IsBegun, pledge_of}
 use Rattle.irtext_parse_nested.specs.Definitions.{definitions_from, AreMadeAs, DefinesRow, FailsRow, IsFaultOf}
 use Rattle.irtext_parse_nested.specs.Ends.{RefusesResults, uncounted, no_scope, defined_twice}
-use Rattle.irtext_parse_objects.specs.Items.{Made, Names, Pledge, MachineAgrees, Acts, ActFails, doing}
+use Rattle.irtext_names.specs.Items.{Made, Names, Pledge, MachineAgrees, Acts, ActFails, doing}
 use Rattle.irtext_parse_nested.proofs.Faults.{place_is_there, named_each, each_length, each_there, some_same, name_failure}
 
 -- ---- the machine

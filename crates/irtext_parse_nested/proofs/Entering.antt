@@ -22,12 +22,12 @@ use Rattle.irtext_grammar.specs.Names.History.{State, enter}
 use Rattle.irtext_grammar.specs.Names.Script.{NotIsolated}
 use Rattle.irtext_names.specs.Linked.{Takes, FailsBy}
 use Rattle.irtext_names.specs.Tied.{MatchesGraph}
-use Rattle.irtext_parse_spec.specs.Promises.Root.{UnlessMemory}
-use Rattle.irtext_parse_spec.specs.Promises.Section.{IsOutOfMemory}
-use Rattle.irtext_parse_spec.specs.Readers.Streams.{itself, replaced}
-use Rattle.irtext_parse_spec.proofs.Readers.Answered.{answered}
+use Rattle.irtext_grammar.specs.Promises.Root.{UnlessMemory}
+use Rattle.irtext_grammar.specs.Promises.Section.{IsOutOfMemory}
+use Rattle.irtext_grammar.specs.Readers.Streams.{itself, replaced}
+use Rattle.irtext_grammar.proofs.Readers.Answered.{answered}
 use Rattle.irtext_parse_pieces.specs.Named.{Leaves}
-use Rattle.irtext_parse_objects.specs.Items.{Names, Acts}
+use Rattle.irtext_names.specs.Items.{Names, Acts}
 use Rattle.irtext_parse_nested.specs.Read.{enters_of, Demands, BeginsRegion, RefusesRegion, not_isolated, no_brace}
 use Rattle.irtext_parse_nested.specs.declared.frame.BegunRegion.{BegunRegion}
 use Rattle.irtext_parse_nested.proofs.Ended.{within_honest}

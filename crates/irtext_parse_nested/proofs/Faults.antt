@@ -15,12 +15,12 @@ use Rattle.irtext_tokens.proofs.Steps.{Lens}
 use Rattle.irtext_grammar.specs.Contexts.Held.{whole, IsPosition}
 use Rattle.irtext_grammar.specs.Grammar.Tree.{Name}
 use Rattle.irtext_grammar.specs.Names.Script.{Cause}
-use Rattle.irtext_parse_spec.specs.Promises.Root.{IsCause, UnlessMemory}
+use Rattle.irtext_grammar.specs.Promises.Root.{IsCause, UnlessMemory}
 use Rattle.irtext_names.specs.Rows.{AreNamed}
 use Rattle.irtext_parse_pieces.specs.declared.names.ReadName.{ReadName}
 use Rattle.irtext_parse_pieces.specs.Named.{Leaves, Represents, Each}
 use Rattle.irtext_parse_nested.specs.Definitions.{IsFaultOf}
-use Rattle.irtext_parse_objects.specs.Items.{IsFailure, IsTextFault}
+use Rattle.irtext_names.specs.Items.{IsFailure, IsTextFault}
 use Rattle.irtext_parse_nested.specs.Read.{Demands}
 
 -- ---- places

@@ -15,19 +15,19 @@ use Rattle.irtext_tokens.specs.AttrTexts.{attr_at}
 use Rattle.irtext_tokens.specs.Infix.{Reader, ◌▷◌}
 use Rattle.irtext_tokens.specs.Tokens.{identifier_at, id_at, space_at, word}
 use Rattle.irtext_tokens.proofs.Honest.{Honest, ◌then◌, ◌kept◌, ◌so◌, seen, honest_either, honest_word, honest_space, honest_id, honest_name, honest_spaced, honest_separated, honest_attr}
-use Rattle.irtext_parse_spec.specs.Readers.Parts.{after_lead}
-use Rattle.irtext_parse_spec.specs.Readers.Marker.{marker, starts_with}
+use Rattle.irtext_grammar.specs.Readers.Parts.{after_lead}
+use Rattle.irtext_grammar.specs.Readers.Marker.{marker, starts_with}
 use Rattle.irtext_grammar.specs.Spelling.AttrText.{attr_tree}
-use Rattle.irtext_parse_spec.specs.Readers.Operations.{registered_after}
-use Rattle.irtext_parse_spec.proofs.Causes.Outcomes as obeys
-use Rattle.irtext_parse_spec.proofs.Causes.Outcomes.{Allowed, Obeys, AllObey, obeys_read, obeys_missing, obeys_bad, obeying_nothing}
-use Rattle.irtext_parse_spec.proofs.Causes.Parts.{piece_obeys}
-use Rattle.irtext_parse_spec.proofs.Causes.Tokens.{obeying_space}
+use Rattle.irtext_grammar.specs.Readers.Operations.{registered_after}
+use Rattle.irtext_grammar.proofs.Causes.Outcomes as obeys
+use Rattle.irtext_grammar.proofs.Causes.Outcomes.{Allowed, Obeys, AllObey, obeys_read, obeys_missing, obeys_bad, obeying_nothing}
+use Rattle.irtext_grammar.proofs.Causes.Parts.{piece_obeys}
+use Rattle.irtext_grammar.proofs.Causes.Tokens.{obeying_space}
 use Rattle.irtext_grammar.specs.Contexts.Formats.{op_id}
 use Rattle.irtext_grammar.specs.Grammar.Tree as tree
 use Rattle.irtext_grammar.specs.Grammar.Tree.{Name, Part}
-use Rattle.irtext_parse_spec.specs.Heads.{Step, flat, types, one, all, name_at, name_of, used_at, target_at, symbol_at, pair_at, dictionary_by, dictionary_at, outlined_or_at, directive_at, piece_at, results_at, named, lead_at, led_by, led_at}
-use Rattle.irtext_parse_spec.specs.Resume.{front_at}
+use Rattle.irtext_grammar.specs.Heads.{Step, flat, types, one, all, name_at, name_of, used_at, target_at, symbol_at, pair_at, dictionary_by, dictionary_at, outlined_or_at, directive_at, piece_at, results_at, named, lead_at, led_by, led_at}
+use Rattle.irtext_grammar.specs.Resume.{front_at}
 use Rattle.irtext_parse_nested.proofs.Ended.{within_honest}
 use Rattle.irtext_parse_nested.proofs.Faults.{StaysWithin}
 

@@ -19,13 +19,13 @@ use Rattle.irtext_scopes.specs.Names.{KeepsNames}
 use Rattle.irtext_grammar.specs.Contexts.Formats as formats
 use Rattle.irtext_grammar.specs.Contexts.Held.{whole}
 use Rattle.irtext_grammar.specs.Grammar.Tree.{Name}
-use Rattle.irtext_parse_spec.specs.Readers.Streams.{itself, replaced}
-use Rattle.irtext_parse_spec.specs.Promises.Root.{UnlessMemory}
-use Rattle.irtext_parse_spec.specs.Promises.Supported.{is_committed}
-use Rattle.irtext_parse_spec.proofs.Readers.Answered.{Answered, answered, may_answered, moves_more}
-use Rattle.irtext_parse_spec.specs.Heads.{steps_of, front_steps, led_at}
-use Rattle.irtext_parse_spec.specs.Reached.{steps_in}
-use Rattle.irtext_parse_spec.specs.Resume.{front_at}
+use Rattle.irtext_grammar.specs.Readers.Streams.{itself, replaced}
+use Rattle.irtext_grammar.specs.Promises.Root.{UnlessMemory}
+use Rattle.irtext_grammar.specs.Promises.Supported.{is_committed}
+use Rattle.irtext_grammar.proofs.Readers.Answered.{Answered, answered, may_answered, moves_more}
+use Rattle.irtext_grammar.specs.Heads.{steps_of, front_steps, led_at}
+use Rattle.irtext_grammar.specs.Reached.{steps_in}
+use Rattle.irtext_grammar.specs.Resume.{front_at}
 use Rattle.irtext_parse_pieces.specs.declared.names.ReadName.{ReadName}
 use Rattle.irtext_parse_pieces.specs.declared.pieces.ReadPiece.{ReadPiece}
 use Rattle.irtext_parse_pieces.specs.Fronts.{IsPart, MustFront, front_of}

@@ -6,12 +6,12 @@ use Rattle.irtext_context.specs.declared.base.operation.OperationData.{Operation
 use Rattle.irtext_names.specs.Tied.{MatchesGraph}
 use Rattle.irtext_parse_pieces.specs.declared.pieces.ReadPiece.{ReadPiece}
 use Rattle.irtext_parse_pieces.specs.Found.{only_words}
-use Rattle.irtext_parse_objects.specs.declared.gathered.Gathered.{Gathered}
+use Rattle.irtext_names.specs.declared.gathered.Gathered.{Gathered}
 use Rattle.irtext_parse_nested.specs.declared.operation_parts.NotGathered.{NotGathered}
-use Rattle.irtext_parse_objects.specs.Items.{Names}
-use Rattle.irtext_parse_objects.specs.Uses.{KeepsScopes}
+use Rattle.irtext_names.specs.Items.{Names}
+use Rattle.irtext_names.specs.Uses.{KeepsScopes}
 use Rattle.irtext_parse_nested.specs.Gathered.{CanGather, Gathers, RefusesGathering}
-use Rattle.irtext_parse_objects.proofs.Steady.{steady_itself, steady_both}
+use Rattle.irtext_names.proofs.Steady.{steady_itself, steady_both}
 use Rattle.irtext_parse_nested.proofs.Gathers.{can_first, can_after, gathers_then, fails_at_then}
 use Rattle.irtext_parse_nested.proofs.Pieces.{gather_refused_first, gather_refused_from}
 use Rattle.irtext_parse_nested.proofs.Words.{can_after_words, gathers_words, words_refused, gathers_last}

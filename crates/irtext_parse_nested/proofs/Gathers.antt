@@ -18,14 +18,14 @@ use Rattle.irtext_grammar.specs.Names.TextScopes.{Act, Failure}
 use Rattle.irtext_names.specs.Linked.{NamesAgree}
 use Rattle.irtext_names.proofs.Linked.Moving.{among_split}
 use Rattle.irtext_names.specs.Rows.{TakesUses}
-use Rattle.irtext_names.proofs.Rows.{rest_fails}
+use Rattle.irtext_names.proofs.NamesInRow.{rest_fails}
 use Rattle.irtext_parse_pieces.specs.declared.pieces.ReadPiece.{ReadPiece}
 use Rattle.irtext_parse_pieces.specs.declared.pieces.ReadPiece.TheVariants as read
 use Rattle.irtext_parse_pieces.specs.Fronts.{IsPart}
 use Rattle.irtext_parse_pieces.specs.Named.{Each}
-use Rattle.irtext_parse_objects.specs.declared.gathered.Gathered.{Gathered}
-use Rattle.irtext_parse_objects.specs.declared.gathered.Placed.{Placed}
-use Rattle.irtext_parse_objects.specs.Items.{Names}
+use Rattle.irtext_names.specs.declared.gathered.Gathered.{Gathered}
+use Rattle.irtext_names.specs.declared.gathered.Placed.{Placed}
+use Rattle.irtext_names.specs.Items.{Names}
 use Rattle.irtext_parse_nested.specs.Gathered.{operand_place, successor_place, operand_list, successor_list, placed_type, type_list, stored_of, last_list, IsInHand, Grows, AreInHand, FailsUses, TakesParts, LackOperands, LackSuccessors, OperandsOnce, SuccessorsOnce, CanUseAll, CanGather, Gathers, FailsAt}
 
 -- ---- lists

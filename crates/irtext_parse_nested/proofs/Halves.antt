@@ -2,16 +2,16 @@
 use Rattle.std.proofs.Common.{◌≡◌, ◌∙◌, ◌<◌, ℕ, false, List, [], ◌∷◌, ◌++◌, length, map, slice_get, Some, Result, OnOk, refl, sym, ap, subst, arith, append-nil}
 use Rattle.irtext_names.specs.Kinds.{NamesOf, NamesOf.{values, labels}, defined_as, scopes_of, use_of}
 use Rattle.irtext_names.specs.Rows.{AreKnown, UsesRow}
-use Rattle.irtext_names.proofs.Rows.{no_uses}
+use Rattle.irtext_names.proofs.NamesInRow.{no_uses}
 use Rattle.irtext_parse_pieces.specs.declared.names.ReadName.{ReadName}
 use Rattle.irtext_parse_pieces.specs.declared.pieces.ReadPiece.{ReadPiece}
 use Rattle.irtext_parse_pieces.specs.Found.{only_words}
 use Rattle.irtext_scopes.specs.Scopes.{is_open}
-use Rattle.irtext_parse_objects.specs.declared.gathered.Gathered.{Gathered}
-use Rattle.irtext_parse_objects.specs.declared.gathered.Placed.{Placed}
-use Rattle.irtext_parse_objects.specs.Items.{Names}
+use Rattle.irtext_names.specs.declared.gathered.Gathered.{Gathered}
+use Rattle.irtext_names.specs.declared.gathered.Placed.{Placed}
+use Rattle.irtext_names.specs.Items.{Names}
 use Rattle.irtext_parse_nested.specs.Gathered.{single_of, list_of, half_of, with_half, CanUseAll, CanGather, Gathers, GathersHalf, GatherOutside}
-use Rattle.irtext_parse_objects.specs.Uses.{KeepsScopes, TakesName}
+use Rattle.irtext_names.specs.Uses.{KeepsScopes, TakesName}
 use Rattle.irtext_parse_nested.proofs.Gathering.{Objects, Gathering, gathering_can, gathering_more}
 use Rattle.irtext_parse_nested.proofs.Marking.{on_ok}
 use Rattle.irtext_parse_nested.proofs.Pieces.{operand_one, successor_one, operands_one, successors_one, operand_outside, successor_outside, operands_outside, successors_outside}

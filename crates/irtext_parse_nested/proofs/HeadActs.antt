@@ -32,9 +32,9 @@ use Rattle.irtext_grammar.specs.Names.Script.{Path, Place, argument, result, blo
 use Rattle.irtext_grammar.specs.Names.TextScopes.{Act, Failure}
 use Rattle.irtext_names.specs.Linked.{Known, NamesAgree}
 use Rattle.irtext_names.proofs.Linked.Interned.{interned}
-use Rattle.irtext_parse_spec.specs.Promises.Section.{indices_of}
+use Rattle.irtext_grammar.specs.Promises.Section.{indices_of}
 use Rattle.irtext_names.specs.Rows.{AreNamed}
-use Rattle.irtext_names.proofs.Rows.{rest_fails}
+use Rattle.irtext_names.proofs.NamesInRow.{rest_fails}
 use Rattle.irtext_parse_pieces.specs.declared.headers.BlockHead.{BlockHead}
 use Rattle.irtext_parse_pieces.specs.declared.marks.ReadMark.{ReadMark}
 use Rattle.irtext_parse_pieces.specs.declared.names.ReadName.{ReadName}
@@ -44,7 +44,7 @@ use Rattle.irtext_parse_pieces.specs.Named.{Represents, Each, NamesRead}
 use Rattle.irtext_parse_nested.specs.Blocks.{entries_in, RefusesKeys, MakesHead, RefusesArguments, DefinesArguments, NamesHead, RefusesHead, same_argument, same_mark, same_label}
 use Rattle.irtext_parse_nested.specs.Definitions.{IsFaultOf}
 use Rattle.irtext_parse_nested.specs.Ends.{numbers_of, NotesMark, RefusesMark}
-use Rattle.irtext_parse_objects.specs.Items.{Made, Names, Pledge, MachineAgrees, ActsWith, ActFails, doing}
+use Rattle.irtext_names.specs.Items.{Made, Names, Pledge, MachineAgrees, ActsWith, ActFails, doing}
 use Rattle.irtext_parse_nested.specs.Placing.{RefusesLabel}
 use Rattle.irtext_parse_nested.proofs.BlockPlaced.{arguments_made, with_block, placed_agrees}
 use Rattle.irtext_parse_nested.proofs.Ends.{definitions_unmarked}

@@ -20,13 +20,13 @@ use Rattle.irtext_grammar.specs.Names.Script.{Place, define_label}
 use Rattle.irtext_grammar.specs.Names.TextScopes.{Word}
 use Rattle.irtext_names.specs.Linked.{TakesDefinition}
 use Rattle.irtext_names.specs.Tied.{MatchesGraph, ArePending, IsNoPlaceholder}
-use Rattle.irtext_parse_spec.specs.Promises.Root.{UnlessMemory}
+use Rattle.irtext_grammar.specs.Promises.Root.{UnlessMemory}
 use Rattle.irtext_parse_pieces.specs.declared.marks.ReadMark.{ReadMark}
 use Rattle.irtext_parse_pieces.specs.declared.names.ReadName.{ReadName}
 use Rattle.irtext_parse_nested.specs.Blocks.{DefinesArguments, NamesHead, RefusesHead, same_mark, same_label}
-use Rattle.irtext_parse_objects.specs.Placeholders.{LosesPlaceholders}
+use Rattle.irtext_names.specs.LosesPlaceholders.{LosesPlaceholders}
 use Rattle.irtext_parse_nested.specs.Ends.{NotesMark, RefusesMark}
-use Rattle.irtext_parse_objects.specs.Items.{Names, IsSound, BlanksDefine}
+use Rattle.irtext_names.specs.Items.{Names, IsSound, BlanksDefine}
 use Rattle.irtext_parse_nested.specs.Placing.{RefusesLabel}
 
 -- ---- the block, where nothing but placeholders is lost

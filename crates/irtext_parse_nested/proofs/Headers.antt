@@ -24,8 +24,8 @@ use Rattle.irtext_grammar.specs.Names.Script as script
 use Rattle.irtext_grammar.specs.Names.Script.{Path, argument, claim, define_value, mark}
 use Rattle.irtext_grammar.specs.Names.TextScopes.{Act, Failure}
 use Rattle.irtext_names.specs.Linked.{Known, NamesAgree}
-use Rattle.irtext_parse_spec.specs.Promises.Section.{indices_of}
-use Rattle.irtext_names.proofs.Rows.{rest_fails, map-through}
+use Rattle.irtext_grammar.specs.Promises.Section.{indices_of}
+use Rattle.irtext_names.proofs.NamesInRow.{rest_fails, map-through}
 use Rattle.irtext_parse_pieces.specs.declared.entries.Key.{Key}
 use Rattle.irtext_parse_pieces.specs.declared.marks.ReadMark.{ReadMark}
 use Rattle.irtext_parse_pieces.specs.declared.names.ReadName.{ReadName}
@@ -37,7 +37,7 @@ use Rattle.irtext_parse_nested.specs.Blocks.{entries_in}
 use Rattle.irtext_parse_nested.specs.Gathered.{AreAllowed, IsFirstForbidden}
 use Rattle.irtext_parse_nested.specs.Definitions.{definitions_from, AreMadeAs}
 use Rattle.irtext_parse_nested.specs.Ends.{NotesMark}
-use Rattle.irtext_parse_objects.specs.Items.{Names}
+use Rattle.irtext_names.specs.Items.{Names}
 use Rattle.irtext_parse_nested.proofs.BlockPlaced.{arguments_made, with_block}
 use Rattle.irtext_parse_nested.proofs.Ends.{after_nothing}
 use Rattle.irtext_parse_nested.proofs.Marking.{mark_agrees, not_noted}

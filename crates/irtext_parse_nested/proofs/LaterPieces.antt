@@ -8,7 +8,7 @@ use Rattle.irtext_base.specs.Text.{front, after}
 use Rattle.irtext_base.specs.Own.{Sincere}
 use Rattle.irtext_base.specs.Stream.{StreamView}
 use Rattle.irtext_base.specs.declared.parsable.fault.ParseFault.{ParseFault}
-use Rattle.irtext_parse_spec.specs.Readers.Streams.{itself, replaced}
+use Rattle.irtext_grammar.specs.Readers.Streams.{itself, replaced}
 use Rattle.irtext_tokens.proofs.Steps.{alone, starts, spaced, last}
 use Rattle.irtext_parse_pieces.proofs.Meanings.{passed_whole}
 use Rattle.irtext_base.specs.Format as format
@@ -21,7 +21,7 @@ use Rattle.irtext_context.specs.DialectTable.{registered}
 use Rattle.irtext_context.specs.Dialects.{Table, known_of}
 use Rattle.irtext_context.specs.declared.dialect.OpInfo.{OpInfo}
 use Rattle.irtext_base.specs.FormatViews.{format_of}
-use Rattle.irtext_parse_spec.specs.Reached.{steps_in}
+use Rattle.irtext_grammar.specs.Reached.{steps_in}
 use Rattle.irtext_format_check.specs.Conditions.{WritesNamesOrType}
 use Rattle.irtext_tokens.specs.AttrTexts.{attr_at}
 use Rattle.irtext_tokens.specs.Infix.{Reader, ◌▷◌}
@@ -31,9 +31,9 @@ use Rattle.irtext_grammar.specs.Grammar.Tree as tree
 use Rattle.irtext_grammar.specs.Grammar.Tree.{Name, Piece, directive_of_piece}
 use Rattle.irtext_grammar.specs.Names.Acts.{piece_acts}
 use Rattle.irtext_grammar.specs.Names.Script.{Path, ReservedKey}
-use Rattle.irtext_parse_spec.proofs.Joins.Answers.{followed_read}
-use Rattle.irtext_parse_spec.specs.Exact.{IsOfStep}
-use Rattle.irtext_parse_spec.specs.Heads.{Step, flat, types, one, all, steps_of, directive_at, piece_at}
+use Rattle.irtext_grammar.proofs.Joins.Answers.{followed_read}
+use Rattle.irtext_grammar.specs.Exact.{IsOfStep}
+use Rattle.irtext_grammar.specs.Heads.{Step, flat, types, one, all, steps_of, directive_at, piece_at}
 use Rattle.irtext_names.specs.Rows.{TakesUses}
 use Rattle.irtext_parse_pieces.specs.declared.entries.Key.{Key}
 use Rattle.irtext_parse_pieces.specs.declared.names.ReadName.{ReadName}
@@ -47,7 +47,7 @@ use Rattle.irtext_parse_nested.specs.declared.operation_parts.NotGathered.TheVar
 use Rattle.irtext_parse_nested.specs.Beginning.{IsKnownIn, IsPartOf}
 use Rattle.irtext_parse_nested.specs.OpenOperation.{ReadsNeither}
 use Rattle.irtext_parse_nested.specs.Gathered.{FailsUses, IsFirstReserved, stored_of}
-use Rattle.irtext_parse_objects.specs.Items.{Names}
+use Rattle.irtext_names.specs.Items.{Names}
 use Rattle.irtext_parse_nested.specs.Later.{given_by, IsFlatNext, MayStore, RefusesStored}
 use Rattle.irtext_parse_nested.proofs.Faults.{StaysWithin}
 use Rattle.irtext_parse_nested.proofs.FrontHonest.{spaced_within}

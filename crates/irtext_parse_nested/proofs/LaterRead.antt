@@ -34,18 +34,18 @@ use Rattle.irtext_grammar.specs.Names.History.{Outcome as Machine, act, going, f
 use Rattle.irtext_grammar.specs.Names.Script.{Path, ReservedKey}
 use Rattle.irtext_names.specs.Tied.{MatchesGraph}
 use Rattle.irtext_names.proofs.Linked.Interned.{interned}
-use Rattle.irtext_parse_spec.specs.Promises.Root.{UnlessMemory}
-use Rattle.irtext_parse_spec.specs.Promises.Section.{Moves}
-use Rattle.irtext_parse_spec.specs.Readers.Streams.{itself, replaced}
-use Rattle.irtext_parse_spec.proofs.Readers.Answered.{Answered, answered}
-use Rattle.irtext_parse_spec.specs.Grows.{OwnBecame}
-use Rattle.irtext_parse_spec.specs.Unchanged.{OwnSoFar, HasOwn, HasUses, ModifiesOnly}
-use Rattle.irtext_parse_spec.proofs.Edits.{attributes_written, attributes_written_spares}
-use Rattle.irtext_parse_spec.specs.Exact.{IsOfStep}
-use Rattle.irtext_parse_spec.specs.Heads.{Step, piece_at}
-use Rattle.irtext_parse_spec.specs.Naming.{body_of, single_operands, single_successors}
-use Rattle.irtext_parse_spec.specs.Reached.{steps_in}
-use Rattle.irtext_parse_spec.specs.Resume.{OpenOperation, with_steps}
+use Rattle.irtext_grammar.specs.Promises.Root.{UnlessMemory}
+use Rattle.irtext_grammar.specs.Promises.Section.{Moves}
+use Rattle.irtext_grammar.specs.Readers.Streams.{itself, replaced}
+use Rattle.irtext_grammar.proofs.Readers.Answered.{Answered, answered}
+use Rattle.irtext_grammar.specs.Grows.{OwnBecame}
+use Rattle.irtext_grammar.specs.Unchanged.{OwnSoFar, HasOwn, HasUses, ModifiesOnly}
+use Rattle.irtext_grammar.proofs.Edits.{attributes_written, attributes_written_spares}
+use Rattle.irtext_grammar.specs.Exact.{IsOfStep}
+use Rattle.irtext_grammar.specs.Heads.{Step, piece_at}
+use Rattle.irtext_grammar.specs.Naming.{body_of, single_operands, single_successors}
+use Rattle.irtext_grammar.specs.Reached.{steps_in}
+use Rattle.irtext_grammar.specs.Resume.{OpenOperation, with_steps}
 use Rattle.irtext_parse_pieces.specs.declared.pieces.ReadPiece.{ReadPiece}
 use Rattle.irtext_parse_pieces.specs.Named.{NamesRead}
 use Rattle.irtext_parse_pieces.specs.Pieces.{IsPiece, MustPiece}
@@ -57,9 +57,9 @@ use Rattle.irtext_parse_nested.specs.Beginning.{HasBegun, SaysGather}
 use Rattle.irtext_parse_nested.specs.OpenOperation.{IsBegun, HasNoType, ReadNeither}
 use Rattle.irtext_parse_nested.specs.Ends.{WritesAttributes}
 use Rattle.irtext_parse_nested.specs.Gathered.{stored_of}
-use Rattle.irtext_parse_objects.specs.Items.{Names, Pledge, Made, MachineAgrees, Acts, IsSound, KeepsLive, doing}
+use Rattle.irtext_names.specs.Items.{Names, Pledge, Made, MachineAgrees, Acts, IsSound, KeepsLive, doing}
 use Rattle.irtext_parse_nested.specs.Later.{IsFlatNext, RefusesStored, StoresPiece, NotStored, GoesOn}
-use Rattle.irtext_parse_objects.specs.Located.{IsLocated}
+use Rattle.irtext_names.specs.Located.{IsLocated}
 use Rattle.irtext_parse_nested.specs.Read.{Demands, ReadsPiece, RefusesPiece}
 use Rattle.irtext_parse_nested.proofs.Begins.{note_piece, marks_stay}
 use Rattle.irtext_parse_nested.proofs.BegunParts.{stored_alike, later_one, all_more}

@@ -22,12 +22,12 @@ use Rattle.irtext_grammar.specs.Names.Script.{Path, User, mark}
 use Rattle.irtext_grammar.specs.Names.TextScopes.{Failure}
 use Rattle.irtext_names.specs.Linked.{Known, NamesAgree}
 use Rattle.irtext_names.proofs.Linked.Moving.{onto_nothing}
-use Rattle.irtext_parse_spec.specs.Promises.Section.{indices_of}
-use Rattle.irtext_names.proofs.Rows.{map-through}
+use Rattle.irtext_grammar.specs.Promises.Section.{indices_of}
+use Rattle.irtext_names.proofs.NamesInRow.{map-through}
 use Rattle.irtext_parse_pieces.specs.declared.marks.ReadMark.{ReadMark}
 use Rattle.irtext_parse_pieces.specs.Marks.{IsMarkIf}
 use Rattle.irtext_parse_nested.specs.Ends.{NotesMark, GainsMarks, RefusesMark}
-use Rattle.irtext_parse_objects.specs.Items.{Made, Names, Pledge, MachineAgrees, Acts, ActFails}
+use Rattle.irtext_names.specs.Items.{Made, Names, Pledge, MachineAgrees, Acts, ActFails}
 use Rattle.irtext_parse_nested.proofs.Faults.{place_is_there}
 
 -- ---- results

@@ -7,7 +7,7 @@ use Rattle.irtext_grammar.specs.Contexts.Held.{attribute_of, entries_of}
 use Rattle.irtext_grammar.specs.Grammar.Tree.{Name, given_names}
 use Rattle.irtext_grammar.specs.Graphs.Build.{put_all, read_names}
 use Rattle.irtext_names.specs.Rows.{AreNamed}
-use Rattle.irtext_names.proofs.Rows.{map-through}
+use Rattle.irtext_names.proofs.NamesInRow.{map-through}
 use Rattle.irtext_parse_pieces.specs.declared.names.ReadName.{ReadName}
 use Rattle.irtext_parse_nested.specs.Ends.{numbers_of}
 use Rattle.irtext_parse_nested.proofs.Numbered.{number_more}

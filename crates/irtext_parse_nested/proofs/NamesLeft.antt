@@ -30,8 +30,8 @@ use Rattle.irtext_names.specs.Placeholders.{IsBlank}
 use Rattle.irtext_names.specs.Tied.{MatchesGraph, ArePending}
 use Rattle.irtext_names.proofs.Loses.{Loses}
 use Rattle.irtext_names.proofs.Ties.{tied_kept, waiting_kept}
-use Rattle.irtext_parse_objects.specs.Placeholders.{BlanksHaveResults}
-use Rattle.irtext_parse_objects.specs.Items.{Made, Names, Pledge, MachineAgrees, IsSound, BlanksDefine}
+use Rattle.irtext_names.specs.LosesPlaceholders.{BlanksHaveResults}
+use Rattle.irtext_names.specs.Items.{Made, Names, Pledge, MachineAgrees, IsSound, BlanksDefine}
 use Rattle.irtext_parse_nested.proofs.Blanks.{blanks_on}
 use Rattle.irtext_parse_nested.proofs.Agreement.{agrees_edited}
 

@@ -40,16 +40,16 @@ use Rattle.irtext_names.proofs.Linked.Interned.{interned}
 use Rattle.irtext_scopes.specs.Names.{AreDistinct}
 use Rattle.irtext_parse_state.specs.States.{LocatesAt, marks_of}
 use Rattle.irtext_parse_state.specs.declared.parsable.state.StateStream.{StateStream}
-use Rattle.irtext_parse_spec.specs.Promises.Root.{UnlessMemory, position_after}
-use Rattle.irtext_parse_spec.specs.Promises.Section.{Moves, indices_of}
-use Rattle.irtext_parse_spec.specs.Heads.{steps_of, front_steps, region_steps}
-use Rattle.irtext_parse_spec.specs.Naming.{body_of, unmarked, single_operands, single_successors}
-use Rattle.irtext_parse_spec.specs.Reached.{steps_in}
-use Rattle.irtext_parse_spec.specs.Resume.{begun, front_at}
+use Rattle.irtext_grammar.specs.Promises.Root.{UnlessMemory, position_after}
+use Rattle.irtext_grammar.specs.Promises.Section.{Moves, indices_of}
+use Rattle.irtext_grammar.specs.Heads.{steps_of, front_steps, region_steps}
+use Rattle.irtext_grammar.specs.Naming.{body_of, unmarked, single_operands, single_successors}
+use Rattle.irtext_grammar.specs.Reached.{steps_in}
+use Rattle.irtext_grammar.specs.Resume.{begun, front_at}
 use Rattle.irtext_names.specs.Rows.{made_results, with_operation}
 use Rattle.irtext_names.proofs.Made.{made_agrees}
-use Rattle.irtext_parse_spec.specs.Unchanged.{OwnSoFar, IsThere}
-use Rattle.irtext_parse_spec.proofs.Edits.{made_own}
+use Rattle.irtext_grammar.specs.Unchanged.{OwnSoFar, IsThere}
+use Rattle.irtext_grammar.proofs.Edits.{made_own}
 use Rattle.irtext_parse_pieces.specs.declared.names.ReadName.{ReadName}
 use Rattle.irtext_parse_pieces.specs.declared.pieces.ReadPiece.{ReadPiece}
 use Rattle.irtext_parse_pieces.specs.Fronts.{IsPart}
@@ -60,23 +60,23 @@ use Rattle.irtext_parse_nested.specs.declared.frame.BegunOperation.{BegunOperati
 use Rattle.irtext_parse_nested.specs.declared.operation_parts.NotGathered.{NotGathered}
 use Rattle.irtext_parse_nested.specs.declared.operation_parts.NotGathered.TheVariants as refusal
 use Rattle.irtext_parse_nested.specs.Beginning.{FrontComes, MissesFront, misses_lead, misses_piece, SaysGather, NotGatheredAs, ran_out, refused, MakesOf, ArePartsOf, HasBegun, ComesInto}
-use Rattle.irtext_parse_objects.specs.Gathered.{types_made}
-use Rattle.irtext_parse_objects.specs.Placing.{PlacedIn}
+use Rattle.irtext_names.specs.Gathered.{types_made}
+use Rattle.irtext_names.specs.Placing.{PlacedIn}
 use Rattle.irtext_parse_nested.specs.OpenOperation.{HasNoType, ReadNeither, IsBegun, pledge_of}
 use Rattle.irtext_parse_pieces.specs.Coming.{IsStep}
 use Rattle.irtext_parse_nested.specs.Gathered.{FailsUses, operand_place, operand_list, successor_place, successor_list, placed_type, type_list, stored_of, last_list, CanGather, RefusesGathering, FailsAt}
-use Rattle.irtext_parse_objects.specs.Items.{Names, Pledge, Made, AreMadeAt, MachineAgrees, IsFailure, ActsWith, ActFails}
-use Rattle.irtext_parse_objects.specs.Located.{IsLocated}
+use Rattle.irtext_names.specs.Items.{Names, Pledge, Made, AreMadeAt, MachineAgrees, IsFailure, ActsWith, ActFails}
+use Rattle.irtext_names.specs.Located.{IsLocated}
 use Rattle.irtext_parse_nested.specs.Read.{ReadsFront, begun_by, uses_of, BeginsOperation, RefusesOperation, no_lead, no_front, no_uses}
 use Rattle.irtext_parse_nested.proofs.Begins.{hands_held, note_parts, marks_stay, operation_placed}
 use Rattle.irtext_parse_nested.proofs.BegunParts.{steps_after, after_neither, pieces_of, later_untyped, stored_is, types_are, stores_are, operand_places_are, successor_places_are, can_gather}
 use Rattle.irtext_parse_nested.proofs.BegunCounts.{operands_counted, successors_counted}
 use Rattle.irtext_parse_nested.proofs.Faults.{place_is_there, name_failure}
-use Rattle.irtext_parse_objects.proofs.Lasting.{data_there}
+use Rattle.irtext_names.proofs.Lasting.{data_there}
 use Rattle.irtext_parse_nested.proofs.OfItems.{of_operation}
 use Rattle.irtext_parse_nested.proofs.OperationMade.{begun_lasts, made_is, begun_is, begun_counts, begun_came, inside_made}
 use Rattle.irtext_parse_nested.proofs.StepParts.{AreOfSteps, FrontParts, front_parts}
-use Rattle.irtext_parse_objects.proofs.Steady.{length_names}
+use Rattle.irtext_names.proofs.Steady.{length_names}
 
 -- the location of a stream's position
 pub located_here : {A : Type 0} (v : StreamView) (src : _) (loc : Location A) → LocatesAt src v.passed loc → IsLocated src (whole v) (length v.rest) loc

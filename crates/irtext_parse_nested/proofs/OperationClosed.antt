@@ -15,12 +15,12 @@ use Rattle.irtext_parse_state.specs.States.{marks_of, same_index}
 use Rattle.irtext_parse_state.specs.declared.parsable.state.State as code
 use Rattle.irtext_grammar.specs.Grammar.Tree.{Name, Mark}
 use Rattle.irtext_grammar.specs.Graphs.Build.{put_all, read_names}
-use Rattle.irtext_parse_spec.specs.Grows.{OwnBecame}
-use Rattle.irtext_parse_spec.specs.Unchanged.{OwnSoFar, HasOwn, HasUses, ModifiesOnly}
-use Rattle.irtext_parse_spec.proofs.Edits.{spares_then, spares_fewer, attributes_written, attributes_written_spares}
-use Rattle.irtext_parse_spec.proofs.Kept.{uses_kept}
+use Rattle.irtext_grammar.specs.Grows.{OwnBecame}
+use Rattle.irtext_grammar.specs.Unchanged.{OwnSoFar, HasOwn, HasUses, ModifiesOnly}
+use Rattle.irtext_grammar.proofs.Edits.{spares_then, spares_fewer, attributes_written, attributes_written_spares}
+use Rattle.irtext_grammar.proofs.Kept.{uses_kept}
 use Rattle.irtext_names.specs.Tied.{MatchesGraph}
-use Rattle.irtext_parse_spec.specs.Resume.{OpenOperation}
+use Rattle.irtext_grammar.specs.Resume.{OpenOperation}
 use Rattle.irtext_parse_pieces.specs.declared.marks.ReadMark.{ReadMark}
 use Rattle.irtext_parse_pieces.specs.declared.names.ReadName.{ReadName}
 use Rattle.irtext_parse_pieces.specs.Marks.{IsMarkIf}
@@ -28,10 +28,10 @@ use Rattle.irtext_parse_pieces.specs.Named.{Represents, Each}
 use Rattle.irtext_parse_nested.specs.declared.frame.BegunOperation.{BegunOperation}
 use Rattle.irtext_parse_nested.specs.OpenOperation.{pledge_of}
 use Rattle.irtext_parse_nested.specs.Ends.{closes_at, NotesMark, noted_as, WritesAttributes, GivesNames, BecomesNamed}
-use Rattle.irtext_parse_objects.specs.Items.{Names, Acts, KeepsLive, IsSound}
+use Rattle.irtext_names.specs.Items.{Names, Acts, KeepsLive, IsSound}
 use Rattle.irtext_parse_nested.proofs.Edited.{edited_lasts, edited_sound, edited_agrees}
 use Rattle.irtext_parse_nested.proofs.Faults.{named_each}
-use Rattle.irtext_parse_objects.proofs.Lasting.{lasts_then}
+use Rattle.irtext_names.proofs.Lasting.{lasts_then}
 
 module _ {T A : Type 0} where
   module _ (old mid new : ContextView T A) (op : Ptr Operation) (spares : ModifiesOnly [] old mid) where

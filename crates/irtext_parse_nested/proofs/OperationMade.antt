@@ -23,22 +23,22 @@ use Rattle.irtext_grammar.specs.Grammar.Tree.{in_order}
 use Rattle.irtext_names.specs.Tied.{MatchesGraph, ArePending}
 use Rattle.irtext_names.proofs.Added.{added_ties, operation_waits}
 use Rattle.irtext_names.proofs.Gained.{operation_added}
-use Rattle.irtext_parse_spec.specs.Grows.{with_last_operation, OperationCame}
-use Rattle.irtext_parse_spec.specs.Unchanged.{OwnSoFar, HasOwn, HasUses, IsThere, ModifiesOnly}
-use Rattle.irtext_parse_spec.proofs.Edits.{operation_made, operation_made_spares, operation_came, operation_came_last, operation_came_spares, operation_placed_spares, spares_then, spares_wider}
-use Rattle.irtext_parse_spec.proofs.Kept.{there_still}
+use Rattle.irtext_grammar.specs.Grows.{with_last_operation, OperationCame}
+use Rattle.irtext_grammar.specs.Unchanged.{OwnSoFar, HasOwn, HasUses, IsThere, ModifiesOnly}
+use Rattle.irtext_grammar.proofs.Edits.{operation_made, operation_made_spares, operation_came, operation_came_last, operation_came_spares, operation_placed_spares, spares_then, spares_wider}
+use Rattle.irtext_grammar.proofs.Kept.{there_still}
 use Rattle.irtext_parse_nested.specs.declared.beginning.ReadFront.{ReadFront}
 use Rattle.irtext_parse_nested.specs.declared.frame.BegunOperation.{BegunOperation}
-use Rattle.irtext_parse_objects.specs.Gathered.{types_made}
-use Rattle.irtext_parse_objects.specs.Placing.{PlacedIn}
+use Rattle.irtext_names.specs.Gathered.{types_made}
+use Rattle.irtext_names.specs.Placing.{PlacedIn}
 use Rattle.irtext_parse_nested.specs.Beginning.{MakesOf, ComesInto}
-use Rattle.irtext_parse_objects.specs.Items.{Names, KeepsLive, BlanksDefine}
-use Rattle.irtext_parse_objects.specs.Placeholders.{BlanksHaveResults}
+use Rattle.irtext_names.specs.Items.{Names, KeepsLive, BlanksDefine}
+use Rattle.irtext_names.specs.LosesPlaceholders.{BlanksHaveResults}
 use Rattle.irtext_parse_nested.proofs.Blanks.{blanks_on}
-use Rattle.irtext_parse_objects.proofs.Losing.{blanks_by}
-use Rattle.irtext_parse_objects.proofs.Steady.{seen_operation}
+use Rattle.irtext_names.proofs.Losing.{blanks_by}
+use Rattle.irtext_names.proofs.Steady.{seen_operation}
 use Rattle.irtext_parse_nested.proofs.Begins.{operation_placed_ties, operation_placed_waits}
-use Rattle.irtext_parse_objects.proofs.Lasting.{lasts_then, lasts_itself, data_there}
+use Rattle.irtext_names.proofs.Lasting.{lasts_then, lasts_itself, data_there}
 use Rattle.irtext_parse_nested.proofs.UsedLive.{used_spares, used_lasts, made_new, made_lasts, placed_lasts}
 use Rattle.irtext_stream.specs.declared.position.Place.{Place}
 

@@ -39,16 +39,16 @@ use Rattle.irtext_parse_pieces.specs.Entries.{IsEntry, IsKey}
 use Rattle.irtext_parse_pieces.specs.Fronts.{IsPart}
 use Rattle.irtext_parse_pieces.specs.Named.{Each, Represents}
 use Rattle.irtext_parse_pieces.specs.Pieces.{IsPiece}
-use Rattle.irtext_parse_objects.specs.declared.gathered.Gathered.{Gathered}
+use Rattle.irtext_names.specs.declared.gathered.Gathered.{Gathered}
 use Rattle.irtext_parse_nested.specs.declared.operation_parts.NotGathered.{NotGathered}
 use Rattle.irtext_parse_nested.specs.declared.operation_parts.NotGathered.TheVariants as refusal
-use Rattle.irtext_parse_objects.specs.declared.gathered.Placed.{Placed}
-use Rattle.irtext_parse_objects.specs.Items.{Names}
+use Rattle.irtext_names.specs.declared.gathered.Placed.{Placed}
+use Rattle.irtext_names.specs.Items.{Names}
 use Rattle.irtext_parse_nested.specs.Gathered.{entry_read, operand_place, successor_place, operand_list, successor_list, placed_type, type_list, stored_of, last_list, IsInHand, LackOperands, LackSuccessors, Grows, FailsUses, TakesParts, MayAllHold, IsFirstReserved, RefusesEntries, GathersAlone, RefusesAlone, RefusesGathering, Gathers, FailsAt, GatherFails, GatherOutside}
-use Rattle.irtext_parse_objects.specs.Uses.{TakesName}
-use Rattle.irtext_parse_objects.specs.Gathered.{AllUsesLive}
+use Rattle.irtext_names.specs.Uses.{TakesName}
+use Rattle.irtext_names.specs.Gathered.{AllUsesLive}
 use Rattle.irtext_parse_nested.proofs.Ends.{after_nothing}
-use Rattle.irtext_parse_objects.proofs.Steady.{length_names}
+use Rattle.irtext_names.proofs.Steady.{length_names}
 use Rattle.irtext_parse_nested.proofs.Gathers.{grows_itself, map_both, takes_none, takes_both, fails_then, fails_first, fails_at_first}
 
 -- ---- names

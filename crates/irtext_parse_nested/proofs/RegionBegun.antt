@@ -9,12 +9,12 @@ use Rattle.irtext_graph.specs.declared.object.Region.{Region}
 use Rattle.irtext_graph.specs.declared.object.Object.TheVariants.{TheOperation, TheRegion}
 use Rattle.irtext_graph.specs.Content.{ARegion}
 use Rattle.irtext_graph.specs.Graph.{content_of, IsLive, IsNew}
-use Rattle.irtext_parse_objects.specs.Items.{KeepsLive}
-use Rattle.irtext_parse_objects.proofs.Lasting.{data_there}
-use Rattle.irtext_parse_spec.specs.Grows.{RegionCame, OperationGains}
-use Rattle.irtext_parse_spec.specs.Unchanged.{ModifiesOnly}
-use Rattle.irtext_parse_spec.proofs.Edits.{region_added_came, region_added_gains, region_added_spares}
-use Rattle.irtext_parse_objects.specs.Placing.{CreatesIn}
+use Rattle.irtext_names.specs.Items.{KeepsLive}
+use Rattle.irtext_names.proofs.Lasting.{data_there}
+use Rattle.irtext_grammar.specs.Grows.{RegionCame, OperationGains}
+use Rattle.irtext_grammar.specs.Unchanged.{ModifiesOnly}
+use Rattle.irtext_grammar.proofs.Edits.{region_added_came, region_added_gains, region_added_spares}
+use Rattle.irtext_names.specs.Placing.{CreatesIn}
 use Rattle.irtext_parse_nested.proofs.RegionAdded as added
 use Rattle.irtext_parse_nested.proofs.RegionAdded.{operation_same, object_same}
 use Rattle.irtext_parse_nested.proofs.NamesLeft.{LeavesNames}

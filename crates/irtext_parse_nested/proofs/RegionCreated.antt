@@ -16,8 +16,8 @@ use Rattle.irtext_graph.specs.Parts.{operation_at, results_of}
 use Rattle.irtext_graph.specs.Store.{get}
 use Rattle.irtext_graph.proofs.Nests.{same_or_other}
 use Rattle.irtext_graph.proofs.Same.{ptr_tells}
-use Rattle.irtext_parse_objects.specs.Items.{KeepsLive}
-use Rattle.irtext_parse_objects.proofs.Lasting.{not_below, data_there, there_data}
+use Rattle.irtext_names.specs.Items.{KeepsLive}
+use Rattle.irtext_names.proofs.Lasting.{not_below, data_there, there_data}
 
 module _ {T A : Type 0} where
   -- this region came, each other object is what it was

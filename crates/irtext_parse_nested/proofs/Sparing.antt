@@ -13,11 +13,11 @@ use Rattle.irtext_graph.specs.declared.object.Object.TheVariants.{TheOperation, 
 use Rattle.irtext_graph.specs.Content.{Node, Content, Content.{ARegion}, RegionContent}
 use Rattle.irtext_graph.specs.Graph.{GraphView, content_of, IsLive}
 use Rattle.irtext_graph.specs.Store.{get}
-use Rattle.irtext_parse_spec.specs.Unchanged.{IsThere, ModifiesOnly}
-use Rattle.irtext_parse_spec.proofs.Edits as edits
-use Rattle.irtext_parse_spec.proofs.Edits.{alike_as}
-use Rattle.irtext_parse_objects.specs.Placeholders.{IsPlaced, HasAsMany, LosesPlaceholders}
-use Rattle.irtext_parse_objects.proofs.Lasting.{data_there, there_data, block_is_live, live_block_view}
+use Rattle.irtext_grammar.specs.Unchanged.{IsThere, ModifiesOnly}
+use Rattle.irtext_grammar.proofs.Edits as edits
+use Rattle.irtext_grammar.proofs.Edits.{alike_as}
+use Rattle.irtext_names.specs.LosesPlaceholders.{IsPlaced, HasAsMany, LosesPlaceholders}
+use Rattle.irtext_names.proofs.Lasting.{data_there, there_data, block_is_live, live_block_view}
 
 module _ {T A : Type 0} where
   -- a region, as what an object is

@@ -13,11 +13,11 @@ use Rattle.irtext_tokens.specs.Tokens.{space_at, word}
 use Rattle.irtext_grammar.specs.Grammar.Tree as tree
 use Rattle.irtext_grammar.specs.Grammar.Tree.{Name, Piece, Part, directive_of_piece}
 use Rattle.irtext_grammar.proofs.Graphs.FitsFormat.{and_left, and_right}
-use Rattle.irtext_parse_spec.proofs.Joins.Answers.{followed_read, mapped_read}
-use Rattle.irtext_parse_spec.specs.Exact.{IsOfStep, UsesNone}
-use Rattle.irtext_parse_spec.specs.Heads.{Step, flat, types, one, all, step_of, front_steps, used_at, target_at, symbol_at, dictionary_by, outlined_or_at, piece_at}
-use Rattle.irtext_parse_spec.specs.Resume.{front_at}
-use Rattle.irtext_parse_spec.proofs.Exact.Outside.{used_never, target_never}
+use Rattle.irtext_grammar.proofs.Joins.Answers.{followed_read, mapped_read}
+use Rattle.irtext_grammar.specs.Exact.{IsOfStep, UsesNone}
+use Rattle.irtext_grammar.specs.Heads.{Step, flat, types, one, all, step_of, front_steps, used_at, target_at, symbol_at, dictionary_by, outlined_or_at, piece_at}
+use Rattle.irtext_grammar.specs.Resume.{front_at}
+use Rattle.irtext_grammar.proofs.Exact.Outside.{used_never, target_never}
 
 -- each piece is one that its step parses, and uses no name outside of each region
 abbrev pub AreOfSteps : {T A : Type 0} → Bool → List Step → List (Piece ℕ T A) → Type 0

@@ -12,7 +12,7 @@ use Rattle.irtext_parse_pieces.specs.declared.entries.Key.{Key}
 use Rattle.irtext_parse_nested.specs.declared.operation_parts.NotGathered.{NotGathered}
 use Rattle.irtext_parse_nested.specs.declared.operation_parts.NotGathered.TheVariants as refusal
 use Rattle.irtext_parse_nested.specs.Gathered.{MayAllHold, RefusesEntries, refused_at}
-use Rattle.irtext_parse_objects.proofs.Stores.{holds_or_reserved}
+use Rattle.irtext_names.proofs.Stores.{holds_or_reserved}
 
 module _ {A : Type 0} where
   -- an error of the dictionary is one of the entry

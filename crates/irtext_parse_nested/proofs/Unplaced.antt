@@ -13,10 +13,10 @@ use Rattle.irtext_graph.specs.Graph.{GraphView, content, content_of, parent_of, 
 use Rattle.irtext_graph.specs.Parts.{operation_at}
 use Rattle.irtext_graph.specs.Store.{get}
 use Rattle.irtext_names.proofs.Gained.{fresh_place}
-use Rattle.irtext_parse_spec.specs.Grows.{RegionCame}
-use Rattle.irtext_parse_spec.specs.Unchanged.{IsAsItWas, ModifiesOnly}
-use Rattle.irtext_parse_spec.proofs.Edits.{spares_by, kept_as_many}
-use Rattle.irtext_parse_objects.specs.Items.{KeepsLive}
+use Rattle.irtext_grammar.specs.Grows.{RegionCame}
+use Rattle.irtext_grammar.specs.Unchanged.{IsAsItWas, ModifiesOnly}
+use Rattle.irtext_grammar.proofs.Edits.{spares_by, kept_as_many}
+use Rattle.irtext_names.specs.Items.{KeepsLive}
 use Rattle.irtext_parse_nested.proofs.NamesLeft.{LeavesNames, operations_leave}
 use Rattle.irtext_parse_nested.proofs.RegionCreated.{CreatesRegion, created_lasts, created_new, created_there}
 

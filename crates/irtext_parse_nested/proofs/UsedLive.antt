@@ -30,12 +30,12 @@ use Rattle.irtext_graph.proofs.Nests.{same_or_other}
 use Rattle.irtext_graph.proofs.Same.{ptr_tells}
 use Rattle.irtext_names.proofs.Gained.{fresh_place}
 use Rattle.irtext_names.proofs.SameBut.{data_in, data_is}
-use Rattle.irtext_parse_spec.specs.Unchanged.{IsThere, IsAsItWas, ModifiesOnly}
-use Rattle.irtext_parse_spec.proofs.Edits.{kept_as_many}
-use Rattle.irtext_parse_objects.specs.Uses.{BringsNone}
-use Rattle.irtext_parse_objects.specs.Items.{KeepsLive}
-use Rattle.irtext_parse_objects.proofs.Steady.{seen_region}
-use Rattle.irtext_parse_objects.proofs.Lasting.{not_below, data_there, there_data, block_is_live, live_block_view}
+use Rattle.irtext_grammar.specs.Unchanged.{IsThere, IsAsItWas, ModifiesOnly}
+use Rattle.irtext_grammar.proofs.Edits.{kept_as_many}
+use Rattle.irtext_names.specs.Uses.{BringsNone}
+use Rattle.irtext_names.specs.Items.{KeepsLive}
+use Rattle.irtext_names.proofs.Steady.{seen_region}
+use Rattle.irtext_names.proofs.Lasting.{not_below, data_there, there_data, block_is_live, live_block_view}
 
 -- what is seen of an operation
 abbrev seen_operation : (O B T : Type 0) → Option (ℕ × OperationContent O T) → Option (Content O B T)

@@ -7,9 +7,9 @@ use Rattle.irtext_graph.specs.Graph.{GraphView}
 use Rattle.irtext_parse_pieces.specs.declared.pieces.ReadPiece.{ReadPiece}
 use Rattle.irtext_parse_pieces.specs.declared.pieces.ReadPiece.TheVariants as read
 use Rattle.irtext_parse_pieces.specs.Found.{only_words, with_words}
-use Rattle.irtext_parse_objects.specs.declared.gathered.Gathered.{Gathered}
+use Rattle.irtext_names.specs.declared.gathered.Gathered.{Gathered}
 use Rattle.irtext_parse_nested.specs.declared.operation_parts.NotGathered.{NotGathered}
-use Rattle.irtext_parse_objects.specs.Items.{Names}
+use Rattle.irtext_names.specs.Items.{Names}
 use Rattle.irtext_parse_nested.specs.Gathered.{CanGather, Gathers, RefusesGathering}
 use Rattle.irtext_parse_nested.proofs.Gathers.{gathers_none, gathers_then, fails_at_then}
 use Rattle.irtext_parse_nested.proofs.Pieces.{word_one, gather_refused_from}

@@ -27,31 +27,31 @@ use Rattle.irtext_grammar.specs.Grammar.Tree as tree
 use Rattle.irtext_grammar.specs.Grammar.Tree.{Name, Part, parts_of, views, in_order, operand_names, successor_labels}
 use Rattle.irtext_grammar.specs.Graphs.Build.{put_all, stored}
 use Rattle.irtext_grammar.specs.Names.Acts.{result_types}
-use Rattle.irtext_parse_spec.specs.Promises.Root.{UnlessMemory}
-use Rattle.irtext_parse_spec.specs.Promises.Section.{Moves, IsOutOfMemory}
-use Rattle.irtext_parse_spec.specs.Promises.Supported.{is_committed}
-use Rattle.irtext_parse_spec.specs.Exact.{IsOfStep}
-use Rattle.irtext_parse_spec.specs.Heads.{Step, one, all, front_steps, led_at}
-use Rattle.irtext_parse_spec.specs.Naming.{body_of, unmarked}
-use Rattle.irtext_parse_spec.specs.Reached.{steps_in}
-use Rattle.irtext_parse_spec.specs.Resume.{OpenOperation, front_at}
-use Rattle.irtext_parse_spec.specs.Grows.{BlockGains, OperationCame}
-use Rattle.irtext_parse_spec.specs.Unchanged.{OwnSoFar, ModifiesOnly}
+use Rattle.irtext_grammar.specs.Promises.Root.{UnlessMemory}
+use Rattle.irtext_grammar.specs.Promises.Section.{Moves, IsOutOfMemory}
+use Rattle.irtext_grammar.specs.Promises.Supported.{is_committed}
+use Rattle.irtext_grammar.specs.Exact.{IsOfStep}
+use Rattle.irtext_grammar.specs.Heads.{Step, one, all, front_steps, led_at}
+use Rattle.irtext_grammar.specs.Naming.{body_of, unmarked}
+use Rattle.irtext_grammar.specs.Reached.{steps_in}
+use Rattle.irtext_grammar.specs.Resume.{OpenOperation, front_at}
+use Rattle.irtext_grammar.specs.Grows.{BlockGains, OperationCame}
+use Rattle.irtext_grammar.specs.Unchanged.{OwnSoFar, ModifiesOnly}
 use Rattle.irtext_parse_pieces.specs.declared.names.ReadName.{ReadName}
 use Rattle.irtext_parse_pieces.specs.declared.pieces.ReadPiece.{ReadPiece}
 use Rattle.irtext_parse_pieces.specs.Fronts.{IsPart}
 use Rattle.irtext_parse_pieces.specs.Named.{Represents, Each}
 use Rattle.irtext_parse_nested.specs.declared.beginning.ReadFront.{ReadFront}
 use Rattle.irtext_parse_nested.specs.declared.frame.BegunOperation.{BegunOperation}
-use Rattle.irtext_parse_objects.specs.declared.gathered.Gathered.{Gathered}
+use Rattle.irtext_names.specs.declared.gathered.Gathered.{Gathered}
 use Rattle.irtext_parse_nested.specs.declared.operation_parts.NotGathered.{NotGathered}
 use Rattle.irtext_parse_nested.specs.declared.operation_parts.NotGathered.TheVariants as refusal
 use Rattle.irtext_parse_nested.specs.Definitions.{IsFaultOf}
-use Rattle.irtext_parse_objects.specs.Gathered.{IsNothing, types_made}
-use Rattle.irtext_parse_objects.specs.Placing.{PlacedIn}
-use Rattle.irtext_parse_objects.specs.Uses.{KeepsScopes}
+use Rattle.irtext_names.specs.Gathered.{IsNothing, types_made}
+use Rattle.irtext_names.specs.Placing.{PlacedIn}
+use Rattle.irtext_names.specs.Uses.{KeepsScopes}
 use Rattle.irtext_parse_nested.specs.Gathered.{Gathers, RefusesGathering}
-use Rattle.irtext_parse_objects.specs.Items.{Names}
+use Rattle.irtext_names.specs.Items.{Names}
 use Rattle.irtext_parse_nested.specs.Read.{Demands}
 
 -- ---- what was parsed

@@ -40,9 +40,9 @@ use Rattle.irtext_parse_nested.specs.declared.operation_parts.NotGathered.TheVar
 use Rattle.irtext_parse_nested.specs.Definitions.{DefinesRow, FailsRow, IsFaultOf}
 use Rattle.irtext_parse_nested.specs.Ends.{numbers_of, NotesMark, RefusesMark}
 use Rattle.irtext_parse_nested.specs.Gathered.{entry_read, AreAllowed, IsFirstForbidden}
-use Rattle.irtext_parse_objects.specs.Items.{Names}
-use Rattle.irtext_parse_objects.specs.Located.{IsLocatedAt}
-use Rattle.irtext_parse_objects.specs.Placing.{PlacesBlock}
+use Rattle.irtext_names.specs.Items.{Names}
+use Rattle.irtext_names.specs.Located.{IsLocatedAt}
+use Rattle.irtext_names.specs.Placing.{PlacesBlock}
 use Rattle.irtext_parse_nested.specs.Placing.{RefusesLabel}
 
 -- ---- the dictionary

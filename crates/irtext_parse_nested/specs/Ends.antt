@@ -23,8 +23,8 @@ use Rattle.irtext_grammar.specs.Names.Script.{Path}
 use Rattle.irtext_grammar.specs.Contexts.Held.{entries_of}
 use Rattle.irtext_grammar.specs.Grammar.Tree.{Name, Mark}
 use Rattle.irtext_grammar.specs.Graphs.Build.{put_all, read_names}
-use Rattle.irtext_parse_spec.specs.Grows.{OwnBecame}
-use Rattle.irtext_parse_spec.specs.Unchanged.{OwnSoFar, HasOwn, HasUses}
+use Rattle.irtext_grammar.specs.Grows.{OwnBecame}
+use Rattle.irtext_grammar.specs.Unchanged.{OwnSoFar, HasOwn, HasUses}
 use Rattle.irtext_names.specs.Rows.{AreNamed}
 use Rattle.irtext_parse_pieces.specs.Named.{Represents, Each}
 use Rattle.irtext_context.specs.Context.{ContextView, OperationView, operation, EditsOperation, with_attributes}
@@ -32,8 +32,8 @@ use Rattle.irtext_graph.specs.declared.arena.Ptr.{Ptr}
 use Rattle.irtext_graph.specs.declared.object.Operation.{Operation}
 use Rattle.irtext_base.specs.declared.base.attributes.AttrObj.{AttrObj}
 use Rattle.irtext_base.specs.declared.location.Location.{Location}
-use Rattle.irtext_parse_spec.specs.Resume.{OpenOperation}
-use Rattle.irtext_parse_objects.specs.Items.{Names, doing}
+use Rattle.irtext_grammar.specs.Resume.{OpenOperation}
+use Rattle.irtext_names.specs.Items.{Names, doing}
 
 -- the numbers of the parsed names
 abbrev pub numbers_of : List ReadName → List ℕ

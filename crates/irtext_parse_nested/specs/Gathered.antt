@@ -35,12 +35,12 @@ use Rattle.irtext_parse_pieces.specs.Fronts.{IsPart}
 use Rattle.irtext_parse_pieces.specs.Named.{Represents, Each}
 use Rattle.irtext_parse_nested.specs.declared.dictionary.Holder.{Holder}
 use Rattle.irtext_parse_nested.specs.declared.dictionary.Holder.TheVariants as holder
-use Rattle.irtext_parse_objects.specs.declared.gathered.Gathered.{Gathered}
-use Rattle.irtext_parse_objects.specs.Gathered.{AllUsesLive}
+use Rattle.irtext_names.specs.declared.gathered.Gathered.{Gathered}
+use Rattle.irtext_names.specs.Gathered.{AllUsesLive}
 use Rattle.irtext_parse_nested.specs.declared.operation_parts.NotGathered.{NotGathered}
 use Rattle.irtext_parse_nested.specs.declared.operation_parts.NotGathered.TheVariants as refusal
-use Rattle.irtext_parse_objects.specs.declared.gathered.Placed.{Placed}
-use Rattle.irtext_parse_objects.specs.Items.{Names}
+use Rattle.irtext_names.specs.declared.gathered.Placed.{Placed}
+use Rattle.irtext_names.specs.Items.{Names}
 
 -- ---- what pieces give
 -- a parsed entry, with its key as a text

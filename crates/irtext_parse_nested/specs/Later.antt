@@ -14,10 +14,10 @@ use Rattle.irtext_grammar.specs.Contexts.Held.{attribute_of, entries_of, whole}
 use Rattle.irtext_grammar.specs.Grammar.Tree as tree
 use Rattle.irtext_grammar.specs.Grammar.Tree.{Attribute}
 use Rattle.irtext_grammar.specs.Graphs.Build.{put_all, stored}
-use Rattle.irtext_parse_spec.specs.Heads.{Step}
-use Rattle.irtext_parse_spec.specs.Resume.{OpenOperation, is_flat, with_steps}
-use Rattle.irtext_parse_spec.specs.Grows.{OwnBecame}
-use Rattle.irtext_parse_spec.specs.Unchanged.{OwnSoFar, HasOwn, HasUses}
+use Rattle.irtext_grammar.specs.Heads.{Step}
+use Rattle.irtext_grammar.specs.Resume.{OpenOperation, is_flat, with_steps}
+use Rattle.irtext_grammar.specs.Grows.{OwnBecame}
+use Rattle.irtext_grammar.specs.Unchanged.{OwnSoFar, HasOwn, HasUses}
 use Rattle.irtext_parse_pieces.specs.declared.pieces.ReadPiece.{ReadPiece}
 use Rattle.irtext_parse_pieces.specs.declared.pieces.ReadPiece.TheVariants as read
 use Rattle.irtext_parse_nested.specs.declared.frame.BegunOperation.{BegunOperation}
@@ -26,8 +26,8 @@ use Rattle.irtext_parse_nested.specs.declared.operation_parts.NotGathered.TheVar
 use Rattle.irtext_parse_nested.specs.Beginning.{HasBegun, SaysGather}
 use Rattle.irtext_parse_nested.specs.OpenOperation.{IsBegun}
 use Rattle.irtext_parse_nested.specs.Gathered.{MayAllHold, RefusesEntries, stored_of}
-use Rattle.irtext_parse_objects.specs.Items.{Names}
-use Rattle.irtext_parse_objects.specs.Located.{IsLocated}
+use Rattle.irtext_names.specs.Items.{Names}
+use Rattle.irtext_names.specs.Located.{IsLocated}
 use Rattle.irtext_parse_nested.specs.Read.{ReadsPiece}
 
 -- there is a next step, and it parses a piece and no region

@@ -9,7 +9,7 @@ use Rattle.irtext_grammar.specs.Names.Script.{UnresolvedReference}
 use Rattle.irtext_names.specs.Linked.{FailsBy}
 use Rattle.irtext_parse_nested.specs.declared.frame.BegunRegion.{BegunRegion}
 use Rattle.irtext_parse_nested.specs.Definitions.{IsFaultOf}
-use Rattle.irtext_parse_objects.specs.Items.{Names}
+use Rattle.irtext_names.specs.Items.{Names}
 
 -- this name has no definition; the fault is for it, at the beginning of the region, and the machine fails in the same way
 pub record IsUnresolved {O B T A : Type 0} (names : Names) (g : GraphView (Option O) B T) (text : Text) (region : BegunRegion) (fault : ParseFault A) : Type 0 where

@@ -12,16 +12,16 @@ use Rattle.irtext_grammar.specs.Contexts.Formats.{format_of, isolated}
 use Rattle.irtext_grammar.specs.Grammar.Tree as tree
 use Rattle.irtext_grammar.specs.Grammar.Tree.{Part}
 use Rattle.irtext_grammar.specs.Names.Acts.{result_types}
-use Rattle.irtext_parse_spec.specs.Heads.{Step, flat, types}
-use Rattle.irtext_parse_spec.specs.Naming.{body_of}
-use Rattle.irtext_parse_spec.specs.Reached.{steps_in}
-use Rattle.irtext_parse_spec.specs.Resume.{OpenOperation}
+use Rattle.irtext_grammar.specs.Heads.{Step, flat, types}
+use Rattle.irtext_grammar.specs.Naming.{body_of}
+use Rattle.irtext_grammar.specs.Reached.{steps_in}
+use Rattle.irtext_grammar.specs.Resume.{OpenOperation}
 use Rattle.irtext_parse_pieces.specs.Named.{Leaves, Represents, Each}
 use Rattle.irtext_parse_nested.specs.declared.frame.BegunOperation.{BegunOperation}
 use Rattle.irtext_parse_nested.specs.declared.frame.BegunRegion.{BegunRegion}
 use Rattle.irtext_parse_nested.specs.declared.frame.BegunBlock.{BegunBlock}
 use Rattle.irtext_parse_pieces.specs.Coming.{IsStep}
-use Rattle.irtext_parse_objects.specs.Items.{Pledge}
+use Rattle.irtext_names.specs.Items.{Pledge}
 
 -- the part gives no result its type
 abbrev pub HasNoType : {T A : Type 0} → Part ℕ T A → Type 0

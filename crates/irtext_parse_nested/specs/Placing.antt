@@ -10,7 +10,7 @@ use Rattle.irtext_grammar.specs.Names.TextScopes.{Word}
 use Rattle.irtext_names.specs.Linked.{FailsBy}
 use Rattle.irtext_parse_pieces.specs.declared.names.ReadName.{ReadName}
 use Rattle.irtext_parse_nested.specs.Definitions.{IsFaultOf}
-use Rattle.irtext_parse_objects.specs.Items.{Names}
+use Rattle.irtext_names.specs.Items.{Names}
 
 -- the label is already defined: whenever names and graph agree with a state of the machine, its definition fails, and the fault is for
 -- it, at the label

@@ -14,17 +14,17 @@ use Rattle.irtext_grammar.specs.Contexts.Held.{whole}
 use Rattle.irtext_grammar.specs.Grammar.Tree.{Name, Mark, Piece, Part, Head}
 use Rattle.irtext_grammar.specs.Names.History.{Outcome as Machine}
 use Rattle.irtext_grammar.specs.Names.Script.{Path}
-use Rattle.irtext_parse_spec.specs.Promises.Root.{UnlessMemory}
-use Rattle.irtext_parse_spec.specs.Promises.Section.{Moves}
-use Rattle.irtext_parse_spec.specs.Promises.Supported.{is_committed}
-use Rattle.irtext_parse_spec.specs.Heads.{Step, front_steps, piece_at, head_at, led_at, mark_if_at}
-use Rattle.irtext_parse_spec.specs.Reached.{steps_in}
-use Rattle.irtext_parse_spec.specs.Resume.{OpenOperation, begun, front_at}
+use Rattle.irtext_grammar.specs.Promises.Root.{UnlessMemory}
+use Rattle.irtext_grammar.specs.Promises.Section.{Moves}
+use Rattle.irtext_grammar.specs.Promises.Supported.{is_committed}
+use Rattle.irtext_grammar.specs.Heads.{Step, front_steps, piece_at, head_at, led_at, mark_if_at}
+use Rattle.irtext_grammar.specs.Reached.{steps_in}
+use Rattle.irtext_grammar.specs.Resume.{OpenOperation, begun, front_at}
 use Rattle.irtext_parse_nested.specs.declared.frame.BegunOperation.{BegunOperation}
 use Rattle.irtext_parse_nested.specs.declared.frame.BegunRegion.{BegunRegion}
 use Rattle.irtext_parse_nested.specs.declared.frame.BegunBlock.{BegunBlock}
 use Rattle.irtext_parse_nested.specs.OpenOperation.{IsBegun, IsRegion, IsBlock, pledge_of}
-use Rattle.irtext_parse_objects.specs.Items.{Names, doing, Acts, ActsWith, ActFails, IsTextFault}
+use Rattle.irtext_names.specs.Items.{Names, doing, Acts, ActsWith, ActFails, IsTextFault}
 
 -- the fault of a parser that starts at `rest`, which is the end of the whole text, if what it parses is required
 pub record Demands {X A : Type 0} (text : Text) (o : Outcome X) (rest : Text) (fault : ParseFault A) : Type 0 where

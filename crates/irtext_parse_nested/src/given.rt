@@ -13,10 +13,10 @@ use irtext_base::base::{AttrObj, Identifier};
 use irtext_base::text::{AttrText, IrText};
 use irtext_context::base::{AttributeDict, Context};
 use irtext_few::Few;
-use irtext_parse_objects::keys::{key_of, neighbour_key, stored};
-use irtext_parse_objects::making::failed;
-use irtext_parse_objects::name_errors::identifier_of;
-use irtext_parse_objects::names::Names;
+use irtext_names::keys::{key_of, neighbour_key, stored};
+use irtext_names::kinds::Names;
+use irtext_names::making::failed;
+use irtext_names::name_errors::identifier_of;
 use irtext_parse_pieces::names::ReadName;
 use std::alloc::{AllocError, Global};
 

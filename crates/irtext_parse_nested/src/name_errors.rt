@@ -1,13 +1,13 @@
 //! Errors for a parsed name, at its position.
 ghost use Rattle.std.specs.Prelude.{◌<◌, length, Some, slice_get};
 ghost use Rattle.irtext_grammar.specs.Contexts.Held.{whole};
-ghost use Rattle.irtext_parse_spec.specs.Promises.Root.{UnlessMemory};
+ghost use Rattle.irtext_grammar.specs.Promises.Root.{UnlessMemory};
 ghost use Rattle.irtext_parse_nested.specs.Definitions.{IsFaultOf};
-ghost use Rattle.irtext_parse_objects.specs.NameFaults.{fault_named};
+ghost use Rattle.irtext_names.specs.NameFaults.{fault_named};
 
 use irtext_base::parsable::{CharStream, ParseFault, TextStream};
-use irtext_parse_objects::name_errors::{NameFault, cause_of, identifier_of};
-use irtext_parse_objects::names::Names;
+use irtext_names::kinds::Names;
+use irtext_names::name_errors::{NameFault, cause_of, identifier_of};
 use irtext_parse_pieces::names::ReadName;
 use irtext_tokens::irfmt::faults::{out_of_memory, refuse_at};
 

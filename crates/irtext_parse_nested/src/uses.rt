@@ -5,13 +5,12 @@ ghost use Rattle.irtext_scopes.specs.Scopes.{is_open};
 ghost use Rattle.irtext_names.specs.Kinds.{scopes_of, defined_as, use_of};
 ghost use Rattle.irtext_names.specs.Tied.{MatchesGraph};
 ghost use Rattle.irtext_names.specs.Rows.{AreKnown, UsesRow};
-ghost use Rattle.irtext_parse_objects.specs.Uses.{KeepsScopes};
+ghost use Rattle.irtext_names.specs.Uses.{KeepsScopes};
 
 use irtext_few::Few;
 use irtext_graph::graph::Graph;
-use irtext_names::kinds::{Blank, Referent};
-use irtext_parse_objects::names::Names;
-use irtext_parse_objects::uses::name_used;
+use irtext_names::kinds::{Blank, Names, Referent};
+use irtext_names::uses::name_used;
 use irtext_parse_pieces::names::ReadName;
 use std::alloc::AllocError;
 

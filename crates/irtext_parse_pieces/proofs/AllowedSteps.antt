@@ -15,8 +15,8 @@ use Rattle.irtext_tokens.proofs.Steps.{Lens}
 use Rattle.irtext_grammar.specs.Contexts.Held.{attribute_of}
 use Rattle.irtext_grammar.specs.Grammar.Tree.{Name, Attribute}
 use Rattle.irtext_grammar.specs.Names.Acts.{may_hold}
-use Rattle.irtext_parse_spec.specs.Heads.{allowed, pair_at, entry_by}
-use Rattle.irtext_parse_spec.specs.Readers.Operations.{RefusesAt}
+use Rattle.irtext_grammar.specs.Heads.{allowed, pair_at, entry_by}
+use Rattle.irtext_grammar.specs.Readers.Operations.{RefusesAt}
 use Rattle.irtext_parse_pieces.specs.declared.entries.Key.{Key}
 use Rattle.irtext_parse_pieces.specs.Entries.{IsEntry, Allows}
 use Rattle.irtext_parse_pieces.specs.Named.{whole, MayMean}

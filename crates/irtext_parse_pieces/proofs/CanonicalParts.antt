@@ -9,7 +9,7 @@ use Rattle.irtext_base.specs.declared.base.attributes.AttrObj.{AttrObj}
 use Rattle.irtext_base.specs.declared.parsable.fault.ParseFault.{ParseFault}
 use Rattle.irtext_scopes.specs.Names.{KeepsNames}
 use Rattle.irtext_tokens.proofs.Steps.{Lens, fine_there}
-use Rattle.irtext_parse_spec.specs.Heads.{Step}
+use Rattle.irtext_grammar.specs.Heads.{Step}
 use Rattle.irtext_parse_pieces.specs.declared.entries.Key.{Key}
 use Rattle.irtext_parse_pieces.specs.declared.lists.NameKind.TheVariants as kind
 use Rattle.irtext_parse_pieces.specs.declared.names.ReadName.{ReadName}

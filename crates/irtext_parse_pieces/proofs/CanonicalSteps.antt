@@ -16,8 +16,8 @@ use Rattle.irtext_base.specs.Stream.{after_taken}
 use Rattle.irtext_stream.specs.Classes.{after_spaces}
 use Rattle.irtext_grammar.specs.Grammar.Tree as tree
 use Rattle.irtext_grammar.specs.Grammar.Tree.{Piece, Part}
-use Rattle.irtext_parse_spec.specs.Heads.{Step, piece_at}
-use Rattle.irtext_parse_spec.specs.Resume.{front_at}
+use Rattle.irtext_grammar.specs.Heads.{Step, piece_at}
+use Rattle.irtext_grammar.specs.Resume.{front_at}
 use Rattle.irtext_parse_pieces.specs.Beside as closing
 use Rattle.irtext_parse_pieces.specs.declared.pieces.ReadPiece.{ReadPiece}
 use Rattle.irtext_parse_pieces.specs.declared.pieces.ReadPiece.TheVariants as read

@@ -22,7 +22,7 @@ use Rattle.irtext_tokens.proofs.Steps.{Lens, Passed, first, spaced, more, refuse
 use Rattle.irtext_grammar.specs.Contexts.Held.{attribute_of}
 use Rattle.irtext_grammar.specs.Grammar.Tree.{Name, Attribute}
 use Rattle.irtext_grammar.specs.Spelling.AttrText.{attr_tree}
-use Rattle.irtext_parse_spec.specs.Heads.{name_of, name_at, entry_by, dictionary_by, dictionary_at}
+use Rattle.irtext_grammar.specs.Heads.{name_of, name_at, entry_by, dictionary_by, dictionary_at}
 use Rattle.irtext_parse_pieces.specs.Beside.{closed}
 use Rattle.irtext_parse_pieces.specs.declared.entries.Key.{Key}
 use Rattle.irtext_parse_pieces.specs.Entries.{IsKey, IsEntry, AreEntries, MustEntries, EntriesAfter, dictionary_if}

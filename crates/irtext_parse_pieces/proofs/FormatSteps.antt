@@ -8,9 +8,9 @@ use Rattle.irtext_base.specs.Answers.{Outcome}
 use Rattle.irtext_base.specs.Locations.{AttrView}
 use Rattle.irtext_base.specs.declared.format.Directive as code
 use Rattle.irtext_base.specs.FormatViews.{directive_of, directives_of}
-use Rattle.irtext_parse_spec.specs.Heads.{Step, step_of, front_steps, directive_at, piece_at}
-use Rattle.irtext_parse_spec.specs.Resume.{is_flat}
-use Rattle.irtext_parse_spec.proofs.Resume.Front.{in_front, after_front}
+use Rattle.irtext_grammar.specs.Heads.{Step, step_of, front_steps, directive_at, piece_at}
+use Rattle.irtext_grammar.specs.Resume.{is_flat}
+use Rattle.irtext_grammar.proofs.Resume.Front.{in_front, after_front}
 
 -- the step at a place is that of the directive there
 custom_step : (ds : List code.Directive) (i : ℕ) → slice_get (map step_of (directives_of ds)) i ≡ option_map (λ d. step_of (directive_of d)) (slice_get ds i)

@@ -14,9 +14,9 @@ use Rattle.irtext_tokens.proofs.Spelling.{prefixed-prefixed, whole_gives}
 use Rattle.irtext_tokens.proofs.Steps.{Lens, Passed, starts, first, more, refuses, spaced, turned, ends}
 use Rattle.irtext_grammar.specs.Grammar.Tree as tree
 use Rattle.irtext_grammar.specs.Grammar.Tree.{Piece, Part}
-use Rattle.irtext_parse_spec.specs.Heads.{Step, front_steps, piece_at}
-use Rattle.irtext_parse_spec.specs.Resume.{is_flat, front_at}
-use Rattle.irtext_parse_spec.proofs.Resume.Front.{in_front}
+use Rattle.irtext_grammar.specs.Heads.{Step, front_steps, piece_at}
+use Rattle.irtext_grammar.specs.Resume.{is_flat, front_at}
+use Rattle.irtext_grammar.proofs.Resume.Front.{in_front}
 use Rattle.irtext_base.proofs.Compose.{runs_out_after, answers_demanded}
 use Rattle.irtext_parse_pieces.specs.declared.pieces.ReadPiece.{ReadPiece}
 use Rattle.irtext_parse_pieces.specs.declared.pieces.ReadPiece.TheVariants as read

@@ -16,7 +16,7 @@ use Rattle.irtext_tokens.specs.Reads.{TakesFront}
 use Rattle.irtext_tokens.specs.Tokens.{space_at, text_at}
 use Rattle.irtext_tokens.proofs.Steps.{Lens, Passed, mapped_followed, mapped_mapped, starts, turned, first, spaced, more, refuses, refuses_seen, last_seen, fine_there}
 use Rattle.irtext_grammar.specs.Grammar.Tree.{Name, Mark, Attribute, Head}
-use Rattle.irtext_parse_spec.specs.Heads.{label_at, argument_at, mark_if_at, head_at}
+use Rattle.irtext_grammar.specs.Heads.{label_at, argument_at, mark_if_at, head_at}
 use Rattle.irtext_parse_pieces.specs.declared.entries.Key.{Key}
 use Rattle.irtext_parse_pieces.specs.declared.marks.ReadMark.{ReadMark}
 use Rattle.irtext_parse_pieces.specs.declared.names.ReadName.{ReadName}

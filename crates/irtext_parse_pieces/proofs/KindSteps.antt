@@ -5,7 +5,7 @@ use Rattle.irtext_base.specs.Locations.{AttrView}
 use Rattle.irtext_base.specs.Text.{Text}
 use Rattle.irtext_tokens.specs.ListOutcomes.{separated_at}
 use Rattle.irtext_grammar.specs.Grammar.Tree.{Name}
-use Rattle.irtext_parse_spec.specs.Heads.{flat, piece_at}
+use Rattle.irtext_grammar.specs.Heads.{flat, piece_at}
 use Rattle.irtext_parse_pieces.specs.declared.lists.NameKind.{NameKind}
 use Rattle.irtext_parse_pieces.specs.declared.lists.NameKind.TheVariants as kind
 use Rattle.irtext_parse_pieces.specs.declared.names.ReadName.{ReadName}

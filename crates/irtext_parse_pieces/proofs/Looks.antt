@@ -15,7 +15,7 @@ use Rattle.irtext_tokens.proofs.ListOutcomes.{after_spaces}
 use Rattle.irtext_tokens.proofs.Spelling.{begins_the}
 use Rattle.irtext_tokens.proofs.Steps.{Lens, Passed, mapped_is_followed, turned, first, took, ends, begins_with, fine_there}
 use Rattle.irtext_grammar.specs.Grammar.Tree.{Name}
-use Rattle.irtext_parse_spec.specs.Heads.{name_at, results_at, named}
+use Rattle.irtext_grammar.specs.Heads.{name_at, results_at, named}
 use Rattle.irtext_parse_pieces.specs.declared.names.ReadName.{ReadName}
 use Rattle.irtext_parse_pieces.specs.Lists.{IsAfterComma}
 use Rattle.irtext_parse_pieces.specs.Named.{whole, Represents, MayMean, MayName, MustNames}

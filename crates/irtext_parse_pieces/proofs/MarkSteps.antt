@@ -10,7 +10,7 @@ use Rattle.irtext_tokens.specs.Demanded.{index_at}
 use Rattle.irtext_tokens.specs.MustRead.{MustRead}
 use Rattle.irtext_tokens.proofs.Steps.{Lens, seen_alone, mapped_mapped}
 use Rattle.irtext_grammar.specs.Grammar.Tree.{Mark}
-use Rattle.irtext_parse_spec.specs.Heads.{mark_if_at}
+use Rattle.irtext_grammar.specs.Heads.{mark_if_at}
 use Rattle.irtext_parse_pieces.specs.declared.marks.ReadMark.{ReadMark}
 use Rattle.irtext_parse_pieces.specs.Marks.{IsMarkIf}
 use Rattle.irtext_parse_pieces.specs.Named.{whole, MustMean}

@@ -14,7 +14,7 @@ use Rattle.irtext_tokens.specs.Demanded.{symbol_at as mark_and_name}
 use Rattle.irtext_tokens.specs.Tokens.{word_at, identifier_at, text_at}
 use Rattle.irtext_tokens.proofs.Steps.{Lens, first, last_seen, refuses_seen, begins_refused, seen_alone, mapped_followed, mapped_mapped}
 use Rattle.irtext_grammar.specs.Grammar.Tree.{Name}
-use Rattle.irtext_parse_spec.specs.Heads.{name_of, name_at, symbol_at, used_at, target_at}
+use Rattle.irtext_grammar.specs.Heads.{name_of, name_at, symbol_at, used_at, target_at}
 use Rattle.irtext_parse_pieces.proofs.Meanings.{after_may, may_whole, still_represents}
 use Rattle.irtext_parse_pieces.specs.declared.names.ReadName.{ReadName}
 use Rattle.irtext_parse_pieces.specs.declared.names.Symbol.{Symbol}

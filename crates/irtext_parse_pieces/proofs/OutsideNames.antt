@@ -9,8 +9,8 @@ use Rattle.irtext_stream.specs.declared.position.Place.{Place}
 use Rattle.irtext_tokens.specs.Tokens.{identifier_at}
 use Rattle.irtext_tokens.proofs.Steps.{Lens}
 use Rattle.irtext_grammar.specs.Grammar.Tree.{Name}
-use Rattle.irtext_parse_spec.specs.Heads.{name_of, outside, used_at}
-use Rattle.irtext_parse_spec.specs.Readers.Operations.{RefusesAt}
+use Rattle.irtext_grammar.specs.Heads.{name_of, outside, used_at}
+use Rattle.irtext_grammar.specs.Readers.Operations.{RefusesAt}
 use Rattle.irtext_parse_pieces.specs.Named.{Misses}
 use Rattle.irtext_parse_pieces.proofs.AllowedSteps.{refused_there}
 

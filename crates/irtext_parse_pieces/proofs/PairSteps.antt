@@ -7,7 +7,7 @@ use Rattle.irtext_tokens.specs.Demanded.{spaced_at}
 use Rattle.irtext_tokens.specs.MustRead.{MustRead}
 use Rattle.irtext_tokens.proofs.Steps.{Lens, begins_with, begins_refused, begun_by, more, refuses, refuses_seen, last_seen}
 use Rattle.irtext_grammar.specs.Grammar.Tree.{Name}
-use Rattle.irtext_parse_spec.specs.Heads.{name_at}
+use Rattle.irtext_grammar.specs.Heads.{name_at}
 use Rattle.irtext_parse_pieces.specs.Beside.{paired}
 use Rattle.irtext_parse_pieces.specs.Named.{MayMean}
 use Rattle.irtext_parse_pieces.proofs.Meanings.{may_refuse, may_unread}

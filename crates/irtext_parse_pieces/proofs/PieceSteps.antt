@@ -18,10 +18,10 @@ use Rattle.irtext_stream.specs.Text.{BeginsOtherwise}
 use Rattle.irtext_grammar.specs.Contexts.Held.{attribute_of}
 use Rattle.irtext_grammar.specs.Grammar.Tree as tree
 use Rattle.irtext_grammar.specs.Grammar.Tree.{Piece}
-use Rattle.irtext_parse_spec.specs.Readers.Directives.{attribute_at}
-use Rattle.irtext_parse_spec.specs.Readers.Marker.{marker, starts_with}
-use Rattle.irtext_parse_spec.specs.Heads.{outlined_or_at}
-use Rattle.irtext_parse_spec.proofs.Readers.MarkerSteps.{starts_whole, starts_not}
+use Rattle.irtext_grammar.specs.Readers.Directives.{attribute_at}
+use Rattle.irtext_grammar.specs.Readers.Marker.{marker, starts_with}
+use Rattle.irtext_grammar.specs.Heads.{outlined_or_at}
+use Rattle.irtext_grammar.proofs.Readers.MarkerSteps.{starts_whole, starts_not}
 use Rattle.irtext_parse_pieces.specs.Pieces.{MustTypes, TypesAfter, seen_attribute}
 use Rattle.irtext_parse_pieces.specs.Named.{Each, MayMean, MustMean}
 use Rattle.irtext_parse_pieces.proofs.Listings.{list_some}

@@ -8,7 +8,7 @@ use Rattle.irtext_tokens.specs.Infix.{◌▷◌}
 use Rattle.irtext_tokens.specs.MustRead.{MustRead}
 use Rattle.irtext_tokens.specs.Tokens.{space_at, text_at}
 use Rattle.irtext_tokens.proofs.Steps.{Lens, fine_there}
-use Rattle.irtext_parse_spec.specs.Heads.{Step}
+use Rattle.irtext_grammar.specs.Heads.{Step}
 use Rattle.irtext_parse_pieces.specs.declared.pieces.ReadPiece.{ReadPiece}
 use Rattle.irtext_parse_pieces.specs.declared.pieces.ReadPiece.TheVariants as read
 use Rattle.irtext_parse_pieces.specs.Beside.{closed}

@@ -6,8 +6,8 @@ use Rattle.irtext_base.specs.Stream.{StreamView}
 use Rattle.irtext_base.specs.Answers.{Outcome}
 use Rattle.irtext_base.specs.Locations.{AttrView}
 use Rattle.irtext_base.specs.declared.parsable.fault.ParseFault.{ParseFault}
-use Rattle.irtext_parse_spec.specs.Heads.{Step, flat, types, canonical_steps, front_steps}
-use Rattle.irtext_parse_spec.specs.Resume.{front_at}
+use Rattle.irtext_grammar.specs.Heads.{Step, flat, types, canonical_steps, front_steps}
+use Rattle.irtext_grammar.specs.Resume.{front_at}
 use Rattle.irtext_parse_pieces.specs.declared.canonical.CanonicalPieces.{CanonicalPieces}
 use Rattle.irtext_parse_pieces.specs.declared.names.ReadName.{ReadName}
 use Rattle.irtext_parse_pieces.specs.declared.pieces.ReadPiece.{ReadPiece}

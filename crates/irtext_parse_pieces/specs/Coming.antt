@@ -1,7 +1,7 @@
 -- Between functions: what the next step of a format parses.
 use Rattle.std.specs.Prelude.{◌≡◌, ℕ, true, Option, Some, None, ⊤}
-use Rattle.irtext_parse_spec.specs.Heads.{Step, one, all}
-use Rattle.irtext_parse_spec.specs.Resume.{is_flat}
+use Rattle.irtext_grammar.specs.Heads.{Step, one, all}
+use Rattle.irtext_grammar.specs.Resume.{is_flat}
 use Rattle.irtext_parse_pieces.specs.declared.coming.Coming.{Coming}
 use Rattle.irtext_parse_pieces.specs.declared.coming.Coming.TheVariants as comes
 

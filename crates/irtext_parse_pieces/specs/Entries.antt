@@ -16,8 +16,8 @@ use Rattle.irtext_tokens.specs.ListOutcomes.{items_after}
 use Rattle.irtext_grammar.specs.Contexts.Held.{attribute_of}
 use Rattle.irtext_grammar.specs.Grammar.Tree.{Name, Attribute}
 use Rattle.irtext_grammar.specs.Names.Acts.{may_hold}
-use Rattle.irtext_parse_spec.specs.Heads.{dictionary_at}
-use Rattle.irtext_parse_spec.specs.Readers.Operations.{RefusesAt}
+use Rattle.irtext_grammar.specs.Heads.{dictionary_at}
+use Rattle.irtext_grammar.specs.Readers.Operations.{RefusesAt}
 use Rattle.irtext_parse_pieces.specs.declared.entries.Key.{Key}
 use Rattle.irtext_parse_pieces.specs.Named.{whole, Leaves, Each, Optional, MustMean}
 

@@ -10,8 +10,8 @@ use Rattle.irtext_stream.specs.Stream.{Comes}
 use Rattle.irtext_tokens.specs.Infix.{Reader}
 use Rattle.irtext_grammar.specs.Grammar.Tree as tree
 use Rattle.irtext_grammar.specs.Grammar.Tree.{Piece, Part}
-use Rattle.irtext_parse_spec.specs.Heads.{Step, front_steps}
-use Rattle.irtext_parse_spec.specs.Resume.{front_at}
+use Rattle.irtext_grammar.specs.Heads.{Step, front_steps}
+use Rattle.irtext_grammar.specs.Resume.{front_at}
 use Rattle.irtext_parse_pieces.specs.declared.pieces.ReadPiece.{ReadPiece}
 use Rattle.irtext_parse_pieces.specs.Found.{only_words}
 use Rattle.irtext_parse_pieces.specs.Pieces.{IsPiece}

@@ -10,7 +10,7 @@ use Rattle.irtext_base.specs.declared.parsable.fault.ParseFault.{ParseFault}
 use Rattle.irtext_tokens.specs.Infix.{Reader, ◌▷◌, ◌▶◌, ◌⇒◌}
 use Rattle.irtext_tokens.specs.Tokens.{space_at, word}
 use Rattle.irtext_grammar.specs.Grammar.Tree.{Name, Mark, Attribute, Head}
-use Rattle.irtext_parse_spec.specs.Heads.{mark_if_at, head_at}
+use Rattle.irtext_grammar.specs.Heads.{mark_if_at, head_at}
 use Rattle.irtext_parse_pieces.specs.declared.entries.Key.{Key}
 use Rattle.irtext_parse_pieces.specs.declared.headers.BlockHead.{BlockHead}
 use Rattle.irtext_parse_pieces.specs.declared.marks.ReadMark.{ReadMark}

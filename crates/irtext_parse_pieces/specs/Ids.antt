@@ -15,8 +15,8 @@ use Rattle.irtext_base.specs.FormatViews.{format_of}
 use Rattle.irtext_context.specs.declared.dialect.OpInfo.{OpInfo}
 use Rattle.irtext_tokens.specs.Tokens.{id_at}
 use Rattle.irtext_grammar.specs.Grammar.Tree.{Name}
-use Rattle.irtext_parse_spec.specs.Readers.Parts.{after_lead, is_led}
-use Rattle.irtext_parse_spec.specs.Readers.Operations.{registered_after}
+use Rattle.irtext_grammar.specs.Readers.Parts.{after_lead, is_led}
+use Rattle.irtext_grammar.specs.Readers.Operations.{registered_after}
 use Rattle.irtext_parse_pieces.specs.declared.names.ReadName.{ReadName}
 use Rattle.irtext_parse_pieces.specs.Named.{Represents, Each}
 

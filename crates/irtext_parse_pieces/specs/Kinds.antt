@@ -7,7 +7,7 @@ use Rattle.irtext_base.specs.Reading.{the}
 use Rattle.irtext_tokens.specs.Infix.{Reader}
 use Rattle.irtext_grammar.specs.Grammar.Tree as tree
 use Rattle.irtext_grammar.specs.Grammar.Tree.{Name, Piece}
-use Rattle.irtext_parse_spec.specs.Heads.{used_at, target_at}
+use Rattle.irtext_grammar.specs.Heads.{used_at, target_at}
 use Rattle.irtext_parse_pieces.specs.declared.lists.NameKind.{NameKind}
 use Rattle.irtext_parse_pieces.specs.declared.lists.NameKind.TheVariants as kind
 use Rattle.irtext_parse_pieces.specs.declared.names.ReadName.{ReadName}

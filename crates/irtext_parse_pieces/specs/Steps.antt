@@ -4,7 +4,7 @@ use Rattle.irtext_base.specs.Format as format
 use Rattle.irtext_base.specs.declared.format.Directive as code
 use Rattle.irtext_base.specs.Faults.{characters}
 use Rattle.irtext_base.specs.FormatViews.{directive_of, directives_of}
-use Rattle.irtext_parse_spec.specs.Heads.{Step, flat, types, all, step_of}
+use Rattle.irtext_grammar.specs.Heads.{Step, flat, types, all, step_of}
 use Rattle.irtext_parse_pieces.specs.declared.steps.FormatStep.{FormatStep}
 use Rattle.irtext_parse_pieces.specs.declared.steps.FormatStep.TheVariants as step
 

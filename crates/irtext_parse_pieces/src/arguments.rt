@@ -1,7 +1,7 @@
 //! Parsing of the arguments of a block.
 ghost use Rattle.irtext_tokens.specs.ListOutcomes.{separated_at};
 ghost use Rattle.irtext_tokens.specs.AttrTexts.{attr_at};
-ghost use Rattle.irtext_parse_spec.specs.Heads.{argument_at};
+ghost use Rattle.irtext_grammar.specs.Heads.{argument_at};
 ghost use Rattle.irtext_parse_pieces.specs.Arguments.{IsArgument, MustArguments, ArgumentsAfter};
 ghost use Rattle.irtext_parse_pieces.specs.Named.{MayMean, NamesRead, whole};
 

@@ -1,7 +1,7 @@
 //! What the steps of a format parse: a piece, one region, or all regions.
 ghost use Rattle.std.specs.Prelude.{slice_get, Some};
 ghost use Rattle.irtext_base.specs.FormatViews.{format_of};
-ghost use Rattle.irtext_parse_spec.specs.Heads.{steps_of};
+ghost use Rattle.irtext_grammar.specs.Heads.{steps_of};
 ghost use Rattle.irtext_parse_pieces.specs.Steps.{seen_step};
 ghost use Rattle.irtext_parse_pieces.specs.Coming.{IsStep};
 

@@ -1,7 +1,7 @@
 //! The number of steps of a format.
 ghost use Rattle.std.specs.Prelude.{◌≡◌, length};
 ghost use Rattle.irtext_base.specs.FormatViews.{format_of};
-ghost use Rattle.irtext_parse_spec.specs.Heads.{steps_of};
+ghost use Rattle.irtext_grammar.specs.Heads.{steps_of};
 
 use irtext_base::format::OpFormat;
 

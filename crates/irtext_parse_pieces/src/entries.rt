@@ -5,10 +5,10 @@ ghost use Rattle.irtext_base.specs.Format.{same_text, given_names_key};
 ghost use Rattle.irtext_tokens.specs.AttrTexts.{attr_at};
 ghost use Rattle.irtext_tokens.specs.ListOutcomes.{separated_at};
 ghost use Rattle.irtext_tokens.specs.MustRead.{MustRead};
-ghost use Rattle.irtext_parse_spec.specs.Readers.Directives.{attribute_at};
+ghost use Rattle.irtext_grammar.specs.Readers.Directives.{attribute_at};
 ghost use Rattle.irtext_grammar.specs.Contexts.Held.{attribute_of};
 ghost use Rattle.irtext_grammar.specs.Names.Acts.{is_given, may_hold};
-ghost use Rattle.irtext_parse_spec.specs.Heads.{name_at, pair_at, entry_by, dictionary_by};
+ghost use Rattle.irtext_grammar.specs.Heads.{name_at, pair_at, entry_by, dictionary_by};
 ghost use Rattle.irtext_parse_pieces.specs.Entries.{IsKey, IsEntry, TakesWord, Allows, MustEntries, EntriesAfter, MustDictionaryIf};
 ghost use Rattle.irtext_parse_pieces.specs.Named.{MayMean, whole};
 

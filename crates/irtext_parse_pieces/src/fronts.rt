@@ -6,7 +6,7 @@ ghost use Rattle.irtext_base.specs.FormatViews.{format_of};
 ghost use Rattle.irtext_tokens.specs.AttrTexts.{attr_at};
 ghost use Rattle.irtext_tokens.specs.Infix.{Reader};
 ghost use Rattle.irtext_grammar.specs.Grammar.Tree.{Piece};
-ghost use Rattle.irtext_parse_spec.specs.Heads.{canonical_steps, steps_of, piece_at};
+ghost use Rattle.irtext_grammar.specs.Heads.{canonical_steps, steps_of, piece_at};
 ghost use Rattle.irtext_parse_pieces.specs.Fronts.{HasFront, TakesText, MustFront, MustFind};
 ghost use Rattle.irtext_parse_pieces.specs.Named.{NamesRead};
 ghost use Rattle.irtext_parse_pieces.specs.Pieces.{MustPiece};

@@ -1,8 +1,8 @@
 //! The ids of registered operations, looked up by their texts, and what precedes them.
 ghost use Rattle.std.specs.Prelude.{◌≡◌, false, cond, IfOk, IfErr, OnOk, IfSome};
 ghost use Rattle.irtext_base.specs.Answers.{SameStream, RunsOutHere, DemandsOf};
-ghost use Rattle.irtext_parse_spec.specs.Heads.{lead_at, led_at};
-ghost use Rattle.irtext_parse_spec.specs.Readers.Operations.{Registers};
+ghost use Rattle.irtext_grammar.specs.Heads.{lead_at, led_at};
+ghost use Rattle.irtext_grammar.specs.Readers.Operations.{Registers};
 ghost use Rattle.irtext_parse_pieces.specs.Ids.{TakesId, IsKnown, IsLed, id_in, AnswersLed};
 ghost use Rattle.irtext_parse_pieces.specs.Named.{MayMean, MustNames, NamesRead, whole};
 

@@ -1,5 +1,5 @@
 //! Parsing of the marks of operations and of blocks.
-ghost use Rattle.irtext_parse_spec.specs.Heads.{mark_if_at};
+ghost use Rattle.irtext_grammar.specs.Heads.{mark_if_at};
 ghost use Rattle.irtext_parse_pieces.specs.Marks.{IsMarkIf};
 ghost use Rattle.irtext_parse_pieces.specs.Named.{MustMean, whole};
 

@@ -2,7 +2,7 @@
 ghost use Rattle.std.specs.Prelude.{◌≡◌, List, false, IsErrAnd};
 ghost use Rattle.irtext_base.specs.Answers.{RunsOutHere};
 ghost use Rattle.irtext_base.specs.Text.{Text, begins, begins_word};
-ghost use Rattle.irtext_parse_spec.specs.Heads.{name_at, label_at, symbol_at, used_at};
+ghost use Rattle.irtext_grammar.specs.Heads.{name_at, label_at, symbol_at, used_at};
 ghost use Rattle.irtext_parse_pieces.specs.Named.{whole, IsSymbol, MustMean, MayName, MustName, NamesRead, Misses};
 
 use irtext_base::base::Identifier;

@@ -9,7 +9,7 @@ ghost use Rattle.irtext_tokens.specs.MustRead.{MustRead};
 ghost use Rattle.irtext_tokens.specs.Tokens.{text_at};
 ghost use Rattle.irtext_grammar.specs.Grammar.Tree.{word, attribute, dictionary, result_type, header, types};
 ghost use Rattle.irtext_base.specs.FormatViews.{directive_of};
-ghost use Rattle.irtext_parse_spec.specs.Heads.{outlined_or_at, symbol_at, dictionary_by, directive_at, piece_at};
+ghost use Rattle.irtext_grammar.specs.Heads.{outlined_or_at, symbol_at, dictionary_by, directive_at, piece_at};
 ghost use Rattle.irtext_parse_pieces.specs.Kinds.{named_at, name_tree, names_tree};
 ghost use Rattle.irtext_parse_pieces.specs.Pieces.{seen_attribute, Accepts, AnyPiece, MustPiece};
 ghost use Rattle.irtext_parse_pieces.specs.Named.{NamesRead};

@@ -1,7 +1,7 @@
 //! Parsing the names of an operation's results, which precede its id.
 ghost use Rattle.std.specs.Prelude.{◌≡◌, true, false};
 ghost use Rattle.irtext_tokens.specs.ListOutcomes.{separated_at};
-ghost use Rattle.irtext_parse_spec.specs.Heads.{name_at, results_at};
+ghost use Rattle.irtext_grammar.specs.Heads.{name_at, results_at};
 ghost use Rattle.irtext_parse_pieces.specs.Named.{MustNames, NamesRead};
 ghost use Rattle.irtext_parse_pieces.specs.Results.{is_read, results_if_at, Looks, LooksAfter};
 

@@ -3,8 +3,8 @@ ghost use Rattle.std.specs.Prelude.{◌≡◌, ◌+◌, ◌<◌, ◌^◌, slice_
 ghost use Rattle.irtext_base.specs.Faults.{characters};
 ghost use Rattle.irtext_base.specs.Format.{is_any_region, word};
 ghost use Rattle.irtext_base.specs.FormatViews.{directive_of, format_of};
-ghost use Rattle.irtext_parse_spec.specs.Heads.{canonical_steps, steps_of, flat};
-ghost use Rattle.irtext_parse_spec.specs.Resume.{is_flat};
+ghost use Rattle.irtext_grammar.specs.Heads.{canonical_steps, steps_of, flat};
+ghost use Rattle.irtext_grammar.specs.Resume.{is_flat};
 ghost use Rattle.irtext_parse_pieces.specs.Steps.{custom_steps, seen_step};
 
 use irtext_base::format::{Directive, OpFormat};

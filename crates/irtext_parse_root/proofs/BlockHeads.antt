@@ -26,14 +26,14 @@ use Rattle.irtext_grammar.specs.Names.Acts.{key_act, block_may_hold, argument_de
 use Rattle.irtext_grammar.specs.Names.Scopes.{is_among, failures}
 use Rattle.irtext_grammar.specs.Names.Script as script
 use Rattle.irtext_grammar.specs.Names.Script.{Act, Failure, define_label, block_at, done, does_all}
-use Rattle.irtext_parse_spec.specs.Promises.Root.{UnlessMemory}
-use Rattle.irtext_parse_spec.specs.Promises.Section.{indices_of}
-use Rattle.irtext_parse_spec.specs.Readers.Refusals.{Refusal}
-use Rattle.irtext_parse_spec.specs.Readers.Streams.{itself, replaced}
-use Rattle.irtext_parse_spec.proofs.Readers.EntryIndices.{refusal}
-use Rattle.irtext_parse_spec.proofs.Readers.FirstMissing.{FirstMissing}
-use Rattle.irtext_parse_spec.proofs.Readers.PlainStream.{alone}
-use Rattle.irtext_parse_spec.specs.Heads.{name_of, label_at, head_at}
+use Rattle.irtext_grammar.specs.Promises.Root.{UnlessMemory}
+use Rattle.irtext_grammar.specs.Promises.Section.{indices_of}
+use Rattle.irtext_grammar.specs.Readers.Refusals.{Refusal}
+use Rattle.irtext_grammar.specs.Readers.Streams.{itself, replaced}
+use Rattle.irtext_grammar.proofs.Readers.EntryIndices.{refusal}
+use Rattle.irtext_grammar.proofs.Readers.FirstMissing.{FirstMissing}
+use Rattle.irtext_grammar.proofs.Readers.PlainStream.{alone}
+use Rattle.irtext_grammar.specs.Heads.{name_of, label_at, head_at}
 use Rattle.irtext_parse_pieces.specs.declared.entries.Key.{Key}
 use Rattle.irtext_parse_pieces.specs.declared.headers.BlockHead.{BlockHead}
 use Rattle.irtext_parse_pieces.specs.declared.marks.ReadMark.{ReadMark}
@@ -44,8 +44,8 @@ use Rattle.irtext_parse_pieces.specs.Headers.{IsHead}
 use Rattle.irtext_parse_pieces.specs.Marks.{IsMark, IsMarkIf}
 use Rattle.irtext_parse_pieces.specs.Named.{Represents, Each, MayMean, MustMean}
 use Rattle.irtext_parse_pieces.proofs.Meanings.{may_whole}
-use Rattle.irtext_promises.specs.Alone.{FailsOutside, RefusesBlock}
-use Rattle.irtext_promises.specs.Promises.{outside_with, IsOf, IsFirst}
+use Rattle.irtext_names.specs.Alone.{FailsOutside, RefusesBlock}
+use Rattle.irtext_names.specs.Promises.{outside_with, IsOf, IsFirst}
 use Rattle.irtext_parse_nested.specs.Blocks.{entries_in, IsKeyFault}
 use Rattle.irtext_parse_nested.specs.Definitions.{IsFaultOf}
 use Rattle.irtext_parse_nested.proofs.Faults.{place_is_there, some_same}

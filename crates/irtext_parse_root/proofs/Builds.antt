@@ -16,15 +16,15 @@ use Rattle.irtext_grammar.specs.Grammar.Forest as forest
 use Rattle.irtext_grammar.specs.Grammar.Forest.{Blocks, no_regions, Operations}
 use Rattle.irtext_grammar.specs.Grammar.Tree as tree
 use Rattle.irtext_grammar.specs.Grammar.Tree.{Name, Mark, Piece, Part, Op, Head, Brace, shown}
-use Rattle.irtext_parse_spec.specs.Naming.{body_of, unmarked}
-use Rattle.irtext_parse_spec.specs.Building.{Unfinished, operation_so_far, region_so_far, but_its_mark, Building, building, whole_blocks}
-use Rattle.irtext_parse_spec.specs.Grows.{RegionCame, OperationGains, RegionGains, BlockGains, OperationCame, BlockCame, OwnBecame}
-use Rattle.irtext_parse_spec.specs.Unchanged.{OwnSoFar, own_of, OpenAt, operation_under, ended_under, region_under, HasOwn, HasUses, RegionsHold, BlocksHold, RegionIsOpen, AreOpenAt, IsThere, IsAsItWas, ModifiesOnly}
-use Rattle.irtext_parse_spec.specs.Tracks as tracks
-use Rattle.irtext_parse_spec.specs.Tracks.{Made, noted, HoldsMade}
-use Rattle.irtext_parse_spec.proofs.Acts.{block_ended}
-use Rattle.irtext_parse_spec.proofs.Tracked.{uses_in_block, enters_operation, heads_first, heads_next, late_operation, closes_operation, marks_root, marks_in_block, block_ends, leaves_empty, leaves_with_block}
-use Rattle.irtext_parse_spec.proofs.Kept.{region_kept}
+use Rattle.irtext_grammar.specs.Naming.{body_of, unmarked}
+use Rattle.irtext_grammar.specs.Building.{Unfinished, operation_so_far, region_so_far, but_its_mark, Building, building, whole_blocks}
+use Rattle.irtext_grammar.specs.Grows.{RegionCame, OperationGains, RegionGains, BlockGains, OperationCame, BlockCame, OwnBecame}
+use Rattle.irtext_grammar.specs.Unchanged.{OwnSoFar, own_of, OpenAt, operation_under, ended_under, region_under, HasOwn, HasUses, RegionsHold, BlocksHold, RegionIsOpen, AreOpenAt, IsThere, IsAsItWas, ModifiesOnly}
+use Rattle.irtext_grammar.specs.Tracks as tracks
+use Rattle.irtext_grammar.specs.Tracks.{Made, noted, HoldsMade}
+use Rattle.irtext_grammar.proofs.Acts.{block_ended}
+use Rattle.irtext_grammar.proofs.Tracked.{uses_in_block, enters_operation, heads_first, heads_next, late_operation, closes_operation, marks_root, marks_in_block, block_ends, leaves_empty, leaves_with_block}
+use Rattle.irtext_grammar.proofs.Kept.{region_kept}
 use Rattle.irtext_parse_nested.specs.Ends.{noted_as}
 use Rattle.irtext_parse_root.specs.Built.{built, IsHeld, RegionTracks, HoldsRegion}
 use Rattle.irtext_parse_root.specs.Carried.{marks_in_blocks, marks_so_far, AreCarried}

@@ -16,10 +16,10 @@ use Rattle.irtext_grammar.specs.Grammar.Tree.{Name, Mark, Part, Op, Head, Brace,
 use Rattle.irtext_grammar.specs.Names.Resolves as resolves
 use Rattle.irtext_grammar.specs.Names.Acts.{marked_as}
 use Rattle.irtext_grammar.specs.Names.Resolves.{all_in_regions, all_in_blocks, all_in_operations, everywhere}
-use Rattle.irtext_parse_spec.specs.Naming.{body_of, unmarked}
-use Rattle.irtext_parse_spec.specs.Building.{append_regions, append_blocks, append_operations, Unfinished, operation_so_far, region_so_far, but_its_mark, Building, building, whole_blocks, block_begun, region_ended, operation_closed, operation_marked, with_mark}
-use Rattle.irtext_parse_spec.specs.Unchanged.{OwnSoFar, OpenAt, operation_under, ended_under, region_under, IsOpenAt, AreOpenAt, TreeHolds, as_inner}
-use Rattle.irtext_parse_spec.specs.Tracks.{Made}
+use Rattle.irtext_grammar.specs.Naming.{body_of, unmarked}
+use Rattle.irtext_grammar.specs.Building.{append_regions, append_blocks, append_operations, Unfinished, operation_so_far, region_so_far, but_its_mark, Building, building, whole_blocks, block_begun, region_ended, operation_closed, operation_marked, with_mark}
+use Rattle.irtext_grammar.specs.Unchanged.{OwnSoFar, OpenAt, operation_under, ended_under, region_under, IsOpenAt, AreOpenAt, TreeHolds, as_inner}
+use Rattle.irtext_grammar.specs.Tracks.{Made}
 use Rattle.irtext_parse_nested.specs.Ends.{noted_as}
 use Rattle.irtext_parse_root.specs.Carried.{marks_in_regions, marks_in_blocks, marks_in_operations, marks_in, marks_open, marks_whole, marks_so_far, object_of, AreCarried, Falls}
 

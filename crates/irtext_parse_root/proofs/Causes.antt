@@ -4,7 +4,7 @@ use Rattle.irtext_base.specs.Text.{Text}
 use Rattle.irtext_base.specs.Faults.{Fault, Failed}
 use Rattle.irtext_grammar.specs.Names.Script as script
 use Rattle.irtext_grammar.specs.Names.Script.{Cause}
-use Rattle.irtext_parse_spec.specs.Promises.Root.{IsCause}
+use Rattle.irtext_grammar.specs.Promises.Root.{IsCause}
 
 -- no failure says that the stream had failed
 pub no_cause : (c : Cause Text) (cause : Fault) → IsCause c cause → cause ≡ Failed → ⊥

@@ -8,33 +8,32 @@ use Rattle.irtext_base.specs.declared.location.Source.{Source}
 use Rattle.irtext_context.specs.Dialects.{Table}
 use Rattle.irtext_tokens.specs.Infix.{Reader}
 use Rattle.irtext_tokens.proofs.Steps.{alone}
-use Rattle.irtext_parse_state.specs.States.{marks_of}
+use Rattle.irtext_parse_state.specs.States.{KeepsRest, marks_of}
 use Rattle.irtext_parse_state.specs.declared.parsable.state.State as code
 use Rattle.irtext_parse_state.specs.declared.parsable.state.StateStream.{StateStream}
 use Rattle.irtext_grammar.specs.Contexts.Formats.{format_of}
 use Rattle.irtext_grammar.specs.Contexts.Held.{whole}
 use Rattle.irtext_grammar.specs.Names.History.{Outcome, failed}
 use Rattle.irtext_grammar.specs.Names.Script.{Path}
-use Rattle.irtext_parse_spec.specs.Promises.Root.{UnlessMemory}
-use Rattle.irtext_parse_spec.specs.Promises.Section.{Moves}
-use Rattle.irtext_parse_spec.proofs.Readers.Answered.{moves_none, moves_more}
-use Rattle.irtext_parse_spec.specs.Resume.{EndsIn}
-use Rattle.irtext_parse_spec.proofs.Resume.Frames.{goes_trans, stuck_at}
+use Rattle.irtext_grammar.specs.Promises.Root.{UnlessMemory}
+use Rattle.irtext_grammar.specs.Promises.Section.{Moves}
+use Rattle.irtext_grammar.proofs.Readers.Answered.{moves_none, moves_more}
+use Rattle.irtext_grammar.specs.Resume.{EndsIn}
+use Rattle.irtext_grammar.proofs.Resume.Frames.{goes_trans, stuck_at}
 use Rattle.irtext_parse_pieces.proofs.Meanings.{takes_whole}
 use Rattle.irtext_parse_nested.proofs.Marking.{gains_nothing}
 use Rattle.irtext_parse_nested.specs.Ends.{GainsMarks}
-use Rattle.irtext_parse_objects.specs.Items.{Names, Made, Pledge, MachineAgrees, Acts, ActsWith, ActFails, IsFailure, IsTextFault, doing}
-use Rattle.irtext_parse_objects.specs.Located.{IsLocated}
+use Rattle.irtext_names.specs.Items.{Names, Made, Pledge, MachineAgrees, Acts, ActsWith, ActFails, IsFailure, IsTextFault, doing}
+use Rattle.irtext_names.specs.Located.{IsLocated}
 use Rattle.irtext_parse_root.specs.Built.{Built}
 use Rattle.irtext_parse_root.specs.Here.{Base}
-use Rattle.irtext_parse_spec.specs.Readers.Streams.{KeepsRest}
 use Rattle.irtext_parse_root.specs.Levels.{Level, pledges_of}
 use Rattle.irtext_parse_root.specs.Recorded.{all_done}
 use Rattle.irtext_parse_root.specs.Turned.{Carries, Remains, Turned, Faulted, at_text, by_names}
 use Rattle.irtext_parse_root.proofs.Carrying.{falls_both}
 use Rattle.irtext_parse_root.proofs.Staying.{stay_still, stay_both}
 use Rattle.irtext_parse_root.proofs.Telling.{done_both, goes_recorded, goes_after, stuck_after}
-use Rattle.irtext_parse_objects.proofs.Lasting.{lasts_then, lasts_itself}
+use Rattle.irtext_names.proofs.Lasting.{lasts_then, lasts_itself}
 
 -- ---- acts
 module _ {T A U : Type 0} where

@@ -23,17 +23,17 @@ use Rattle.irtext_grammar.specs.Contexts.Held.{location_over, whole}
 use Rattle.irtext_grammar.specs.Grammar.Forest.{operation, no_operations}
 use Rattle.irtext_grammar.proofs.Names.InScripts.{WholeOperations}
 use Rattle.irtext_grammar.proofs.Names.TreeLists.{marks_in_root}
-use Rattle.irtext_parse_spec.specs.Promises.Root.{location_of}
-use Rattle.irtext_parse_spec.specs.Promises.Section.{indices_of}
-use Rattle.irtext_parse_spec.proofs.Joins.Answers.{Splits}
-use Rattle.irtext_parse_spec.specs.Exact.{NeedsWord}
-use Rattle.irtext_parse_spec.proofs.Naming.Shorter.{Shortens}
-use Rattle.irtext_promises.specs.Leaves.{LeavesTree, LeavesClosed}
-use Rattle.irtext_promises.specs.Promises.{tree_marks}
-use Rattle.irtext_promises.proofs.AfterTree.{none_left, place_written}
-use Rattle.irtext_promises.proofs.Kept as kept
-use Rattle.irtext_parse_objects.specs.Items.{Names, IsSound}
-use Rattle.irtext_parse_objects.specs.Located.{IsLocated}
+use Rattle.irtext_grammar.specs.Promises.Root.{location_of}
+use Rattle.irtext_grammar.specs.Promises.Section.{indices_of}
+use Rattle.irtext_grammar.proofs.Joins.Answers.{Splits}
+use Rattle.irtext_grammar.specs.Exact.{NeedsWord}
+use Rattle.irtext_grammar.proofs.Naming.Shorter.{Shortens}
+use Rattle.irtext_names.specs.Leaves.{LeavesTree, LeavesClosed}
+use Rattle.irtext_names.specs.Promises.{tree_marks}
+use Rattle.irtext_names.proofs.AfterTree.{none_left, place_written}
+use Rattle.irtext_names.proofs.Kept as kept
+use Rattle.irtext_names.specs.Items.{Names, IsSound}
+use Rattle.irtext_names.specs.Located.{IsLocated}
 use Rattle.irtext_parse_root.specs.Carried.{marks_in}
 use Rattle.irtext_parse_root.specs.Nested.{ReadsNested}
 use Rattle.irtext_parse_root.specs.Turned.{Carries}

@@ -9,9 +9,9 @@ use Rattle.irtext_stream.specs.Places.{IsPlaceAfter}
 use Rattle.irtext_stream.specs.declared.position.Place.{Place}
 use Rattle.irtext_context.specs.Dialects.{Table}
 use Rattle.irtext_context.specs.DialectTable.{dialect_of}
-use Rattle.irtext_parse_spec.specs.Readers.DialectNames.{known_name}
-use Rattle.irtext_parse_spec.specs.Readers.Operations.{RefusesAt}
-use Rattle.irtext_parse_spec.specs.Readers.Streams.{itself, replaced}
+use Rattle.irtext_grammar.specs.Readers.DialectNames.{known_name}
+use Rattle.irtext_grammar.specs.Readers.Operations.{RefusesAt}
+use Rattle.irtext_grammar.specs.Readers.Streams.{itself, replaced}
 use Rattle.irtext_parse_section.proofs.HeadSteps.{refused_there}
 
 -- a dialect with this name is registered

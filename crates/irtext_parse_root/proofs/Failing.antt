@@ -17,16 +17,16 @@ use Rattle.irtext_tokens.proofs.Honest.{Honest, ◌then◌, ◌so◌, seen, hone
 use Rattle.irtext_grammar.specs.Contexts.Formats.{op_id, isolated}
 use Rattle.irtext_grammar.specs.Grammar.Tree as tree
 use Rattle.irtext_grammar.specs.Grammar.Tree.{Name, Part}
-use Rattle.irtext_parse_spec.specs.Readers.Parts.{after_lead, without_first}
-use Rattle.irtext_parse_spec.specs.Readers.Operations.{registered_after}
+use Rattle.irtext_grammar.specs.Readers.Parts.{after_lead, without_first}
+use Rattle.irtext_grammar.specs.Readers.Operations.{registered_after}
 use Rattle.irtext_tokens.specs.Demanded.{index_at}
-use Rattle.irtext_parse_spec.specs.Promises.Supported.{is_committed}
-use Rattle.irtext_parse_spec.proofs.Readers.Honest.{honest_nothing}
-use Rattle.irtext_parse_spec.specs.Promises.ErrorCauses.{IsTokenFault, is_name_fault, CauseAt, of_token, of_name, no_dialect, no_operation, of_type, of_attribute}
-use Rattle.irtext_parse_spec.proofs.Causes.Found.{operation_cause}
-use Rattle.irtext_parse_spec.proofs.Readers.NeverFailed.{NotFailed, Fine, fine_honest, fine_missing, fine_bad, fine_either, fine_after_lead, fine_mapped}
-use Rattle.irtext_parse_spec.specs.Heads.{Step, flat, types, one, all, name_of, label_at, argument_at, mark_at, mark_if_at, head_at, piece_at, front_steps, region_steps, lead_at, led_by, led_at}
-use Rattle.irtext_parse_spec.specs.Reached.{Reached, Advanced, Stopped, came, tells, Actions, Reads, begins_operation, begins_region, begins_block, steps_in, regions_by, more_by, operations_by, blocks_by, front_by, steps_by, end_by, body_by, operation_by, block_by, region_by, region_within, region_at, operation_at}
+use Rattle.irtext_grammar.specs.Promises.Supported.{is_committed}
+use Rattle.irtext_grammar.proofs.Readers.Honest.{honest_nothing}
+use Rattle.irtext_grammar.specs.Promises.ErrorCauses.{IsTokenFault, is_name_fault, CauseAt, of_token, of_name, no_dialect, no_operation, of_type, of_attribute}
+use Rattle.irtext_grammar.proofs.Causes.Found.{operation_cause}
+use Rattle.irtext_grammar.proofs.Readers.NeverFailed.{NotFailed, Fine, fine_honest, fine_missing, fine_bad, fine_either, fine_after_lead, fine_mapped}
+use Rattle.irtext_grammar.specs.Heads.{Step, flat, types, one, all, name_of, label_at, argument_at, mark_at, mark_if_at, head_at, piece_at, front_steps, region_steps, lead_at, led_by, led_at}
+use Rattle.irtext_grammar.specs.Reached.{Reached, Advanced, Stopped, came, tells, Actions, Reads, begins_operation, begins_region, begins_block, steps_in, regions_by, more_by, operations_by, blocks_by, front_by, steps_by, end_by, body_by, operation_by, block_by, region_by, region_within, region_at, operation_at}
 use Rattle.irtext_parse_nested.proofs.FrontHonest.{name_honest, lead_honest, dictionary_honest, piece_honest}
 
 -- ---- what is stuck

@@ -17,25 +17,25 @@ use Rattle.irtext_grammar.specs.Contexts.Held.{whole}
 use Rattle.irtext_grammar.specs.Names.History.{Outcome as Machine, failed}
 use Rattle.irtext_grammar.specs.Names.Script.{Path}
 use Rattle.irtext_grammar.specs.Names.TextScopes.{Failure}
-use Rattle.irtext_parse_spec.specs.Promises.Root.{UnlessMemory}
-use Rattle.irtext_parse_spec.proofs.Joins.Answers.{Splits}
-use Rattle.irtext_parse_spec.specs.Heads.{Step, one, all, front_steps, piece_at, head_at}
+use Rattle.irtext_grammar.specs.Promises.Root.{UnlessMemory}
+use Rattle.irtext_grammar.proofs.Joins.Answers.{Splits}
+use Rattle.irtext_grammar.specs.Heads.{Step, one, all, front_steps, piece_at, head_at}
 use Rattle.irtext_tokens.proofs.Spelling.{begins_the}
-use Rattle.irtext_parse_spec.specs.Reached.{Actions, begins_region, begins_block, steps_in}
-use Rattle.irtext_parse_spec.specs.Resume as theory
-use Rattle.irtext_parse_spec.specs.Resume.{OpenOperation, is_flat, Open, an_operation, a_region, a_block, EndsIn, Goes, StoppedAt}
-use Rattle.irtext_parse_spec.proofs.Naming.Keeps.{failed_keeps}
-use Rattle.irtext_parse_spec.proofs.Resume.Failed.{failed_at}
-use Rattle.irtext_parse_spec.proofs.Resume.Frames.{goes_trans, stuck_at}
-use Rattle.irtext_parse_spec.proofs.Resume.Front.{front_reads, front_misses}
-use Rattle.irtext_parse_spec.proofs.Resume.Turns.{operation_begins, no_lead, no_front, piece_reads, no_piece, operation_ends, no_end, operation_closes, no_region, region_enters, another_enters, block_begins, no_block, region_ends, no_brace}
-use Rattle.irtext_parse_spec.proofs.Resume.Unbounded.{Unbounded}
-use Rattle.irtext_parse_spec.specs.Unchanged.{OwnSoFar}
+use Rattle.irtext_grammar.specs.Reached.{Actions, begins_region, begins_block, steps_in}
+use Rattle.irtext_grammar.specs.Resume as theory
+use Rattle.irtext_grammar.specs.Resume.{OpenOperation, is_flat, Open, an_operation, a_region, a_block, EndsIn, Goes, StoppedAt}
+use Rattle.irtext_grammar.proofs.Naming.Keeps.{failed_keeps}
+use Rattle.irtext_grammar.proofs.Resume.Failed.{failed_at}
+use Rattle.irtext_grammar.proofs.Resume.Frames.{goes_trans, stuck_at}
+use Rattle.irtext_grammar.proofs.Resume.Front.{front_reads, front_misses}
+use Rattle.irtext_grammar.proofs.Resume.Turns.{operation_begins, no_lead, no_front, piece_reads, no_piece, operation_ends, no_end, operation_closes, no_region, region_enters, another_enters, block_begins, no_block, region_ends, no_brace}
+use Rattle.irtext_grammar.proofs.Resume.Unbounded.{Unbounded}
+use Rattle.irtext_grammar.specs.Unchanged.{OwnSoFar}
 use Rattle.irtext_parse_nested.specs.declared.frame.BegunOperation.{BegunOperation}
 use Rattle.irtext_parse_nested.specs.declared.frame.BegunRegion.{BegunRegion}
 use Rattle.irtext_parse_nested.specs.declared.frame.BegunBlock.{BegunBlock}
 use Rattle.irtext_parse_nested.specs.OpenOperation.{pledge_of}
-use Rattle.irtext_parse_objects.specs.Items.{Names, Made, Pledge, MachineAgrees, Acts, ActFails, IsFailure, IsTextFault, doing}
+use Rattle.irtext_names.specs.Items.{Names, Made, Pledge, MachineAgrees, Acts, ActFails, IsFailure, IsTextFault, doing}
 use Rattle.irtext_parse_nested.specs.Read as read
 use Rattle.irtext_parse_nested.specs.Read.{begun_by, closes_of, RefusesOperation, RefusesPiece, RefusesEnd, RefusesRegion, RefusesRegionEnd, RefusesBlock}
 use Rattle.irtext_parse_root.specs.Here.{Base}

@@ -9,12 +9,12 @@ use Rattle.irtext_parse_state.specs.States.{marks_of}
 use Rattle.irtext_parse_state.specs.declared.parsable.state.State as code
 use Rattle.irtext_grammar.specs.Names.History.{going, start, State}
 use Rattle.irtext_grammar.specs.Names.Script.{Path}
-use Rattle.irtext_parse_spec.specs.Promises.Section.{indices_of}
+use Rattle.irtext_grammar.specs.Promises.Section.{indices_of}
 use Rattle.irtext_names.specs.Linked.{nothing_made}
 use Rattle.irtext_names.proofs.Added.{no_ties, no_waits}
 use Rattle.irtext_names.proofs.Linked.Kept.{agrees_by}
-use Rattle.irtext_promises.specs.Promises.{start_with}
-use Rattle.irtext_parse_objects.specs.Items.{Names, MachineAgrees, BlanksDefine, IsSound}
+use Rattle.irtext_names.specs.Promises.{start_with}
+use Rattle.irtext_names.specs.Items.{Names, MachineAgrees, BlanksDefine, IsSound}
 use Rattle.irtext_parse_nested.proofs.OfItems.{nothing_of}
 use Rattle.irtext_parse_root.specs.Turned.{IsSoundOnce}
 

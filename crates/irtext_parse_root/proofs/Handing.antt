@@ -18,27 +18,26 @@ use Rattle.irtext_tokens.specs.Tokens.{space_at}
 use Rattle.irtext_scopes.specs.Names.{KeepsNames}
 use Rattle.irtext_scopes.specs.Scopes.{is_open, outer}
 use Rattle.irtext_scopes.specs.Tracker.{entered, left}
-use Rattle.irtext_parse_state.specs.States.{marks_of}
+use Rattle.irtext_parse_state.specs.States.{KeepsRest, marks_of}
 use Rattle.irtext_parse_state.specs.declared.parsable.state.StateStream.{StateStream}
 use Rattle.irtext_grammar.specs.Contexts.Formats.{format_of}
 use Rattle.irtext_grammar.specs.Contexts.Held.{whole}
 use Rattle.irtext_grammar.specs.Grammar.Tree.{Mark, Head}
-use Rattle.irtext_parse_spec.specs.Promises.Section.{Moves}
-use Rattle.irtext_parse_spec.specs.Readers.Streams.{KeepsRest}
-use Rattle.irtext_parse_spec.specs.Heads.{head_at, mark_if_at}
-use Rattle.irtext_parse_spec.specs.Resume.{OpenOperation}
-use Rattle.irtext_parse_spec.specs.Grows.{RegionCame, OperationGains, RegionGains, BlockCame}
-use Rattle.irtext_parse_spec.specs.Unchanged.{OwnSoFar, ModifiesOnly}
+use Rattle.irtext_grammar.specs.Promises.Section.{Moves}
+use Rattle.irtext_grammar.specs.Heads.{head_at, mark_if_at}
+use Rattle.irtext_grammar.specs.Resume.{OpenOperation}
+use Rattle.irtext_grammar.specs.Grows.{RegionCame, OperationGains, RegionGains, BlockCame}
+use Rattle.irtext_grammar.specs.Unchanged.{OwnSoFar, ModifiesOnly}
 use Rattle.irtext_parse_nested.specs.declared.frame.BegunOperation.{BegunOperation}
 use Rattle.irtext_parse_nested.specs.declared.frame.BegunRegion.{BegunRegion}
 use Rattle.irtext_parse_nested.specs.declared.frame.BegunBlock.{BegunBlock}
 use Rattle.irtext_parse_nested.specs.Beginning.{HasBegun, ComesInto}
 use Rattle.irtext_parse_nested.specs.OpenOperation.{IsBegun, IsRegion}
 use Rattle.irtext_parse_nested.specs.Ends.{noted_as, GainsMarks, BecomesNamed}
-use Rattle.irtext_parse_objects.specs.Items.{Names, IsSound, KeepsLive}
+use Rattle.irtext_names.specs.Items.{Names, IsSound, KeepsLive}
 use Rattle.irtext_parse_nested.specs.Later.{GoesOn}
 use Rattle.irtext_parse_nested.proofs.Marking.{gains_nothing, on_err, always_err}
-use Rattle.irtext_parse_objects.specs.Located.{IsLocated}
+use Rattle.irtext_names.specs.Located.{IsLocated}
 use Rattle.irtext_parse_nested.specs.Read.{ReadsFront, begun_by, BeginsOperation, EndsOperation, BeginsRegion, EndsRegion, BeginsBlock}
 use Rattle.irtext_parse_root.specs.Turned.{Spares}
 use Rattle.irtext_parse_root.specs.Turns.{Begins, Continues, Ends, Enters, Leaves, Heads}

@@ -8,8 +8,8 @@ use Rattle.irtext_tokens.specs.ListOutcomes.{separated_at}
 use Rattle.irtext_tokens.specs.Tokens.{space_at, word, identifier_at}
 use Rattle.irtext_tokens.specs.Demanded.{spaced_at}
 use Rattle.irtext_grammar.specs.Grammar.Tree.{Name, Mark, Attribute, Head}
-use Rattle.irtext_parse_spec.proofs.Joins.Answers.{followed_read, mapped_read}
-use Rattle.irtext_parse_spec.specs.Heads.{name_of, label_at, argument_at, dictionary_if_at, mark_if_at, head_at}
+use Rattle.irtext_grammar.proofs.Joins.Answers.{followed_read, mapped_read}
+use Rattle.irtext_grammar.specs.Heads.{name_of, label_at, argument_at, dictionary_if_at, mark_if_at, head_at}
 
 -- each value that the parser parses has the property
 record Gives {X : Type 0} (P : X → Type 0) (f : Reader X) : Type 0 where

@@ -4,11 +4,11 @@ use Rattle.irtext_base.specs.Text.{Text}
 use Rattle.irtext_base.specs.Answers.{Outcome, Read}
 use Rattle.irtext_base.specs.Own.{texts_of, Sincere, Lawful}
 use Rattle.irtext_base.specs.declared.text.IrText as ir_text
-use Rattle.irtext_parse_spec.specs.Exact.{NeedsWord}
-use Rattle.irtext_parse_spec.proofs.Exact.Attributes.{lawful_needs_word}
-use Rattle.irtext_parse_spec.proofs.Naming.Scripts.{shortens}
-use Rattle.irtext_parse_spec.proofs.Naming.Shorter.{Shortens}
-use Rattle.irtext_parse_spec.proofs.Joins.Answers.{Splits}
+use Rattle.irtext_grammar.specs.Exact.{NeedsWord}
+use Rattle.irtext_grammar.proofs.Exact.Attributes.{lawful_needs_word}
+use Rattle.irtext_grammar.proofs.Naming.Scripts.{shortens}
+use Rattle.irtext_grammar.proofs.Naming.Shorter.{Shortens}
+use Rattle.irtext_grammar.proofs.Joins.Answers.{Splits}
 
 no_longer : {X : Type 0} (reading : Text → Outcome X) → Splits reading → (text : Text) (x : X) (taken rest : Text) → reading text ≡ Read x taken rest → length rest ≤ length text
 no_longer reading h text x taken rest e = omega (arith, ap length (h text x taken rest e), length-append taken rest)

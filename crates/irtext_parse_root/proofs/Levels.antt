@@ -11,10 +11,10 @@ use Rattle.irtext_scopes.specs.Names.{KeepsNames}
 use Rattle.irtext_grammar.specs.Contexts.Formats.{format_of, isolated}
 use Rattle.irtext_grammar.specs.Grammar.Tree.{Name}
 use Rattle.irtext_grammar.specs.Names.Acts.{result_types}
-use Rattle.irtext_parse_spec.specs.Heads.{Step}
-use Rattle.irtext_parse_spec.specs.Naming.{body_of}
-use Rattle.irtext_parse_spec.specs.Reached.{steps_in}
-use Rattle.irtext_parse_spec.specs.Resume.{OpenOperation, Open, Pops, weight, weights, work, by_character}
+use Rattle.irtext_grammar.specs.Heads.{Step}
+use Rattle.irtext_grammar.specs.Naming.{body_of}
+use Rattle.irtext_grammar.specs.Reached.{steps_in}
+use Rattle.irtext_grammar.specs.Resume.{OpenOperation, Open, Pops, weight, weights, work, by_character}
 use Rattle.irtext_parse_pieces.specs.declared.names.ReadName.{ReadName}
 use Rattle.irtext_parse_pieces.specs.Named.{Represents, Each}
 use Rattle.irtext_parse_pieces.proofs.Meanings.{still_represents}
@@ -22,7 +22,7 @@ use Rattle.irtext_parse_nested.specs.declared.frame.BegunOperation.{BegunOperati
 use Rattle.irtext_parse_nested.specs.Beginning.{HasBegun}
 use Rattle.irtext_parse_nested.specs.OpenOperation.{IsBegun}
 use Rattle.irtext_parse_pieces.specs.Coming.{IsStep}
-use Rattle.irtext_parse_objects.specs.Items.{KeepsLive}
+use Rattle.irtext_names.specs.Items.{KeepsLive}
 use Rattle.irtext_parse_root.specs.declared.frames.Frame.{Frame}
 use Rattle.irtext_parse_root.specs.declared.frames.Frame.TheVariants as framed
 use Rattle.irtext_parse_root.specs.Here.{IsLevel, AreLevels}

@@ -7,8 +7,8 @@ use Rattle.irtext_graph.specs.Graph.{GraphView}
 use Rattle.irtext_tokens.specs.Infix.{Reader}
 use Rattle.irtext_parse_state.specs.declared.parsable.state.StateStream.{StateStream}
 use Rattle.irtext_grammar.specs.Contexts.Held.{whole}
-use Rattle.irtext_parse_spec.specs.Promises.Root.{UnlessMemory}
-use Rattle.irtext_parse_objects.specs.Items.{Names}
+use Rattle.irtext_grammar.specs.Promises.Root.{UnlessMemory}
+use Rattle.irtext_names.specs.Items.{Names}
 use Rattle.irtext_parse_root.specs.declared.frames.Frame.{Frame}
 use Rattle.irtext_parse_root.specs.Here.{Base, IsHere, AreHere}
 use Rattle.irtext_parse_root.specs.Levels.{Level, at_operation, at_region, at_block, first_frame, left_to_do, AreNewFrames}

@@ -14,9 +14,9 @@ use Rattle.irtext_grammar.specs.Grammar.Forest.{Regions, no_regions, region, Blo
 use Rattle.irtext_grammar.specs.Grammar.Tree.{Mark, Op, Head, Brace, Tree}
 use Rattle.irtext_grammar.specs.Names.Script.{Path}
 use Rattle.irtext_names.proofs.Linked.Moving.{among_split}
-use Rattle.irtext_parse_spec.specs.Naming.{paths_in_regions, paths_in_blocks, paths_in_operations, paths_in}
-use Rattle.irtext_parse_spec.proofs.Naming.Places as places
-use Rattle.irtext_parse_spec.specs.Tracks.{Made}
+use Rattle.irtext_grammar.specs.Naming.{paths_in_regions, paths_in_blocks, paths_in_operations, paths_in}
+use Rattle.irtext_grammar.proofs.Naming.Places as places
+use Rattle.irtext_grammar.specs.Tracks.{Made}
 use Rattle.irtext_parse_nested.specs.Ends.{noted_as}
 use Rattle.irtext_parse_root.specs.Carried.{marks_in_regions, marks_in_blocks, marks_in_operations, marks_in, object_of, AreCarried, Falls}
 use Rattle.irtext_parse_root.proofs.Carrying.{carried_by}

@@ -12,15 +12,15 @@ use Rattle.irtext_tokens.specs.Tokens.{space_at, word}
 use Rattle.irtext_tokens.proofs.Honest.{honest_space}
 use Rattle.irtext_grammar.specs.Grammar.Tree as tree
 use Rattle.irtext_grammar.specs.Grammar.Tree.{Name, Part, Head}
-use Rattle.irtext_parse_spec.specs.Promises.Section.{Moves}
-use Rattle.irtext_parse_spec.specs.Readers.RestLengths.{Leaves, LeavesNoMore}
-use Rattle.irtext_parse_spec.specs.Readers.Parts.{without_first}
+use Rattle.irtext_grammar.specs.Promises.Section.{Moves}
+use Rattle.irtext_grammar.specs.Readers.RestLengths.{Leaves, LeavesNoMore}
+use Rattle.irtext_grammar.specs.Readers.Parts.{without_first}
 use Rattle.irtext_parse_root.specs.OperationFollows.{operation_follows, text_there}
 use Rattle.irtext_tokens.proofs.Spelling.{begins_the}
-use Rattle.irtext_parse_spec.proofs.Locations.RestLengths.{space_bound, Within, within_honest, ◌so◌, ◌then◌, leaves_read}
-use Rattle.irtext_parse_spec.specs.Heads.{Step, head_at, led_at}
-use Rattle.irtext_parse_spec.specs.Resume.{front_at}
-use Rattle.irtext_parse_spec.proofs.Knot.Leaving.{brace_leaves, piece_within, head_leaves, led_leaves}
+use Rattle.irtext_grammar.proofs.Locations.RestLengths.{space_bound, Within, within_honest, ◌so◌, ◌then◌, leaves_read}
+use Rattle.irtext_grammar.specs.Heads.{Step, head_at, led_at}
+use Rattle.irtext_grammar.specs.Resume.{front_at}
+use Rattle.irtext_grammar.proofs.Knot.Leaving.{brace_leaves, piece_within, head_leaves, led_leaves}
 
 -- what was passed is not longer
 pub moves_fewer : (old new : StreamView) → Moves old new → length new.rest ≤ length old.rest

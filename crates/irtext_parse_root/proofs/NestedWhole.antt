@@ -14,13 +14,13 @@ use Rattle.irtext_grammar.specs.Contexts.Held.{whole}
 use Rattle.irtext_grammar.specs.Names.History.{Outcome, going}
 use Rattle.irtext_grammar.specs.Names.Script.{Path}
 use Rattle.irtext_names.specs.OfItems.{AreOf}
-use Rattle.irtext_parse_spec.specs.Reached.{Advanced, operation_at}
-use Rattle.irtext_parse_spec.specs.Promises.Root.{UnlessMemory}
-use Rattle.irtext_parse_spec.specs.Promises.Section.{indices_of}
-use Rattle.irtext_promises.specs.Leaves.{LeavesTree}
-use Rattle.irtext_promises.specs.Promises.{start_with, HasFault, at_text, by_names}
-use Rattle.irtext_parse_objects.specs.Items.{Names, MachineAgrees, doing}
-use Rattle.irtext_parse_objects.specs.Located.{IsLocated}
+use Rattle.irtext_grammar.specs.Reached.{Advanced, operation_at}
+use Rattle.irtext_grammar.specs.Promises.Root.{UnlessMemory}
+use Rattle.irtext_grammar.specs.Promises.Section.{indices_of}
+use Rattle.irtext_names.specs.Leaves.{LeavesTree}
+use Rattle.irtext_names.specs.Promises.{start_with, HasFault, at_text, by_names}
+use Rattle.irtext_names.specs.Items.{Names, MachineAgrees, doing}
+use Rattle.irtext_names.specs.Located.{IsLocated}
 use Rattle.irtext_parse_root.specs.Nested as nested
 use Rattle.irtext_parse_root.specs.Nested.{ReadsNested, RefusesNested}
 use Rattle.irtext_parse_root.proofs.Fresh.{begun_agrees}

@@ -18,28 +18,28 @@ use Rattle.irtext_grammar.specs.Contexts.Held.{whole}
 use Rattle.irtext_grammar.specs.Grammar.Tree.{Tree}
 use Rattle.irtext_grammar.specs.Names.History.{Outcome as Machine, failed}
 use Rattle.irtext_grammar.specs.Names.Script.{Path}
-use Rattle.irtext_parse_spec.specs.Promises.Root.{UnlessMemory}
-use Rattle.irtext_parse_spec.specs.Promises.Supported.{is_committed}
-use Rattle.irtext_parse_spec.proofs.Joins.Answers.{Splits}
-use Rattle.irtext_parse_spec.proofs.Joins.Attributes.{splits_attr}
-use Rattle.irtext_parse_spec.specs.Heads.{front_steps}
-use Rattle.irtext_parse_spec.specs.Reached.{Advanced, Stopped, Actions, steps_in, front_by, operation_at}
-use Rattle.irtext_parse_spec.specs.Resume.{OpenOperation, to_come, an_operation, EndsIn, Goes}
-use Rattle.irtext_parse_spec.proofs.Naming.Keeps.{failed_keeps}
-use Rattle.irtext_parse_spec.proofs.Resume.Failed.{failed_at}
-use Rattle.irtext_parse_spec.proofs.Resume.Frames.{goes_trans, stuck_at}
-use Rattle.irtext_parse_spec.proofs.Resume.Front.{splits_piece, front_inside, front_reads, front_misses}
-use Rattle.irtext_parse_spec.proofs.Knot.Whole.{leaves_no_more}
-use Rattle.irtext_parse_spec.proofs.Resume.Turns.{operation_begins, no_lead, no_front}
-use Rattle.irtext_parse_spec.specs.Building.{Unfinished, building, nothing_open, finished}
-use Rattle.irtext_parse_spec.specs.Unchanged.{operation_under, AreOpenAt, TreeHolds}
-use Rattle.irtext_parse_spec.specs.Tracks.{Made, noted, HoldsMade}
-use Rattle.irtext_parse_spec.proofs.Tracked.{holds_nothing, uses_at_root}
+use Rattle.irtext_grammar.specs.Promises.Root.{UnlessMemory}
+use Rattle.irtext_grammar.specs.Promises.Supported.{is_committed}
+use Rattle.irtext_grammar.proofs.Joins.Answers.{Splits}
+use Rattle.irtext_grammar.proofs.Joins.Attributes.{splits_attr}
+use Rattle.irtext_grammar.specs.Heads.{front_steps}
+use Rattle.irtext_grammar.specs.Reached.{Advanced, Stopped, Actions, steps_in, front_by, operation_at}
+use Rattle.irtext_grammar.specs.Resume.{OpenOperation, to_come, an_operation, EndsIn, Goes}
+use Rattle.irtext_grammar.proofs.Naming.Keeps.{failed_keeps}
+use Rattle.irtext_grammar.proofs.Resume.Failed.{failed_at}
+use Rattle.irtext_grammar.proofs.Resume.Frames.{goes_trans, stuck_at}
+use Rattle.irtext_grammar.proofs.Resume.Front.{splits_piece, front_inside, front_reads, front_misses}
+use Rattle.irtext_grammar.proofs.Knot.Whole.{leaves_no_more}
+use Rattle.irtext_grammar.proofs.Resume.Turns.{operation_begins, no_lead, no_front}
+use Rattle.irtext_grammar.specs.Building.{Unfinished, building, nothing_open, finished}
+use Rattle.irtext_grammar.specs.Unchanged.{operation_under, AreOpenAt, TreeHolds}
+use Rattle.irtext_grammar.specs.Tracks.{Made, noted, HoldsMade}
+use Rattle.irtext_grammar.proofs.Tracked.{holds_nothing, uses_at_root}
 use Rattle.irtext_parse_nested.specs.declared.frame.BegunOperation.{BegunOperation}
 use Rattle.irtext_parse_nested.specs.Beginning.{HasBegun}
 use Rattle.irtext_parse_nested.specs.OpenOperation.{IsBegun, pledge_of}
-use Rattle.irtext_parse_objects.specs.Items.{Names, MachineAgrees, IsFailure, IsTextFault, doing}
-use Rattle.irtext_parse_objects.specs.Located.{IsLocated}
+use Rattle.irtext_names.specs.Items.{Names, MachineAgrees, IsFailure, IsTextFault, doing}
+use Rattle.irtext_names.specs.Located.{IsLocated}
 use Rattle.irtext_parse_nested.specs.Read as read
 use Rattle.irtext_parse_nested.specs.Read.{begun_by, RefusesOperation}
 use Rattle.irtext_parse_root.specs.declared.frames.Frame.TheVariants as framed

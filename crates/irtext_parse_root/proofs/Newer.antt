@@ -17,9 +17,9 @@ use Rattle.irtext_graph.specs.Chained.{Among}
 use Rattle.irtext_graph.specs.Graph.{parent_of}
 use Rattle.irtext_graph.specs.Store.{get, before}
 use Rattle.irtext_grammar.specs.Grammar.Tree.{Tree}
-use Rattle.irtext_parse_spec.specs.Building.{finished}
-use Rattle.irtext_parse_spec.specs.Unchanged.{IsThere}
-use Rattle.irtext_parse_spec.specs.Tracks.{Made, HoldsMade}
+use Rattle.irtext_grammar.specs.Building.{finished}
+use Rattle.irtext_grammar.specs.Unchanged.{IsThere}
+use Rattle.irtext_grammar.specs.Tracks.{Made, HoldsMade}
 use Rattle.irtext_parse_root.specs.Carried.{marks_in, object_of, AreCarried}
 use Rattle.irtext_parse_section.specs.Applied.{IsNewer, AreNewer}
 use Rattle.irtext_parse_root.proofs.Marks.{carried_back}

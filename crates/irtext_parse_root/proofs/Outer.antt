@@ -13,11 +13,11 @@ use Rattle.irtext_graph.specs.declared.arena.Ptr.{Ptr}
 use Rattle.irtext_graph.specs.declared.object.Operation.{Operation}
 use Rattle.irtext_parse_state.specs.declared.parsable.state.StateStream.{StateStream}
 use Rattle.irtext_grammar.specs.Contexts.Held.{whole}
-use Rattle.irtext_parse_spec.specs.Promises.Root.{UnlessMemory}
-use Rattle.irtext_parse_spec.specs.Promises.Section.{is_noted}
-use Rattle.irtext_promises.specs.Promises.{HasFault, BuildsTree, BuildsRoot, BuildsWith, RefusesRoot, RefusesWith}
-use Rattle.irtext_promises.proofs.Refuses.{refuses_tree}
-use Rattle.irtext_promises.proofs.Root.{root_refused}
+use Rattle.irtext_grammar.specs.Promises.Root.{UnlessMemory}
+use Rattle.irtext_grammar.specs.Promises.Section.{is_noted}
+use Rattle.irtext_names.specs.Promises.{HasFault, BuildsTree, BuildsRoot, BuildsWith, RefusesRoot, RefusesWith}
+use Rattle.irtext_names.proofs.Refuses.{refuses_tree}
+use Rattle.irtext_names.proofs.Root.{root_refused}
 use Rattle.irtext_parse_root.proofs.Laws.{Laws}
 use Rattle.irtext_parse_root.specs.Parses.{attr, texts}
 

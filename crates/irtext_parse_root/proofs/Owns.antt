@@ -10,11 +10,11 @@ use Rattle.irtext_grammar.specs.Grammar.Tree as tree
 use Rattle.irtext_grammar.specs.Grammar.Tree.{Part, Piece, views, parts_of, operand_names, successor_labels}
 use Rattle.irtext_grammar.specs.Graphs.Build.{put, put_all, stored, read_names}
 use Rattle.irtext_grammar.specs.Names.Acts.{result_types}
-use Rattle.irtext_parse_spec.specs.Heads.{Step, one, all}
-use Rattle.irtext_parse_spec.specs.Naming.{body_of, unmarked}
-use Rattle.irtext_parse_spec.specs.Reached.{steps_in}
-use Rattle.irtext_parse_spec.specs.Resume.{OpenOperation, with_steps, is_flat}
-use Rattle.irtext_parse_spec.specs.Unchanged.{OwnSoFar, own_of}
+use Rattle.irtext_grammar.specs.Heads.{Step, one, all}
+use Rattle.irtext_grammar.specs.Naming.{body_of, unmarked}
+use Rattle.irtext_grammar.specs.Reached.{steps_in}
+use Rattle.irtext_grammar.specs.Resume.{OpenOperation, with_steps, is_flat}
+use Rattle.irtext_grammar.specs.Unchanged.{OwnSoFar, own_of}
 use Rattle.irtext_parse_nested.specs.declared.frame.BegunOperation.{BegunOperation}
 use Rattle.irtext_parse_nested.specs.Beginning.{IsPartOf, ArePartsOf, HasBegun}
 use Rattle.irtext_parse_nested.specs.OpenOperation.{HasNoType, ReadNeither, IsBegun}

@@ -20,22 +20,22 @@ use Rattle.irtext_grammar.specs.Contexts.Held.{whole}
 use Rattle.irtext_grammar.specs.Grammar.Tree as tree
 use Rattle.irtext_grammar.specs.Grammar.Tree.{Part}
 use Rattle.irtext_grammar.specs.Graphs.Build.{put_all, stored}
-use Rattle.irtext_parse_spec.proofs.Joins.Answers.{Splits}
-use Rattle.irtext_parse_spec.proofs.Joins.Attributes.{splits_attr}
-use Rattle.irtext_parse_spec.specs.Heads.{Step, one, all, front_steps}
-use Rattle.irtext_parse_spec.specs.Reached.{Actions, begins_region, begins_block, steps_in}
-use Rattle.irtext_parse_spec.specs.Resume.{OpenOperation, with_steps, Open, to_come, an_operation, a_region, a_block, work, by_character}
-use Rattle.irtext_parse_spec.proofs.Knot.Whole.{leaves_no_more}
-use Rattle.irtext_parse_spec.proofs.Resume.Front.{splits_piece}
-use Rattle.irtext_parse_spec.proofs.Resume.Unbounded.{Unbounded, unbounded}
-use Rattle.irtext_parse_spec.specs.Unchanged.{OwnSoFar}
+use Rattle.irtext_grammar.proofs.Joins.Answers.{Splits}
+use Rattle.irtext_grammar.proofs.Joins.Attributes.{splits_attr}
+use Rattle.irtext_grammar.specs.Heads.{Step, one, all, front_steps}
+use Rattle.irtext_grammar.specs.Reached.{Actions, begins_region, begins_block, steps_in}
+use Rattle.irtext_grammar.specs.Resume.{OpenOperation, with_steps, Open, to_come, an_operation, a_region, a_block, work, by_character}
+use Rattle.irtext_grammar.proofs.Knot.Whole.{leaves_no_more}
+use Rattle.irtext_grammar.proofs.Resume.Front.{splits_piece}
+use Rattle.irtext_grammar.proofs.Resume.Unbounded.{Unbounded, unbounded}
+use Rattle.irtext_grammar.specs.Unchanged.{OwnSoFar}
 use Rattle.irtext_parse_nested.specs.declared.frame.BegunOperation.{BegunOperation}
 use Rattle.irtext_parse_nested.specs.declared.frame.BegunRegion.{BegunRegion}
 use Rattle.irtext_parse_nested.specs.declared.frame.BegunBlock.{BegunBlock}
 use Rattle.irtext_parse_nested.specs.Beginning.{HasBegun}
 use Rattle.irtext_parse_nested.specs.OpenOperation.{IsBegun, IsRegion}
 use Rattle.irtext_parse_pieces.specs.Named as placing
-use Rattle.irtext_parse_objects.specs.Items.{Names}
+use Rattle.irtext_names.specs.Items.{Names}
 use Rattle.irtext_parse_nested.specs.Read.{begun_by, EndsRegion}
 use Rattle.irtext_parse_root.specs.declared.frames.Frame.{Frame}
 use Rattle.irtext_parse_root.specs.declared.frames.Frame.TheVariants as framed
@@ -46,7 +46,7 @@ use Rattle.irtext_parse_root.specs.Recorded.{recorder}
 use Rattle.irtext_parse_root.specs.Turned.{Carries, TakesLast, Arrives, Proceeds}
 use Rattle.irtext_parse_root.specs.OperationFollows.{operation_follows, text_there, PassesTo}
 use Rattle.irtext_parse_root.specs.Turns.{IsNext, Begins, Continues, Ends, Enters, Leaves, Heads}
-use Rattle.irtext_parse_spec.proofs.Resume.Weights.{operation_nearer, step_nearer, region_nearer, another_nearer, block_nearer, first_nearer, other_nearer, end_nearer, steps_fewer}
+use Rattle.irtext_grammar.proofs.Resume.Weights.{operation_nearer, step_nearer, region_nearer, another_nearer, block_nearer, first_nearer, other_nearer, end_nearer, steps_fewer}
 use Rattle.irtext_parse_root.proofs.Nearer.{moves_fewer, some_character, front_fewer, head_fewer, led_fewer, led_some, brace_fewer, semicolon_fewer}
 use Rattle.irtext_parse_root.proofs.Labels.{head_place}
 use Rattle.irtext_parse_root.proofs.Owns.{own_region, begun_region, piece_comes, region_comes, regions_come, end_comes, steps_here, no_steps_here}

@@ -9,9 +9,9 @@ use Rattle.irtext_tokens.specs.Infix.{Reader}
 use Rattle.irtext_parse_state.specs.declared.parsable.state.StateStream.{StateStream}
 use Rattle.irtext_grammar.specs.Names.History.{going}
 use Rattle.irtext_grammar.specs.Names.Script.{Path}
-use Rattle.irtext_parse_spec.specs.Promises.Root.{UnlessMemory}
-use Rattle.irtext_parse_spec.specs.Readers.Refusals.{Refusal}
-use Rattle.irtext_parse_objects.specs.Items.{Names, doing}
+use Rattle.irtext_grammar.specs.Promises.Root.{UnlessMemory}
+use Rattle.irtext_grammar.specs.Readers.Refusals.{Refusal}
+use Rattle.irtext_names.specs.Items.{Names, doing}
 use Rattle.irtext_parse_root.specs.Nested as nested
 use Rattle.irtext_parse_root.specs.Nested.{RefusesNested}
 use Rattle.irtext_parse_root.proofs.Failing.{operation_never_failed, operation_first}

@@ -36,19 +36,19 @@ use Rattle.irtext_grammar.specs.Names.Script.{Path, done}
 use Rattle.irtext_grammar.specs.Spelling.Spellable.{Each}
 use Rattle.irtext_grammar.proofs.Grammar.PartsOfFormats.{FormedRegions, FormedBlocks, FormedOperations}
 use Rattle.irtext_scopes.specs.declared.tracker.NameTracker.{NameTracker}
-use Rattle.irtext_parse_spec.specs.Naming.{paths_in_blocks}
-use Rattle.irtext_parse_spec.specs.Unchanged.{RegionsHold, IsThere}
-use Rattle.irtext_parse_spec.specs.Tracks.{Made, noted, HasChild}
-use Rattle.irtext_parse_spec.proofs.Whole.{WholeRegions, WholeBlocks, WholeOperations}
+use Rattle.irtext_grammar.specs.Naming.{paths_in_blocks}
+use Rattle.irtext_grammar.specs.Unchanged.{RegionsHold, IsThere}
+use Rattle.irtext_grammar.specs.Tracks.{Made, noted, HasChild}
+use Rattle.irtext_grammar.proofs.Whole.{WholeRegions, WholeBlocks, WholeOperations}
 use Rattle.irtext_names.specs.Linked.{Known, NamesAgree}
 use Rattle.irtext_names.specs.OfItems.{AreOf}
 use Rattle.irtext_names.specs.Tied.{NoneIsLeft}
-use Rattle.irtext_promises.specs.Alone.{OnlyNewIn, held_region}
-use Rattle.irtext_promises.specs.OnlyNew.{BlanksDefine}
-use Rattle.irtext_promises.proofs.Ages.{operation_stays, block_stays, region_stays}
-use Rattle.irtext_promises.proofs.AloneBuilds as builds
-use Rattle.irtext_promises.proofs.Kept.{accepts}
-use Rattle.irtext_promises.proofs.News as news
+use Rattle.irtext_names.specs.Alone.{OnlyNewIn, held_region}
+use Rattle.irtext_names.specs.OnlyNew.{BlanksDefine}
+use Rattle.irtext_names.proofs.Ages.{operation_stays, block_stays, region_stays}
+use Rattle.irtext_names.proofs.AloneBuilds as builds
+use Rattle.irtext_names.proofs.Kept.{accepts}
+use Rattle.irtext_names.proofs.News as news
 use Rattle.irtext_parse_root.specs.Built.{RegionTracks}
 use Rattle.irtext_parse_root.proofs.RegionGains.{gains_child, other_operation, each_block, other_region, there_in}
 use Rattle.irtext_parse_root.proofs.RegionMoved as moved

@@ -26,9 +26,9 @@ use Rattle.irtext_graph.proofs.Frames.{map_same, block_same, operation_content_s
 use Rattle.irtext_grammar.specs.Grammar.Forest as forest
 use Rattle.irtext_grammar.specs.Grammar.Forest.{Regions, no_regions, Blocks, no_blocks, Operations, no_operations}
 use Rattle.irtext_grammar.specs.Grammar.Tree.{Op, Head, Brace}
-use Rattle.irtext_parse_spec.specs.Unchanged.{own_of, HasUses, RegionsHold, BlocksHold, OperationsHold}
-use Rattle.irtext_parse_spec.specs.Tracks as tracks
-use Rattle.irtext_parse_spec.specs.Tracks.{blocks_in, HasChild}
+use Rattle.irtext_grammar.specs.Unchanged.{own_of, HasUses, RegionsHold, BlocksHold, OperationsHold}
+use Rattle.irtext_grammar.specs.Tracks as tracks
+use Rattle.irtext_grammar.specs.Tracks.{blocks_in, HasChild}
 use Rattle.irtext_parse_root.proofs.RegionGains.{other_operation, each_block}
 
 abbrev pub OfRegion : Type 0

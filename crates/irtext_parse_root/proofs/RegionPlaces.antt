@@ -9,9 +9,9 @@ use Rattle.irtext_grammar.specs.Grammar.Tree.{Op, Head, Brace}
 use Rattle.irtext_grammar.specs.Grammar.Reads as reads
 use Rattle.irtext_grammar.specs.Spelling.Spellable.{Each}
 use Rattle.irtext_grammar.specs.Names.Script.{Path}
-use Rattle.irtext_parse_spec.specs.Naming.{paths_in_blocks}
-use Rattle.irtext_parse_spec.proofs.Naming.Places.{path_at, paths_apart, region_spans, blocks_span}
-use Rattle.irtext_parse_spec.proofs.Naming.Shorter.{Shortens}
+use Rattle.irtext_grammar.specs.Naming.{paths_in_blocks}
+use Rattle.irtext_grammar.proofs.Naming.Places.{path_at, paths_apart, region_spans, blocks_span}
+use Rattle.irtext_grammar.proofs.Naming.Shorter.{Shortens}
 
 module _ {T A : Type 0} (types : Texts T) (owns : Texts A) (formats : Id → Option Format) (short_types : Shortens types) (short_owns : Shortens owns) where
   abbrev L : Language ℕ T A

@@ -11,7 +11,7 @@ use Rattle.irtext_graph.specs.declared.object.Operation.{Operation}
 use Rattle.irtext_graph.specs.declared.object.Region.{Region}
 use Rattle.irtext_tokens.specs.AttrTexts.{attr_at}
 use Rattle.irtext_tokens.specs.Infix.{Reader}
-use Rattle.irtext_parse_state.specs.States.{marks_of}
+use Rattle.irtext_parse_state.specs.States.{IsFresh, marks_of}
 use Rattle.irtext_parse_state.specs.declared.parsable.state.StateStream.{StateStream}
 use Rattle.irtext_grammar.specs.Contexts.Formats.{format_of, isolated, IsAccepted}
 use Rattle.irtext_grammar.specs.Grammar.Forest.{Regions, no_regions, region, Blocks, no_blocks, block, Operations, no_operations, operation}
@@ -28,24 +28,23 @@ use Rattle.irtext_grammar.specs.Names.TextScopes.{Facts, failures, facts, outwar
 use Rattle.irtext_grammar.proofs.Names.InScripts as enough
 use Rattle.irtext_grammar.proofs.Names.TreeLists.{marks_in_root}
 use Rattle.irtext_grammar.proofs.Grammar.ListReadings.{repeated_used}
-use Rattle.irtext_parse_spec.specs.Promises.Root.{IsFresh}
-use Rattle.irtext_parse_spec.specs.Promises.Section.{indices_of}
-use Rattle.irtext_parse_spec.proofs.Joins.Answers.{Splits}
-use Rattle.irtext_parse_spec.specs.Exact.{NeedsWord}
-use Rattle.irtext_parse_spec.specs.Naming.{naming, paths_in_blocks}
-use Rattle.irtext_parse_spec.specs.Reached.{Advanced, region_at, do_blocks}
-use Rattle.irtext_parse_spec.proofs.Knot.Whole as knot
-use Rattle.irtext_parse_spec.proofs.Naming.Shorter.{Shortens}
-use Rattle.irtext_parse_spec.specs.Building.{Unfinished, region_so_far, Building, whole_blocks, nothing_open, building}
-use Rattle.irtext_parse_spec.proofs.Built.{blocks_after, last_after, whole_after, in_region, blocks_build}
-use Rattle.irtext_parse_spec.proofs.Seen.{shows_blocks}
-use Rattle.irtext_parse_spec.proofs.Whole.{WholeRegions, WholeBlocks, WholeOperations, blocks_read}
+use Rattle.irtext_grammar.specs.Promises.Section.{indices_of}
+use Rattle.irtext_grammar.proofs.Joins.Answers.{Splits}
+use Rattle.irtext_grammar.specs.Exact.{NeedsWord}
+use Rattle.irtext_grammar.specs.Naming.{naming, paths_in_blocks}
+use Rattle.irtext_grammar.specs.Reached.{Advanced, region_at, do_blocks}
+use Rattle.irtext_grammar.proofs.Knot.Whole as knot
+use Rattle.irtext_grammar.proofs.Naming.Shorter.{Shortens}
+use Rattle.irtext_grammar.specs.Building.{Unfinished, region_so_far, Building, whole_blocks, nothing_open, building}
+use Rattle.irtext_grammar.proofs.Built.{blocks_after, last_after, whole_after, in_region, blocks_build}
+use Rattle.irtext_grammar.proofs.Seen.{shows_blocks}
+use Rattle.irtext_grammar.proofs.Whole.{WholeRegions, WholeBlocks, WholeOperations, blocks_read}
 use Rattle.irtext_names.proofs.Linked.Passes.{ran_through}
-use Rattle.irtext_parse_objects.specs.Items.{Names, MachineAgrees, doing}
+use Rattle.irtext_names.specs.Items.{Names, MachineAgrees, doing, IsSound}
 use Rattle.irtext_parse_root.specs.Carried.{marks_in_blocks, AreCarried}
 use Rattle.irtext_parse_root.specs.Recorded.{Did, did_enter, did_leave, recorder, all_done}
 use Rattle.irtext_parse_root.specs.Under.{ReadsUnder}
-use Rattle.irtext_parse_spec.specs.Tracks.{Made}
+use Rattle.irtext_grammar.specs.Tracks.{Made}
 use Rattle.irtext_parse_root.proofs.Carrying.{marks_are}
 use Rattle.irtext_parse_root.proofs.Telling.{tells_does, done_both}
 use Rattle.irtext_parse_root.proofs.Fresh.{fresh_agrees}
@@ -57,14 +56,13 @@ use Rattle.irtext_graph.specs.Graph.{children, parent, IsLive}
 use Rattle.irtext_graph.specs.Nested as graphs
 use Rattle.irtext_grammar.specs.Contexts.Held.{whole}
 use Rattle.irtext_grammar.proofs.Grammar.PartsOfFormats.{FormedBlocks}
-use Rattle.irtext_parse_spec.specs.Promises.Root.{location_of}
+use Rattle.irtext_grammar.specs.Promises.Root.{location_of}
 use Rattle.irtext_names.specs.OfItems.{AreOf}
 use Rattle.irtext_names.specs.Tied.{NoneIsLeft}
-use Rattle.irtext_promises.specs.Alone.{region_alone, BuildsRegion}
-use Rattle.irtext_promises.proofs.AfterTree.{values_shut, labels_shut, none_left, place_written}
-use Rattle.irtext_promises.proofs.Kept.{came_same}
-use Rattle.irtext_parse_objects.specs.Items.{IsSound}
-use Rattle.irtext_parse_objects.specs.Located.{IsLocated}
+use Rattle.irtext_names.specs.Alone.{region_alone, BuildsRegion}
+use Rattle.irtext_names.proofs.AfterTree.{values_shut, labels_shut, none_left, place_written}
+use Rattle.irtext_names.proofs.Kept.{came_same}
+use Rattle.irtext_names.specs.Located.{IsLocated}
 use Rattle.irtext_parse_root.proofs.RegionBuilt as built
 use Rattle.irtext_parse_root.proofs.RegionPlaces.{paths_exist}
 use Rattle.irtext_parse_root.proofs.RegionRuns.{region_runs}

@@ -18,7 +18,7 @@ use Rattle.irtext_graph.specs.declared.object.Operation.{Operation}
 use Rattle.irtext_graph.specs.declared.object.Region.{Region}
 use Rattle.irtext_tokens.specs.AttrTexts.{attr_at}
 use Rattle.irtext_tokens.specs.Infix.{Reader}
-use Rattle.irtext_parse_state.specs.States.{marks_of}
+use Rattle.irtext_parse_state.specs.States.{IsFresh, marks_of}
 use Rattle.irtext_parse_state.specs.declared.parsable.state.StateStream.{StateStream}
 use Rattle.irtext_stream.specs.declared.position.SourcePosition.{SourcePosition}
 use Rattle.irtext_grammar.specs.Contexts.Formats.{format_of, isolated}
@@ -31,22 +31,22 @@ use Rattle.irtext_grammar.specs.Names.History.{going, failed, start, run, events
 use Rattle.irtext_grammar.specs.Names.Scopes.{no_scope}
 use Rattle.irtext_grammar.specs.Names.Script.{Failure, Path}
 use Rattle.irtext_grammar.specs.Names.TextScopes.{failures}
-use Rattle.irtext_parse_spec.specs.Promises.Root.{IsFresh, UnlessMemory}
-use Rattle.irtext_parse_spec.specs.Promises.Section.{indices_of}
-use Rattle.irtext_parse_spec.specs.Readers.Refusals.{Refusal}
-use Rattle.irtext_parse_spec.proofs.Joins.Answers.{Splits}
-use Rattle.irtext_parse_spec.specs.Exact.{NeedsWord}
-use Rattle.irtext_parse_spec.specs.Naming.{naming}
-use Rattle.irtext_parse_spec.specs.Reached.{Reached, Advanced, Stopped, begins_region, region_at, do_region, do_blocks}
-use Rattle.irtext_parse_spec.specs.Resume.{EndsIn}
-use Rattle.irtext_parse_spec.proofs.Knot.Whole as knot
-use Rattle.irtext_parse_spec.proofs.Naming.Shorter.{Shortens}
+use Rattle.irtext_grammar.specs.Promises.Root.{UnlessMemory}
+use Rattle.irtext_grammar.specs.Promises.Section.{indices_of}
+use Rattle.irtext_grammar.specs.Readers.Refusals.{Refusal}
+use Rattle.irtext_grammar.proofs.Joins.Answers.{Splits}
+use Rattle.irtext_grammar.specs.Exact.{NeedsWord}
+use Rattle.irtext_grammar.specs.Naming.{naming}
+use Rattle.irtext_grammar.specs.Reached.{Reached, Advanced, Stopped, begins_region, region_at, do_region, do_blocks}
+use Rattle.irtext_grammar.specs.Resume.{EndsIn}
+use Rattle.irtext_grammar.proofs.Knot.Whole as knot
+use Rattle.irtext_grammar.proofs.Naming.Shorter.{Shortens}
 use Rattle.irtext_names.proofs.Linked.Passes.{ran_into}
-use Rattle.irtext_promises.specs.Alone as alone
-use Rattle.irtext_promises.specs.Alone.{region_alone, RefusesRegion, first}
-use Rattle.irtext_promises.specs.Promises.{start_with, IsOf, IsFirst}
-use Rattle.irtext_promises.proofs.Refuses.{first_is}
-use Rattle.irtext_parse_objects.specs.Items.{Names, MachineAgrees, doing}
+use Rattle.irtext_names.specs.Alone as alone
+use Rattle.irtext_names.specs.Alone.{region_alone, RefusesRegion, first}
+use Rattle.irtext_names.specs.Promises.{start_with, IsOf, IsFirst}
+use Rattle.irtext_names.proofs.Refuses.{first_is}
+use Rattle.irtext_names.specs.Items.{Names, MachineAgrees, doing}
 use Rattle.irtext_parse_root.specs.AnyRegion as region
 use Rattle.irtext_parse_root.specs.AnyRegion.{ReadsRegion, HasRegionFault, MissesRegion}
 use Rattle.irtext_parse_root.specs.Under as under

@@ -13,10 +13,10 @@ use Rattle.irtext_grammar.specs.Names.Script.{Path, done}
 use Rattle.irtext_grammar.specs.Names.Acts.{blocks_script}
 use Rattle.irtext_grammar.specs.Names.History.{events, Outcome, run}
 use Rattle.irtext_grammar.proofs.Grammar.ListReadings.{repeated_used}
-use Rattle.irtext_parse_spec.specs.Reached.{do_region, do_blocks}
-use Rattle.irtext_parse_spec.specs.Naming.{naming, paths_in_blocks}
-use Rattle.irtext_parse_spec.proofs.Naming.Runs.{region_does, blocks_do}
-use Rattle.irtext_parse_spec.proofs.Naming.Scripts.{blocks_formed}
+use Rattle.irtext_grammar.specs.Reached.{do_region, do_blocks}
+use Rattle.irtext_grammar.specs.Naming.{naming, paths_in_blocks}
+use Rattle.irtext_grammar.proofs.Naming.Runs.{region_does, blocks_do}
+use Rattle.irtext_grammar.proofs.Naming.Scripts.{blocks_formed}
 
 module _ {T A : Type 0} (types : Texts T) (owns : Texts A) (formats : Id → Option Format) where
   abbrev L : Language ℕ T A

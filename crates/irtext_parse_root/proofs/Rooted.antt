@@ -15,10 +15,10 @@ use Rattle.irtext_grammar.specs.Grammar.Forest as forest
 use Rattle.irtext_grammar.specs.Grammar.Forest.{Regions, no_regions, Blocks, no_blocks, Operations, no_operations, Root}
 use Rattle.irtext_grammar.specs.Grammar.Section.{Entry}
 use Rattle.irtext_grammar.specs.Grammar.Tree.{Mark, Op, Head, Brace, Tree}
-use Rattle.irtext_parse_spec.specs.Tracks.{Made}
-use Rattle.irtext_promises.specs.Given.{OperationHas, BlockHas, RegionsHave, BlocksHave, OperationsHave, RootHas}
-use Rattle.irtext_promises.specs.Held.{PtrRegions, PtrBlocks, PtrOperations}
-use Rattle.irtext_promises.specs.Placed.{OperationAt, BlockAt, RegionsAre, BlocksAre, OperationsAre, RootIs}
+use Rattle.irtext_grammar.specs.Tracks.{Made}
+use Rattle.irtext_names.specs.Given.{OperationHas, BlockHas, RegionsHave, BlocksHave, OperationsHave, RootHas}
+use Rattle.irtext_names.specs.Held.{PtrRegions, PtrBlocks, PtrOperations}
+use Rattle.irtext_names.specs.Placed.{OperationAt, BlockAt, RegionsAre, BlocksAre, OperationsAre, RootIs}
 use Rattle.irtext_parse_root.specs.Carried.{object_of}
 use Rattle.irtext_parse_root.proofs.Marks.{CarriesOnly, marked_regions, marked_blocks, marked_operations, marked_items}
 

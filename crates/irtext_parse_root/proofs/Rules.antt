@@ -22,9 +22,9 @@ use Rattle.irtext_grammar.specs.Grammar.Tree.{Mark, Op, Head, Brace, Tree}
 use Rattle.irtext_grammar.specs.Names.Acts.{may_hold, keeps_label_key, marked_as, block_marks_in_regions, block_marks_in_blocks, block_marks_in_operations, rule_of}
 use Rattle.irtext_grammar.specs.Names.Scopes.{is_among}
 use Rattle.irtext_names.proofs.Linked.Moving.{among_split}
-use Rattle.irtext_parse_spec.specs.Tracks.{Made}
-use Rattle.irtext_promises.specs.Held.{PtrRegions, PtrBlocks, PtrOperations}
-use Rattle.irtext_promises.specs.Placed.{RegionsAre, BlocksAre, OperationsAre, RootIs}
+use Rattle.irtext_grammar.specs.Tracks.{Made}
+use Rattle.irtext_names.specs.Held.{PtrRegions, PtrBlocks, PtrOperations}
+use Rattle.irtext_names.specs.Placed.{RegionsAre, BlocksAre, OperationsAre, RootIs}
 use Rattle.irtext_parse_nested.specs.Ends.{noted_as}
 use Rattle.irtext_parse_root.specs.Carried.{marks_in_regions, marks_in_blocks, marks_in_operations, marks_in, object_of, AreCarried, Falls}
 use Rattle.irtext_parse_root.proofs.Carrying.{one_object, carried_by}

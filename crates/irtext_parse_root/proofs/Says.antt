@@ -9,16 +9,15 @@ use Rattle.irtext_context.specs.Context.{KeepsOlder}
 use Rattle.irtext_graph.specs.declared.arena.Ptr.{Ptr}
 use Rattle.irtext_graph.specs.declared.object.Operation.{Operation}
 use Rattle.irtext_tokens.proofs.Steps.{alone}
-use Rattle.irtext_parse_state.specs.States.{marks_of}
+use Rattle.irtext_parse_state.specs.States.{KeepsRest, IsFresh, marks_of}
 use Rattle.irtext_parse_state.specs.declared.parsable.state.StateStream.{StateStream}
 use Rattle.irtext_grammar.specs.Contexts.Formats.{IsAccepted}
 use Rattle.irtext_grammar.specs.Contexts.Held.{whole}
-use Rattle.irtext_parse_spec.specs.Promises.Root.{IsFresh, UnlessMemory}
-use Rattle.irtext_parse_spec.specs.Promises.Section.{indices_of, is_noted}
-use Rattle.irtext_parse_spec.proofs.Readers.EntryIndices.{demanded_refusal}
-use Rattle.irtext_parse_spec.specs.Readers.Refusals.{CommittedRefusal}
-use Rattle.irtext_parse_spec.specs.Readers.Streams.{KeepsRest}
-use Rattle.irtext_promises.specs.Promises.{HasFault, RefusesWith}
+use Rattle.irtext_grammar.specs.Promises.Root.{UnlessMemory}
+use Rattle.irtext_grammar.specs.Promises.Section.{indices_of, is_noted}
+use Rattle.irtext_grammar.proofs.Readers.EntryIndices.{demanded_refusal}
+use Rattle.irtext_grammar.specs.Readers.Refusals.{CommittedRefusal}
+use Rattle.irtext_names.specs.Promises.{HasFault, RefusesWith}
 use Rattle.irtext_parse_pieces.proofs.Meanings.{takes_whole}
 use Rattle.irtext_parse_section.specs.Applied.{AreNewer}
 use Rattle.irtext_parse_section.specs.Section.{ReadsSection}

@@ -8,12 +8,12 @@ use Rattle.irtext_base.specs.Stream.{IsAt}
 use Rattle.irtext_base.specs.declared.parsable.fault.ParseFault.{ParseFault}
 use Rattle.irtext_grammar.specs.Contexts.Held.{IsPosition}
 use Rattle.irtext_grammar.specs.Names.Script.{Failure}
-use Rattle.irtext_parse_spec.specs.Promises.Root.{IsCause, IsPlace}
-use Rattle.irtext_parse_spec.specs.Promises.Supported.{RefusedAs}
-use Rattle.irtext_promises.specs.Promises.{IsFirst}
-use Rattle.irtext_parse_spec.specs.Agrees.{StopsAt, ReadOrStops}
-use Rattle.irtext_parse_spec.specs.Entries.{fault_for}
-use Rattle.irtext_promises.proofs.Refuses.{own_cause}
+use Rattle.irtext_grammar.specs.Promises.Root.{IsCause, IsPlace}
+use Rattle.irtext_grammar.specs.Promises.Supported.{RefusedAs}
+use Rattle.irtext_names.specs.Promises.{IsFirst}
+use Rattle.irtext_grammar.specs.Agrees.{StopsAt, ReadOrStops}
+use Rattle.irtext_grammar.specs.Entries.{fault_for}
+use Rattle.irtext_names.proofs.Refuses.{own_cause}
 
 -- the characters before the rest
 pub front_is : (a b : Text) → take (length (a ++ b) - length b) (a ++ b) ≡ a

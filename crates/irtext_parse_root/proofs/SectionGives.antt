@@ -29,13 +29,13 @@ use Rattle.irtext_grammar.specs.Contexts.Held.{location_over}
 use Rattle.irtext_grammar.specs.Grammar.Tree.{Op, Head}
 use Rattle.irtext_grammar.specs.Graphs.Build.{content, located, labelled, but_label, with_content}
 use Rattle.irtext_grammar.specs.Names.Acts.{Rule}
-use Rattle.irtext_parse_spec.specs.Promises.Section.{indices_of}
-use Rattle.irtext_parse_spec.specs.Tracks.{Made}
-use Rattle.irtext_promises.specs.Given.{OperationHas, BlockHas}
-use Rattle.irtext_promises.specs.Placed.{OperationAt, BlockAt}
-use Rattle.irtext_promises.specs.WithSection.{SameShape}
-use Rattle.irtext_promises.proofs.Shapes.{shape_self, shape_then, operation_shape, block_shape}
-use Rattle.irtext_parse_spec.specs.Agrees.{refused}
+use Rattle.irtext_grammar.specs.Promises.Section.{indices_of}
+use Rattle.irtext_grammar.specs.Tracks.{Made}
+use Rattle.irtext_names.specs.Given.{OperationHas, BlockHas}
+use Rattle.irtext_names.specs.Placed.{OperationAt, BlockAt}
+use Rattle.irtext_names.specs.WithSection.{SameShape}
+use Rattle.irtext_names.proofs.Shapes.{shape_self, shape_then, operation_shape, block_shape}
+use Rattle.irtext_grammar.specs.Agrees.{refused}
 use Rattle.irtext_parse_section.specs.Items.{CarriesOnly}
 use Rattle.irtext_parse_section.specs.Section.{ReadsSection}
 use Rattle.irtext_parse_section.proofs.Frames.{applied}

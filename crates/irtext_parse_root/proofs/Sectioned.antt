@@ -34,36 +34,36 @@ use Rattle.irtext_grammar.proofs.Grammar.PartsOfFormats.{Formed}
 use Rattle.irtext_grammar.proofs.Grammar.WholeTree as trees
 use Rattle.irtext_grammar.proofs.Graphs.Links.{all_there}
 use Rattle.irtext_grammar.proofs.Names.ResolvedRoot as resolved
-use Rattle.irtext_parse_spec.specs.Promises.Root.{location_of}
-use Rattle.irtext_parse_spec.specs.Promises.Section.{indices_of, is_noted}
-use Rattle.irtext_parse_spec.specs.Promises.Supported.{location_verdict}
-use Rattle.irtext_parse_spec.specs.Promises.Root.{UnlessMemory}
-use Rattle.irtext_parse_spec.proofs.Readers.Answered.{moves_more}
-use Rattle.irtext_parse_spec.proofs.Knot.Whole as knot
-use Rattle.irtext_parse_spec.proofs.Naming.Places.{places_fall}
-use Rattle.irtext_promises.specs.Given.{RootHas}
-use Rattle.irtext_promises.specs.Held.{held_root, placed_under, IsWhole}
-use Rattle.irtext_promises.specs.OnlyNew.{OnlyNew}
-use Rattle.irtext_promises.specs.Placed.{RootIs}
-use Rattle.irtext_promises.specs.Promises.{BuildsTree, BuildsRoot, RefusesRoot}
-use Rattle.irtext_promises.specs.WithSection.{SameShape}
-use Rattle.irtext_promises.proofs.Ages.{operation_stays, block_stays, region_stays}
-use Rattle.irtext_promises.proofs.AfterTree.{place_written}
-use Rattle.irtext_promises.proofs.Equal.{Keeps}
-use Rattle.irtext_promises.proofs.Kept as kept
-use Rattle.irtext_promises.proofs.Root as root
-use Rattle.irtext_promises.proofs.WithSection.{pointers_same, builds_given, only_still}
-use Rattle.irtext_promises.proofs.Wholes.{root_whole}
-use Rattle.irtext_promises.proofs.Given.{root_has}
-use Rattle.irtext_parse_spec.specs.Agrees.{refused, ReadOrStops}
-use Rattle.irtext_parse_spec.specs.Entries.{section_at}
-use Rattle.irtext_parse_spec.proofs.Lawful.{section_read, section_found}
+use Rattle.irtext_grammar.specs.Promises.Root.{location_of}
+use Rattle.irtext_grammar.specs.Promises.Section.{indices_of, is_noted}
+use Rattle.irtext_grammar.specs.Promises.Supported.{location_verdict}
+use Rattle.irtext_grammar.specs.Promises.Root.{UnlessMemory}
+use Rattle.irtext_grammar.proofs.Readers.Answered.{moves_more}
+use Rattle.irtext_grammar.proofs.Knot.Whole as knot
+use Rattle.irtext_grammar.proofs.Naming.Places.{places_fall}
+use Rattle.irtext_names.specs.Given.{RootHas}
+use Rattle.irtext_names.specs.Held.{held_root, placed_under, IsWhole}
+use Rattle.irtext_names.specs.OnlyNew.{OnlyNew}
+use Rattle.irtext_names.specs.Placed.{RootIs}
+use Rattle.irtext_names.specs.Promises.{BuildsTree, BuildsRoot, RefusesRoot}
+use Rattle.irtext_names.specs.WithSection.{SameShape}
+use Rattle.irtext_names.proofs.Ages.{operation_stays, block_stays, region_stays}
+use Rattle.irtext_names.proofs.AfterTree.{place_written}
+use Rattle.irtext_names.proofs.Equal.{Keeps}
+use Rattle.irtext_names.proofs.Kept as kept
+use Rattle.irtext_names.proofs.Root as root
+use Rattle.irtext_names.proofs.WithSection.{pointers_same, builds_given, only_still}
+use Rattle.irtext_names.proofs.Wholes.{root_whole}
+use Rattle.irtext_names.proofs.Given.{root_has}
+use Rattle.irtext_grammar.specs.Agrees.{refused, ReadOrStops}
+use Rattle.irtext_grammar.specs.Entries.{section_at}
+use Rattle.irtext_grammar.proofs.Lawful.{section_read, section_found}
 use Rattle.irtext_parse_root.specs.AnyState.{MissesSection, ReadsTree}
 use Rattle.irtext_parse_root.specs.Carried.{marks_in, object_of, AreCarried}
 use Rattle.irtext_parse_root.proofs.Carrying.{marks_are}
 use Rattle.irtext_parse_pieces.proofs.Meanings.{takes_whole}
 use Rattle.irtext_tokens.proofs.Steps.{alone}
-use Rattle.irtext_parse_objects.specs.Located.{IsLocated}
+use Rattle.irtext_names.specs.Located.{IsLocated}
 use Rattle.irtext_parse_section.specs.Applied.{AreNewer}
 use Rattle.irtext_parse_section.specs.Said.{rules_of}
 use Rattle.irtext_parse_section.specs.Section.{ReadsSection}

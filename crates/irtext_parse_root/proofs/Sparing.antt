@@ -12,11 +12,11 @@ use Rattle.irtext_graph.specs.Graph.{MakesRegion}
 use Rattle.irtext_tokens.specs.Infix.{Reader}
 use Rattle.irtext_parse_state.specs.declared.parsable.state.State as code
 use Rattle.irtext_parse_state.specs.declared.parsable.state.StateStream.{StateStream}
-use Rattle.irtext_parse_spec.specs.Promises.Section.{Moves}
-use Rattle.irtext_parse_spec.specs.Readers.Streams.{itself, replaced}
+use Rattle.irtext_grammar.specs.Promises.Section.{Moves}
+use Rattle.irtext_grammar.specs.Readers.Streams.{itself, replaced}
 use Rattle.irtext_parse_section.proofs.SectionSteps.{ran_out_there}
 use Rattle.irtext_parse_nested.proofs.Marking.{on_err}
-use Rattle.irtext_parse_objects.specs.Items.{Names, IsSound}
+use Rattle.irtext_names.specs.Items.{Names, IsSound}
 use Rattle.irtext_parse_nested.specs.declared.frame.BegunRegion.{BegunRegion}
 use Rattle.irtext_parse_root.proofs.Chains.{remains_on, remains_so}
 use Rattle.irtext_parse_root.proofs.Looping.{keeps_itself}

@@ -11,8 +11,8 @@ use Rattle.irtext_graph.specs.declared.object.Object.TheVariants.{TheOperation, 
 use Rattle.irtext_graph.specs.Chained.{Among}
 use Rattle.irtext_graph.proofs.Nests.{same_or_other}
 use Rattle.irtext_graph.proofs.Same.{ptr_tells}
-use Rattle.irtext_parse_spec.specs.Grows.{with_last_block, RegionCame, RegionGains}
-use Rattle.irtext_parse_spec.specs.Unchanged.{IsThere, ModifiesOnly}
+use Rattle.irtext_grammar.specs.Grows.{with_last_block, RegionCame, RegionGains}
+use Rattle.irtext_grammar.specs.Unchanged.{IsThere, ModifiesOnly}
 use Rattle.irtext_parse_root.specs.Turned.{RegionsStay}
 
 module _ {T A : Type 0} where

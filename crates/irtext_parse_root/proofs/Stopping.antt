@@ -12,13 +12,13 @@ use Rattle.irtext_parse_state.specs.declared.parsable.state.StateStream.{StateSt
 use Rattle.irtext_grammar.specs.Contexts.Formats.{isolated}
 use Rattle.irtext_grammar.specs.Contexts.Held.{whole}
 use Rattle.irtext_grammar.specs.Grammar.Tree.{Name}
-use Rattle.irtext_parse_spec.specs.Promises.Root.{UnlessMemory}
-use Rattle.irtext_parse_spec.proofs.Joins.Answers.{Splits}
-use Rattle.irtext_parse_spec.specs.Heads.{Step, one, all}
-use Rattle.irtext_parse_spec.specs.Reached.{begins_region, begins_block, steps_in}
-use Rattle.irtext_parse_spec.specs.Resume.{OpenOperation}
-use Rattle.irtext_parse_spec.proofs.Resume.Front.{splits_piece}
-use Rattle.irtext_parse_spec.specs.Unchanged.{OwnSoFar}
+use Rattle.irtext_grammar.specs.Promises.Root.{UnlessMemory}
+use Rattle.irtext_grammar.proofs.Joins.Answers.{Splits}
+use Rattle.irtext_grammar.specs.Heads.{Step, one, all}
+use Rattle.irtext_grammar.specs.Reached.{begins_region, begins_block, steps_in}
+use Rattle.irtext_grammar.specs.Resume.{OpenOperation}
+use Rattle.irtext_grammar.proofs.Resume.Front.{splits_piece}
+use Rattle.irtext_grammar.specs.Unchanged.{OwnSoFar}
 use Rattle.irtext_names.specs.Rows.{AreKnown}
 use Rattle.irtext_parse_pieces.specs.declared.names.ReadName.{ReadName}
 use Rattle.irtext_parse_pieces.specs.Named.{Leaves, Represents, Each}
@@ -27,7 +27,7 @@ use Rattle.irtext_parse_nested.specs.declared.frame.BegunRegion.{BegunRegion}
 use Rattle.irtext_parse_nested.specs.declared.frame.BegunBlock.{BegunBlock}
 use Rattle.irtext_parse_nested.specs.OpenOperation.{IsBegun, IsRegion}
 use Rattle.irtext_parse_nested.specs.Ends.{numbers_of}
-use Rattle.irtext_parse_objects.specs.Items.{Names, doing}
+use Rattle.irtext_names.specs.Items.{Names, doing}
 use Rattle.irtext_parse_nested.specs.Read as read
 use Rattle.irtext_parse_nested.specs.Read.{RefusesOperation, RefusesPiece, RefusesEnd, RefusesRegion, RefusesRegionEnd, RefusesBlock}
 use Rattle.irtext_parse_pieces.specs.declared.coming.Coming.TheVariants as comes

@@ -6,10 +6,10 @@ use Rattle.irtext_base.specs.Faults.{Fault}
 use Rattle.irtext_base.specs.Answers.{Outcome}
 use Rattle.irtext_base.specs.Locations.{AttrView}
 use Rattle.irtext_context.specs.Dialects.{Table}
-use Rattle.irtext_parse_spec.specs.Reached.{Actions}
-use Rattle.irtext_parse_spec.specs.Resume.{Open, Goes, StoppedAt}
-use Rattle.irtext_parse_spec.specs.Both.{seen_as}
-use Rattle.irtext_parse_spec.proofs.Seen.{Shows, seen_whole}
+use Rattle.irtext_grammar.specs.Reached.{Actions}
+use Rattle.irtext_grammar.specs.Resume.{Open, Goes, StoppedAt}
+use Rattle.irtext_grammar.specs.Both.{seen_as}
+use Rattle.irtext_grammar.proofs.Seen.{Shows, seen_whole}
 use Rattle.irtext_parse_root.specs.Recorded.{Did, did_use, did_late, did_enter, did_leave, did_close, did_mark, did_head, recorder, one_done, all_done}
 
 module _ {T A S : Type 0} (does : Actions T A S) where

@@ -19,25 +19,25 @@ use Rattle.irtext_grammar.specs.Contexts.Held.{whole}
 use Rattle.irtext_grammar.specs.Grammar.Tree as tree
 use Rattle.irtext_grammar.specs.Grammar.Tree.{Part}
 use Rattle.irtext_grammar.specs.Graphs.Build.{put_all, stored, read_names}
-use Rattle.irtext_parse_spec.specs.Readers.Parts.{without_first}
-use Rattle.irtext_parse_spec.proofs.Joins.Answers.{Splits}
-use Rattle.irtext_parse_spec.specs.Heads.{Step, one, all, front_steps, piece_at, head_at}
-use Rattle.irtext_parse_spec.specs.Reached.{begins_region, begins_block, steps_in}
-use Rattle.irtext_parse_spec.specs.Resume.{OpenOperation, with_steps, is_flat, Open, to_come, an_operation, a_region, a_block, Goes}
-use Rattle.irtext_parse_spec.proofs.Resume.Frames.{goes_trans}
-use Rattle.irtext_parse_spec.proofs.Resume.Front.{front_reads}
-use Rattle.irtext_parse_spec.proofs.Resume.Turns.{operation_begins, piece_reads, operation_ends, first_operation, no_operation, region_begins, no_more_regions, another_region, block_begins, region_ends, another_operation, no_more_operations}
-use Rattle.irtext_parse_spec.proofs.Resume.Unbounded.{Unbounded}
-use Rattle.irtext_parse_spec.specs.Grows.{RegionCame, OperationGains, RegionGains, BlockCame, OwnBecame}
-use Rattle.irtext_parse_spec.specs.Unchanged.{OwnSoFar, operation_under, region_under, HasOwn, HasUses, ModifiesOnly}
+use Rattle.irtext_grammar.specs.Readers.Parts.{without_first}
+use Rattle.irtext_grammar.proofs.Joins.Answers.{Splits}
+use Rattle.irtext_grammar.specs.Heads.{Step, one, all, front_steps, piece_at, head_at}
+use Rattle.irtext_grammar.specs.Reached.{begins_region, begins_block, steps_in}
+use Rattle.irtext_grammar.specs.Resume.{OpenOperation, with_steps, is_flat, Open, to_come, an_operation, a_region, a_block, Goes}
+use Rattle.irtext_grammar.proofs.Resume.Frames.{goes_trans}
+use Rattle.irtext_grammar.proofs.Resume.Front.{front_reads}
+use Rattle.irtext_grammar.proofs.Resume.Turns.{operation_begins, piece_reads, operation_ends, first_operation, no_operation, region_begins, no_more_regions, another_region, block_begins, region_ends, another_operation, no_more_operations}
+use Rattle.irtext_grammar.proofs.Resume.Unbounded.{Unbounded}
+use Rattle.irtext_grammar.specs.Grows.{RegionCame, OperationGains, RegionGains, BlockCame, OwnBecame}
+use Rattle.irtext_grammar.specs.Unchanged.{OwnSoFar, operation_under, region_under, HasOwn, HasUses, ModifiesOnly}
 use Rattle.irtext_parse_nested.specs.declared.frame.BegunOperation.{BegunOperation}
 use Rattle.irtext_parse_nested.specs.declared.frame.BegunRegion.{BegunRegion}
 use Rattle.irtext_parse_nested.specs.declared.frame.BegunBlock.{BegunBlock}
 use Rattle.irtext_parse_nested.specs.Beginning.{HasBegun, ComesInto}
 use Rattle.irtext_parse_nested.specs.OpenOperation.{pledge_of}
 use Rattle.irtext_parse_nested.specs.Ends.{noted_as}
-use Rattle.irtext_parse_objects.specs.Items.{Names, Made, Acts, doing}
-use Rattle.irtext_parse_objects.specs.Located.{IsLocated}
+use Rattle.irtext_names.specs.Items.{Names, Made, Acts, doing}
+use Rattle.irtext_names.specs.Located.{IsLocated}
 use Rattle.irtext_parse_nested.specs.Read.{begun_by, uses_of, ReadsPiece, EndsOperation, BeginsRegion, EndsRegion, BeginsBlock}
 use Rattle.irtext_parse_root.specs.Built.{Built, IsHeld, Ended}
 use Rattle.irtext_parse_root.specs.Here.{Base, outermost, within}

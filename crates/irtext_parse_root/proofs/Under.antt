@@ -28,33 +28,33 @@ use Rattle.irtext_tokens.specs.Infix.{Reader, ◌▷◌}
 use Rattle.irtext_tokens.specs.Tokens.{space_at, word}
 use Rattle.irtext_scopes.specs.Scopes.{is_open}
 use Rattle.irtext_scopes.specs.Tracker.{entered}
-use Rattle.irtext_parse_state.specs.States.{marks_of}
+use Rattle.irtext_parse_state.specs.States.{KeepsRest, marks_of}
 use Rattle.irtext_parse_state.specs.declared.parsable.state.StateStream.{StateStream}
 use Rattle.irtext_grammar.specs.Contexts.Formats.{format_of}
 use Rattle.irtext_grammar.specs.Contexts.Held.{whole}
 use Rattle.irtext_grammar.specs.Names.History.{Outcome as Machine, failed}
 use Rattle.irtext_grammar.specs.Names.Script.{Path}
-use Rattle.irtext_parse_spec.specs.Promises.Root.{UnlessMemory}
-use Rattle.irtext_parse_spec.specs.Promises.Section.{Moves}
-use Rattle.irtext_parse_spec.specs.Readers.Streams.{KeepsRest, itself, replaced}
-use Rattle.irtext_parse_spec.proofs.Readers.Answered.{moves_more}
-use Rattle.irtext_parse_spec.proofs.Joins.Answers.{Splits}
-use Rattle.irtext_parse_spec.specs.Reached.{Reached, Advanced, Stopped, came, tells, Actions, blocks_by, begins_region, region_at}
-use Rattle.irtext_parse_spec.specs.Resume.{a_region, block_at, EndsIn}
-use Rattle.irtext_parse_spec.specs.Resume as theory
-use Rattle.irtext_parse_spec.proofs.Knot.Loops.{tells_found}
-use Rattle.irtext_parse_spec.proofs.Naming.Keeps.{failed_keeps}
-use Rattle.irtext_parse_spec.proofs.Naming.KeepsReading.{done_in, quiet_region_at}
-use Rattle.irtext_parse_spec.proofs.Resume.Frames.{tells_bad}
-use Rattle.irtext_parse_spec.proofs.Resume.Unbounded.{Unbounded}
-use Rattle.irtext_parse_spec.specs.Grows.{RegionCame}
-use Rattle.irtext_parse_spec.specs.Unchanged.{region_under, IsThere, ModifiesOnly}
-use Rattle.irtext_parse_spec.specs.Tracks.{Made, HoldsMade, IsHeld as HeldBy}
-use Rattle.irtext_parse_spec.proofs.Kept.{there_still}
+use Rattle.irtext_grammar.specs.Promises.Root.{UnlessMemory}
+use Rattle.irtext_grammar.specs.Promises.Section.{Moves}
+use Rattle.irtext_grammar.specs.Readers.Streams.{itself, replaced}
+use Rattle.irtext_grammar.proofs.Readers.Answered.{moves_more}
+use Rattle.irtext_grammar.proofs.Joins.Answers.{Splits}
+use Rattle.irtext_grammar.specs.Reached.{Reached, Advanced, Stopped, came, tells, Actions, blocks_by, begins_region, region_at}
+use Rattle.irtext_grammar.specs.Resume.{a_region, block_at, EndsIn}
+use Rattle.irtext_grammar.specs.Resume as theory
+use Rattle.irtext_grammar.proofs.Knot.Loops.{tells_found}
+use Rattle.irtext_grammar.proofs.Naming.Keeps.{failed_keeps}
+use Rattle.irtext_grammar.proofs.Naming.KeepsReading.{done_in, quiet_region_at}
+use Rattle.irtext_grammar.proofs.Resume.Frames.{tells_bad}
+use Rattle.irtext_grammar.proofs.Resume.Unbounded.{Unbounded}
+use Rattle.irtext_grammar.specs.Grows.{RegionCame}
+use Rattle.irtext_grammar.specs.Unchanged.{region_under, IsThere, ModifiesOnly}
+use Rattle.irtext_grammar.specs.Tracks.{Made, HoldsMade, IsHeld as HeldBy}
+use Rattle.irtext_grammar.proofs.Kept.{there_still}
 use Rattle.irtext_parse_nested.specs.declared.frame.BegunRegion.{BegunRegion}
-use Rattle.irtext_parse_objects.specs.Items.{Names, MachineAgrees, IsFailure, IsTextFault, IsSound, doing}
+use Rattle.irtext_names.specs.Items.{Names, MachineAgrees, IsFailure, IsTextFault, IsSound, doing}
 use Rattle.irtext_parse_nested.specs.OpenOperation.{IsRegion}
-use Rattle.irtext_parse_objects.specs.Located.{IsLocated}
+use Rattle.irtext_names.specs.Located.{IsLocated}
 use Rattle.irtext_parse_nested.specs.Read as read
 use Rattle.irtext_parse_nested.specs.Read.{BeginsRegion, RefusesRegion}
 use Rattle.irtext_parse_root.specs.declared.frames.Frame.TheVariants as framed
@@ -65,7 +65,7 @@ use Rattle.irtext_parse_root.specs.Levels.{Level, at_region, isolated_in}
 use Rattle.irtext_parse_root.specs.Recorded.{did_enter, recorder, all_done}
 use Rattle.irtext_parse_root.specs.Turned.{Turned, Faulted, at_text, by_names, Stops, Finishes}
 use Rattle.irtext_parse_root.specs.Under as under
-use Rattle.irtext_promises.specs.Alone.{IsOutermost}
+use Rattle.irtext_names.specs.Alone.{IsOutermost}
 use Rattle.irtext_parse_root.specs.Under.{IsolatedAs, ReadsUnder, FaultUnder, RefusesUnder}
 use Rattle.irtext_parse_root.proofs.Carrying.{falls_both}
 use Rattle.irtext_parse_root.proofs.Chains.{moved_whole, turned_over, faulted_over}

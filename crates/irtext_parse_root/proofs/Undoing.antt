@@ -6,11 +6,10 @@ use Rattle.irtext_base.specs.declared.parsable.fault.ParseFault.{ParseFault}
 use Rattle.irtext_context.proofs.Kept.{kept_closed, rolled_back}
 use Rattle.irtext_context.specs.Context.{KeepsOlder, RollsBack}
 use Rattle.irtext_graph.specs.Back.{IsClosedBelow}
-use Rattle.irtext_parse_state.specs.States.{marks_of}
+use Rattle.irtext_parse_state.specs.States.{KeepsRest, marks_of}
 use Rattle.irtext_parse_state.specs.declared.parsable.state.State as code
 use Rattle.irtext_parse_state.specs.declared.parsable.state.StateStream.{StateStream}
-use Rattle.irtext_parse_spec.specs.Readers.Refusals.{Refusal}
-use Rattle.irtext_parse_spec.specs.Readers.Streams.{KeepsRest}
+use Rattle.irtext_grammar.specs.Readers.Refusals.{Refusal}
 use Rattle.irtext_parse_root.proofs.Chains.{rest_both}
 use Rattle.irtext_parse_root.specs.Parses.{Undoes, CanUndo, Answers, Parses, StartsAt, TakesBack}
 use Rattle.irtext_parse_root.specs.declared.undo.Start.{Start}

@@ -12,10 +12,10 @@ use Rattle.irtext_parse_state.specs.declared.parsable.state.State as code
 use Rattle.irtext_parse_state.specs.declared.parsable.state.StateStream.{StateStream}
 use Rattle.irtext_grammar.specs.Contexts.Held.{whole}
 use Rattle.irtext_grammar.specs.Grammar.Marked.{reads_root}
-use Rattle.irtext_parse_spec.specs.Promises.Root.{UnlessMemory}
-use Rattle.irtext_parse_spec.specs.Promises.Section.{is_noted}
-use Rattle.irtext_parse_spec.specs.Promises.Supported.{supported, location_verdict}
-use Rattle.irtext_promises.specs.Promises.{BuildsRoot}
+use Rattle.irtext_grammar.specs.Promises.Root.{UnlessMemory}
+use Rattle.irtext_grammar.specs.Promises.Section.{is_noted}
+use Rattle.irtext_grammar.specs.Promises.Supported.{supported, location_verdict}
+use Rattle.irtext_names.specs.Promises.{BuildsRoot}
 use Rattle.irtext_parse_pieces.proofs.Meanings.{takes_whole}
 use Rattle.irtext_tokens.proofs.Steps.{alone}
 use Rattle.irtext_parse_section.specs.Section.{ReadsSection}

@@ -14,12 +14,12 @@ use Rattle.irtext_graph.specs.declared.object.Operation.{Operation}
 use Rattle.irtext_parse_state.specs.declared.parsable.state.StateStream.{StateStream}
 use Rattle.irtext_parse_state.specs.States.{marks_of}
 use Rattle.irtext_grammar.specs.Contexts.Held.{whole}
-use Rattle.irtext_parse_spec.specs.Promises.Section.{is_noted}
-use Rattle.irtext_parse_spec.specs.Readers.NewPaths.{AddsPaths}
-use Rattle.irtext_parse_spec.specs.Readers.Refusals.{CommittedRefusal}
-use Rattle.irtext_parse_spec.specs.Readers.Streams.{itself, replaced}
-use Rattle.irtext_parse_spec.specs.Promises.Root.{UnlessMemory}
-use Rattle.irtext_promises.specs.Promises.{RefusesRoot}
+use Rattle.irtext_grammar.specs.Promises.Section.{is_noted}
+use Rattle.irtext_grammar.specs.Readers.NewPaths.{AddsPaths}
+use Rattle.irtext_grammar.specs.Readers.Refusals.{CommittedRefusal}
+use Rattle.irtext_grammar.specs.Readers.Streams.{itself, replaced}
+use Rattle.irtext_grammar.specs.Promises.Root.{UnlessMemory}
+use Rattle.irtext_names.specs.Promises.{RefusesRoot}
 use Rattle.irtext_parse_section.specs.Applied.{GivesAll}
 use Rattle.irtext_parse_section.specs.Entries.{items_of, once_of}
 use Rattle.irtext_parse_section.specs.declared.said.Entries.{Entries}

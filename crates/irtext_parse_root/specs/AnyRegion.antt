@@ -15,12 +15,12 @@ use Rattle.irtext_grammar.specs.Contexts.Formats.{format_of}
 use Rattle.irtext_grammar.specs.Contexts.Held.{whole, IsPosition}
 use Rattle.irtext_grammar.specs.Names.History.{State, going, failed}
 use Rattle.irtext_grammar.specs.Names.Script.{Failure, Path}
-use Rattle.irtext_parse_spec.specs.Promises.Section.{Moves, indices_of}
-use Rattle.irtext_parse_spec.specs.Naming.{naming}
-use Rattle.irtext_parse_spec.specs.Reached.{Advanced, Stopped, begins_region, region_at}
-use Rattle.irtext_parse_spec.specs.Resume.{EndsIn}
-use Rattle.irtext_promises.specs.Alone.{IsUnisolated}
-use Rattle.irtext_promises.specs.Promises.{start_with, IsOf}
+use Rattle.irtext_grammar.specs.Promises.Section.{Moves, indices_of}
+use Rattle.irtext_grammar.specs.Naming.{naming}
+use Rattle.irtext_grammar.specs.Reached.{Advanced, Stopped, begins_region, region_at}
+use Rattle.irtext_grammar.specs.Resume.{EndsIn}
+use Rattle.irtext_names.specs.Alone.{IsUnisolated}
+use Rattle.irtext_names.specs.Promises.{start_with, IsOf}
 use Rattle.irtext_parse_root.specs.Region.{unisolated}
 
 module _ {T A : Type 0} (types_at : Text → Outcome T) (attr : Text → Outcome (AttrView A)) (dialects : List (Text × Table)) (earlier : List ℕ) where

@@ -13,16 +13,16 @@ use Rattle.irtext_parse_state.specs.declared.parsable.state.StateStream.{StateSt
 use Rattle.irtext_grammar.specs.Contexts.Formats.{isolated, IsAccepted}
 use Rattle.irtext_grammar.specs.Contexts.Held.{whole}
 use Rattle.irtext_grammar.specs.Graphs.Build.{build}
-use Rattle.irtext_parse_spec.specs.Promises.Root.{location_of}
-use Rattle.irtext_parse_spec.specs.Promises.Section.{Faults, Moves, indices_of, is_noted}
-use Rattle.irtext_parse_spec.specs.Promises.Supported.{RefusedAs}
-use Rattle.irtext_promises.specs.Held.{held_root}
-use Rattle.irtext_promises.specs.Leaves.{LeavesTree, LeavesClosed}
-use Rattle.irtext_promises.specs.OnlyNew.{OnlyNew}
-use Rattle.irtext_promises.specs.Promises.{HasFault, tree_marks}
-use Rattle.irtext_parse_spec.specs.Entries.{section_at}
+use Rattle.irtext_grammar.specs.Promises.Root.{location_of}
+use Rattle.irtext_grammar.specs.Promises.Section.{Faults, Moves, indices_of, is_noted}
+use Rattle.irtext_grammar.specs.Promises.Supported.{RefusedAs}
+use Rattle.irtext_names.specs.Held.{held_root}
+use Rattle.irtext_names.specs.Leaves.{LeavesTree, LeavesClosed}
+use Rattle.irtext_names.specs.OnlyNew.{OnlyNew}
+use Rattle.irtext_names.specs.Promises.{HasFault, tree_marks}
+use Rattle.irtext_grammar.specs.Entries.{section_at}
 use Rattle.irtext_parse_root.specs.Carried.{marks_in, AreCarried, Falls}
-use Rattle.irtext_parse_objects.specs.Located.{IsLocated}
+use Rattle.irtext_names.specs.Located.{IsLocated}
 use Rattle.irtext_parse_section.specs.Said.{rules_of}
 use Rattle.irtext_parse_section.specs.Section.{ReadsSection}
 

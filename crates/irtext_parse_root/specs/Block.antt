@@ -11,13 +11,13 @@ use Rattle.irtext_parse_state.specs.States.{same_index}
 use Rattle.irtext_grammar.specs.Contexts.Held.{whole, attribute_of}
 use Rattle.irtext_grammar.specs.Grammar.Tree.{Head}
 use Rattle.irtext_grammar.specs.Names.Acts.{block_may_hold}
-use Rattle.irtext_parse_spec.specs.Readers.Streams.{itself, replaced}
-use Rattle.irtext_parse_spec.specs.Heads.{head_at}
+use Rattle.irtext_grammar.specs.Readers.Streams.{itself, replaced}
+use Rattle.irtext_grammar.specs.Heads.{head_at}
 use Rattle.irtext_parse_pieces.specs.declared.entries.Key.{Key}
 use Rattle.irtext_parse_pieces.specs.declared.headers.BlockHead.{BlockHead}
 use Rattle.irtext_parse_pieces.specs.declared.marks.ReadMark.{ReadMark}
 use Rattle.irtext_parse_pieces.specs.Headers.{IsHead}
-use Rattle.irtext_promises.specs.Alone.{FailsOutside}
+use Rattle.irtext_names.specs.Alone.{FailsOutside}
 
 module _ {T A : Type 0} (types_at : Text → Outcome T) (attr : Text → Outcome (AttrView A)) (marks : List ℕ) where
   -- A block outside of every region was rejected. Either its header does not parse, and the fault is that of the text, uncommitted if `^`

@@ -14,9 +14,9 @@ use Rattle.irtext_graph.specs.Chained.{Among}
 use Rattle.irtext_grammar.specs.Grammar.Forest as forest
 use Rattle.irtext_grammar.specs.Grammar.Forest.{Blocks, no_blocks, Operations, no_regions}
 use Rattle.irtext_grammar.specs.Grammar.Tree.{Op, Head, Brace, shown}
-use Rattle.irtext_parse_spec.specs.Building.{Building, region_so_far, whole_blocks, nothing_open, building}
-use Rattle.irtext_parse_spec.specs.Unchanged.{OpenAt, RegionsHold, IsThere}
-use Rattle.irtext_parse_spec.specs.Tracks.{Made, noted, HasChild, HoldsMade}
+use Rattle.irtext_grammar.specs.Building.{Building, region_so_far, whole_blocks, nothing_open, building}
+use Rattle.irtext_grammar.specs.Unchanged.{OpenAt, RegionsHold, IsThere}
+use Rattle.irtext_grammar.specs.Tracks.{Made, noted, HasChild, HoldsMade}
 use Rattle.irtext_parse_root.specs.Carried.{marks_in_blocks, marks_so_far, AreCarried}
 use Rattle.irtext_parse_root.specs.Here.{Base, outermost, within}
 use Rattle.irtext_parse_root.specs.Levels.{Level, ats_of}

@@ -8,8 +8,8 @@ use Rattle.irtext_graph.specs.declared.object.Object.TheVariants.{TheOperation, 
 use Rattle.irtext_graph.specs.Chained.{Among}
 use Rattle.irtext_grammar.specs.Grammar.Forest.{Regions, no_regions, region, Blocks, no_blocks, block, Operations, no_operations, operation}
 use Rattle.irtext_grammar.specs.Grammar.Tree.{Op, Head, Brace, Tree}
-use Rattle.irtext_parse_spec.specs.Building.{Unfinished, operation_so_far, region_so_far, but_its_mark, Building, whole_blocks}
-use Rattle.irtext_parse_spec.specs.Tracks.{Made}
+use Rattle.irtext_grammar.specs.Building.{Unfinished, operation_so_far, region_so_far, but_its_mark, Building, whole_blocks}
+use Rattle.irtext_grammar.specs.Tracks.{Made}
 use Rattle.irtext_parse_nested.specs.Ends.{noted_as}
 
 -- ---- the marks of what was parsed

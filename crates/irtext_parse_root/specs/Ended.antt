@@ -7,7 +7,7 @@ use Rattle.irtext_base.specs.declared.parsable.fault.ParseFault.{ParseFault}
 use Rattle.irtext_parse_state.specs.States.{marks_of}
 use Rattle.irtext_parse_state.specs.declared.parsable.state.StateStream.{StateStream}
 use Rattle.irtext_grammar.specs.Contexts.Held.{whole}
-use Rattle.irtext_parse_spec.specs.Promises.Section.{is_noted}
+use Rattle.irtext_grammar.specs.Promises.Section.{is_noted}
 use Rattle.irtext_parse_root.specs.AnyState.{ReadsSectionIf, MissesSection}
 use Rattle.irtext_parse_root.specs.Whole.{EndsAfter, ExpectsEnd}
 use Rattle.irtext_parse_root.specs.WholeAny.{IsRest}

@@ -11,7 +11,7 @@ use Rattle.irtext_context.specs.Dialects.{Table}
 use Rattle.irtext_grammar.specs.Contexts.Formats.{format_of, isolated}
 use Rattle.irtext_parse_nested.specs.Beginning.{HasBegun}
 use Rattle.irtext_parse_nested.specs.OpenOperation.{IsBegun, IsRegion, IsBlock}
-use Rattle.irtext_parse_objects.specs.Items.{Names}
+use Rattle.irtext_names.specs.Items.{Names}
 use Rattle.irtext_parse_root.specs.declared.frames.Frame.{Frame}
 use Rattle.irtext_parse_root.specs.Levels.{Level, at_operation, at_region, at_block, first_frame, WaitIn, isolated_in, regions_in}
 

@@ -7,14 +7,14 @@ use Rattle.irtext_graph.specs.declared.arena.Ptr.{Ptr}
 use Rattle.irtext_graph.specs.declared.object.BasicBlock.{BasicBlock}
 use Rattle.irtext_graph.specs.declared.object.Object.TheVariants.{TheOperation, TheBlock, TheRegion}
 use Rattle.irtext_graph.specs.Graph.{GraphView, IsNew}
-use Rattle.irtext_parse_spec.specs.Reached.{steps_in}
-use Rattle.irtext_parse_spec.specs.Resume.{OpenOperation, Open, an_operation, a_region, a_block, work, by_character}
-use Rattle.irtext_parse_spec.specs.Unchanged.{OwnSoFar, OpenAt, operation_under, region_under}
+use Rattle.irtext_grammar.specs.Reached.{steps_in}
+use Rattle.irtext_grammar.specs.Resume.{OpenOperation, Open, an_operation, a_region, a_block, work, by_character}
+use Rattle.irtext_grammar.specs.Unchanged.{OwnSoFar, OpenAt, operation_under, region_under}
 use Rattle.irtext_parse_nested.specs.declared.frame.BegunOperation.{BegunOperation}
 use Rattle.irtext_parse_nested.specs.declared.frame.BegunRegion.{BegunRegion}
 use Rattle.irtext_parse_nested.specs.declared.frame.BegunBlock.{BegunBlock}
 use Rattle.irtext_parse_nested.specs.OpenOperation.{pledge_of}
-use Rattle.irtext_parse_objects.specs.Items.{Pledge}
+use Rattle.irtext_names.specs.Items.{Pledge}
 use Rattle.irtext_parse_root.specs.declared.frames.Frame.{Frame}
 use Rattle.irtext_parse_root.specs.declared.frames.Frame.TheVariants.{Operation, Region, Block}
 

@@ -17,15 +17,15 @@ use Rattle.irtext_grammar.specs.Grammar.Tree.{Tree}
 use Rattle.irtext_grammar.specs.Names.History.{Outcome, State, going, failed}
 use Rattle.irtext_grammar.specs.Names.Script.{Path}
 use Rattle.irtext_grammar.specs.Names.TextScopes.{Failure}
-use Rattle.irtext_parse_spec.specs.Promises.Section.{Moves}
-use Rattle.irtext_parse_spec.specs.Promises.Supported.{is_committed}
-use Rattle.irtext_parse_spec.specs.Heads.{led_at}
-use Rattle.irtext_parse_spec.specs.Reached.{Advanced, Stopped, operation_at}
-use Rattle.irtext_parse_spec.specs.Resume.{EndsIn}
-use Rattle.irtext_parse_spec.specs.Building.{building, nothing_open, finished}
-use Rattle.irtext_parse_spec.specs.Tracks.{HoldsMade}
-use Rattle.irtext_parse_objects.specs.Items.{Names, Made, MachineAgrees, IsFailure, IsTextFault, doing}
-use Rattle.irtext_parse_objects.specs.Located.{IsLocated}
+use Rattle.irtext_grammar.specs.Promises.Section.{Moves}
+use Rattle.irtext_grammar.specs.Promises.Supported.{is_committed}
+use Rattle.irtext_grammar.specs.Heads.{led_at}
+use Rattle.irtext_grammar.specs.Reached.{Advanced, Stopped, operation_at}
+use Rattle.irtext_grammar.specs.Resume.{EndsIn}
+use Rattle.irtext_grammar.specs.Building.{building, nothing_open, finished}
+use Rattle.irtext_grammar.specs.Tracks.{HoldsMade}
+use Rattle.irtext_names.specs.Items.{Names, Made, MachineAgrees, IsFailure, IsTextFault, doing}
+use Rattle.irtext_names.specs.Located.{IsLocated}
 use Rattle.irtext_parse_root.specs.Carried.{marks_in, AreCarried, Falls}
 
 module _ {T A U : Type 0} (types_at : Reader T) (attr : Reader (AttrView A)) where

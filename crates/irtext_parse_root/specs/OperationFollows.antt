@@ -3,9 +3,9 @@ use Rattle.std.specs.Prelude.{◌≡◌, Bool, true, false, cond}
 use Rattle.irtext_base.specs.Text.{Text, begins, after_space}
 use Rattle.irtext_base.specs.Reading.{the}
 use Rattle.irtext_base.specs.Stream.{StreamView}
-use Rattle.irtext_parse_spec.specs.Promises.Section.{Moves}
-use Rattle.irtext_parse_spec.specs.Readers.Parts.{without_first}
-use Rattle.irtext_parse_spec.specs.Reached.{begins_operation}
+use Rattle.irtext_grammar.specs.Promises.Section.{Moves}
+use Rattle.irtext_grammar.specs.Readers.Parts.{without_first}
+use Rattle.irtext_grammar.specs.Reached.{begins_operation}
 
 -- another operation comes next: the first of its block, or one after `;`
 abbrev pub operation_follows : Bool → Text → Bool

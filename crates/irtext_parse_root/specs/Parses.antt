@@ -14,14 +14,13 @@ use Rattle.irtext_graph.specs.declared.arena.Ptr.{Ptr}
 use Rattle.irtext_graph.specs.declared.object.Operation.{Operation}
 use Rattle.irtext_graph.specs.declared.object.Region.{Region}
 use Rattle.irtext_tokens.specs.AttrTexts.{attr_at}
-use Rattle.irtext_parse_state.specs.States.{marks_of}
+use Rattle.irtext_parse_state.specs.States.{KeepsRest, IsFresh, marks_of}
 use Rattle.irtext_parse_state.specs.declared.parsable.state.State as code
 use Rattle.irtext_parse_state.specs.declared.parsable.state.StateStream.{StateStream}
-use Rattle.irtext_parse_spec.specs.Promises.Root.{IsFresh, UnlessMemory}
-use Rattle.irtext_parse_spec.specs.Readers.Refusals.{Refusal, RefusesFailed}
-use Rattle.irtext_parse_spec.specs.Readers.Streams.{KeepsRest}
-use Rattle.irtext_promises.specs.Alone.{BuildsRegion, RefusesRegion}
-use Rattle.irtext_promises.specs.Promises.{BuildsWith, RefusesWith}
+use Rattle.irtext_grammar.specs.Promises.Root.{UnlessMemory}
+use Rattle.irtext_grammar.specs.Readers.Refusals.{Refusal, RefusesFailed}
+use Rattle.irtext_names.specs.Alone.{BuildsRegion, RefusesRegion}
+use Rattle.irtext_names.specs.Promises.{BuildsWith, RefusesWith}
 use Rattle.irtext_parse_nested.specs.Ends.{GainsMarks}
 use Rattle.irtext_parse_root.specs.AnyRegion.{ReadsRegion, MissesRegion}
 use Rattle.irtext_parse_root.specs.AnyState.{ReadsAny, MissesAny}

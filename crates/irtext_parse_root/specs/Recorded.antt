@@ -3,7 +3,7 @@
 use Rattle.std.specs.Prelude.{ℕ, Bool, List, [], ◌∷◌, Option}
 use Rattle.irtext_base.specs.Format.{Id}
 use Rattle.irtext_grammar.specs.Grammar.Tree.{Name, Mark, Piece, Part, Head}
-use Rattle.irtext_parse_spec.specs.Reached.{Actions}
+use Rattle.irtext_grammar.specs.Reached.{Actions}
 
 -- one action: an operation's parts before its first region; a piece after a region; the beginning and the end of a region; the end of an
 -- operation; the mark of an operation; the header of a block

@@ -8,7 +8,7 @@ use Rattle.irtext_context.specs.Context.{ContextView, operation}
 use Rattle.irtext_graph.specs.declared.arena.Ptr.{Ptr}
 use Rattle.irtext_graph.specs.declared.object.Operation.{Operation}
 use Rattle.irtext_grammar.specs.Contexts.Formats.{isolated}
-use Rattle.irtext_promises.specs.Alone.{IsOutermost}
+use Rattle.irtext_names.specs.Alone.{IsOutermost}
 
 -- the location of an operation that is not isolated from above; `None` for an operation that is
 abbrev pub unisolated : {T A : Type 0} → ContextView T A → Ptr Operation → Option (Location A)

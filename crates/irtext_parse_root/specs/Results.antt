@@ -6,7 +6,7 @@ use Rattle.irtext_base.specs.Faults.{fault_of}
 use Rattle.irtext_base.specs.Stream.{StreamView, IsAt}
 use Rattle.irtext_base.specs.declared.location.Location.{Location}
 use Rattle.irtext_base.specs.declared.parsable.fault.ParseFault.{ParseFault}
-use Rattle.irtext_promises.specs.Alone.{IsOutermost}
+use Rattle.irtext_names.specs.Alone.{IsOutermost}
 
 -- Either there are not as many names as results, and the fault is `ResultCount`, at the current position of the stream. Or there are as
 -- many; then the fault is `NoActiveScope` for the first name, at the position of its location.

@@ -12,7 +12,7 @@ use Rattle.irtext_graph.specs.Back.{IsClosedBelow}
 use Rattle.irtext_graph.specs.declared.arena.Ptr.{Ptr}
 use Rattle.irtext_graph.specs.declared.object.Region.{Region}
 use Rattle.irtext_tokens.specs.Infix.{Reader}
-use Rattle.irtext_parse_state.specs.States.{marks_of}
+use Rattle.irtext_parse_state.specs.States.{KeepsRest, marks_of}
 use Rattle.irtext_parse_state.specs.declared.parsable.state.State as code
 use Rattle.irtext_parse_state.specs.declared.parsable.state.StateStream.{StateStream}
 use Rattle.irtext_grammar.specs.Contexts.Formats.{format_of}
@@ -21,14 +21,13 @@ use Rattle.irtext_grammar.specs.Names.History.{Outcome, failed}
 use Rattle.irtext_grammar.specs.Names.Script.{Path}
 use Rattle.irtext_grammar.specs.Names.TextScopes.{Failure}
 use Rattle.irtext_scopes.specs.Names.{KeepsNames}
-use Rattle.irtext_parse_spec.specs.Promises.Root.{UnlessMemory}
-use Rattle.irtext_parse_spec.specs.Promises.Section.{Moves}
-use Rattle.irtext_parse_spec.specs.Readers.Streams.{KeepsRest}
-use Rattle.irtext_parse_spec.specs.Resume as theory
-use Rattle.irtext_parse_spec.specs.Resume.{Goes, StoppedAt, EndsIn}
+use Rattle.irtext_grammar.specs.Promises.Root.{UnlessMemory}
+use Rattle.irtext_grammar.specs.Promises.Section.{Moves}
+use Rattle.irtext_grammar.specs.Resume as theory
+use Rattle.irtext_grammar.specs.Resume.{Goes, StoppedAt, EndsIn}
 use Rattle.irtext_parse_nested.specs.Ends.{GainsMarks}
-use Rattle.irtext_parse_objects.specs.Items.{Names, Pledge, MachineAgrees, IsFailure, IsTextFault, IsSound, KeepsLive, Made, ActsWith, doing}
-use Rattle.irtext_parse_objects.specs.Located.{IsLocated}
+use Rattle.irtext_names.specs.Items.{Names, Pledge, MachineAgrees, IsFailure, IsTextFault, IsSound, KeepsLive, Made, ActsWith, doing}
+use Rattle.irtext_names.specs.Located.{IsLocated}
 use Rattle.irtext_parse_root.specs.declared.frames.Frame.{Frame}
 use Rattle.irtext_parse_root.specs.Built.{Built}
 use Rattle.irtext_parse_root.specs.Carried.{Falls}

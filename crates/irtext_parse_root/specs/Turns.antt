@@ -23,11 +23,11 @@ use Rattle.irtext_grammar.specs.Contexts.Formats.{format_of}
 use Rattle.irtext_grammar.specs.Contexts.Held.{whole}
 use Rattle.irtext_grammar.specs.Grammar.Tree.{Mark}
 use Rattle.irtext_grammar.specs.Graphs.Build.{put_all, read_names}
-use Rattle.irtext_parse_spec.specs.Heads.{mark_if_at}
-use Rattle.irtext_parse_spec.specs.Reached.{steps_in}
-use Rattle.irtext_parse_spec.specs.Resume.{OpenOperation}
-use Rattle.irtext_parse_spec.specs.Grows.{RegionCame, OperationGains, RegionGains, BlockCame, OwnBecame}
-use Rattle.irtext_parse_spec.specs.Unchanged.{OwnSoFar, HasOwn, HasUses, ModifiesOnly}
+use Rattle.irtext_grammar.specs.Heads.{mark_if_at}
+use Rattle.irtext_grammar.specs.Reached.{steps_in}
+use Rattle.irtext_grammar.specs.Resume.{OpenOperation}
+use Rattle.irtext_grammar.specs.Grows.{RegionCame, OperationGains, RegionGains, BlockCame, OwnBecame}
+use Rattle.irtext_grammar.specs.Unchanged.{OwnSoFar, HasOwn, HasUses, ModifiesOnly}
 use Rattle.irtext_parse_pieces.specs.declared.coming.Coming.{Coming}
 use Rattle.irtext_parse_nested.specs.declared.frame.BegunOperation.{BegunOperation}
 use Rattle.irtext_parse_nested.specs.declared.frame.BegunRegion.{BegunRegion}
@@ -36,9 +36,9 @@ use Rattle.irtext_parse_nested.specs.Beginning.{HasBegun, ComesInto}
 use Rattle.irtext_parse_nested.specs.OpenOperation.{IsBegun, IsRegion}
 use Rattle.irtext_parse_pieces.specs.Coming.{IsStep}
 use Rattle.irtext_parse_nested.specs.Ends.{noted_as}
-use Rattle.irtext_parse_objects.specs.Items.{Names}
+use Rattle.irtext_names.specs.Items.{Names}
 use Rattle.irtext_parse_nested.specs.Later.{GoesOn}
-use Rattle.irtext_parse_objects.specs.Located.{IsLocated}
+use Rattle.irtext_names.specs.Located.{IsLocated}
 use Rattle.irtext_parse_nested.specs.Read.{begun_by, BeginsOperation, EndsOperation, BeginsRegion, EndsRegion, BeginsBlock}
 use Rattle.irtext_parse_root.specs.Turned.{Carries}
 

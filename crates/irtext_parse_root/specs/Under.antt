@@ -23,12 +23,12 @@ use Rattle.irtext_grammar.specs.Contexts.Held.{whole}
 use Rattle.irtext_grammar.specs.Names.History.{Outcome, State, going, failed}
 use Rattle.irtext_grammar.specs.Names.Script.{Path}
 use Rattle.irtext_grammar.specs.Names.TextScopes.{Failure}
-use Rattle.irtext_parse_spec.specs.Promises.Section.{Moves}
-use Rattle.irtext_parse_spec.specs.Reached.{Advanced, Stopped, begins_region, region_at}
-use Rattle.irtext_parse_spec.specs.Resume.{EndsIn}
-use Rattle.irtext_promises.specs.Alone.{IsOutermost}
-use Rattle.irtext_parse_objects.specs.Items.{Names, Made, MachineAgrees, IsFailure, IsTextFault, IsSound, doing}
-use Rattle.irtext_parse_objects.specs.Located.{IsLocated}
+use Rattle.irtext_grammar.specs.Promises.Section.{Moves}
+use Rattle.irtext_grammar.specs.Reached.{Advanced, Stopped, begins_region, region_at}
+use Rattle.irtext_grammar.specs.Resume.{EndsIn}
+use Rattle.irtext_names.specs.Alone.{IsOutermost}
+use Rattle.irtext_names.specs.Items.{Names, Made, MachineAgrees, IsFailure, IsTextFault, IsSound, doing}
+use Rattle.irtext_names.specs.Located.{IsLocated}
 use Rattle.irtext_parse_root.specs.Built.{HoldsRegion}
 use Rattle.irtext_parse_root.specs.Carried.{Falls}
 use Rattle.irtext_parse_root.specs.Here.{within}

@@ -18,9 +18,9 @@ use Rattle.irtext_grammar.specs.Grammar.Marked.{reads_root}
 use Rattle.irtext_grammar.specs.Grammar.Section.{Entry}
 use Rattle.irtext_grammar.specs.Grammar.Tree.{Tree}
 use Rattle.irtext_grammar.specs.Names.Acts.{failures_of}
-use Rattle.irtext_parse_spec.specs.Promises.Supported.{supported, location_verdict}
-use Rattle.irtext_parse_spec.specs.Readers.Streams.{itself, replaced}
-use Rattle.irtext_promises.specs.Promises.{BuildsRoot, RefusesRoot}
+use Rattle.irtext_grammar.specs.Promises.Supported.{supported, location_verdict}
+use Rattle.irtext_grammar.specs.Readers.Streams.{itself, replaced}
+use Rattle.irtext_names.specs.Promises.{BuildsRoot, RefusesRoot}
 
 -- only white space was left on the stream, and it was consumed
 pub record OnlySpace (old new : StreamView) : Type 0 where

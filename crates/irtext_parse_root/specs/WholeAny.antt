@@ -11,8 +11,8 @@ use Rattle.irtext_parse_state.specs.States.{marks_of}
 use Rattle.irtext_parse_state.specs.declared.parsable.state.StateStream.{StateStream}
 use Rattle.irtext_grammar.specs.Contexts.Held.{whole}
 use Rattle.irtext_grammar.specs.Grammar.Section.{Entry}
-use Rattle.irtext_parse_spec.specs.Promises.Section.{indices_of, is_noted}
-use Rattle.irtext_parse_spec.specs.Entries.{section_at}
+use Rattle.irtext_grammar.specs.Promises.Section.{indices_of, is_noted}
+use Rattle.irtext_grammar.specs.Entries.{section_at}
 use Rattle.irtext_parse_section.specs.Said.{rules_of}
 use Rattle.irtext_parse_root.specs.AnyState.{ReadsTree, ReadsAny, MissesAny}
 use Rattle.irtext_parse_root.specs.Whole.{EndsAfter, ExpectsEnd}

@@ -2,7 +2,7 @@
 ghost use Rattle.std.specs.Prelude.{◌≡◌, ◌≢◌, ◌+◌, false, length, slice_get, IsSome, IfSome};
 ghost use Rattle.irtext_base.specs.Faults.{id_of};
 ghost use Rattle.irtext_grammar.specs.Contexts.Formats.{isolated};
-ghost use Rattle.irtext_parse_spec.specs.Reached.{steps_in};
+ghost use Rattle.irtext_grammar.specs.Reached.{steps_in};
 ghost use Rattle.irtext_parse_pieces.specs.Coming.{IsStep};
 ghost use Rattle.irtext_parse_pieces.specs.declared.coming.Coming.TheVariants as comes;
 ghost use Rattle.irtext_parse_root.specs.Turns.{IsNext};

@@ -9,7 +9,7 @@ use crate::frames::{Frame, Waiting};
 use crate::steps::step;
 use irtext_base::parsable::ParseResult;
 use irtext_base::text::{AttrText, IrText};
-use irtext_parse_objects::names::Names;
+use irtext_names::kinds::Names;
 use irtext_parse_pieces::keys::Keys;
 use irtext_parse_state::parsable::StateStream;
 

@@ -1,6 +1,6 @@
 //! Names that are used outside of every region. No scope of names is open there, so each such name is an error.
 ghost use Rattle.std.specs.Prelude.{false, IfErr, OnOk};
-ghost use Rattle.irtext_parse_spec.specs.Heads.{used_at, target_at};
+ghost use Rattle.irtext_grammar.specs.Heads.{used_at, target_at};
 ghost use Rattle.irtext_parse_pieces.specs.Named.{Misses};
 
 use irtext_base::parsable::{CharStream, ParseResult};

@@ -3,8 +3,8 @@ ghost use Rattle.std.specs.Prelude.{◌≡◌, ◌≤◌, ℕ, false, IfOk, IfEr
 ghost use Rattle.irtext_graph.specs.Graph.{IsNew};
 ghost use Rattle.irtext_graph.specs.declared.object.Object.TheVariants.{TheOperation};
 ghost use Rattle.irtext_tokens.specs.AttrTexts.{attr_at};
-ghost use Rattle.irtext_parse_spec.specs.Promises.Root.{UnlessMemory};
-ghost use Rattle.irtext_parse_spec.specs.Readers.Streams.{KeepsRest};
+ghost use Rattle.irtext_grammar.specs.Promises.Root.{UnlessMemory};
+ghost use Rattle.irtext_parse_state.specs.States.{KeepsRest};
 ghost use Rattle.irtext_parse_root.specs.Nested.{ReadsNested, RefusesNested};
 ghost use Rattle.irtext_parse_root.specs.Turned.{Carries, IsSoundOnce, Spares};
 
@@ -14,7 +14,7 @@ use crate::turns::begin;
 use irtext_base::parsable::ParseResult;
 use irtext_base::text::{AttrText, IrText};
 use irtext_context::base::{Operation, Ptr};
-use irtext_parse_objects::names::Names;
+use irtext_names::kinds::Names;
 use irtext_parse_pieces::keys::Keys;
 use irtext_parse_state::parsable::StateStream;
 

@@ -2,8 +2,8 @@
 ghost use Rattle.std.specs.Prelude.{◌≡◌, false, OnOk};
 ghost use Rattle.irtext_context.specs.Context.{KeepsOlder};
 ghost use Rattle.irtext_graph.specs.Back.{IsClosedBelow};
-ghost use Rattle.irtext_parse_spec.specs.Promises.Root.{IsFresh};
-ghost use Rattle.irtext_parse_spec.specs.Readers.Refusals.{FailedRefusal};
+ghost use Rattle.irtext_parse_state.specs.States.{IsFresh};
+ghost use Rattle.irtext_grammar.specs.Readers.Refusals.{FailedRefusal};
 ghost use Rattle.irtext_parse_root.specs.Parses.{CanUndo, Parses, AnswersOperation};
 
 use crate::tree::tree_parse;

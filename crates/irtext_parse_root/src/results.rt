@@ -5,9 +5,9 @@ ghost use Rattle.irtext_base.specs.Faults.{fault_of};
 ghost use Rattle.irtext_base.specs.Stream.{IsAt};
 ghost use Rattle.irtext_context.specs.Context.{operation};
 ghost use Rattle.irtext_graph.specs.Parts as parts;
-ghost use Rattle.irtext_parse_spec.specs.Promises.Root.{UnlessMemory};
-ghost use Rattle.irtext_parse_spec.specs.Readers.Refusals.{Refusal, RefusesFailed};
-ghost use Rattle.irtext_promises.specs.Alone.{IsOutermost};
+ghost use Rattle.irtext_grammar.specs.Promises.Root.{UnlessMemory};
+ghost use Rattle.irtext_grammar.specs.Readers.Refusals.{Refusal, RefusesFailed};
+ghost use Rattle.irtext_names.specs.Alone.{IsOutermost};
 ghost use Rattle.irtext_parse_root.specs.Results.{RefusesResults};
 
 use crate::one_region::position_of;

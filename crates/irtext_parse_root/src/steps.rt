@@ -3,7 +3,7 @@ ghost use Rattle.std.specs.Prelude.{◌≡◌, ◌≢◌, ◌+◌, None, IfSome,
 ghost use Rattle.irtext_base.specs.Faults.{id_of};
 ghost use Rattle.irtext_tokens.specs.AttrTexts.{attr_at};
 ghost use Rattle.irtext_grammar.specs.Contexts.Formats as formats;
-ghost use Rattle.irtext_parse_spec.specs.Reached.{steps_in};
+ghost use Rattle.irtext_grammar.specs.Reached.{steps_in};
 ghost use Rattle.irtext_parse_pieces.specs.Coming.{IsStep};
 ghost use Rattle.irtext_parse_root.specs.Turned.{AreReady, Steps};
 ghost use Rattle.irtext_parse_root.specs.Turns.{IsNext};
@@ -17,8 +17,8 @@ use crate::passing::{skip_to_operation, space_parse};
 use crate::turns::{begin, end, enter, go_on, head, leave};
 use irtext_base::parsable::ParseResult;
 use irtext_base::text::{AttrText, IrText};
+use irtext_names::kinds::Names;
 use irtext_parse_nested::frame::{BegunBlock, BegunOperation, BegunRegion};
-use irtext_parse_objects::names::Names;
 use irtext_parse_pieces::coming::Coming;
 use irtext_parse_pieces::keys::Keys;
 use irtext_parse_state::parsable::StateStream;

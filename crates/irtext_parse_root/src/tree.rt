@@ -11,9 +11,9 @@ ghost use Rattle.irtext_tokens.specs.AttrTexts.{attr_at};
 ghost use Rattle.irtext_parse_state.specs.States.{marks_of};
 ghost use Rattle.irtext_grammar.specs.Contexts.Formats.{IsAccepted};
 ghost use Rattle.irtext_grammar.specs.Contexts.Held.{whole};
-ghost use Rattle.irtext_parse_spec.specs.Promises.Root.{UnlessMemory};
-ghost use Rattle.irtext_parse_spec.specs.Promises.Section.{Moves, indices_of};
-ghost use Rattle.irtext_promises.specs.Promises.{HasFault};
+ghost use Rattle.irtext_grammar.specs.Promises.Root.{UnlessMemory};
+ghost use Rattle.irtext_grammar.specs.Promises.Section.{Moves, indices_of};
+ghost use Rattle.irtext_names.specs.Promises.{HasFault};
 ghost use Rattle.irtext_parse_root.specs.AnyState.{ReadsTree};
 ghost use Rattle.irtext_parse_root.specs.Parses.{CanUndo};
 

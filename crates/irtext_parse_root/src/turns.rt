@@ -7,10 +7,10 @@ ghost use Rattle.irtext_graph.specs.declared.object.Object.TheVariants.{TheOpera
 ghost use Rattle.irtext_tokens.specs.AttrTexts.{attr_at};
 ghost use Rattle.irtext_scopes.specs.Scopes.{is_open};
 ghost use Rattle.irtext_grammar.specs.Contexts.Held.{whole};
-ghost use Rattle.irtext_parse_spec.specs.Promises.Root.{UnlessMemory};
-ghost use Rattle.irtext_parse_spec.specs.Heads.{Step};
-ghost use Rattle.irtext_parse_spec.specs.Resume.{OpenOperation};
-ghost use Rattle.irtext_parse_spec.specs.Unchanged.{IsThere};
+ghost use Rattle.irtext_grammar.specs.Promises.Root.{UnlessMemory};
+ghost use Rattle.irtext_grammar.specs.Heads.{Step};
+ghost use Rattle.irtext_grammar.specs.Resume.{OpenOperation};
+ghost use Rattle.irtext_grammar.specs.Unchanged.{IsThere};
 ghost use Rattle.irtext_names.specs.Rows.{AreKnown};
 ghost use Rattle.irtext_parse_nested.specs.OpenOperation.{IsBegun, IsRegion};
 ghost use Rattle.irtext_parse_nested.specs.Ends.{numbers_of};
@@ -22,13 +22,13 @@ ghost use Rattle.irtext_parse_pieces.specs.declared.coming.Coming.TheVariants as
 use irtext_base::parsable::ParseResult;
 use irtext_base::text::{AttrText, IrText};
 use irtext_context::base::{BasicBlock, Operation, Ptr, Region};
+use irtext_names::kinds::Names;
 use irtext_parse_nested::beginning::operation_begin;
 use irtext_parse_nested::blocks::block_begin;
 use irtext_parse_nested::frame::{BegunBlock, BegunOperation, BegunRegion};
 use irtext_parse_nested::later::operation_piece;
 use irtext_parse_nested::operation_end::operation_end;
 use irtext_parse_nested::regions::{region_begin, region_end};
-use irtext_parse_objects::names::Names;
 use irtext_parse_pieces::keys::Keys;
 use irtext_parse_state::parsable::StateStream;
 

@@ -2,11 +2,10 @@
 ghost use Rattle.std.specs.Prelude.{◌≡◌, ℕ, false, IfErr, OnOk, OnErr};
 ghost use Rattle.irtext_context.specs.Context.{KeepsOlder};
 ghost use Rattle.irtext_tokens.specs.AttrTexts.{attr_at};
-ghost use Rattle.irtext_parse_state.specs.States.{marks_of};
+ghost use Rattle.irtext_parse_state.specs.States.{KeepsRest, marks_of};
 ghost use Rattle.irtext_grammar.specs.Contexts.Held.{whole};
-ghost use Rattle.irtext_parse_spec.specs.Readers.Refusals.{CommittedRefusal};
-ghost use Rattle.irtext_parse_spec.specs.Readers.Streams.{KeepsRest};
-ghost use Rattle.irtext_parse_spec.specs.Promises.Root.{UnlessMemory};
+ghost use Rattle.irtext_grammar.specs.Readers.Refusals.{CommittedRefusal};
+ghost use Rattle.irtext_grammar.specs.Promises.Root.{UnlessMemory};
 ghost use Rattle.irtext_parse_section.specs.Applied.{AreNewer};
 ghost use Rattle.irtext_parse_root.specs.Ended.{EndsAny, MissesEnd};
 ghost use Rattle.irtext_parse_root.specs.Parses.{CanUndo, Parses, AnswersWhole};

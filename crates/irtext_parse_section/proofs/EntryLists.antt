@@ -22,11 +22,11 @@ use Rattle.irtext_grammar.specs.Names.Acts.{Rule, shared_attribute}
 use Rattle.irtext_grammar.specs.Names.Resolves.{indices}
 use Rattle.irtext_grammar.specs.Names.Scopes.{is_among}
 use Rattle.irtext_grammar.proofs.Names.ResolvedSection.{flat_both}
-use Rattle.irtext_parse_spec.specs.Promises.Section.{indices_of, known_given, given_over, given_kept}
-use Rattle.irtext_parse_spec.specs.Readers.Directives.{attribute_at}
-use Rattle.irtext_parse_spec.specs.Readers.Marks.{may_follow}
-use Rattle.irtext_parse_spec.proofs.Joins.Answers.{followed_read, mapped_read}
-use Rattle.irtext_parse_spec.specs.Entries.{begins_given, tested, entry_head_at, given_at, entry_at, may_have}
+use Rattle.irtext_grammar.specs.Promises.Section.{indices_of, known_given, given_over, given_kept}
+use Rattle.irtext_grammar.specs.Readers.Directives.{attribute_at}
+use Rattle.irtext_parse_section.specs.OnlyPaths.{may_follow}
+use Rattle.irtext_grammar.proofs.Joins.Answers.{followed_read, mapped_read}
+use Rattle.irtext_grammar.specs.Entries.{begins_given, tested, entry_head_at, given_at, entry_at, may_have}
 use Rattle.irtext_parse_section.specs.Entries.{IsItemEntry, IsEntry, AreItems, AreSeen, AreOnce, Noted, AreNoted, entry_kept, all_entries_kept, Notes}
 use Rattle.irtext_parse_section.specs.declared.said.ItemEntry.{ItemEntry}
 use Rattle.irtext_parse_section.specs.declared.said.ReadEntry.{ReadEntry}

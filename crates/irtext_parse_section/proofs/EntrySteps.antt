@@ -19,13 +19,13 @@ use Rattle.irtext_grammar.specs.Contexts.Held.{attribute_of}
 use Rattle.irtext_grammar.specs.Grammar.Section.{Entry, of_item, of_once}
 use Rattle.irtext_grammar.specs.Grammar.Tree.{Mark, ident}
 use Rattle.irtext_grammar.specs.Names.Acts.{Rule}
-use Rattle.irtext_parse_spec.specs.Readers.Directives.{attribute_at}
-use Rattle.irtext_parse_spec.specs.Readers.Streams.{itself, replaced}
+use Rattle.irtext_grammar.specs.Readers.Directives.{attribute_at}
+use Rattle.irtext_grammar.specs.Readers.Streams.{itself, replaced}
 use Rattle.irtext_parse_pieces.specs.Named.{whole, MustMean}
 use Rattle.irtext_parse_pieces.specs.declared.entries.Key.{Key}
 use Rattle.irtext_parse_pieces.proofs.EntrySteps.{first_refused}
 use Rattle.irtext_parse_pieces.proofs.Meanings.{must_refuse, must_whole}
-use Rattle.irtext_parse_spec.specs.Entries.{begins_given, tested, entry_head_at, given_at, entry_at}
+use Rattle.irtext_grammar.specs.Entries.{begins_given, tested, entry_head_at, given_at, entry_at}
 use Rattle.irtext_parse_section.specs.Said.{rule_for, rules_of, rule_of_item, is_block, ArePairs}
 use Rattle.irtext_parse_section.specs.Entries.{IsHead, IsGivenOver, IsEntry}
 use Rattle.irtext_parse_section.specs.declared.entry.EntryHead.{EntryHead}

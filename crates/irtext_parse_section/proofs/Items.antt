@@ -28,10 +28,10 @@ use Rattle.irtext_grammar.specs.Graphs.Build.{content_in, content, located, labe
 use Rattle.irtext_grammar.specs.Names.Acts.{Rule}
 use Rattle.irtext_grammar.specs.Names.Script.{Failure, UnknownIndex}
 use Rattle.irtext_grammar.specs.Names.Scopes.{is_among}
-use Rattle.irtext_parse_spec.specs.Promises.Section.{indices_of, given_over}
-use Rattle.irtext_parse_spec.specs.Agrees.{refused}
-use Rattle.irtext_parse_spec.specs.Entries.{wrong_references}
-use Rattle.irtext_parse_spec.proofs.Claims.{wrong_index, wrong_pairs, wrong_entries, refused_parts}
+use Rattle.irtext_grammar.specs.Promises.Section.{indices_of, given_over}
+use Rattle.irtext_grammar.specs.Agrees.{refused}
+use Rattle.irtext_grammar.specs.Entries.{wrong_references}
+use Rattle.irtext_grammar.proofs.Claims.{wrong_index, wrong_pairs, wrong_entries, refused_parts}
 use Rattle.irtext_parse_section.specs.Applied.{no_label, label_by, label_in, LocatesOperation, StoresOperation, LocatesBlock, StoresBlock, LabelsBlock, Gives, AppliesAll}
 use Rattle.irtext_parse_section.specs.Items.{CarriesOnly, OperationHas, BlockHas, OperationGiven, BlockGiven}
 use Rattle.irtext_parse_section.specs.Section.{ReadsSection}

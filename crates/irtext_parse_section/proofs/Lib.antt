@@ -1,5 +1,6 @@
 -- Steps of the parsers of a section, of their check, and of what they apply
 pub mod HeadSteps
+pub mod OnlyPaths
 pub mod PairSteps
 pub mod CheckSteps
 pub mod EntrySteps

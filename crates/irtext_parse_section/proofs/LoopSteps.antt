@@ -12,19 +12,19 @@ use Rattle.irtext_base.specs.declared.base.attributes.AttrObj.{AttrObj}
 use Rattle.irtext_base.specs.declared.parsable.fault.ParseFault.{ParseFault}
 use Rattle.irtext_tokens.proofs.Steps.{alone}
 use Rattle.irtext_context.specs.declared.base.item.Item.{Item}
-use Rattle.irtext_parse_state.specs.States.{marks_of}
+use Rattle.irtext_parse_state.specs.States.{KeepsRest, marks_of}
 use Rattle.irtext_parse_state.specs.declared.parsable.state.StateStream.{StateStream}
 use Rattle.irtext_grammar.specs.Grammar.Section.{Entry}
 use Rattle.irtext_grammar.specs.Names.Acts.{Rule}
-use Rattle.irtext_parse_spec.specs.Promises.Section.{indices_of}
-use Rattle.irtext_parse_spec.specs.Readers.Marks.{may_follow}
-use Rattle.irtext_parse_spec.specs.Readers.NewPaths.{AddsPaths}
-use Rattle.irtext_parse_spec.specs.Readers.Streams.{itself, replaced, KeepsRest}
-use Rattle.irtext_parse_spec.proofs.Readers.Answered.{answered}
-use Rattle.irtext_parse_spec.proofs.Readers.NewPaths.{adds_none, adds_more}
+use Rattle.irtext_grammar.specs.Promises.Section.{indices_of}
+use Rattle.irtext_parse_section.specs.OnlyPaths.{may_follow}
+use Rattle.irtext_grammar.specs.Readers.NewPaths.{AddsPaths}
+use Rattle.irtext_grammar.specs.Readers.Streams.{itself, replaced}
+use Rattle.irtext_grammar.proofs.Readers.Answered.{answered}
+use Rattle.irtext_grammar.proofs.Readers.NewPaths.{adds_none, adds_more}
 use Rattle.irtext_parse_pieces.specs.Named.{whole, MustMean}
 use Rattle.irtext_parse_pieces.proofs.Meanings.{takes_whole, must_refuse}
-use Rattle.irtext_parse_spec.specs.Entries.{entry_at, may_have, entries_after}
+use Rattle.irtext_grammar.specs.Entries.{entry_at, may_have, entries_after}
 use Rattle.irtext_parse_section.specs.Said.{rules_of}
 use Rattle.irtext_parse_section.specs.Entries.{items_of, once_of, IsEntry, Noted, nothing, one_noted, AreEntriesOver, AreItems, AreOnce, entry_kept, Notes, EntriesSoFar}
 use Rattle.irtext_parse_section.specs.declared.said.Entries.{Entries}

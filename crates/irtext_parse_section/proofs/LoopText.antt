@@ -13,10 +13,10 @@ use Rattle.irtext_tokens.specs.Tokens.{space_at}
 use Rattle.irtext_tokens.proofs.Steps.{alone, Passed, starts, turned, more, spaced, ends, refuses, ran_out}
 use Rattle.irtext_grammar.specs.Grammar.Section.{Entry}
 use Rattle.irtext_grammar.specs.Names.Acts.{Rule}
-use Rattle.irtext_parse_spec.specs.Readers.Streams.{itself, replaced}
-use Rattle.irtext_parse_spec.proofs.Readers.Answered.{answered}
-use Rattle.irtext_parse_spec.specs.Entries.{entry_at, may_have, entries_after}
-use Rattle.irtext_parse_spec.proofs.Grows.{grows_entry, less_left}
+use Rattle.irtext_grammar.specs.Readers.Streams.{itself, replaced}
+use Rattle.irtext_grammar.proofs.Readers.Answered.{answered}
+use Rattle.irtext_grammar.specs.Entries.{entry_at, may_have, entries_after}
+use Rattle.irtext_grammar.proofs.Grows.{grows_entry, less_left}
 use Rattle.irtext_parse_section.specs.Entries.{TextSoFar}
 
 some_left : (n : ℕ) (text : Text) → begins (the 33) text ≡ true → length text ≤ n → (k : ℕ) × (n ≡ suc k)

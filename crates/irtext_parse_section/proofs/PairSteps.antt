@@ -21,14 +21,14 @@ use Rattle.irtext_grammar.specs.Contexts.Held.{attribute_of}
 use Rattle.irtext_grammar.specs.Grammar.Section.{Item, direct, reference}
 use Rattle.irtext_grammar.specs.Grammar.Tree.{Name}
 use Rattle.irtext_grammar.specs.Names.Acts.{Rule}
-use Rattle.irtext_parse_spec.specs.Readers.Directives.{attribute_at}
-use Rattle.irtext_parse_spec.specs.Readers.Streams.{itself, replaced}
+use Rattle.irtext_grammar.specs.Readers.Directives.{attribute_at}
+use Rattle.irtext_grammar.specs.Readers.Streams.{itself, replaced}
 use Rattle.irtext_parse_pieces.specs.Named.{whole, Each, MayMean, MustMean}
 use Rattle.irtext_parse_pieces.specs.declared.entries.Key.{Key}
 use Rattle.irtext_parse_pieces.specs.declared.marks.ReadMark.{ReadMark}
 use Rattle.irtext_parse_pieces.proofs.Listings.{list_some}
 use Rattle.irtext_parse_pieces.proofs.Meanings.{takes_whole, may_whole}
-use Rattle.irtext_parse_spec.specs.Entries.{item_at, pair_at, is_allowed, kept}
+use Rattle.irtext_grammar.specs.Entries.{item_at, pair_at, is_allowed, kept}
 use Rattle.irtext_parse_section.proofs.HeadSteps.{refused_there}
 use Rattle.irtext_parse_section.specs.Said.{is_allowed_under, IsGiven, IsPair, Allows, MustPairs, PairsAfter}
 use Rattle.irtext_parse_section.specs.declared.said.GivenAttr.{GivenAttr}

@@ -11,10 +11,10 @@ use Rattle.irtext_base.specs.Locations.{AttrView}
 use Rattle.irtext_tokens.specs.Demanded.{spaced_at, index_at}
 use Rattle.irtext_tokens.specs.Tokens.{word_at, text_at, space_at}
 use Rattle.irtext_tokens.proofs.Steps.{mapped_followed, mapped_prefixed}
-use Rattle.irtext_parse_spec.specs.Readers.Streams.{itself, replaced}
+use Rattle.irtext_grammar.specs.Readers.Streams.{itself, replaced}
 use Rattle.irtext_grammar.specs.Names.Acts.{Rule}
 use Rattle.irtext_parse_pieces.specs.declared.entries.Key.{Key}
-use Rattle.irtext_parse_spec.specs.Entries.{pairs_at}
+use Rattle.irtext_grammar.specs.Entries.{pairs_at}
 use Rattle.irtext_parse_locations.specs.Plain.{TakesDigits, DigitsAfter, SpaceAfter, Gets}
 use Rattle.irtext_parse_locations.proofs.Plain.{number_taken, after_label, gets_must, chars_ascii}
 use Rattle.irtext_parse_section.specs.Entries.{location_end_at}

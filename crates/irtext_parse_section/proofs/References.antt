@@ -30,21 +30,21 @@ use Rattle.irtext_grammar.specs.Names.Acts.{Rule, shared_attribute, keeps_if, re
 use Rattle.irtext_grammar.specs.Names.Script.{Failure, Act, claim, UnknownPrintOnce, ReservedKey}
 use Rattle.irtext_grammar.specs.Spelling.Spellable as single
 use Rattle.irtext_grammar.proofs.Names.ResolvedSection.{flat_both}
-use Rattle.irtext_parse_spec.specs.Readers.Operations.{RefusesAt}
-use Rattle.irtext_parse_spec.specs.Readers.Streams.{itself, replaced}
-use Rattle.irtext_parse_spec.proofs.Joins.Answers.{followed_read}
-use Rattle.irtext_parse_spec.proofs.Readers.Answered.{Answered, answered}
-use Rattle.irtext_parse_spec.proofs.Exact.Attributes.{lawful_needs_word}
+use Rattle.irtext_grammar.specs.Readers.Operations.{RefusesAt}
+use Rattle.irtext_grammar.specs.Readers.Streams.{itself, replaced}
+use Rattle.irtext_grammar.proofs.Joins.Answers.{followed_read}
+use Rattle.irtext_grammar.proofs.Readers.Answered.{Answered, answered}
+use Rattle.irtext_grammar.proofs.Exact.Attributes.{lawful_needs_word}
 use Rattle.irtext_parse_pieces.specs.Entries.{IsKey}
 use Rattle.irtext_parse_pieces.specs.Named.{whole, Leaves, Each, MustMean}
 use Rattle.irtext_parse_pieces.specs.declared.entries.Key.{Key}
 use Rattle.irtext_parse_pieces.proofs.Meanings.{must_refuse}
-use Rattle.irtext_parse_spec.specs.Entries.{fault_for, upto, wrong_references, unless_wrong, referred, entries_after, entries_at, section_at}
-use Rattle.irtext_parse_spec.proofs.Claims.{wrong, wrongs, references_fail}
-use Rattle.irtext_parse_spec.proofs.Entries.{entries_read}
-use Rattle.irtext_parse_spec.proofs.Given.{splits_spaced}
-use Rattle.irtext_parse_spec.proofs.Lawful.{splits_attr}
-use Rattle.irtext_parse_spec.proofs.Places.{EntryNear, IsWithin, late_near, entries_near}
+use Rattle.irtext_grammar.specs.Entries.{fault_for, upto, wrong_references, unless_wrong, referred, entries_after, entries_at, section_at}
+use Rattle.irtext_grammar.proofs.Claims.{wrong, wrongs, references_fail}
+use Rattle.irtext_grammar.proofs.Entries.{entries_read}
+use Rattle.irtext_grammar.proofs.Given.{splits_spaced}
+use Rattle.irtext_grammar.proofs.Lawful.{splits_attr}
+use Rattle.irtext_grammar.proofs.Places.{EntryNear, IsWithin, late_near, entries_near}
 use Rattle.irtext_parse_section.specs.Checked.{Wrong, reference_wrong, pair_wrong, pairs_wrong, items_wrong, RefusesFirst}
 use Rattle.irtext_parse_section.specs.Entries.{AreItems, AreOnce}
 use Rattle.irtext_parse_section.specs.Said.{rule_for, rule_of_item, rules_of, is_block, IsPair}

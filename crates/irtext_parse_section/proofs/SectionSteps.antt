@@ -12,14 +12,14 @@ use Rattle.irtext_graph.specs.Back.{IsClosedBelow}
 use Rattle.irtext_parse_state.specs.States.{marks_of}
 use Rattle.irtext_parse_state.specs.declared.parsable.state.StateStream.{StateStream}
 use Rattle.irtext_grammar.specs.Grammar.Section.{Entry}
-use Rattle.irtext_parse_spec.specs.Promises.Section.{indices_of, IsOutOfMemory, Moves}
-use Rattle.irtext_parse_spec.specs.Readers.NewPaths.{AddsPaths}
-use Rattle.irtext_parse_spec.specs.Readers.Refusals.{CommittedRefusal}
-use Rattle.irtext_parse_spec.specs.Readers.Streams.{itself, replaced}
-use Rattle.irtext_parse_spec.proofs.Readers.Answered.{answered}
-use Rattle.irtext_parse_spec.proofs.Readers.NewPaths.{adds_kept}
+use Rattle.irtext_grammar.specs.Promises.Section.{indices_of, IsOutOfMemory, Moves}
+use Rattle.irtext_grammar.specs.Readers.NewPaths.{AddsPaths}
+use Rattle.irtext_grammar.specs.Readers.Refusals.{CommittedRefusal}
+use Rattle.irtext_grammar.specs.Readers.Streams.{itself, replaced}
+use Rattle.irtext_grammar.proofs.Readers.Answered.{answered}
+use Rattle.irtext_grammar.proofs.Readers.NewPaths.{adds_kept}
 use Rattle.irtext_parse_pieces.specs.Named.{whole, MustMean}
-use Rattle.irtext_parse_spec.specs.Entries.{section_at}
+use Rattle.irtext_grammar.specs.Entries.{section_at}
 use Rattle.irtext_parse_section.specs.Applied.{GivesAll, ItemsAreNewer, AreNewer}
 use Rattle.irtext_parse_section.specs.Entries.{AreEntriesOver, items_of, once_of}
 use Rattle.irtext_parse_section.specs.Said.{rules_of}

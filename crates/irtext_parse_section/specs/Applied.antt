@@ -21,7 +21,7 @@ use Rattle.irtext_grammar.specs.Contexts.Held.{attribute_of, entries_of}
 use Rattle.irtext_grammar.specs.Grammar.Section.{Entry, of_item, of_once}
 use Rattle.irtext_grammar.specs.Grammar.Tree.{Attribute, ident}
 use Rattle.irtext_grammar.specs.Graphs.Build.{put_all, resolved}
-use Rattle.irtext_parse_spec.specs.Promises.Section.{given_over}
+use Rattle.irtext_grammar.specs.Promises.Section.{given_over}
 use Rattle.irtext_parse_pieces.specs.declared.entries.Key.{Key}
 use Rattle.irtext_parse_section.specs.declared.said.GivenAttr.{GivenAttr}
 use Rattle.irtext_parse_section.specs.declared.said.GivenAttr.TheVariants as given

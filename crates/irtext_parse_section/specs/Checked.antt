@@ -9,10 +9,10 @@ use Rattle.irtext_base.specs.declared.parsable.fault.ParseFault.{ParseFault}
 use Rattle.irtext_stream.specs.declared.position.Place.{Place}
 use Rattle.irtext_grammar.specs.Contexts.Held.{attribute_of}
 use Rattle.irtext_grammar.specs.Names.Script.{Cause, UnknownPrintOnce, ReservedKey}
-use Rattle.irtext_parse_spec.specs.Readers.Operations.{RefusesAt}
-use Rattle.irtext_parse_spec.specs.Readers.Streams.{itself, replaced}
+use Rattle.irtext_grammar.specs.Readers.Operations.{RefusesAt}
+use Rattle.irtext_grammar.specs.Readers.Streams.{itself, replaced}
 use Rattle.irtext_parse_pieces.specs.declared.entries.Key.{Key}
-use Rattle.irtext_parse_spec.specs.Entries.{fault_for}
+use Rattle.irtext_grammar.specs.Entries.{fault_for}
 use Rattle.irtext_parse_section.specs.Said.{rule_for, is_block}
 use Rattle.irtext_parse_section.specs.declared.said.GivenAttr.{GivenAttr}
 use Rattle.irtext_parse_section.specs.declared.said.GivenAttr.TheVariants as given

@@ -16,7 +16,7 @@ use Rattle.irtext_context.specs.declared.base.item.Item.{Item}
 use Rattle.irtext_tokens.specs.Demanded.{spaced_at}
 use Rattle.irtext_tokens.specs.Infix.{Reader, ◌▷◌}
 use Rattle.irtext_tokens.specs.Tokens.{space_at, word}
-use Rattle.irtext_parse_state.specs.States.{same_index, marks_of}
+use Rattle.irtext_parse_state.specs.States.{KeepsRest, same_index, marks_of}
 use Rattle.irtext_parse_state.specs.declared.parsable.state.StateStream.{StateStream}
 use Rattle.irtext_grammar.specs.Contexts.Held.{attribute_of}
 use Rattle.irtext_grammar.specs.Grammar.Tree.{Name, Mark}
@@ -25,13 +25,13 @@ use Rattle.irtext_grammar.specs.Grammar.Section.{Entry, of_item, of_once}
 use Rattle.irtext_grammar.specs.Names.Acts.{Rule, shared_attribute}
 use Rattle.irtext_grammar.specs.Names.Resolves.{indices}
 use Rattle.irtext_grammar.specs.Names.Scopes.{is_among}
-use Rattle.irtext_parse_spec.specs.Promises.Section.{known_given, given_over, given_kept, indices_of, Moves}
-use Rattle.irtext_parse_spec.specs.Readers.NewPaths.{AddsPaths}
-use Rattle.irtext_parse_spec.specs.Readers.Streams.{itself, replaced, KeepsRest}
+use Rattle.irtext_grammar.specs.Promises.Section.{known_given, given_over, given_kept, indices_of, Moves}
+use Rattle.irtext_grammar.specs.Readers.NewPaths.{AddsPaths}
+use Rattle.irtext_grammar.specs.Readers.Streams.{itself, replaced}
 use Rattle.irtext_parse_pieces.specs.Marks.{IsMark}
 use Rattle.irtext_parse_pieces.specs.Named.{whole, MustMean}
 use Rattle.irtext_parse_pieces.specs.declared.entries.Key.{Key}
-use Rattle.irtext_parse_spec.specs.Entries.{begins_given, entries_after}
+use Rattle.irtext_grammar.specs.Entries.{begins_given, entries_after}
 use Rattle.irtext_parse_section.specs.Said.{ArePairs, rules_of}
 use Rattle.irtext_parse_section.specs.declared.entry.EntryHead.{EntryHead}
 use Rattle.irtext_parse_section.specs.declared.said.GivenAttr.{GivenAttr}

@@ -1,4 +1,5 @@
 -- What the parsed entries represent, and what applying them does
+pub mod OnlyPaths
 pub mod Said
 pub mod Entries
 pub mod Checked

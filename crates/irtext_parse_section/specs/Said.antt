@@ -19,9 +19,9 @@ use Rattle.irtext_grammar.specs.Grammar.Tree.{Name}
 use Rattle.irtext_grammar.specs.Grammar.Section as section
 use Rattle.irtext_grammar.specs.Grammar.Section.{direct, reference}
 use Rattle.irtext_grammar.specs.Names.Acts.{Rule, may_hold, keeps_label_key}
-use Rattle.irtext_parse_spec.specs.Entries.{pairs_at}
-use Rattle.irtext_parse_spec.specs.Readers.Operations.{RefusesAt}
-use Rattle.irtext_parse_spec.specs.Readers.Streams.{itself, replaced}
+use Rattle.irtext_grammar.specs.Entries.{pairs_at}
+use Rattle.irtext_grammar.specs.Readers.Operations.{RefusesAt}
+use Rattle.irtext_grammar.specs.Readers.Streams.{itself, replaced}
 use Rattle.irtext_parse_pieces.specs.Entries.{IsKey}
 use Rattle.irtext_parse_pieces.specs.Marks.{IsMark}
 use Rattle.irtext_parse_pieces.specs.Named.{whole, Each, MustMean}

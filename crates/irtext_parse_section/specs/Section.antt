@@ -9,9 +9,9 @@ use Rattle.irtext_context.specs.Context.{ContextView}
 use Rattle.irtext_parse_state.specs.States.{marks_of}
 use Rattle.irtext_parse_state.specs.declared.parsable.state.StateStream.{StateStream}
 use Rattle.irtext_grammar.specs.Grammar.Section.{Entry}
-use Rattle.irtext_parse_spec.specs.Promises.Section.{indices_of, Moves}
-use Rattle.irtext_parse_spec.specs.Readers.NewPaths.{AddsPaths}
-use Rattle.irtext_parse_spec.specs.Entries.{section_at}
+use Rattle.irtext_grammar.specs.Promises.Section.{indices_of, Moves}
+use Rattle.irtext_grammar.specs.Readers.NewPaths.{AddsPaths}
+use Rattle.irtext_grammar.specs.Entries.{section_at}
 use Rattle.irtext_parse_section.specs.Applied.{AppliesAll}
 use Rattle.irtext_parse_section.specs.Entries.{all_entries_kept}
 use Rattle.irtext_parse_section.specs.Said.{rules_of}

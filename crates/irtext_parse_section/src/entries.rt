@@ -3,9 +3,9 @@ ghost use Rattle.std.specs.Prelude.{◌≡◌, false, IfOk, OnOk, length, []};
 ghost use Rattle.irtext_tokens.specs.AttrTexts.{attr_at};
 ghost use Rattle.irtext_parse_state.specs.States.{marks_of};
 ghost use Rattle.irtext_parse_section.specs.Entries.{MustReadEntries, Notes, noted, nothing, one_noted, MustGoOn};
-ghost use Rattle.irtext_parse_spec.specs.Promises.Section.{indices_of};
-ghost use Rattle.irtext_parse_spec.specs.Readers.NewPaths.{AddsOnlyPaths};
-ghost use Rattle.irtext_parse_spec.specs.Entries.{entries_after};
+ghost use Rattle.irtext_grammar.specs.Promises.Section.{indices_of};
+ghost use Rattle.irtext_parse_section.specs.OnlyPaths.{AddsOnlyPaths};
+ghost use Rattle.irtext_grammar.specs.Entries.{entries_after};
 ghost use Rattle.irtext_parse_section.specs.Said.{rules_of};
 
 use crate::entry::entry_parse;

@@ -6,13 +6,12 @@ ghost use Rattle.irtext_tokens.specs.Demanded.{spaced_at, index_at};
 ghost use Rattle.irtext_tokens.specs.MustRead.{MustRead};
 ghost use Rattle.irtext_stream.specs.Places.{IsPlaceAfter};
 ghost use Rattle.irtext_parse_state.specs.States.{same_index, marks_of};
-ghost use Rattle.irtext_parse_spec.specs.Readers.Marks.{may_follow};
-ghost use Rattle.irtext_parse_spec.specs.Readers.NewPaths.{AddsOnlyPaths};
-ghost use Rattle.irtext_parse_spec.specs.Readers.Streams.{itself, replaced};
+ghost use Rattle.irtext_parse_section.specs.OnlyPaths.{AddsOnlyPaths, may_follow};
+ghost use Rattle.irtext_grammar.specs.Readers.Streams.{itself, replaced};
 ghost use Rattle.irtext_parse_pieces.specs.Marks.{IsMark};
 ghost use Rattle.irtext_parse_pieces.specs.Named.{MustMean, whole};
 ghost use Rattle.irtext_parse_locations.specs.Plain.{Sees, Finds};
-ghost use Rattle.irtext_parse_spec.specs.Entries.{begins_given, tested, entry_head_at, entry_at};
+ghost use Rattle.irtext_grammar.specs.Entries.{begins_given, tested, entry_head_at, entry_at};
 ghost use Rattle.irtext_parse_section.specs.Said.{rules_of};
 ghost use Rattle.irtext_parse_section.specs.Entries.{IsHead, GoesOn, IsEntry, entry_kept, next_item, earlier_indices};
 

@@ -2,11 +2,11 @@
 ghost use Rattle.std.specs.Prelude.{◌≡◌, IfOk};
 ghost use Rattle.irtext_tokens.specs.AttrTexts.{attr_at};
 ghost use Rattle.irtext_tokens.specs.MustRead.{MustRead};
-ghost use Rattle.irtext_parse_spec.specs.Promises.Section.{given_over, given_kept};
-ghost use Rattle.irtext_parse_spec.specs.Readers.NewPaths.{AddsPaths};
-ghost use Rattle.irtext_parse_spec.specs.Readers.Streams.{itself, replaced};
+ghost use Rattle.irtext_grammar.specs.Promises.Section.{given_over, given_kept};
+ghost use Rattle.irtext_grammar.specs.Readers.NewPaths.{AddsPaths};
+ghost use Rattle.irtext_grammar.specs.Readers.Streams.{itself, replaced};
 ghost use Rattle.irtext_parse_pieces.specs.Named.{MustMean, whole};
-ghost use Rattle.irtext_parse_spec.specs.Entries.{given_at};
+ghost use Rattle.irtext_grammar.specs.Entries.{given_at};
 ghost use Rattle.irtext_parse_section.specs.Said.{rule_for};
 ghost use Rattle.irtext_parse_locations.specs.Sourced.{Keeps, ReadsGiven};
 ghost use Rattle.irtext_parse_section.specs.Entries.{IsGivenOver, location_end_at};

@@ -2,9 +2,9 @@
 ghost use Rattle.std.specs.Prelude.{◌≡◌, ◌++◌, ◌∷◌, [], IfOk};
 ghost use Rattle.irtext_tokens.specs.AttrTexts.{attr_at};
 ghost use Rattle.irtext_tokens.specs.ListOutcomes.{separated_at};
-ghost use Rattle.irtext_parse_spec.specs.Readers.Streams.{itself, replaced};
+ghost use Rattle.irtext_grammar.specs.Readers.Streams.{itself, replaced};
 ghost use Rattle.irtext_parse_pieces.specs.Named.{MayMean, MustMean, whole};
-ghost use Rattle.irtext_parse_spec.specs.Entries.{item_at, pair_at, kept};
+ghost use Rattle.irtext_grammar.specs.Entries.{item_at, pair_at, kept};
 ghost use Rattle.irtext_parse_section.specs.Said.{rule_for, IsGiven, IsPair, Allows, MustPairs, BracketedPairs, PairsAfter};
 
 use crate::rules::is_allowed_under;

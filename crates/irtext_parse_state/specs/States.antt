@@ -8,6 +8,7 @@ use Rattle.irtext_base.specs.declared.location.Location.{Location, SrcPos}
 use Rattle.irtext_base.specs.declared.location.Source.{Source}
 use Rattle.irtext_stream.specs.declared.position.SourcePosition.{SourcePosition}
 use Rattle.irtext_parse_state.specs.declared.parsable.state.State.{State}
+use Rattle.irtext_parse_state.specs.declared.parsable.state.StateStream.{StateStream}
 
 -- whether two indices are the same
 abbrev pub same_index : ℕ → ℕ → Bool
@@ -27,3 +28,14 @@ pub record LocatesAt {A : Type 0} (src : Source) (passed : Text) (location : Loc
   pub at : SourcePosition
   pub is : location ≡ SrcPos src at
   pub positioned : IsAt at.line at.column passed
+
+module _ {T A U : Type 0} where
+  -- the source and the caller's data are unchanged
+  pub record KeepsRest (old new : State T A U) : Type 0 where
+    pub src : new.src ≡ old.src
+    pub aux_data : new.aux_data ≡ old.aux_data
+
+  -- no mark is recorded, and the stream has not failed
+  pub record IsFresh (s : StateStream T A U) : Type 0 where
+    pub marks : marks_of s.state ≡ []
+    pub fine : s.stream.failed ≡ false

@@ -8,8 +8,8 @@ use Rattle.irtext_base.specs.Faults.{Fault, OwnText}
 use Rattle.irtext_context.specs.Dialects.{Table}
 use Rattle.irtext_tokens.specs.AttrTexts.{attr_at}
 use Rattle.irtext_grammar.specs.Contexts.Formats.{op_id}
-use Rattle.irtext_parse_spec.specs.Promises.ErrorCauses.{CauseAt}
-use Rattle.irtext_parse_spec.specs.Reached.{Stopped, Actions, operation_at}
+use Rattle.irtext_grammar.specs.Promises.ErrorCauses.{CauseAt}
+use Rattle.irtext_grammar.specs.Reached.{Stopped, Actions, operation_at}
 
 -- an id of the dialect `t`
 abbrev pub t : Text → Id

@@ -5,7 +5,7 @@ use Rattle.irtext_base.specs.Answers.{Outcome, Read, mapped}
 use Rattle.irtext_base.specs.Locations.{AttrView, own, src_pos, fused, named, call_site, unknown, no_location, location}
 use Rattle.irtext_base.specs.Paths.{Written}
 use Rattle.irtext_tokens.specs.Tokens.{text_at}
-use Rattle.irtext_parse_spec.specs.Readers.Locations.{location_at}
+use Rattle.irtext_grammar.specs.Readers.Locations.{location_at}
 use Rattle.irtext_grammar.specs.Spelling.Locations.{written_text}
 
 -- the one attribute is parsed as a word

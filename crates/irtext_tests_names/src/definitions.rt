@@ -30,7 +30,7 @@ ghost use Rattle.irtext_grammar.specs.Spelling.Section.{text};
 ghost use Rattle.irtext_grammar.specs.Names.Script as script;
 ghost use Rattle.irtext_grammar.specs.Spelling.SectionEntries.{SmallSection};
 ghost use Rattle.irtext_grammar.specs.Spelling.Spell.{spelled};
-ghost use Rattle.irtext_parse_spec.specs.Promises.Root.{location_of};
+ghost use Rattle.irtext_grammar.specs.Promises.Root.{location_of};
 
 /// A module with an empty block: its printed text, and that this text parses as it.
 pub fn an_empty_block()

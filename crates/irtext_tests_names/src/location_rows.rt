@@ -6,8 +6,8 @@ ghost use Rattle.irtext_base.specs.Locations.{all_noted, call_site, fused, locat
 ghost use Rattle.irtext_base.specs.Moves.{all_kept, all_under};
 ghost use Rattle.irtext_base.specs.declared.location.Source.TheVariants.{File};
 ghost use Rattle.irtext_tests_names.specs.LocationRows.{name_alone, nested, note_at, note_text, place, Says, two_as_one};
-ghost use Rattle.irtext_parse_spec.specs.Readers.Locations.{location_at};
-ghost use Rattle.irtext_parse_spec.specs.Promises.LocationsBack.{AllFit, AllRead};
+ghost use Rattle.irtext_grammar.specs.Readers.Locations.{location_at};
+ghost use Rattle.irtext_grammar.specs.Promises.LocationsBack.{AllFit, AllRead};
 
 /// Locations of each kind: the printed text of each, and that the whole text parses as it.
 pub fn texts_of_locations()

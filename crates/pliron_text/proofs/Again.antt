@@ -12,12 +12,12 @@ use Rattle.irtext_grammar.specs.Graphs.Closed.{Fit}
 use Rattle.irtext_grammar.specs.Graphs.Graph.{Graph}
 use Rattle.irtext_grammar.specs.Graphs.Regained.{Named}
 use Rattle.irtext_grammar.specs.Graphs.Represents.{Distinct}
-use Rattle.irtext_parse_spec.specs.ContextParts.{KeepsAll}
+use Rattle.irtext_grammar.specs.ContextParts.{KeepsAll}
 use Rattle.irtext_print_ir.specs.Printers.Printed.{block_round}
-use Rattle.irtext_promises.specs.OnlyNew.{OnlyNew}
+use Rattle.irtext_names.specs.OnlyNew.{OnlyNew}
 use Rattle.irtext_tokens.specs.AttrTexts.{attr_at}
-use Rattle.irtext_parse_spec.specs.Back.{ClosedRoot}
-use Rattle.irtext_promises.proofs.ReadClosed.{read_closed}
+use Rattle.irtext_grammar.specs.Back.{ClosedRoot}
+use Rattle.irtext_names.proofs.ReadClosed.{read_closed}
 use Rattle.pliron_text.specs.Calls.{ReadsText}
 use Rattle.pliron_text.proofs.Nowhere.{root_nowhere}
 

@@ -25,7 +25,7 @@ use Rattle.irtext_grammar.specs.Graphs.Graph.{Graph, Printing, written}
 use Rattle.irtext_grammar.specs.Graphs.Regained.{Named}
 use Rattle.irtext_grammar.specs.Graphs.Represents.{Distinct}
 use Rattle.irtext_grammar.proofs.Graphs.RepresentsClosed.{found_closed}
-use Rattle.irtext_parse_spec.specs.Promises.Root.{UnlessMemory}
+use Rattle.irtext_grammar.specs.Promises.Root.{UnlessMemory}
 use Rattle.irtext_print.specs.Printers.PrintedOperation.{levels}
 use Rattle.irtext_print.specs.Printers.Shown.{Shown}
 use Rattle.irtext_print.specs.declared.printable.refusal.Refusal.TheVariants.{Misfit}
@@ -34,12 +34,12 @@ use Rattle.irtext_print_ops.proofs.Depths.{inside_is}
 use Rattle.irtext_print_ops.specs.Faults.{OperationFault, RegionsFault}
 use Rattle.irtext_print_ops.specs.Heads as heads
 use Rattle.irtext_print_ops.specs.Walk.{or_nothing}
-use Rattle.irtext_promises.specs.Held.{held_root}
+use Rattle.irtext_names.specs.Held.{held_root}
 use Rattle.irtext_tokens.specs.AttrTexts.{attr_at}
-use Rattle.irtext_parse_spec.specs.Back.{ClosedRoot, HeldBack, HeldWhole}
-use Rattle.irtext_parse_spec.specs.RootParts.{KeptRoot}
-use Rattle.irtext_promises.specs.PrintedRoot.{PrintedRoot}
-use Rattle.irtext_promises.proofs.PrintedBack.{gives_back_root, gives_back_whole, not_refused, none_read}
+use Rattle.irtext_grammar.specs.Back.{ClosedRoot, HeldBack, HeldWhole}
+use Rattle.irtext_grammar.specs.RootParts.{KeptRoot}
+use Rattle.irtext_names.specs.PrintedRoot.{PrintedRoot}
+use Rattle.irtext_names.proofs.PrintedBack.{gives_back_root, gives_back_whole, not_refused, none_read}
 use Rattle.pliron_text.specs.Calls.{IsClosed, IsPrinted, ComesBack, ComesBackWhole, ReadsText, RefusesText}
 use Rattle.pliron_text.proofs.Fitting.{fits_whole}
 

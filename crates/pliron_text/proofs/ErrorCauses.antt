@@ -16,12 +16,12 @@ use Rattle.irtext_grammar.specs.Contexts.Held.{whole, IsPosition}
 use Rattle.irtext_grammar.specs.Names.History.{Outcome as Machine, going}
 use Rattle.irtext_grammar.specs.Names.Script as script
 use Rattle.irtext_grammar.specs.Names.Script.{Cause}
-use Rattle.irtext_parse_spec.specs.Naming.{naming}
-use Rattle.irtext_parse_spec.specs.Reached.{Actions}
-use Rattle.irtext_parse_spec.specs.Promises.ErrorCauses.{is_name_fault, IsLeft, CauseAt, of_token, CauseAtPlace, HasReason, out_of_memory, in_text, by_name}
-use Rattle.irtext_parse_spec.specs.Promises.Root.{IsCause}
-use Rattle.irtext_parse_spec.specs.Promises.Section.{Moves, indices_of, is_noted}
-use Rattle.irtext_parse_spec.proofs.Causes.Found.{cause_longer, operation_cause, region_cause, section_takes, section_cause}
+use Rattle.irtext_grammar.specs.Naming.{naming}
+use Rattle.irtext_grammar.specs.Reached.{Actions}
+use Rattle.irtext_grammar.specs.Promises.ErrorCauses.{is_name_fault, IsLeft, CauseAt, of_token, CauseAtPlace, HasReason, out_of_memory, in_text, by_name}
+use Rattle.irtext_grammar.specs.Promises.Root.{IsCause}
+use Rattle.irtext_grammar.specs.Promises.Section.{Moves, indices_of, is_noted}
+use Rattle.irtext_grammar.proofs.Causes.Found.{cause_longer, operation_cause, region_cause, section_takes, section_cause}
 use Rattle.irtext_parse_root.specs.AnyRegion.{MissesRegion, not_isolated, HasRegionFault, no_brace}
 use Rattle.irtext_parse_root.specs.AnyRegion as region
 use Rattle.irtext_parse_root.specs.AnyState.{MissesSection, MissesAny, no_operation, no_section}
@@ -31,7 +31,7 @@ use Rattle.irtext_parse_root.specs.WholeAny.{HasSection, IsRest, MissesWholeAny,
 use Rattle.irtext_parse_section.specs.Said.{rules_of}
 use Rattle.irtext_parse_state.specs.States.{marks_of}
 use Rattle.irtext_parse_state.specs.declared.parsable.state.StateStream.{StateStream}
-use Rattle.irtext_promises.specs.Promises.{HasFault, at_text, by_names, start_with}
+use Rattle.irtext_names.specs.Promises.{HasFault, at_text, by_names, start_with}
 use Rattle.irtext_tokens.specs.AttrTexts.{attr_at}
 use Rattle.irtext_tokens.specs.Infix.{Reader}
 

@@ -11,10 +11,10 @@ use Rattle.irtext_graph.specs.Graph.{children, parent, parent_of, children_of}
 use Rattle.irtext_graph.specs.Nested.{Nested}
 use Rattle.irtext_graph.specs.Store.{get}
 use Rattle.irtext_graph.proofs.Inside.{within_self}
-use Rattle.irtext_parse_spec.proofs.Kin.{not_above}
+use Rattle.irtext_grammar.proofs.Kin.{not_above}
 use Rattle.irtext_print_ir.specs.Printers.Printed.{block_round}
-use Rattle.irtext_promises.specs.OnlyNew.{OnlyNew}
-use Rattle.irtext_promises.proofs.Ages.{here_is_live, live_here}
+use Rattle.irtext_names.specs.OnlyNew.{OnlyNew}
+use Rattle.irtext_names.proofs.Ages.{here_is_live, live_here}
 
 module _ {T A : Type 0} (old new : ContextView T A) (op : Ptr Operation) (before : Nested (children old.graph) (parent old.graph)) (after : Nested (children new.graph) (parent new.graph)) (only : OnlyNew op old new) where
   -- an operation in a block is there

@@ -20,17 +20,17 @@ use Rattle.irtext_grammar.specs.Graphs.Graph.{Graph, Printing}
 use Rattle.irtext_grammar.specs.Graphs.Same.{Found, resolved_root}
 use Rattle.irtext_grammar.specs.Spelling.Section.{text}
 use Rattle.irtext_grammar.specs.Spelling.Writable.{has_region}
-use Rattle.irtext_parse_spec.specs.Promises.Root.{UnlessMemory}
+use Rattle.irtext_grammar.specs.Promises.Root.{UnlessMemory}
 use Rattle.irtext_print.specs.Printers.PrintedOperation.{levels}
 use Rattle.irtext_print.specs.Printers.Shown.{Shown}
 use Rattle.irtext_print_ir.specs.Printers.Printed.{block_round}
 use Rattle.irtext_print_ops.specs.Heads as heads
-use Rattle.irtext_promises.specs.Held.{held_root}
-use Rattle.irtext_promises.specs.OnlyNew.{OnlyNew}
-use Rattle.irtext_promises.specs.Promises.{BuildsRoot, RefusesRoot}
+use Rattle.irtext_names.specs.Held.{held_root}
+use Rattle.irtext_names.specs.OnlyNew.{OnlyNew}
+use Rattle.irtext_names.specs.Promises.{BuildsRoot, RefusesRoot}
 use Rattle.irtext_tokens.specs.AttrTexts.{attr_at}
-use Rattle.irtext_parse_spec.specs.Back.{HeldBack, HeldWhole}
-use Rattle.irtext_parse_spec.specs.RootParts.{HoldsNoLabels}
+use Rattle.irtext_grammar.specs.Back.{HeldBack, HeldWhole}
+use Rattle.irtext_grammar.specs.RootParts.{HoldsNoLabels}
 use Rattle.irtext_parse_state.specs.declared.parsable.state.StateStream.{StateStream}
 use Rattle.pliron_text.specs.declared.calls.NotAgain.{NotAgain}
 use Rattle.pliron_text.specs.declared.calls.NotAgain.TheVariants.{Refused, Lost}

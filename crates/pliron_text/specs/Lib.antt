@@ -17,7 +17,7 @@ pub use Rattle.irtext_grammar.specs.Grammar
 pub use Rattle.irtext_grammar.specs.Graphs
 pub use Rattle.irtext_grammar.specs.Names
 pub use Rattle.irtext_grammar.specs.Spelling
-pub use Rattle.irtext_parse_spec.specs.Readers
+pub use Rattle.irtext_grammar.specs.Readers
 pub use Rattle.irtext_print.specs.Errors
 pub use Rattle.irtext_print.specs.Printers
 pub use Rattle.irtext_print_ir.specs.Errors as ErrorTexts

@@ -2,8 +2,8 @@
 ghost use Rattle.std.specs.Prelude.{◌≡◌, map, string_bytes, IfOk, IfErr, OnOk};
 ghost use Rattle.irtext_base.specs.Answers.{RunsOutHere};
 ghost use Rattle.irtext_base.specs.Locations.{location_view, attr_view_in, in_row, fused, named, call_site};
-ghost use Rattle.irtext_parse_spec.specs.Readers.NewPaths.{Makes};
-ghost use Rattle.irtext_parse_spec.specs.Readers.Streams.{itself, replaced};
+ghost use Rattle.irtext_grammar.specs.Readers.NewPaths.{Makes};
+ghost use Rattle.irtext_grammar.specs.Readers.Streams.{itself, replaced};
 
 use irtext_base::base::AttrObj;
 use irtext_base::location::Location;

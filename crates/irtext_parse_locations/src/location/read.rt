@@ -1,8 +1,8 @@
 //! Parsing of lines and columns.
 ghost use Rattle.irtext_base.specs.Faults.{characters};
 ghost use Rattle.irtext_tokens.specs.MustRead.{MustRead};
-ghost use Rattle.irtext_parse_spec.specs.Readers.Positions.{labelled_at, position_at};
-ghost use Rattle.irtext_parse_spec.specs.Readers.Streams.{itself, replaced};
+ghost use Rattle.irtext_grammar.specs.Readers.Positions.{labelled_at, position_at};
+ghost use Rattle.irtext_grammar.specs.Readers.Streams.{itself, replaced};
 ghost use Rattle.irtext_parse_locations.specs.Plain.{after_source_at};
 
 use crate::location::plain::position_there;

@@ -2,11 +2,11 @@
 ghost use Rattle.std.specs.Prelude.{◌≡◌, IfOk, string_bytes};
 ghost use Rattle.irtext_base.specs.Moves.{path_kept};
 ghost use Rattle.irtext_base.specs.Paths.{path_of, is_known};
-ghost use Rattle.irtext_parse_spec.specs.Readers.Positions.{position_at};
-ghost use Rattle.irtext_parse_spec.specs.Readers.Locations.{bytes_at, path_at, source_at, place_at};
+ghost use Rattle.irtext_grammar.specs.Readers.Positions.{position_at};
+ghost use Rattle.irtext_grammar.specs.Readers.Locations.{bytes_at, path_at, source_at, place_at};
 ghost use Rattle.irtext_tokens.specs.MustRead.{MustRead, MayRead};
-ghost use Rattle.irtext_parse_spec.specs.Readers.NewPaths.{AddsPaths, MayReadOver};
-ghost use Rattle.irtext_parse_spec.specs.Readers.Streams.{itself, replaced};
+ghost use Rattle.irtext_grammar.specs.Readers.NewPaths.{AddsPaths, MayReadOver};
+ghost use Rattle.irtext_grammar.specs.Readers.Streams.{itself, replaced};
 ghost use Rattle.irtext_parse_locations.specs.Sourced.{ReadsSource, ReadsLocation};
 
 use crate::location::nested::begins_source;

@@ -2,11 +2,11 @@
 ghost use Rattle.std.specs.Prelude.{◌≡◌, false, IsSome, IfErr, OnOk};
 ghost use Rattle.irtext_context.specs.Context.{operation};
 ghost use Rattle.irtext_tokens.specs.AttrTexts.{attr_at};
-ghost use Rattle.irtext_parse_state.specs.States.{marks_of};
-ghost use Rattle.irtext_parse_spec.specs.Promises.Root.{IsFresh, UnlessMemory};
-ghost use Rattle.irtext_parse_spec.specs.Promises.Section.{indices_of};
-ghost use Rattle.irtext_parse_spec.specs.Readers.Refusals.{Refusal, RefusesFailed};
-ghost use Rattle.irtext_promises.specs.Alone.{RefusesBlock};
+ghost use Rattle.irtext_parse_state.specs.States.{IsFresh, marks_of};
+ghost use Rattle.irtext_grammar.specs.Promises.Root.{UnlessMemory};
+ghost use Rattle.irtext_grammar.specs.Promises.Section.{indices_of};
+ghost use Rattle.irtext_grammar.specs.Readers.Refusals.{Refusal, RefusesFailed};
+ghost use Rattle.irtext_names.specs.Alone.{RefusesBlock};
 ghost use Rattle.irtext_parse_root.specs.Block.{MissesBlock};
 ghost use Rattle.irtext_parse_root.specs.Parses.{Parses, AnswersRegion};
 

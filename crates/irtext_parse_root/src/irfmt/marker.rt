@@ -1,7 +1,7 @@
 //! The marker in place of an attribute that is printed in the section.
 ghost use Rattle.irtext_base.specs.Faults.{characters};
 ghost use Rattle.irtext_tokens.specs.Lists.{AlwaysKeepsRules, Calls, KeepsRules, UnlessFailed};
-ghost use Rattle.irtext_parse_spec.specs.Readers.Marker.{MarkerOr, TakesWord};
+ghost use Rattle.irtext_grammar.specs.Readers.Marker.{MarkerOr, TakesWord};
 
 use irtext_base::parsable::{CharStream, ParseResult};
 use irtext_base::result::Cause;

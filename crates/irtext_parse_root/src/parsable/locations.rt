@@ -3,13 +3,13 @@ ghost use Rattle.std.specs.Prelude.{◌≡◌, IfOk};
 ghost use Rattle.irtext_base.specs.Moves.{path_kept, all_kept};
 ghost use Rattle.irtext_base.specs.Paths.{path_of, is_known};
 ghost use Rattle.irtext_tokens.specs.AttrTexts.{attr_at};
-ghost use Rattle.irtext_parse_state.specs.States.{marks_of};
-ghost use Rattle.irtext_parse_spec.specs.Readers.Locations.{source_at, location_at};
-ghost use Rattle.irtext_parse_spec.specs.Readers.Positions.{position_at};
+ghost use Rattle.irtext_parse_state.specs.States.{KeepsRest, marks_of};
+ghost use Rattle.irtext_grammar.specs.Readers.Locations.{source_at, location_at};
+ghost use Rattle.irtext_grammar.specs.Readers.Positions.{position_at};
 ghost use Rattle.irtext_tokens.specs.MustRead.{MayRead};
 ghost use Rattle.irtext_grammar.specs.Contexts.Held.{location_over};
-ghost use Rattle.irtext_parse_spec.specs.Readers.NewPaths.{AddsPaths, MayReadOver, known_location};
-ghost use Rattle.irtext_parse_spec.specs.Readers.Streams.{itself, replaced, KeepsRest};
+ghost use Rattle.irtext_grammar.specs.Readers.NewPaths.{AddsPaths, MayReadOver, known_location};
+ghost use Rattle.irtext_grammar.specs.Readers.Streams.{itself, replaced};
 
 use crate::parsable::{Parsable, ParseResult, StateStream};
 use irtext_base::location::{Location, Source};

@@ -6,8 +6,8 @@ ghost use Rattle.irtext_tokens.specs.Integers.{bool_at, int_at, signed_below, un
 ghost use Rattle.irtext_tokens.specs.QuotedTexts.{quoted_at};
 ghost use Rattle.irtext_tokens.specs.Tokens.{identifier_at};
 ghost use Rattle.irtext_tokens.specs.MustRead.{MayRead};
-ghost use Rattle.irtext_parse_spec.specs.Readers.DialectNames.{dialect_name_at};
-ghost use Rattle.irtext_parse_spec.specs.Readers.Streams.{itself, replaced};
+ghost use Rattle.irtext_grammar.specs.Readers.DialectNames.{dialect_name_at};
+ghost use Rattle.irtext_grammar.specs.Readers.Streams.{itself, replaced};
 
 use crate::parsable::{Parsable, ParseResult, StateStream};
 use irtext_base::base::Identifier;

@@ -5,11 +5,11 @@ ghost use Rattle.irtext_graph.specs.declared.arena.Ptr.{Ptr};
 ghost use Rattle.irtext_graph.specs.declared.object.Operation.{Operation};
 ghost use Rattle.irtext_graph.specs.declared.object.Region.{Region};
 ghost use Rattle.irtext_parse_root.specs.Parses.{Parses, AnswersOperation, AnswersRegion, AnswersWhole};
-ghost use Rattle.irtext_parse_spec.specs.Promises.ErrorCauses.{HasReason};
+ghost use Rattle.irtext_grammar.specs.Promises.ErrorCauses.{HasReason};
 ghost use Rattle.irtext_parse_state.specs.declared.parsable.state.StateStream.{StateStream};
 
 use irtext_base::text::{AttrText, IrText};
-pub use irtext_parse_spec::cause_laws::causes_of_texts;
+pub use irtext_grammar::cause_laws::causes_of_texts;
 
 /// If an operation, a whole text or a region is not parsed, by a call that meets its contract, the cause of the error is one of these: the
 /// stream had failed; out of memory; at the error's position there is a character, or the end, which is not what is expected, or a number

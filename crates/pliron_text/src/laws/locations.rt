@@ -6,10 +6,10 @@ ghost use Rattle.irtext_base.specs.Answers.{Outcome};
 ghost use Rattle.irtext_base.specs.Locations.{AttrView};
 ghost use Rattle.irtext_base.specs.Paths.{Written};
 ghost use Rattle.irtext_base.specs.Text.{after_space, begins};
-ghost use Rattle.irtext_parse_spec.specs.Readers.RestLengths.{LeavesNoMore};
-ghost use Rattle.irtext_parse_spec.specs.Readers.Locations.{location_at, location_within, more_within};
+ghost use Rattle.irtext_grammar.specs.Readers.RestLengths.{LeavesNoMore};
+ghost use Rattle.irtext_grammar.specs.Readers.Locations.{location_at, location_within, more_within};
 ghost use Rattle.irtext_grammar.specs.Spelling.Locations.{written_text};
-ghost use Rattle.irtext_parse_spec.specs.Promises.LocationsBack.{AllFit, AllRead, EndsLocation, GivesBack, left_after};
+ghost use Rattle.irtext_grammar.specs.Promises.LocationsBack.{AllFit, AllRead, EndsLocation, GivesBack, left_after};
 
 /// The printed text of a location of any kind parses back to that location, if no digit follows it, its metadata parses back, and its
 /// paths, names, lines and columns fit: paths and names are UTF-8, lines and columns fit their type. `within` says the same under each

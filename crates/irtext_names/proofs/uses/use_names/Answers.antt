@@ -1,7 +1,7 @@
 use Rattle.std.proofs.Common.{◌<◌, ◌∷◌, ◌++◌, ◌∙◌, [], length, map, take, sym, ap, subst, arith}
 use Rattle.irtext_names.specs.Kinds.{scopes_of, Makes}
 use Rattle.irtext_names.proofs.Lists.{known_at, number_more}
-use Rattle.irtext_names.proofs.Rows.{use_open}
+use Rattle.irtext_names.proofs.NamesInRow.{use_open}
 use Rattle.irtext_names.proofs.UsedRows.{ties_both, used_none, used_more}
 use Rattle.irtext_names.proofs.uses.use_names.Goals as goal
 

@@ -1,6 +1,6 @@
 use Rattle.std.proofs.Common.{sym, ap, ◌∙◌, subst, length, slice_get, true≢false}
 use Rattle.irtext_base.specs.FormatViews.{format_of}
-use Rattle.irtext_parse_spec.specs.Heads.{steps_of}
+use Rattle.irtext_grammar.specs.Heads.{steps_of}
 use Rattle.irtext_parse_pieces.proofs.Meanings.{names_more}
 use Rattle.irtext_parse_pieces.specs.Coming.{IsStep}
 use Rattle.irtext_parse_nested.proofs.FrontRead.{lead_misses, lead_unread, piece_misses, piece_commits, front_comes, steps_are, isolated_is}

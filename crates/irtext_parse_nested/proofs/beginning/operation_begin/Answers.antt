@@ -1,7 +1,7 @@
 use Rattle.std.proofs.Common.{◌∙◌, true, is_some, [], refl, sym, subst, true≢false}
 use Rattle.irtext_graph.specs.Back.{AllOlder}
 use Rattle.irtext_grammar.specs.Contexts.Held.{whole}
-use Rattle.irtext_parse_spec.specs.Promises.Root.{UnlessMemory}
+use Rattle.irtext_grammar.specs.Promises.Root.{UnlessMemory}
 use Rattle.irtext_tokens.specs.AttrTexts.{attr_at}
 use Rattle.irtext_tokens.proofs.Steps.{alone}
 use Rattle.irtext_parse_pieces.proofs.Meanings.{takes_whole}

@@ -4,7 +4,7 @@ use Rattle.irtext_graph.specs.Back.{AllOlder}
 use Rattle.irtext_grammar.specs.Contexts.Held.{whole}
 use Rattle.irtext_parse_nested.specs.Beginning.{ran_out, refused, SaysGather}
 use Rattle.irtext_parse_nested.specs.Gathered.{Gathers, RefusesGathering}
-use Rattle.irtext_parse_objects.specs.Uses.{KeepsScopes}
+use Rattle.irtext_names.specs.Uses.{KeepsScopes}
 use Rattle.irtext_parse_nested.proofs.BeginRead.{keeps_used, keeps_created, nothing_used_is_live, refusal_known}
 use Rattle.irtext_parse_nested.proofs.Marking.{if_err, if_ok_two, if_ok_handed}
 use Rattle.irtext_parse_nested.proofs.beginning.pieces_created.Goals as goal

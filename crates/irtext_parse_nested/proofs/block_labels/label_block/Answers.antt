@@ -1,7 +1,7 @@
 use Rattle.std.proofs.Common.{sym, subst}
 use Rattle.irtext_graph.specs.declared.object.Defined.TheVariants.{OfBlock}
-use Rattle.irtext_parse_objects.specs.Placeholders.{LosesPlaceholders}
-use Rattle.irtext_parse_objects.proofs.Losing.{defined_loses, loses_nothing}
+use Rattle.irtext_names.specs.LosesPlaceholders.{LosesPlaceholders}
+use Rattle.irtext_names.proofs.Losing.{defined_loses, loses_nothing}
 use Rattle.irtext_parse_nested.proofs.block_labels.label_block.Goals as goal
 
 pub returns-in-Ok-clause-loses : goal.returns-in-Ok-clause-loses

@@ -3,7 +3,7 @@ use Rattle.irtext_base.specs.Faults as causes
 use Rattle.irtext_graph.specs.declared.object.Value.TheVariants.{Argument}
 use Rattle.irtext_grammar.specs.Contexts.Held.{whole}
 use Rattle.irtext_parse_nested.specs.Definitions.{ValuesReady, DefinesRow, FailsRow, IsFaultOf}
-use Rattle.irtext_parse_objects.specs.Placeholders.{LosesPlaceholders}
+use Rattle.irtext_names.specs.LosesPlaceholders.{LosesPlaceholders}
 use Rattle.irtext_parse_nested.specs.Ends.{numbers_of}
 use Rattle.irtext_names.specs.Rows.{AreKnown}
 use Rattle.irtext_names.specs.Tied.{ArePending}

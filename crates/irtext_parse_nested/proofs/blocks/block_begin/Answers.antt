@@ -4,7 +4,7 @@ use Rattle.irtext_grammar.specs.Contexts.Held.{whole}
 use Rattle.irtext_scopes.specs.Scopes.{is_open}
 use Rattle.irtext_names.specs.Rows.{AreKnown}
 use Rattle.irtext_parse_pieces.specs.Named.{AreWords}
-use Rattle.irtext_parse_spec.specs.Promises.Root.{UnlessMemory}
+use Rattle.irtext_grammar.specs.Promises.Root.{UnlessMemory}
 use Rattle.irtext_parse_nested.specs.Blocks.{entries_in, IsRefusalFault}
 use Rattle.irtext_parse_nested.specs.Ends.{numbers_of, GainsMarks}
 use Rattle.irtext_parse_nested.proofs.BlockOpened.{label_known, arguments_known, opened_tied, opened_ready, opened_inside, opened_there, opened_sound, opened_kept, opened_new, opened_lasts, opened_spares, opened_gains, opened_came, opened_refused, opened_noted, opened_begins}

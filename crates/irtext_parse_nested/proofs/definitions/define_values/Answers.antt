@@ -6,7 +6,7 @@ use Rattle.irtext_names.specs.Linked.{TakesDefinition}
 use Rattle.irtext_names.specs.Placeholders.{Defines}
 use Rattle.irtext_parse_nested.specs.Definitions.{defined_value, DefinesRow, FailsRow}
 use Rattle.irtext_parse_nested.specs.Ends.{numbers_of}
-use Rattle.irtext_parse_objects.proofs.Losing.{loses_more, defined_loses}
+use Rattle.irtext_names.proofs.Losing.{loses_more, defined_loses}
 use Rattle.irtext_parse_nested.proofs.Numbered.{known_at, number_more, number_here, numbers_before, numbered_within, take_numbers}
 use Rattle.irtext_names.proofs.Results.{settles_both, still_ready, define_open, define_length, define_more, define_fails}
 use Rattle.irtext_parse_nested.proofs.definitions.define_values.Goals as goal

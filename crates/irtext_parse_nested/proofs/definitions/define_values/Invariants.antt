@@ -2,7 +2,7 @@ use Rattle.std.proofs.Common.{◌≡◌, length, take, true}
 use Rattle.irtext_scopes.specs.Scopes.{is_open}
 use Rattle.irtext_names.specs.Tied.{SettlesTies}
 use Rattle.irtext_parse_nested.specs.Definitions.{defined_value, ValuesReady, DefinesRow}
-use Rattle.irtext_parse_objects.specs.Placeholders.{LosesPlaceholders}
+use Rattle.irtext_names.specs.LosesPlaceholders.{LosesPlaceholders}
 use Rattle.irtext_parse_nested.specs.Ends.{numbers_of}
 use Rattle.irtext_parse_nested.proofs.definitions.define_values.Given as goal
 

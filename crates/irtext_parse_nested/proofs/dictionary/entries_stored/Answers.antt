@@ -2,7 +2,7 @@ use Rattle.std.proofs.Common.{Err, refl, rules, arith}
 use Rattle.irtext_grammar.specs.Contexts.Held.{entries_of}
 use Rattle.irtext_parse_nested.specs.Gathered.{rule_of}
 use Rattle.irtext_parse_nested.proofs.EntriesStored.{stores_none, stores_more, stores_refused, all_stored}
-use Rattle.irtext_parse_objects.proofs.Ordering.{none_left}
+use Rattle.irtext_names.proofs.Ordering.{none_left}
 use Rattle.irtext_parse_nested.proofs.dictionary.entries_stored.Goals as goal
 
 pub loop-entry-init : goal.loop-entry-init

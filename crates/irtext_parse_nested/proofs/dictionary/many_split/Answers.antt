@@ -1,6 +1,5 @@
 use Rattle.std.proofs.Common.{◌∙◌, arith}
-use Rattle.irtext_parse_objects.proofs.Ordering.{none_left}
-use Rattle.irtext_parse_objects.proofs.Ordering.{split_more, split_all}
+use Rattle.irtext_names.proofs.Ordering.{none_left, split_more, split_all}
 use Rattle.irtext_parse_nested.proofs.dictionary.many_split.Goals as goal
 
 pub loop-argument-preserved : goal.loop-argument-preserved

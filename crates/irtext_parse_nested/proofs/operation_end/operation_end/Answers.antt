@@ -4,10 +4,10 @@ use Rattle.irtext_context.specs.declared.base.item.Item.TheVariants as item
 use Rattle.irtext_parse_state.specs.States.{marks_of}
 use Rattle.irtext_grammar.specs.Contexts.Held.{whole}
 use Rattle.irtext_graph.specs.declared.object.Object.TheVariants.{TheOperation}
-use Rattle.irtext_parse_spec.specs.Unchanged.{ModifiesOnly}
+use Rattle.irtext_grammar.specs.Unchanged.{ModifiesOnly}
 use Rattle.irtext_parse_nested.specs.Ends.{BecomesNamed}
-use Rattle.irtext_parse_objects.specs.Items.{KeepsLive}
-use Rattle.irtext_parse_objects.specs.Located.{IsLocated}
+use Rattle.irtext_names.specs.Items.{KeepsLive}
+use Rattle.irtext_names.specs.Located.{IsLocated}
 use Rattle.irtext_parse_nested.specs.Read.{no_results}
 use Rattle.irtext_parse_nested.proofs.Depths.{depths_same}
 use Rattle.irtext_parse_nested.proofs.Ended.{end_read, end_marked, end_unread, end_noted, must_commit}

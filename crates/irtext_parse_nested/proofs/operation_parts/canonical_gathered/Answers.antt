@@ -6,7 +6,7 @@ use Rattle.irtext_parse_pieces.specs.Found.{with_words}
 use Rattle.irtext_parse_nested.specs.Gathered.{RefusesGathering}
 use Rattle.irtext_parse_nested.proofs.Gathering.{gathering_begins, gathering_can, gathering_more, gathering_refused, gathering_ends}
 use Rattle.irtext_parse_nested.proofs.Halves.{gathering_half}
-use Rattle.irtext_parse_objects.proofs.Steady.{steady_itself, steady_both}
+use Rattle.irtext_names.proofs.Steady.{steady_itself, steady_both}
 use Rattle.irtext_parse_nested.proofs.operation_parts.canonical_gathered.Goals as goal
 
 pub names_gathered-requires-clause-can : goal.names_gathered-requires-clause-can

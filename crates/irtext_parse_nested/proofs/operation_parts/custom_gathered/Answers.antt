@@ -1,9 +1,9 @@
 use Rattle.std.proofs.Common.{rules, arith, ◌≡◌, ◌∷◌, [], sym, subst, ◌∙◌, ap}
 use Rattle.irtext_parse_pieces.specs.Found.{with_words}
 use Rattle.irtext_parse_nested.specs.Gathered.{CanGather, Gathers, RefusesGathering}
-use Rattle.irtext_parse_objects.proofs.Steady.{steady_itself, steady_both}
+use Rattle.irtext_names.proofs.Steady.{steady_itself, steady_both}
 use Rattle.irtext_parse_nested.proofs.Gathers.{can_first, can_after, gathers_then, fails_at_then}
-use Rattle.irtext_parse_objects.proofs.Ordering.{none_left}
+use Rattle.irtext_names.proofs.Ordering.{none_left}
 use Rattle.irtext_parse_nested.proofs.Pieces.{gather_refused_first, gather_refused_from}
 use Rattle.irtext_parse_nested.proofs.Words.{can_after_words, gathers_words, words_refused, gathers_last}
 use Rattle.irtext_parse_nested.proofs.operation_parts.custom_gathered.Goals as goal

@@ -1,7 +1,7 @@
 use Rattle.std.proofs.Common.{ℕ}
 use Rattle.irtext_parse_pieces.specs.Found.{with_words}
 use Rattle.irtext_parse_nested.specs.declared.operation_parts.NotGathered.{NotGathered}
-use Rattle.irtext_parse_objects.specs.Uses.{KeepsScopes}
+use Rattle.irtext_names.specs.Uses.{KeepsScopes}
 use Rattle.irtext_parse_nested.specs.Gathered.{CanGather, Gathers, RefusesGathering}
 use Rattle.irtext_parse_nested.proofs.operation_parts.custom_gathered.Given as goal
 

@@ -1,6 +1,6 @@
 use Rattle.std.proofs.Common.{◌∙◌, length, refl, sym}
 use Rattle.irtext_parse_nested.proofs.Halves.{single_known, single_outside, single_half}
-use Rattle.irtext_parse_objects.proofs.Steady.{steady_itself}
+use Rattle.irtext_names.proofs.Steady.{steady_itself}
 use Rattle.irtext_parse_nested.proofs.operation_parts.name_gathered.Goals as goal
 
 pub returns-then-not-has_scope-clause-refused : goal.returns-then-not-has_scope-clause-refused

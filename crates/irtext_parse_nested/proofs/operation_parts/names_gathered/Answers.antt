@@ -1,7 +1,7 @@
 use Rattle.std.proofs.Common.{◌<◌, ◌∙◌, length, refl, sym, arith}
 use Rattle.irtext_parse_nested.proofs.Halves.{list_known, list_outside, list_half, none_half}
 use Rattle.irtext_parse_nested.proofs.Numbered.{item_there}
-use Rattle.irtext_parse_objects.proofs.Steady.{steady_itself}
+use Rattle.irtext_names.proofs.Steady.{steady_itself}
 use Rattle.irtext_parse_nested.proofs.operation_parts.names_gathered.Goals as goal
 
 pub returns-then-not-has_scope-clause-refused : goal.returns-then-not-has_scope-clause-refused

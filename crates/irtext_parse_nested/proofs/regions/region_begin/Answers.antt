@@ -4,8 +4,8 @@ use Rattle.irtext_context.specs.Context.{operation, KeepsOlder}
 use Rattle.irtext_graph.specs.Graph.{IsNew}
 use Rattle.irtext_graph.specs.declared.object.Object.TheVariants.{TheOperation}
 use Rattle.irtext_tokens.specs.AttrTexts.{attr_at}
-use Rattle.irtext_parse_objects.specs.Items.{KeepsLive}
-use Rattle.irtext_parse_objects.specs.Placing.{CreatesIn}
+use Rattle.irtext_names.specs.Items.{KeepsLive}
+use Rattle.irtext_names.specs.Placing.{CreatesIn}
 use Rattle.irtext_parse_nested.proofs.Entering.{unentered, unbraced, braced}
 use Rattle.irtext_parse_nested.proofs.NamesLeft.{sound_left}
 use Rattle.irtext_parse_nested.proofs.RegionBegun.{region_lasts, region_there, region_new, region_leaves, region_came, region_gains, region_spares}

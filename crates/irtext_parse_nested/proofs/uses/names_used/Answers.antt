@@ -2,9 +2,9 @@ use Rattle.std.proofs.Common.{◌<◌, ◌∙◌, ◌++◌, ◌∷◌, [], lengt
 use Rattle.irtext_names.specs.Kinds.{defined_as, use_of, scopes_of}
 use Rattle.irtext_names.specs.Rows.{UsesRow}
 use Rattle.irtext_names.proofs.Lists.{take_whole}
-use Rattle.irtext_names.proofs.Rows.{no_uses, use_more}
+use Rattle.irtext_names.proofs.NamesInRow.{no_uses, use_more}
 use Rattle.irtext_parse_nested.proofs.Numbered.{known_at, number_more}
-use Rattle.irtext_parse_objects.proofs.Steady.{depth_of, open_by_depth, steady_itself, steady_both, length_names}
+use Rattle.irtext_names.proofs.Steady.{depth_of, open_by_depth, steady_itself, steady_both, length_names}
 use Rattle.irtext_parse_nested.proofs.uses.names_used.Goals as goal
 
 pub loop-index-init : goal.loop-index-init

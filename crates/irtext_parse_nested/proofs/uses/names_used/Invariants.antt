@@ -1,7 +1,7 @@
 use Rattle.std.proofs.Common.{◌≡◌, ◌++◌, List, map, take}
 use Rattle.irtext_names.specs.Kinds.{defined_as, use_of}
 use Rattle.irtext_names.specs.Rows.{UsesRow}
-use Rattle.irtext_parse_objects.specs.Uses.{KeepsScopes}
+use Rattle.irtext_names.specs.Uses.{KeepsScopes}
 use Rattle.irtext_parse_nested.proofs.uses.names_used.Given as goal
 
 abbrev pub invariant-loop-index : goal.invariant-loop-index

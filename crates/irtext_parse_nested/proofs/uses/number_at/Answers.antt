@@ -1,5 +1,5 @@
 use Rattle.std.proofs.Common.{◌∙◌, ap, sym, Some}
-use Rattle.irtext_parse_objects.proofs.Steady.{number_here}
+use Rattle.irtext_names.proofs.Steady.{number_here}
 use Rattle.irtext_parse_nested.proofs.uses.number_at.Goals as goal
 
 pub returns : goal.returns

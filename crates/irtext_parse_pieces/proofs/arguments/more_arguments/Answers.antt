@@ -1,5 +1,5 @@
 use Rattle.irtext_tokens.specs.AttrTexts.{attr_at}
-use Rattle.irtext_parse_spec.specs.Heads.{argument_at}
+use Rattle.irtext_grammar.specs.Heads.{argument_at}
 use Rattle.irtext_parse_pieces.specs.Arguments.{IsArgument}
 use Rattle.irtext_parse_pieces.specs.Named.{whole, Each}
 use Rattle.irtext_parse_pieces.proofs.Meanings.{names_none, names_more, names_still_represent}

@@ -1,7 +1,7 @@
 use Rattle.std.proofs.Common.{◌≡◌, ℕ, false, [], ◌∷◌, length}
 use Rattle.irtext_grammar.specs.Grammar.Tree.{Name}
 use Rattle.irtext_tokens.specs.AttrTexts.{attr_at}
-use Rattle.irtext_parse_spec.specs.Heads.{argument_at}
+use Rattle.irtext_grammar.specs.Heads.{argument_at}
 use Rattle.irtext_parse_pieces.specs.Arguments.{IsArgument}
 use Rattle.irtext_parse_pieces.specs.Named.{whole, NamesRead}
 use Rattle.irtext_parse_pieces.proofs.Listings.{Listing}

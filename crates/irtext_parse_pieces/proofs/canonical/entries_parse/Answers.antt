@@ -2,7 +2,7 @@ use Rattle.std.proofs.Common.{refl, subst}
 use Rattle.irtext_base.specs.Format as format
 use Rattle.irtext_tokens.specs.AttrTexts.{attr_at}
 use Rattle.irtext_grammar.specs.Grammar.Tree as tree
-use Rattle.irtext_parse_spec.specs.Heads.{flat, dictionary_by}
+use Rattle.irtext_grammar.specs.Heads.{flat, dictionary_by}
 use Rattle.irtext_parse_pieces.specs.declared.pieces.ReadPiece.TheVariants as read
 use Rattle.irtext_parse_pieces.proofs.CanonicalSteps.{step_read, spaced_mean}
 use Rattle.irtext_parse_pieces.specs.Entries.{AreEntries}

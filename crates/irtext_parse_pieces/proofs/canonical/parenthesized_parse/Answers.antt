@@ -2,7 +2,7 @@ use Rattle.std.proofs.Common.{◌≡◌, refl, sym, ap, codes}
 use Rattle.irtext_tokens.specs.AttrTexts.{attr_at}
 use Rattle.irtext_tokens.specs.ListOutcomes.{separated_at}
 use Rattle.irtext_grammar.specs.Grammar.Tree as tree
-use Rattle.irtext_parse_spec.specs.Heads.{types}
+use Rattle.irtext_grammar.specs.Heads.{types}
 use Rattle.irtext_parse_pieces.specs.declared.pieces.ReadPiece.TheVariants as read
 use Rattle.irtext_parse_pieces.specs.Named.{Each}
 use Rattle.irtext_parse_pieces.proofs.CanonicalSteps.{unopened, unfilled, ended}

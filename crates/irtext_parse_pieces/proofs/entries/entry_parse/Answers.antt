@@ -1,5 +1,5 @@
 use Rattle.irtext_tokens.specs.AttrTexts.{attr_at}
-use Rattle.irtext_parse_spec.specs.Heads.{pair_at}
+use Rattle.irtext_grammar.specs.Heads.{pair_at}
 use Rattle.irtext_parse_pieces.proofs.AllowedSteps.{may_keep}
 use Rattle.irtext_parse_pieces.proofs.Lenses.{lens_of}
 use Rattle.irtext_parse_pieces.proofs.entries.entry_parse.Goals as goal

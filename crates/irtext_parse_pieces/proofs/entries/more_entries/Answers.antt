@@ -1,6 +1,6 @@
 use Rattle.std.proofs.Common.{[], ◌∷◌, ◌++◌, ◌<◌, length, ap, sym, subst, ◌∙◌, Ok, Err}
 use Rattle.irtext_tokens.specs.AttrTexts.{attr_at}
-use Rattle.irtext_parse_spec.specs.Heads.{entry_by}
+use Rattle.irtext_grammar.specs.Heads.{entry_by}
 use Rattle.irtext_parse_pieces.specs.Entries.{IsEntry, AreEntries}
 use Rattle.irtext_parse_pieces.specs.Named.{whole}
 use Rattle.irtext_parse_pieces.proofs.Meanings.{insisted_mean, must_refuse}

@@ -1,6 +1,6 @@
 use Rattle.irtext_tokens.specs.AttrTexts.{attr_at}
 use Rattle.irtext_grammar.specs.Contexts.Held.{attribute_of}
-use Rattle.irtext_parse_spec.specs.Readers.Directives.{attribute_at}
+use Rattle.irtext_grammar.specs.Readers.Directives.{attribute_at}
 use Rattle.irtext_parse_pieces.proofs.Lenses.{lens_of}
 use Rattle.irtext_parse_pieces.proofs.PairSteps.{pair_unnamed, pair_alone, pair_ended}
 use Rattle.irtext_parse_pieces.proofs.entries.pair_parse.Goals as goal

@@ -1,5 +1,5 @@
 use Rattle.irtext_tokens.proofs.Exits.{propagated}
-use Rattle.irtext_parse_spec.specs.Heads.{name_at}
+use Rattle.irtext_grammar.specs.Heads.{name_at}
 use Rattle.irtext_parse_pieces.specs.Named.{whole, Represents, Each}
 use Rattle.irtext_parse_pieces.proofs.Meanings.{names_none, names_more, read_mean, names_still_represent}
 use Rattle.irtext_parse_pieces.proofs.Listings.{listing_starts, turn_falls, turn_more, turn_keeps, turn_ends}

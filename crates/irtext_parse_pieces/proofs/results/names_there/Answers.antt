@@ -1,5 +1,5 @@
 use Rattle.std.proofs.Common.{Ok, Some, sym, ◌∙◌}
-use Rattle.irtext_parse_spec.specs.Heads.{name_at}
+use Rattle.irtext_grammar.specs.Heads.{name_at}
 use Rattle.irtext_parse_pieces.proofs.Meanings.{names_more}
 use Rattle.irtext_parse_pieces.proofs.Listings.{only_first}
 use Rattle.irtext_parse_pieces.proofs.Looks.{list_looks, first_unlooked}

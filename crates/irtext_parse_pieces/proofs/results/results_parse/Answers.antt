@@ -1,6 +1,6 @@
 use Rattle.std.proofs.Common.{◌≡◌, false, sym, ◌∙◌, ap, subst}
 use Rattle.irtext_base.specs.Answers.{SameStream}
-use Rattle.irtext_parse_spec.specs.Heads.{results_at}
+use Rattle.irtext_grammar.specs.Heads.{results_at}
 use Rattle.irtext_parse_pieces.specs.Results.{is_read}
 use Rattle.irtext_tokens.proofs.SetBack.{set_back, set_within}
 use Rattle.irtext_parse_pieces.proofs.Looks.{results_none, results_run_out, results_fail}

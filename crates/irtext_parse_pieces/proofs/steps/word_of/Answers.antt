@@ -3,7 +3,7 @@ use Rattle.std.proofs.lemmas.Str.{chars_from_encodes}
 use Rattle.std.specs.Str.{chars}
 use Rattle.irtext_base.specs.Faults.{characters}
 use Rattle.irtext_base.specs.Format.{word}
-use Rattle.irtext_parse_spec.specs.Heads.{flat}
+use Rattle.irtext_grammar.specs.Heads.{flat}
 use Rattle.irtext_tokens.proofs.Characters.{encodes-characters}
 use Rattle.irtext_parse_pieces.proofs.steps.word_of.Goals as goal
 

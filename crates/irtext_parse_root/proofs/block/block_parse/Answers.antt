@@ -1,7 +1,7 @@
 use Rattle.std.proofs.Common.{◌∙◌, ap, refl, sym, true≢false}
 use Rattle.irtext_tokens.specs.AttrTexts.{attr_at}
 use Rattle.irtext_parse_state.specs.States.{marks_of}
-use Rattle.irtext_parse_spec.specs.Promises.Section.{indices_of}
+use Rattle.irtext_grammar.specs.Promises.Section.{indices_of}
 use Rattle.irtext_parse_root.proofs.BlockHeads.{no_words, head_read, read_missed, read_refusal, unread_missed, unread_refusal, misses_fresh}
 use Rattle.irtext_parse_root.proofs.block.block_parse.Goals as goal
 

@@ -3,7 +3,7 @@ use Rattle.irtext_base.specs.Answers.{Passes}
 use Rattle.irtext_base.specs.Faults.{Unexpected}
 use Rattle.irtext_base.specs.Stream.{first_of}
 use Rattle.irtext_tokens.specs.AttrTexts.{attr_at}
-use Rattle.irtext_parse_spec.specs.Readers.Streams.{itself, replaced}
+use Rattle.irtext_grammar.specs.Readers.Streams.{itself, replaced}
 use Rattle.irtext_parse_pieces.proofs.Meanings.{names_none}
 use Rattle.irtext_parse_root.proofs.BlockHeads.{begun_mean, none_begins, none_runs_out}
 use Rattle.irtext_parse_root.proofs.block.header_parse.Goals as goal

@@ -1,7 +1,7 @@
 use Rattle.std.proofs.Common.{◌≡◌, None, arith, slice_get}
 use Rattle.std.proofs.lemmas.Option.{slice_get_past}
 use Rattle.irtext_base.specs.Faults.{id_of}
-use Rattle.irtext_parse_spec.specs.Reached.{steps_in}
+use Rattle.irtext_grammar.specs.Reached.{steps_in}
 use Rattle.irtext_parse_root.proofs.coming.next_turn.Goals as goal
 
 pub returns-then-begun-clause-next : goal.returns-then-begun-clause-next

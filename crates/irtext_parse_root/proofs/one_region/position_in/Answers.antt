@@ -1,6 +1,6 @@
 use Rattle.std.proofs.Common.{◌≡◌, ◌∙◌, sym, ap, subst}
 use Rattle.std.specs.Option.{option_map}
-use Rattle.irtext_promises.specs.Alone.{IsOutermost}
+use Rattle.irtext_names.specs.Alone.{IsOutermost}
 use Rattle.irtext_parse_root.proofs.one_region.position_in.Goals as goal
 
 pub returns : goal.returns

@@ -8,7 +8,7 @@ use Rattle.irtext_tokens.specs.AttrTexts.{attr_at}
 use Rattle.irtext_tokens.proofs.Exits.{propagated}
 use Rattle.irtext_parse_state.specs.States.{marks_of}
 use Rattle.irtext_parse_nested.proofs.Marking.{gains_nothing}
-use Rattle.irtext_promises.specs.Alone.{IsOutermost}
+use Rattle.irtext_names.specs.Alone.{IsOutermost}
 use Rattle.irtext_parse_root.proofs.Chains.{never_open, gains_both, rest_both}
 use Rattle.irtext_parse_root.proofs.Under.{region_is_here, unentered_refused, unbegun_refused, entry_refused, under_stops, still_alone, can_place, reads_under}
 use Rattle.irtext_parse_root.proofs.Sparing.{fine_after, alone_kept}

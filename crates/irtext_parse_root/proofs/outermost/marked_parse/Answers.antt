@@ -1,6 +1,6 @@
 use Rattle.std.proofs.Common.{◌≡◌, ◌∙◌, ◌⊎◌, ◌&&◌, false, [], sym, ap, inl, inr, true≢false}
 use Rattle.irtext_context.proofs.Kept.{kept_closed, kept_trans}
-use Rattle.irtext_parse_spec.specs.Promises.Section.{is_noted}
+use Rattle.irtext_grammar.specs.Promises.Section.{is_noted}
 use Rattle.irtext_tokens.proofs.Exits.{propagated}
 use Rattle.irtext_parse_state.specs.States.{marks_of}
 use Rattle.irtext_parse_root.proofs.Laws.{Laws, laws_of}

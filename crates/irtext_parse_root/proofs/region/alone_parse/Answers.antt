@@ -1,8 +1,8 @@
 use Rattle.std.proofs.Common.{refl, sym, ap, subst, le_refl, inr}
 use Rattle.irtext_graph.proofs.Made.{same_keeps}
-use Rattle.irtext_promises.specs.Alone as alone
+use Rattle.irtext_names.specs.Alone as alone
 use Rattle.irtext_tokens.specs.AttrTexts.{attr_at}
-use Rattle.irtext_parse_spec.specs.Readers.Refusals.{Refusal}
+use Rattle.irtext_grammar.specs.Readers.Refusals.{Refusal}
 use Rattle.irtext_parse_nested.proofs.Marking.{gains_nothing}
 use Rattle.irtext_parse_root.specs.AnyRegion as any
 use Rattle.irtext_parse_root.proofs.Laws.{Laws, laws_of}

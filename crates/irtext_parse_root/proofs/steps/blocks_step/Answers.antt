@@ -1,6 +1,6 @@
 use Rattle.std.proofs.Common.{◌≡◌, ◌∙◌, sym, subst, true, false}
 use Rattle.irtext_tokens.proofs.Exits.{propagated}
-use Rattle.irtext_parse_spec.specs.Reached.{begins_block}
+use Rattle.irtext_grammar.specs.Reached.{begins_block}
 use Rattle.irtext_grammar.specs.Contexts.Held.{whole}
 use Rattle.irtext_parse_root.proofs.Chains.{moved_whole, carries_passed}
 use Rattle.irtext_parse_root.proofs.Proceeding.{block_proceeds, left_proceeds}

@@ -2,7 +2,7 @@ use Rattle.std.proofs.Common.{◌∙◌, sym, ap, subst, length, slice_get}
 use Rattle.std.specs.Prelude.{IfSome}
 use Rattle.irtext_grammar.specs.Contexts.Formats.{isolated}
 use Rattle.irtext_grammar.specs.Contexts.Held.{whole}
-use Rattle.irtext_parse_spec.specs.Reached.{steps_in}
+use Rattle.irtext_grammar.specs.Reached.{steps_in}
 use Rattle.irtext_parse_pieces.specs.Coming.{IsStep}
 use Rattle.irtext_parse_root.proofs.Stopping.{operation_there}
 use Rattle.irtext_parse_root.proofs.steps.operation_step.Goals as goal

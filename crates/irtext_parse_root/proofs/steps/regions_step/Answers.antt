@@ -1,5 +1,5 @@
 use Rattle.std.proofs.Common.{◌≡◌, ◌∙◌, None, sym, ap, subst, true, false}
-use Rattle.irtext_parse_spec.specs.Reached.{begins_region}
+use Rattle.irtext_grammar.specs.Reached.{begins_region}
 use Rattle.irtext_parse_root.proofs.Chains.{carries_passed}
 use Rattle.irtext_parse_root.proofs.Proceeding.{another_proceeds, over_proceeds}
 use Rattle.irtext_parse_root.proofs.Sparing.{fine_after, step_made, step_failed, step_ran_out, step_passed}

@@ -1,7 +1,7 @@
 use Rattle.std.proofs.Common.{subst}
 use Rattle.irtext_graph.specs.Graph.{children, parent}
 use Rattle.irtext_graph.specs.Nested.{Nested}
-use Rattle.irtext_parse_spec.proofs.Knot.Formats.{each_accepted}
+use Rattle.irtext_grammar.proofs.Knot.Formats.{each_accepted}
 use Rattle.irtext_parse_root.proofs.tree.context_keeps.Goals as goal
 
 pub returns-clause-nest : goal.returns-clause-nest

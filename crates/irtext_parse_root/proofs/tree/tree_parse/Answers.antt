@@ -1,5 +1,5 @@
 use Rattle.std.proofs.Common.{sym, subst, le_refl}
-use Rattle.irtext_parse_spec.specs.Readers.Refusals.{Refusal}
+use Rattle.irtext_grammar.specs.Readers.Refusals.{Refusal}
 use Rattle.irtext_tokens.specs.AttrTexts.{attr_at}
 use Rattle.irtext_parse_root.proofs.Laws.{laws_of}
 use Rattle.irtext_parse_root.proofs.Closed.{reads_tree}

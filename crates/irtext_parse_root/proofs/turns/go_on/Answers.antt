@@ -1,8 +1,8 @@
 use Rattle.std.proofs.Common.{Option, Some, None, slice_get}
 use Rattle.irtext_base.specs.Faults.{id_of}
 use Rattle.irtext_tokens.specs.AttrTexts.{attr_at}
-use Rattle.irtext_parse_spec.specs.Heads.{Step}
-use Rattle.irtext_parse_spec.specs.Reached.{steps_in}
+use Rattle.irtext_grammar.specs.Heads.{Step}
+use Rattle.irtext_grammar.specs.Reached.{steps_in}
 use Rattle.irtext_parse_nested.specs.Later.{IsFlatNext}
 use Rattle.irtext_parse_pieces.specs.Coming.{IsStep}
 use Rattle.irtext_parse_pieces.specs.declared.coming.Coming.TheVariants as comes

@@ -2,7 +2,7 @@ use Rattle.std.proofs.Common.{ap, sym, subst}
 use Rattle.irtext_context.specs.Context.{KeepsOlder}
 use Rattle.irtext_tokens.specs.AttrTexts.{attr_at}
 use Rattle.irtext_parse_state.specs.States.{marks_of}
-use Rattle.irtext_parse_objects.proofs.Lasting.{lasts_itself}
+use Rattle.irtext_names.proofs.Lasting.{lasts_itself}
 use Rattle.irtext_parse_root.proofs.Handing.{leaves_given, spares_same}
 use Rattle.irtext_parse_root.proofs.Looping.{keeps_itself}
 use Rattle.irtext_parse_root.proofs.turns.leave.Goals as goal

@@ -6,11 +6,11 @@ use Rattle.irtext_tokens.specs.AttrTexts.{attr_at}
 use Rattle.irtext_tokens.proofs.Exits.{propagated}
 use Rattle.irtext_tokens.proofs.Steps.{alone}
 use Rattle.irtext_parse_state.specs.States.{marks_of}
-use Rattle.irtext_parse_spec.specs.Promises.Section.{indices_of}
-use Rattle.irtext_parse_spec.proofs.Readers.Answered.{answered, not_answered}
-use Rattle.irtext_parse_spec.proofs.Readers.EntryIndices.{demands}
-use Rattle.irtext_parse_spec.proofs.Readers.NewPaths.{adds_kept}
-use Rattle.irtext_parse_spec.proofs.Fine.{fine_section}
+use Rattle.irtext_grammar.specs.Promises.Section.{indices_of}
+use Rattle.irtext_grammar.proofs.Readers.Answered.{answered, not_answered}
+use Rattle.irtext_grammar.proofs.Readers.EntryIndices.{demands}
+use Rattle.irtext_grammar.proofs.Readers.NewPaths.{adds_kept}
+use Rattle.irtext_grammar.proofs.Fine.{fine_section}
 use Rattle.irtext_parse_nested.proofs.Marking.{if_err, on_err, always_err}
 use Rattle.irtext_parse_pieces.proofs.Meanings.{takes_whole}
 use Rattle.irtext_parse_section.specs.Said.{rules_of}

@@ -1,7 +1,7 @@
 use Rattle.std.proofs.Common.{true, sym, subst, ◌∙◌, refl}
 use Rattle.irtext_tokens.specs.AttrTexts.{attr_at}
 use Rattle.irtext_tokens.proofs.Exits.{propagated}
-use Rattle.irtext_parse_spec.proofs.Readers.NewPaths.{only_none, only_more}
+use Rattle.irtext_parse_section.proofs.OnlyPaths.{only_none, only_more}
 use Rattle.irtext_parse_section.specs.Entries.{nothing, one_noted, EntriesSoFar}
 use Rattle.irtext_parse_section.proofs.LoopSteps.{so_far_none, all_entries, entries_refused, first_so_far, only_entry}
 use Rattle.irtext_parse_section.proofs.entries.entries_parse.Goals as goal

@@ -1,6 +1,6 @@
 use Rattle.std.proofs.Common.{sym, subst}
 use Rattle.irtext_tokens.specs.AttrTexts.{attr_at}
-use Rattle.irtext_parse_spec.proofs.Readers.NewPaths.{only_none}
+use Rattle.irtext_parse_section.proofs.OnlyPaths.{only_none}
 use Rattle.irtext_parse_section.specs.Entries.{EntriesSoFar, one_noted}
 use Rattle.irtext_parse_section.proofs.LoopSteps.{ran_out_so_far}
 use Rattle.irtext_parse_section.proofs.entries.first_and_more.Goals as goal

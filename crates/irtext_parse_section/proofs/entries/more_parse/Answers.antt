@@ -1,8 +1,8 @@
 use Rattle.std.proofs.Common.{true, sym, ap, ◌∙◌}
 use Rattle.irtext_parse_state.specs.States.{marks_of}
 use Rattle.irtext_tokens.specs.AttrTexts.{attr_at}
-use Rattle.irtext_parse_spec.specs.Readers.Marks.{may_follow}
-use Rattle.irtext_parse_spec.proofs.Readers.NewPaths.{only_none, only_more}
+use Rattle.irtext_parse_section.specs.OnlyPaths.{may_follow}
+use Rattle.irtext_parse_section.proofs.OnlyPaths.{only_none, only_more}
 use Rattle.irtext_parse_section.specs.Entries.{noted}
 use Rattle.irtext_parse_section.specs.Said.{rules_of}
 use Rattle.irtext_parse_section.proofs.LoopSteps.{unless_err, all_entries, entries_refused, entries_ran_out, entries_shorter, entries_more, ran_out_so_far}

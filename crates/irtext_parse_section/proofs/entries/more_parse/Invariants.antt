@@ -1,7 +1,7 @@
 use Rattle.std.proofs.Common.{length}
 use Rattle.irtext_parse_state.specs.declared.parsable.state.StateStream.{StateStream}
 use Rattle.irtext_tokens.specs.AttrTexts.{attr_at}
-use Rattle.irtext_parse_spec.specs.Readers.NewPaths.{AddsOnlyPaths}
+use Rattle.irtext_parse_section.specs.OnlyPaths.{AddsOnlyPaths}
 use Rattle.irtext_parse_section.specs.Entries.{EntriesSoFar, noted}
 use Rattle.irtext_parse_section.proofs.entries.more_parse.Given as goal
 

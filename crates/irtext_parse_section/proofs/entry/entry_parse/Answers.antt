@@ -4,9 +4,8 @@ use Rattle.irtext_tokens.specs.AttrTexts.{attr_at}
 use Rattle.irtext_parse_state.specs.States.{marks_of}
 use Rattle.irtext_parse_state.specs.declared.parsable.state.State.{State}
 use Rattle.irtext_tokens.proofs.Exits.{propagated}
-use Rattle.irtext_parse_spec.specs.Readers.Marks.{may_follow}
-use Rattle.irtext_parse_spec.specs.Readers.NewPaths.{AddsOnlyPaths}
-use Rattle.irtext_parse_spec.proofs.Readers.NewPaths.{only_none}
+use Rattle.irtext_parse_section.specs.OnlyPaths.{AddsOnlyPaths, may_follow}
+use Rattle.irtext_parse_section.proofs.OnlyPaths.{only_none}
 use Rattle.irtext_parse_section.specs.Entries.{earlier_indices}
 use Rattle.irtext_parse_section.proofs.EntrySteps.{entry_unread, once_there, once_refused, item_there, item_refused}
 use Rattle.irtext_parse_section.proofs.entry.entry_parse.Goals as goal

@@ -3,7 +3,7 @@ use Rattle.std.specs.Prelude.{option_copied}
 use Rattle.irtext_base.specs.Faults.{fault_of}
 use Rattle.irtext_parse_state.specs.States.{marks_of}
 use Rattle.irtext_tokens.proofs.Exits.{propagated}
-use Rattle.irtext_parse_spec.specs.Readers.Marks.{may_follow}
+use Rattle.irtext_parse_section.specs.OnlyPaths.{may_follow}
 use Rattle.irtext_parse_section.specs.Entries.{earlier_indices}
 use Rattle.irtext_parse_section.proofs.HeadSteps.{next_found, none_found, head_short, head_passes, head_fails, head_unread}
 use Rattle.irtext_parse_section.proofs.entry.head_parse.Goals as goal

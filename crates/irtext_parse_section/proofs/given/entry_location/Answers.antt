@@ -6,16 +6,16 @@ use Rattle.irtext_base.specs.Stream.{StreamView}
 use Rattle.irtext_base.specs.Text.{Text}
 use Rattle.irtext_tokens.specs.AttrTexts.{attr_at}
 use Rattle.irtext_tokens.specs.Tokens.{space_at, text_at}
-use Rattle.irtext_parse_spec.specs.Readers.Locations.{location_at}
-use Rattle.irtext_parse_spec.specs.Readers.Positions.{spaced_at}
+use Rattle.irtext_grammar.specs.Readers.Locations.{location_at}
+use Rattle.irtext_grammar.specs.Readers.Positions.{spaced_at}
 use Rattle.irtext_grammar.specs.Contexts.Held.{location_over}
-use Rattle.irtext_parse_spec.specs.Promises.Section.{given_over}
-use Rattle.irtext_parse_spec.specs.Readers.Section.{entry_location_at}
+use Rattle.irtext_grammar.specs.Promises.Section.{given_over}
+use Rattle.irtext_grammar.specs.Readers.Section.{entry_location_at}
 use Rattle.irtext_tokens.proofs.Exits.{propagated}
 use Rattle.irtext_tokens.proofs.Steps.{Passed}
-use Rattle.irtext_parse_spec.proofs.Locations.Bounds.{at_length}
-use Rattle.irtext_parse_spec.proofs.Readers.PlainStream.{alone}
-use Rattle.irtext_parse_spec.proofs.Readers.Steps.{starts, turned, more, spaced, refuses, refuses_seen, last_seen}
+use Rattle.irtext_grammar.proofs.Locations.Bounds.{at_length}
+use Rattle.irtext_grammar.proofs.Readers.PlainStream.{alone}
+use Rattle.irtext_grammar.proofs.Readers.Steps.{starts, turned, more, spaced, refuses, refuses_seen, last_seen}
 use Rattle.irtext_parse_section.specs.Entries.{location_end_at}
 use Rattle.irtext_parse_section.proofs.PlainEntries.{end_mapped}
 use Rattle.irtext_parse_section.proofs.given.entry_location.Goals as goal

@@ -9,10 +9,10 @@ use Rattle.irtext_tokens.proofs.Steps.{alone, first, refuses_seen, last_seen}
 use Rattle.irtext_grammar.specs.Grammar.Section.{Item}
 use Rattle.irtext_grammar.specs.Grammar.Tree.{Name}
 use Rattle.irtext_grammar.specs.Names.Acts.{Rule}
-use Rattle.irtext_parse_spec.specs.Promises.Section.{given_over}
+use Rattle.irtext_grammar.specs.Promises.Section.{given_over}
 use Rattle.irtext_parse_pieces.proofs.EntrySteps.{first_refused}
 use Rattle.irtext_parse_pieces.proofs.Meanings.{must_refuse, must_whole}
-use Rattle.irtext_parse_spec.specs.Entries.{pairs_at}
+use Rattle.irtext_grammar.specs.Entries.{pairs_at}
 use Rattle.irtext_parse_section.specs.Said.{rule_for, ArePairs}
 use Rattle.irtext_parse_section.proofs.given.given_parse.Goals as goal
 

@@ -9,7 +9,7 @@ use Rattle.irtext_tokens.proofs.Steps.{alone, begins_with, begins_refused, begun
 use Rattle.irtext_grammar.specs.Grammar.Section.{Item, direct}
 use Rattle.irtext_grammar.specs.Grammar.Tree.{Name, ident}
 use Rattle.irtext_parse_pieces.proofs.Meanings.{may_refuse, may_unread, passed_whole}
-use Rattle.irtext_parse_spec.specs.Entries.{item_at}
+use Rattle.irtext_grammar.specs.Entries.{item_at}
 use Rattle.irtext_parse_section.specs.Said.{IsGiven}
 use Rattle.irtext_parse_section.proofs.pairs.pair_parse.Goals as goal
 

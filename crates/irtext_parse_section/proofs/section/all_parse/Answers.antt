@@ -9,11 +9,11 @@ use Rattle.irtext_tokens.proofs.Steps.{alone, first, last, fine_there}
 use Rattle.irtext_parse_state.specs.States.{marks_of}
 use Rattle.irtext_grammar.specs.Grammar.Section.{Entry}
 use Rattle.irtext_grammar.specs.Names.Acts.{Rule}
-use Rattle.irtext_parse_spec.specs.Promises.Section.{indices_of}
-use Rattle.irtext_parse_spec.proofs.Readers.NewPaths.{only_none}
+use Rattle.irtext_grammar.specs.Promises.Section.{indices_of}
+use Rattle.irtext_parse_section.proofs.OnlyPaths.{only_none}
 use Rattle.irtext_parse_pieces.proofs.EntrySteps.{first_refused}
 use Rattle.irtext_parse_pieces.proofs.Meanings.{must_refuse, must_whole}
-use Rattle.irtext_parse_spec.specs.Entries.{entries_after}
+use Rattle.irtext_grammar.specs.Entries.{entries_after}
 use Rattle.irtext_parse_section.specs.Entries.{AreEntriesOver}
 use Rattle.irtext_parse_section.specs.Said.{rules_of}
 use Rattle.irtext_parse_section.proofs.section.all_parse.Goals as goal

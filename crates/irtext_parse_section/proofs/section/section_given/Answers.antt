@@ -1,6 +1,6 @@
 use Rattle.std.proofs.Common.{◌∙◌, sym, subst}
 use Rattle.irtext_base.specs.Answers.{RunsOutHere}
-use Rattle.irtext_parse_spec.specs.Readers.Streams.{itself, replaced}
+use Rattle.irtext_grammar.specs.Readers.Streams.{itself, replaced}
 use Rattle.irtext_parse_section.proofs.LoopSteps.{unless_err, where_err}
 use Rattle.irtext_parse_section.proofs.section.section_given.Goals as goal
 

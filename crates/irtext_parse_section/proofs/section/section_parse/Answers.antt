@@ -3,11 +3,11 @@ use Rattle.irtext_context.proofs.Kept.{kept_trans}
 use Rattle.irtext_tokens.specs.AttrTexts.{attr_at}
 use Rattle.irtext_tokens.proofs.Exits.{propagated}
 use Rattle.irtext_parse_state.specs.States.{marks_of}
-use Rattle.irtext_parse_spec.specs.Promises.Section.{indices_of}
-use Rattle.irtext_parse_spec.proofs.Readers.Answered.{not_answered}
-use Rattle.irtext_parse_spec.proofs.Readers.EntryIndices.{demands}
-use Rattle.irtext_parse_spec.proofs.Readers.NewPaths.{adds_kept}
-use Rattle.irtext_parse_spec.proofs.Fine.{fine_section}
+use Rattle.irtext_grammar.specs.Promises.Section.{indices_of}
+use Rattle.irtext_grammar.proofs.Readers.Answered.{not_answered}
+use Rattle.irtext_grammar.proofs.Readers.EntryIndices.{demands}
+use Rattle.irtext_grammar.proofs.Readers.NewPaths.{adds_kept}
+use Rattle.irtext_grammar.proofs.Fine.{fine_section}
 use Rattle.irtext_parse_section.specs.Said.{rules_of}
 use Rattle.irtext_parse_section.proofs.SectionSteps.{either_way, adds_closed, ran_out_refusal, ran_out_there, given_kept, reads_section}
 use Rattle.irtext_parse_section.proofs.section.section_parse.Goals as goal

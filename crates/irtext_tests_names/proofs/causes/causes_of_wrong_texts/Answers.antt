@@ -1,7 +1,7 @@
 use Rattle.std.proofs.Common.{refl}
 use Rattle.std.specs.Prelude.{[], ◌∷◌, codes}
 use Rattle.irtext_tokens.specs.Tokens.{word_at, id_at}
-use Rattle.irtext_parse_spec.specs.Promises.ErrorCauses.{of_token, of_name, no_dialect, no_operation, of_type, missing}
+use Rattle.irtext_grammar.specs.Promises.ErrorCauses.{of_token, of_name, no_dialect, no_operation, of_type, missing}
 use Rattle.irtext_tests_names.specs.CauseRows.{t}
 use Rattle.irtext_tests_names.proofs.causes.causes_of_wrong_texts.Goals as goal
 

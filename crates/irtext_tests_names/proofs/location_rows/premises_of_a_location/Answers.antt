@@ -2,7 +2,7 @@ use Rattle.std.proofs.Common.{refl, arith}
 use Rattle.std.specs.Prelude.{codes}
 use lib.Utf8.{encode}
 use Rattle.irtext_base.specs.Locations.{own}
-use Rattle.irtext_parse_spec.specs.Promises.LocationsBack.{AllFit, AllRead, AttrReads}
+use Rattle.irtext_grammar.specs.Promises.LocationsBack.{AllFit, AllRead, AttrReads}
 use Rattle.irtext_tests_names.specs.LocationRows.{nested, note_at, note_text}
 use Rattle.irtext_tests_names.proofs.location_rows.premises_of_a_location.Goals as goal
 

@@ -1,6 +1,6 @@
 use Rattle.std.proofs.Common.{ap}
 use Rattle.irtext_base.specs.Own.{texts_of}
-use Rattle.irtext_promises.specs.Promises.{RefusesRoot}
+use Rattle.irtext_names.specs.Promises.{RefusesRoot}
 use Rattle.irtext_tokens.specs.AttrTexts.{attr_at}
 use Rattle.irtext_parse_state.specs.declared.parsable.state.StateStream.{StateStream}
 use Rattle.pliron_text.specs.Calls.{RefusesText}

@@ -2,7 +2,7 @@ use Rattle.std.proofs.Common.{◌<◌, ◌^◌, refl, subst, length, string_byte
 use Rattle.std.proofs.lemmas.Str.{IsUtf8-string_bytes}
 use Rattle.irtext_grammar.proofs.Graphs.OwnEquality.{sound, reflexive}
 use Rattle.irtext_print.specs.Printers.Appended.{fresh}
-use Rattle.irtext_promises.specs.OnlyNew.{OnlyNew}
+use Rattle.irtext_names.specs.OnlyNew.{OnlyNew}
 use Rattle.pliron_text.proofs.Back.{is_back}
 use Rattle.pliron_text.proofs.calls.there_and_back.Goals as goal
 

@@ -2,8 +2,8 @@ use Rattle.irtext_base.specs.Answers.{unless_failed}
 use Rattle.irtext_base.specs.Locations.{attr_view}
 use Rattle.irtext_base.proofs.Compose.{answers_demanded}
 use Rattle.irtext_tokens.specs.AttrTexts.{attr_at}
-use Rattle.irtext_parse_spec.specs.Readers.Streams.{itself, replaced}
-use Rattle.irtext_parse_spec.proofs.Readers.PlainStream.{alone}
+use Rattle.irtext_grammar.specs.Readers.Streams.{itself, replaced}
+use Rattle.irtext_grammar.proofs.Readers.PlainStream.{alone}
 use Rattle.irtext_parse_locations.proofs.location.nested.attr_demanded.Goals as goal
 
 pub returns : goal.returns

@@ -1,6 +1,6 @@
-use Rattle.irtext_parse_spec.specs.Readers.Positions.{spaced_at}
-use Rattle.irtext_parse_spec.proofs.Readers.PlainStream.{alone}
-use Rattle.irtext_parse_spec.proofs.Readers.Steps.{first, last}
+use Rattle.irtext_grammar.specs.Readers.Positions.{spaced_at}
+use Rattle.irtext_grammar.proofs.Readers.PlainStream.{alone}
+use Rattle.irtext_grammar.proofs.Readers.Steps.{first, last}
 use Rattle.std.proofs.Common.{codes}
 use Rattle.irtext_tokens.proofs.Exits.{propagated}
 use Rattle.irtext_parse_locations.proofs.Refusals.{first_fails}

@@ -9,12 +9,12 @@ use Rattle.irtext_base.specs.declared.location.Source.{Source}
 use Rattle.irtext_tokens.specs.AttrTexts.{attr_at}
 use Rattle.irtext_tokens.specs.MustRead.{MustRead}
 use Rattle.irtext_tokens.specs.Tokens.{text_at}
-use Rattle.irtext_parse_spec.specs.Readers.Locations.{metadata_at}
-use Rattle.irtext_parse_spec.specs.Readers.Positions.{space_at}
-use Rattle.irtext_parse_spec.specs.Readers.Streams.{itself, replaced}
+use Rattle.irtext_grammar.specs.Readers.Locations.{metadata_at}
+use Rattle.irtext_grammar.specs.Readers.Positions.{space_at}
+use Rattle.irtext_grammar.specs.Readers.Streams.{itself, replaced}
 use Rattle.irtext_tokens.proofs.Exits.{propagated}
-use Rattle.irtext_parse_spec.proofs.Readers.PlainStream.{alone}
-use Rattle.irtext_parse_spec.proofs.Readers.Steps.{Passed, first, more, spaced, refuses, ran_out}
+use Rattle.irtext_grammar.proofs.Readers.PlainStream.{alone}
+use Rattle.irtext_grammar.proofs.Readers.Steps.{Passed, first, more, spaced, refuses, ran_out}
 use Rattle.irtext_parse_locations.specs.Frames.{ProgressOf, row_opening_at, fused_opening_at}
 use Rattle.irtext_parse_locations.proofs.FrameSteps.{row_starts, row_is_empty}
 use Rattle.irtext_parse_locations.proofs.location.nested.fused_opened.Goals as goal

@@ -5,7 +5,7 @@ use Rattle.irtext_base.specs.Locations.{AttrView}
 use Rattle.irtext_base.specs.declared.location.Location.TheVariants.{Unknown}
 use Rattle.irtext_tokens.specs.AttrTexts.{attr_at}
 use Rattle.irtext_tokens.proofs.Exits.{propagated}
-use Rattle.irtext_parse_spec.proofs.Readers.NewPaths.{adds_none}
+use Rattle.irtext_grammar.proofs.Readers.NewPaths.{adds_none}
 use Rattle.irtext_parse_locations.proofs.FrameSteps.{fused_opens, fused_keeps, place_opens, place_refused}
 use Rattle.irtext_parse_locations.proofs.OpeningSteps.{failed_opens, name_refused, name_opens, call_site_refused, call_site_opens, unknown_refused, unknown_opens, unknown_keeps, nothing_opens}
 use Rattle.irtext_parse_locations.proofs.location.nested.location_opened.Given as given

@@ -1,7 +1,7 @@
 use Rattle.std.proofs.Common.{sym, ◌∙◌, arith, length}
 use Rattle.irtext_tokens.specs.AttrTexts.{attr_at}
-use Rattle.irtext_parse_spec.specs.Readers.Locations.{location_at}
-use Rattle.irtext_parse_spec.proofs.Locations.Begins.{one_begins, may_of_must}
+use Rattle.irtext_grammar.specs.Readers.Locations.{location_at}
+use Rattle.irtext_grammar.proofs.Locations.Begins.{one_begins, may_of_must}
 use Rattle.irtext_parse_locations.proofs.location.nested.location_parse.Goals as goal
 
 pub returns-clause-read : goal.returns-clause-read

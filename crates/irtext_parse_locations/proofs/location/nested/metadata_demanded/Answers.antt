@@ -4,11 +4,11 @@ use Rattle.irtext_base.specs.Locations.{AttrView, attr_view, attr_view_in}
 use Rattle.irtext_base.specs.Text.{Text}
 use Rattle.irtext_tokens.specs.Tokens.{text_at}
 use Rattle.irtext_tokens.specs.AttrTexts.{attr_at}
-use Rattle.irtext_parse_spec.specs.Readers.Locations.{metadata_at}
-use Rattle.irtext_parse_spec.specs.Readers.Positions.{space_at}
+use Rattle.irtext_grammar.specs.Readers.Locations.{metadata_at}
+use Rattle.irtext_grammar.specs.Readers.Positions.{space_at}
 use Rattle.irtext_tokens.proofs.Exits.{propagated}
-use Rattle.irtext_parse_spec.proofs.Readers.PlainStream.{alone}
-use Rattle.irtext_parse_spec.proofs.Readers.Steps.{starts, more, spaced, refuses, refuses_seen, last_seen}
+use Rattle.irtext_grammar.proofs.Readers.PlainStream.{alone}
+use Rattle.irtext_grammar.proofs.Readers.Steps.{starts, more, spaced, refuses, refuses_seen, last_seen}
 use Rattle.irtext_parse_locations.proofs.location.nested.metadata_demanded.Goals as goal
 
 -- what follows the attribute

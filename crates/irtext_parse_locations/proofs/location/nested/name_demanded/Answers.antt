@@ -1,7 +1,7 @@
 use Rattle.std.proofs.Common.{refl, string_bytes}
 use Rattle.irtext_tokens.proofs.Exits.{propagated}
-use Rattle.irtext_parse_spec.proofs.Readers.PlainStream.{alone}
-use Rattle.irtext_parse_spec.proofs.Readers.Steps.{first, more, refuses, refuses_seen, last_seen}
+use Rattle.irtext_grammar.proofs.Readers.PlainStream.{alone}
+use Rattle.irtext_grammar.proofs.Readers.Steps.{first, more, refuses, refuses_seen, last_seen}
 use Rattle.irtext_parse_locations.proofs.location.nested.name_demanded.Goals as goal
 
 pub returns-in_err-spaced_text_demanded : goal.returns-in_err-spaced_text_demanded

@@ -4,9 +4,9 @@ use Rattle.irtext_base.specs.Locations.{AttrView, location_view}
 use Rattle.irtext_base.specs.Text.{Text}
 use Rattle.irtext_tokens.specs.AttrTexts.{attr_at}
 use Rattle.irtext_tokens.proofs.Exits.{propagated}
-use Rattle.irtext_parse_spec.proofs.Readers.Answered.{no_longer}
-use Rattle.irtext_parse_spec.specs.Readers.RestLengths.{LeavesNoMore}
-use Rattle.irtext_parse_spec.proofs.Readers.NewPaths.{adds_more}
+use Rattle.irtext_grammar.proofs.Readers.Answered.{no_longer}
+use Rattle.irtext_grammar.specs.Readers.RestLengths.{LeavesNoMore}
+use Rattle.irtext_grammar.proofs.Readers.NewPaths.{adds_more}
 use Rattle.irtext_parse_locations.specs.Frames.{frame_view}
 use Rattle.irtext_parse_locations.proofs.FrameSteps.{attr_leaves, SoFar, begun, not_begun, runs_out_so_far, fine_so_far, opened, not_opened, came_after, nothing_after, all_read, all_kept_there, at_every, refused_every, opened_shorter, after_less, place_opens, place_refused}
 use Rattle.irtext_parse_locations.proofs.location.nested.nested_demanded.Given as given

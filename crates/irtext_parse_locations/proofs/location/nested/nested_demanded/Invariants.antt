@@ -1,6 +1,6 @@
 use Rattle.std.proofs.Common.{length}
 use Rattle.irtext_tokens.specs.AttrTexts.{attr_at}
-use Rattle.irtext_parse_spec.specs.Readers.NewPaths.{AddsPaths}
+use Rattle.irtext_grammar.specs.Readers.NewPaths.{AddsPaths}
 use Rattle.irtext_parse_locations.proofs.FrameSteps.{attr_leaves, SoFar}
 use Rattle.irtext_parse_locations.proofs.location.nested.nested_demanded.Given as goal
 

@@ -1,10 +1,10 @@
 use Rattle.std.proofs.Common.{ap, refl, sym, ◌∙◌, map}
 use Rattle.irtext_base.specs.Answers.{mapped}
 use Rattle.irtext_base.specs.Locations.{attr_view_in, location_view, in_row}
-use Rattle.irtext_parse_spec.specs.Readers.Positions.{space_at}
+use Rattle.irtext_grammar.specs.Readers.Positions.{space_at}
 use Rattle.irtext_tokens.proofs.Exits.{propagated}
-use Rattle.irtext_parse_spec.proofs.Readers.PlainStream.{alone}
-use Rattle.irtext_parse_spec.proofs.Readers.Steps.{starts, more, last, refuses, last_spaced, ran_out}
+use Rattle.irtext_grammar.proofs.Readers.PlainStream.{alone}
+use Rattle.irtext_grammar.proofs.Readers.Steps.{starts, more, last, refuses, last_spaced, ran_out}
 use Rattle.irtext_parse_locations.specs.Frames.{inside, for_row, progress_view, with_one, row_after_at}
 use Rattle.irtext_parse_locations.proofs.FrameSteps.{row_grew, row_goes_on, row_ends}
 use Rattle.irtext_parse_locations.proofs.location.nested.row_after.Goals as goal

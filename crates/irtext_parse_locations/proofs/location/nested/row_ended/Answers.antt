@@ -3,7 +3,7 @@ use Rattle.irtext_base.specs.Locations.{attr_view_in, fused, in_row, location_vi
 use Rattle.irtext_tokens.proofs.Exits.{propagated}
 use Rattle.irtext_parse_locations.specs.Frames.{whole}
 use Rattle.irtext_parse_locations.proofs.FrameSteps.{made_whole}
-use Rattle.irtext_parse_spec.proofs.Readers.PartSteps.{part_read, part_refused, part_ran_out}
+use Rattle.irtext_grammar.proofs.Readers.PartSteps.{part_read, part_refused, part_ran_out}
 use Rattle.irtext_parse_locations.proofs.location.nested.row_ended.Goals as goal
 
 pub returns-in_err-text_demanded : goal.returns-in_err-text_demanded

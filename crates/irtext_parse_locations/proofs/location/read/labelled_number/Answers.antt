@@ -1,5 +1,5 @@
 use Rattle.irtext_tokens.proofs.Exits.{propagated}
-use Rattle.irtext_parse_spec.proofs.Readers.Steps.{lens, first, more, last, refuses}
+use Rattle.irtext_grammar.proofs.Readers.Steps.{lens, first, more, last, refuses}
 use Rattle.irtext_parse_locations.proofs.location.read.labelled_number.Goals as goal
 
 pub returns-in_err-spaced_text_demanded : goal.returns-in_err-spaced_text_demanded

@@ -4,7 +4,7 @@ use Rattle.std.specs.Int.{w32}
 use Rattle.std.specs.Prelude.{FitsSigned}
 use Rattle.irtext_stream.specs.declared.position.SourcePosition.{SourcePosition}
 use Rattle.irtext_tokens.proofs.Exits.{propagated}
-use Rattle.irtext_parse_spec.proofs.Readers.Steps.{lens, first, more, refuses, refuses_seen, last_seen}
+use Rattle.irtext_grammar.proofs.Readers.Steps.{lens, first, more, refuses, refuses_seen, last_seen}
 use Rattle.irtext_parse_locations.proofs.location.read.position_demanded.Goals as goal
 
 pub returns-in_err-spaced_text_demanded : goal.returns-in_err-spaced_text_demanded

@@ -1,4 +1,4 @@
-use Rattle.irtext_parse_spec.specs.Readers.Positions.{position_at}
+use Rattle.irtext_grammar.specs.Readers.Positions.{position_at}
 use Rattle.irtext_tokens.proofs.Steps.{alone, first, last}
 use Rattle.irtext_parse_locations.proofs.location.read.position_read.Goals as goal
 

@@ -4,12 +4,12 @@ use Rattle.irtext_base.specs.Paths.{KeepsPaths, path_of}
 use Rattle.irtext_base.specs.declared.location.Source.TheVariants.{File}
 use Rattle.irtext_base.proofs.PathKeys.{path_found, path_known, paths_stay}
 use Rattle.irtext_context.specs.Context.{with_paths}
-use Rattle.irtext_parse_spec.specs.Readers.NewPaths.{AddsPaths}
-use Rattle.irtext_parse_spec.proofs.Readers.PlainStream.{alone}
+use Rattle.irtext_grammar.specs.Readers.NewPaths.{AddsPaths}
+use Rattle.irtext_grammar.proofs.Readers.PlainStream.{alone}
 use Rattle.irtext_tokens.proofs.Exits.{propagated}
-use Rattle.irtext_parse_spec.proofs.Readers.NewPaths.{adds_none}
-use Rattle.irtext_parse_spec.proofs.Readers.PartSteps.{part_refused, part_ran_out}
-use Rattle.irtext_parse_spec.proofs.Readers.Steps.{seen_alone}
+use Rattle.irtext_grammar.proofs.Readers.NewPaths.{adds_none}
+use Rattle.irtext_grammar.proofs.Readers.PartSteps.{part_refused, part_ran_out}
+use Rattle.irtext_grammar.proofs.Readers.Steps.{seen_alone}
 use Rattle.irtext_parse_locations.proofs.location.source.path_demanded.Goals as goal
 
 pub returns : goal.returns

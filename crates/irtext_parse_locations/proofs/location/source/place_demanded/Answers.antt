@@ -6,8 +6,8 @@ use Rattle.irtext_base.specs.declared.location.Source.TheVariants.{InMemory}
 use Rattle.irtext_grammar.specs.Contexts.Held.{location_over}
 use Rattle.irtext_base.proofs.LocationViews.{seen-src_pos}
 use Rattle.irtext_tokens.proofs.Exits.{propagated}
-use Rattle.irtext_parse_spec.proofs.Readers.PlainStream.{alone}
-use Rattle.irtext_parse_spec.proofs.Readers.Steps.{refuses_seen, last_seen}
+use Rattle.irtext_grammar.proofs.Readers.PlainStream.{alone}
+use Rattle.irtext_grammar.proofs.Readers.Steps.{refuses_seen, last_seen}
 use Rattle.irtext_parse_locations.proofs.Places.{memory_comes, source_passed}
 use Rattle.irtext_parse_locations.proofs.location.source.place_demanded.Goals as goal
 

@@ -7,9 +7,9 @@ use Rattle.irtext_base.specs.declared.location.Location.{SrcPos}
 use Rattle.irtext_grammar.specs.Contexts.Held.{location_over}
 use Rattle.irtext_base.proofs.LocationViews.{seen-src_pos}
 use Rattle.irtext_tokens.proofs.Exits.{propagated}
-use Rattle.irtext_parse_spec.specs.Readers.Positions.{spaced_at, position_at}
-use Rattle.irtext_parse_spec.proofs.Readers.PlainStream.{alone}
-use Rattle.irtext_parse_spec.proofs.Readers.Steps.{refuses_seen, last_seen}
+use Rattle.irtext_grammar.specs.Readers.Positions.{spaced_at, position_at}
+use Rattle.irtext_grammar.proofs.Readers.PlainStream.{alone}
+use Rattle.irtext_grammar.proofs.Readers.Steps.{refuses_seen, last_seen}
 use Rattle.irtext_parse_locations.proofs.Places.{source_passed}
 use Rattle.irtext_parse_locations.proofs.Refusals.{first_fails}
 use Rattle.irtext_parse_locations.proofs.location.source.place_parse.Goals as goal

@@ -1,9 +1,9 @@
 use Rattle.std.specs.Prelude.{string_bytes}
 use Rattle.irtext_base.specs.Answers.{unless_failed}
 use Rattle.irtext_base.proofs.Compose.{answers_demanded}
-use Rattle.irtext_parse_spec.specs.Readers.Locations.{bytes_at}
-use Rattle.irtext_parse_spec.specs.Readers.Streams.{itself, replaced}
-use Rattle.irtext_parse_spec.proofs.Readers.PlainStream.{alone}
+use Rattle.irtext_grammar.specs.Readers.Locations.{bytes_at}
+use Rattle.irtext_grammar.specs.Readers.Streams.{itself, replaced}
+use Rattle.irtext_grammar.proofs.Readers.PlainStream.{alone}
 use Rattle.irtext_parse_locations.proofs.location.source.quoted_demanded.Goals as goal
 
 pub returns : goal.returns

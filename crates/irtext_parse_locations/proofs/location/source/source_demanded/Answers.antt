@@ -1,8 +1,8 @@
 use Rattle.std.proofs.Common.{refl, sym, ◌∙◌}
 use Rattle.irtext_base.specs.Paths.{path_of}
 use Rattle.irtext_tokens.proofs.Exits.{propagated}
-use Rattle.irtext_parse_spec.specs.Readers.Locations.{source_at}
-use Rattle.irtext_parse_spec.proofs.Readers.NewPaths.{adds_none}
+use Rattle.irtext_grammar.specs.Readers.Locations.{source_at}
+use Rattle.irtext_grammar.proofs.Readers.NewPaths.{adds_none}
 use Rattle.irtext_parse_locations.proofs.Refusals.{had_failed}
 use Rattle.irtext_parse_locations.proofs.SourceSteps.{path_is_source, memory_refused, memory_read, no_source}
 use Rattle.irtext_parse_locations.proofs.location.source.source_demanded.Goals as goal

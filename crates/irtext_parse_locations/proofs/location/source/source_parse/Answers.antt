@@ -1,5 +1,5 @@
 use Rattle.std.proofs.Common.{sym, ◌∙◌}
-use Rattle.irtext_parse_spec.proofs.Locations.Begins.{source_begins, may_of_must}
+use Rattle.irtext_grammar.proofs.Locations.Begins.{source_begins, may_of_must}
 use Rattle.irtext_parse_locations.proofs.location.source.source_parse.Goals as goal
 
 pub returns-clause-read : goal.returns-clause-read

@@ -1,8 +1,8 @@
 use Rattle.std.proofs.Common.{refl, Ok, Err, sym, ◌∙◌, subst}
 use Rattle.irtext_tokens.specs.Lists.{Calls}
 use Rattle.irtext_tokens.proofs.ListSteps.{called_at, rules_at, unless_met}
-use Rattle.irtext_parse_spec.specs.Readers.Marker.{MarkerOr, marked, unmarked, refused, marker}
-use Rattle.irtext_parse_spec.proofs.Readers.MarkerSteps.{marker_hands, marker_none, marker_whole}
+use Rattle.irtext_grammar.specs.Readers.Marker.{MarkerOr, marked, unmarked, refused, marker}
+use Rattle.irtext_grammar.proofs.Readers.MarkerSteps.{marker_hands, marker_none, marker_whole}
 use Rattle.irtext_parse_root.proofs.irfmt.marker.outlined_marker_or.Goals as goal
 
 pub returns-then-take_text-clause-answers : goal.returns-then-take_text-clause-answers

@@ -1,7 +1,7 @@
 use Rattle.std.proofs.lemmas.Str.{chars_from_encodes}
 use Rattle.irtext_base.specs.Faults.{characters}
 use Rattle.irtext_tokens.proofs.Characters.{encodes-characters}
-use Rattle.irtext_parse_spec.proofs.Readers.MarkerSteps.{word_accepted}
+use Rattle.irtext_grammar.proofs.Readers.MarkerSteps.{word_accepted}
 use Rattle.irtext_parse_root.proofs.irfmt.marker.take_text.Goals as goal
 
 pub returns : goal.returns

@@ -1,4 +1,4 @@
-use Rattle.irtext_parse_spec.proofs.RoundTrips.AttrBack.{attr_back}
+use Rattle.irtext_grammar.proofs.RoundTrips.AttrBack.{attr_back}
 use Rattle.pliron_text.proofs.laws.attributes.attribute_comes_back.Goals as goal
 
 pub returns : goal.returns

@@ -1,4 +1,4 @@
-use Rattle.irtext_parse_spec.proofs.RoundTrips.AttrBack.{attr_missing}
+use Rattle.irtext_grammar.proofs.RoundTrips.AttrBack.{attr_missing}
 use Rattle.pliron_text.proofs.laws.attributes.attributes_are_missing.Goals as goal
 
 pub returns : goal.returns

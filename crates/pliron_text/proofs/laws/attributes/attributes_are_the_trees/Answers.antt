@@ -1,6 +1,6 @@
 use Rattle.std.proofs.Common.{refl}
 use Rattle.irtext_base.specs.Own.{texts_of, language}
-use Rattle.irtext_parse_spec.proofs.Joins.Attributes.{attribute_read, attribute-reads}
+use Rattle.irtext_grammar.proofs.Joins.Attributes.{attribute_read, attribute-reads}
 use Rattle.pliron_text.proofs.laws.attributes.attributes_are_the_trees.Goals as goal
 
 pub returns-clause-read : goal.returns-clause-read

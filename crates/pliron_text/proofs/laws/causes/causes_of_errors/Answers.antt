@@ -1,4 +1,4 @@
-use Rattle.irtext_parse_spec.specs.Promises.ErrorCauses.{HasReason, had_failed, out_of_memory}
+use Rattle.irtext_grammar.specs.Promises.ErrorCauses.{HasReason, had_failed, out_of_memory}
 use Rattle.pliron_text.proofs.ErrorCauses.{any_fails, whole_fails, alone_fails, why}
 use Rattle.pliron_text.proofs.laws.causes.causes_of_errors.Goals as goal
 

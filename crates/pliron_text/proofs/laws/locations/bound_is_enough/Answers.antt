@@ -1,6 +1,6 @@
 use Rattle.std.proofs.Math.Nat.{le_refl}
-use Rattle.irtext_parse_spec.proofs.Locations.Bounds.{within_enough}
-use Rattle.irtext_parse_spec.proofs.Locations.LocationRests.{leaves_within}
+use Rattle.irtext_grammar.proofs.Locations.Bounds.{within_enough}
+use Rattle.irtext_grammar.proofs.Locations.LocationRests.{leaves_within}
 use Rattle.pliron_text.proofs.laws.locations.bound_is_enough.Goals as goal
 
 pub returns-clause-locations : goal.returns-clause-locations

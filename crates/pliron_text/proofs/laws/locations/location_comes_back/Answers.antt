@@ -1,6 +1,6 @@
 use Rattle.std.proofs.Math.Nat.{le_refl}
-use Rattle.irtext_parse_spec.proofs.Locations.GivesBack.{tight}
-use Rattle.irtext_parse_spec.proofs.Locations.ComesBack.{left_space, left_tight, location_back}
+use Rattle.irtext_grammar.proofs.Locations.GivesBack.{tight}
+use Rattle.irtext_grammar.proofs.Locations.ComesBack.{left_space, left_tight, location_back}
 use Rattle.pliron_text.proofs.laws.locations.location_comes_back.Goals as goal
 
 pub returns-clause-reads : goal.returns-clause-reads

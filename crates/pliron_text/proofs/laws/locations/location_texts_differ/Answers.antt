@@ -1,4 +1,4 @@
-use Rattle.irtext_parse_spec.proofs.Locations.ComesBack.{location_same}
+use Rattle.irtext_grammar.proofs.Locations.ComesBack.{location_same}
 use Rattle.pliron_text.proofs.laws.locations.location_texts_differ.Goals as goal
 
 pub returns : goal.returns

@@ -1,9 +1,0 @@
-pub mod Alone
-pub mod Given
-pub mod Held
-pub mod Leaves
-pub mod OnlyNew
-pub mod Placed
-pub mod PrintedRoot
-pub mod Promises
-pub mod WithSection
