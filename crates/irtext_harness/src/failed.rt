@@ -1,4 +1,4 @@
-//! What says that a stream has failed.
+//! What says that a stream has failed. Results are dropped by a call, here and in other modules: what ends of itself is proved part by part.
 use crate::roots::Stream;
 use irtext_demo::DemoAttr;
 use pliron_text::base::Operation;
@@ -13,10 +13,19 @@ fn is_failure(fault: &ParseFault<DemoAttr>) -> bool {
 
 /// Whether a result says that the stream has failed.
 pub(crate) fn has_failed<X: Drop>(answer: ParseResult<X, DemoAttr>) -> bool {
-    match answer {
+    let failed = match &answer {
         Ok(_) => false,
-        Err(fault) => is_failure(&fault),
-    }
+        Err(fault) => is_failure(fault),
+    };
+    drop(answer);
+    failed
+}
+
+/// Whether something was parsed.
+pub(crate) fn is_parsed<X: Drop>(answer: ParseResult<X, DemoAttr>) -> bool {
+    let parsed = answer.is_ok();
+    drop(answer);
+    parsed
 }
 
 /// Whether the next root of a stream is refused because the stream has failed.

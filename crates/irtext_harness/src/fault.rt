@@ -5,6 +5,7 @@ use pliron_text::result::{Cause, Error};
 use std::alloc::AllocError;
 use std::io;
 use std::process::ExitCode;
+use std::test::Fail;
 
 /// Why there is no text.
 #[derive(Clone, Copy, Drop)]
@@ -60,10 +61,25 @@ impl Fault {
     }
 }
 
+/// Returns the fault for an error, which ends here.
+pub(crate) fn fault_of(error: Error<DemoAttr>) -> Fault {
+    let fault = Fault::of(&error);
+    drop(error);
+    fault
+}
+
 /// Returns the value of a call, or the fault for its error.
 pub(crate) fn checked<X: Drop>(answer: result::Result<X, DemoAttr>) -> Result<X, Fault> {
     match answer {
         Ok(value) => Ok(value),
-        Err(error) => Err(Fault::of(&error)),
+        Err(error) => Err(fault_of(error)),
+    }
+}
+
+/// Fails if a text could not be written.
+pub(crate) fn written(done: Result<(), AllocError>) -> Result<(), Fail> {
+    match done {
+        Ok(()) => Ok(()),
+        Err(error) => Err(Fail::from(error)),
     }
 }

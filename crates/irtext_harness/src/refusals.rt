@@ -63,7 +63,9 @@ impl Call {
     fn status(self, rt: &HostRuntime, ctx: &mut Ctx, text: &str) -> ExitCode {
         let mut out = String::new(rt.alloc());
         let answer = self.answer(rt.alloc(), ctx, text, &mut out);
-        match written(rt, answer, out.as_str()) {
+        let done = written(rt, answer, out.as_str());
+        drop(out);
+        match done {
             Ok(()) => ExitCode::from(0),
             Err(fault) => fault.status(rt),
         }

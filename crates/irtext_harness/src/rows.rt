@@ -52,6 +52,7 @@ use crate::rows::file::{next, without_comments};
 use crate::rows::row::{Group, Item, Row};
 use pliron_text::parsable::TextStream;
 use std::io::Write;
+use std::mem::replace;
 use std::process::{ExitCode, Termination};
 use std::test::Fail;
 
@@ -85,7 +86,11 @@ fn is_wanted(rt: &HostRuntime, row: &Row, said: &str) -> Result<bool, Fail> {
 /// The same for the result of a row. If there is none, prints why.
 fn holds(rt: &HostRuntime, row: &Row, answer: Result<String, Fail>) -> Result<bool, Fail> {
     match answer {
-        Ok(said) => is_wanted(rt, row, said.as_str()),
+        Ok(said) => {
+            let holds = is_wanted(rt, row, said.as_str());
+            drop(said);
+            holds
+        }
         Err(fail) => {
             let none: Result<(), Fail> = Err(fail);
             let _ = none.report(rt);
@@ -117,12 +122,13 @@ fn step(
     match next(rt.alloc(), stream)? {
         Item::End => Ok(None),
         Item::Group(group) => {
-            *current = Some(group);
+            drop(replace(current, Some(group)));
             Ok(Some(count))
         }
         Item::Row(row) => {
-            let holds = tried(rt, current, &row)?;
-            Ok(Some(count.with(holds)))
+            let holds = tried(rt, current, &row);
+            drop(row);
+            Ok(Some(count.with(holds?)))
         }
     }
 }
@@ -150,7 +156,10 @@ fn rows(
 fn counted(rt: &HostRuntime, text: &str) -> Result<Count, Fail> {
     let mut stream = TextStream::new(rt.alloc(), text)?;
     let mut current = None;
-    rows(rt, &mut stream, &mut current)
+    let count = rows(rt, &mut stream, &mut current);
+    drop(current);
+    drop(stream);
+    count
 }
 
 /// Tries the rows of a file without comments, and prints their number. Returns the exit status.
@@ -163,5 +172,7 @@ fn status_without_comments(rt: &HostRuntime, text: &str) -> Result<ExitCode, Fai
 /// Tries the rows of a file: prints each of which something else is said, and at the end their number. Returns the exit status.
 pub(crate) fn status(rt: &HostRuntime, file: &str) -> Result<ExitCode, Fail> {
     let text = without_comments(rt.alloc(), file)?;
-    status_without_comments(rt, text.as_str())
+    let status = status_without_comments(rt, text.as_str());
+    drop(text);
+    status
 }

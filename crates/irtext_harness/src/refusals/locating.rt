@@ -29,5 +29,7 @@ fn print(ctx: &Ctx, location: &Location<DemoAttr>, out: &mut String) -> Result<(
 /// Parses the text as a location, and appends its printed text.
 pub(crate) fn read(ctx: &mut Ctx, text: &str, out: &mut String) -> Result<(), Fault> {
     let location = checked(parse(ctx, text))?;
-    print(ctx, &location, out)
+    let done = print(ctx, &location, out);
+    drop(location);
+    done
 }

@@ -38,13 +38,6 @@ pub(crate) fn print(ctx: &Ctx, root: Ptr<Operation>, out: &mut String) -> bool
     write!(out, "{}", root.disp(ctx)).is_ok()
 }
 
-/// Appends the text of a root with this state. Returns whether it could be printed.
-fn append(ctx: &Ctx, root: Ptr<Operation>, state: &mut State<()>, out: &mut String) -> bool
-    requires { IsSome (operation ctx.now root) }
-{
-    root.fmt(ctx, state, out).is_ok()
-}
-
 /// Appends the text of a root in that layout. Returns whether it could be printed. The state has to keep the layout.
 fn print_lent(
     alloc: Global,
@@ -55,8 +48,10 @@ fn print_lent(
     requires { IsSome (operation ctx.now root) }
 {
     let mut state = layout(alloc);
-    let is_printed = append(ctx, root, &mut state, out);
-    if_laid_out(&state, is_printed)
+    let is_printed = root.fmt(ctx, &mut state, out).is_ok();
+    let checked = if_laid_out(&state, is_printed);
+    drop(state);
+    checked
 }
 
 /// How a root is printed.
@@ -125,7 +120,10 @@ fn twice(
 {
     let mut first = String::new(alloc);
     let mut second = String::new(alloc);
-    append_twice(alloc, ctx, root, way, &mut first, &mut second, out)
+    let done = append_twice(alloc, ctx, root, way, &mut first, &mut second, out);
+    drop(first);
+    drop(second);
+    done
 }
 
 /// Which locations are printed.

@@ -53,10 +53,13 @@ fn push_read(out: &mut String) -> Result<Said, Fault> {
 
 /// Parses a root from a stream.
 fn answered(s: &mut Stream<'_>, out: &mut String) -> Result<Said, Fault> {
-    match Operation::top_level_parse(s) {
+    let answer = Operation::top_level_parse(s);
+    let said = match &answer {
         Ok(_) => push_read(out),
-        Err(fault) => refused(s, &fault, out),
-    }
+        Err(fault) => refused(s, fault, out),
+    };
+    drop(answer);
+    said
 }
 
 /// Parses a text as a root.
@@ -64,7 +67,9 @@ fn read(alloc: Global, ctx: &mut Ctx, text: &str, out: &mut String) -> Result<Sa
     let stream = TextStream::new(alloc, text)?;
     let state = State::new(ctx, Source::InMemory, ());
     let mut s = StateStream { stream, state };
-    answered(&mut s, out)
+    let said = answered(&mut s, out);
+    drop(s);
+    said
 }
 
 /// Parses a text again, after memory ran out in a context that had so many objects. Nothing of it may be left, and this parse has to succeed.
@@ -139,5 +144,8 @@ pub(crate) fn again(
 ) -> Result<(), Fault> {
     let mut before = String::new(alloc);
     let mut following = String::new(alloc);
-    beside(alloc, ctx, text, &mut before, &mut following, out)
+    let done = beside(alloc, ctx, text, &mut before, &mut following, out);
+    drop(before);
+    drop(following);
+    done
 }

@@ -1,6 +1,6 @@
 //! Registering an operation and creating it while an allocation fails: the call that fails has changed nothing.
 
-use crate::fault::{Fault, checked};
+use crate::fault::{Fault, checked, fault_of};
 use crate::roots::Ctx;
 use pliron_text::base::{Identifier, NewBareOperation, OpId, Operation};
 use pliron_text::dialect::{Dialect, DialectName};
@@ -24,8 +24,8 @@ fn id(alloc: Global, dialect: &str) -> Result<OpId, Fault> {
 /// Registers a dialect. Returns its fault if there is one.
 fn registered(ctx: &mut Ctx, name: &DialectName) -> Result<(), Fault> {
     match Dialect::register(ctx, name) {
-        Ok(_) => Ok(()),
-        Err(error) => Err(Fault::of(&error)),
+        Ok(_dialect) => Ok(()),
+        Err(error) => Err(fault_of(error)),
     }
 }
 
@@ -41,7 +41,11 @@ fn register(ctx: &mut Ctx, name: &DialectName) -> Result<(), Fault> {
 fn add(ctx: &mut Ctx, name: &DialectName, id: OpId) -> Result<(), Fault> {
     match Dialect::register(ctx, name) {
         Ok(dialect) => checked(dialect.add_op(id, OpFormat::Canonical, false)),
-        Err(_) => Err(Fault::Wrong),
+        Err(error) => {
+            drop(id);
+            drop(error);
+            Err(Fault::Wrong)
+        }
     }
 }
 
@@ -67,12 +71,6 @@ fn made(alloc: Global, ctx: &mut Ctx, name: &DialectName, text: &str) -> Result<
     make(ctx, id)
 }
 
-/// Does the same with the dialect that the text names.
-fn made_of(alloc: Global, ctx: &mut Ctx, text: &str) -> Result<u64, Fault> {
-    let name = DialectName::from(checked(Identifier::try_new(alloc, text))?);
-    made(alloc, ctx, &name, text)
-}
-
 /// Appends a line with the number of live objects after an operation of the dialect that the text names was registered in an empty context,
 /// and created with two regions.
 pub(crate) fn objects(
@@ -81,8 +79,10 @@ pub(crate) fn objects(
     text: &str,
     out: &mut String,
 ) -> Result<(), Fault> {
-    let objects = made_of(alloc, ctx, text)?;
-    match writeln!(out, "{objects}") {
+    let name = DialectName::from(checked(Identifier::try_new(alloc, text))?);
+    let made = made(alloc, ctx, &name, text);
+    drop(name);
+    match writeln!(out, "{}", made?) {
         Ok(()) => Ok(()),
         Err(_) => Err(Fault::Memory),
     }

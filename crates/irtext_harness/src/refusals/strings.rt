@@ -33,13 +33,23 @@ fn fault_of(stream: &mut TextStream, fault: &ParseFault<DemoAttr>) -> Fault {
 /// Parses the list of quoted texts that comes next in the stream, and appends the texts, a line each.
 fn read_lines(stream: &mut TextStream, out: &mut String) -> Result<(), Fault> {
     match list(stream) {
-        Ok(texts) => Ok(push_lines(texts.as_slice(), out)?),
-        Err(fault) => Err(fault_of(stream, &fault)),
+        Ok(texts) => {
+            let done = push_lines(texts.as_slice(), out);
+            drop(texts);
+            Ok(done?)
+        }
+        Err(fault) => {
+            let refused = fault_of(stream, &fault);
+            drop(fault);
+            Err(refused)
+        }
     }
 }
 
 /// Parses the text as a list of quoted texts, and appends the texts, a line each.
 pub(crate) fn read(alloc: Global, text: &str, out: &mut String) -> Result<(), Fault> {
     let mut stream = TextStream::new(alloc, text)?;
-    read_lines(&mut stream, out)
+    let done = read_lines(&mut stream, out);
+    drop(stream);
+    done
 }

@@ -1,11 +1,13 @@
 //! Texts that are parsed in a context with a live root, which has to be unchanged.
+use crate::fault::written;
 use crate::roots::{Ctx, register, root, whole};
-use crate::rows::places::{num_parts, part};
+use crate::rows::places::num_parts;
 use crate::rows::row::Row;
-use crate::rows::said::{push_words, require};
-use crate::rows::streams::{Asked, on_stream, region_into};
+use crate::rows::said::require;
+use crate::rows::streams::{Asked, on_stream};
+use irtext_graph::held::HasGraph;
 use irtext_graph::object::Object;
-use pliron_text::base::{Operation, Ptr, Region};
+use pliron_text::base::{Operation, Ptr};
 use std::alloc::Global;
 use std::fmt::Write;
 use std::test::Fail;
@@ -15,13 +17,16 @@ const LIVE_ROOT: &str =
     "builtin.module @bar \n{\n  ^block1v1():\n    builtin.func @foo: builtin.function <()->(builtin.integer si64)> \n    {\n      ^entry_block2v1() !0:\n        c0_v0 = test.constant builtin.integer <0: si64>: builtin.integer si64 !1;\n        test.return c0_v0\n    }\n}\n\noutlined_attributes:\n!0 = [builtin_block_label = builtin.identifier entry]\n!1 = [builtin_given_names = builtin.given_names [c0]]\n";
 
 /// Whether the text of a root is what it was before.
-fn is_unchanged(
+pub(crate) fn is_unchanged(
     alloc: Global,
     ctx: &Ctx,
     live_root: Ptr<Operation>,
     before: &str,
 ) -> Result<bool, Fail> {
-    Ok(whole(alloc, ctx, live_root)?.as_str() == before)
+    let text = whole(alloc, ctx, live_root)?;
+    let is_same = text.as_str() == before;
+    drop(text);
+    Ok(is_same)
 }
 
 /// Says the result for a text beside a root, whose text is `before` and must not change. If the text is rejected, no object and no mark may
@@ -53,7 +58,9 @@ pub(crate) fn beside(
 ) -> Result<(), Fail> {
     let live_root = root(ctx, LIVE_ROOT).ok_or("refused")?;
     let before = whole(alloc, ctx, live_root)?;
-    compared(alloc, ctx, live_root, before.as_str(), text, asked, said)
+    let done = compared(alloc, ctx, live_root, before.as_str(), text, asked, said);
+    drop(before);
+    done
 }
 
 /// Says the same for a root, once `test.z` is registered with the format of the letters that come first.
@@ -67,39 +74,9 @@ pub(crate) fn beside_formatted(
     beside(alloc, ctx, row.text(1), Asked::Root, said)
 }
 
-/// Says whether a region is the last of an operation.
-fn push_place(
-    ctx: &Ctx,
-    op: Ptr<Operation>,
-    region: Ptr<Region>,
-    said: &mut String,
-) -> Result<(), Fail> {
-    let whole = Object::TheOperation(op);
-    let last = num_parts(ctx, whole)?.saturating_sub(1);
-    let is_last = part(ctx, whole, last)? == Object::TheRegion(region);
-    push_words(if is_last { "last" } else { "elsewhere" }, said)
-}
-
-/// Says the place of a region that was parsed into an operation. If it was rejected, no object of it may be left, and the operation's text
-/// has to be that before it.
-fn say_place(
-    alloc: Global,
-    ctx: &Ctx,
-    op: Ptr<Operation>,
-    before: &str,
-    live: u64,
-    region: Option<Ptr<Region>>,
-    said: &mut String,
-) -> Result<(), Fail> {
-    let Some(region) = region else {
-        let is_kept = ctx.num_live() == live && is_unchanged(alloc, ctx, op, before)?;
-        return require(is_kept, "something was left");
-    };
-    push_place(ctx, op, region, said)
-}
-
 /// Says the result for a region that is parsed into an operation, whose text is `before`: its place or the fault, whether a mark is
-/// recorded, and how many regions the operation has.
+/// recorded, and how many regions the operation has. If it is rejected, no object of it may be left, and the operation's text has to be
+/// that before it.
 fn compared_region(
     alloc: Global,
     ctx: &mut Ctx,
@@ -109,10 +86,12 @@ fn compared_region(
     said: &mut String,
 ) -> Result<(), Fail> {
     let live = ctx.num_live();
-    let (region, marks) = region_into(alloc, ctx, op, text, said)?;
-    say_place(alloc, ctx, op, before, live, region, said)?;
-    let count = num_parts(ctx, Object::TheOperation(op))?;
-    Ok(write!(said, ", {marks}, {count}")?)
+    let marks = on_stream(alloc, ctx, text, Asked::Region(op), said)?;
+    let is_last = said.as_str() == "last";
+    let is_kept = is_last || (ctx.num_live() == live && is_unchanged(alloc, ctx, op, before)?);
+    require(is_kept, "something was left")?;
+    let count = num_parts(ctx.graph(), Object::TheOperation(op))?;
+    written(write!(said, ", {marks}, {count}"))
 }
 
 /// Says the result for the text of a region that is parsed into the operation of the text before it.
@@ -124,5 +103,7 @@ pub(crate) fn region(
 ) -> Result<(), Fail> {
     let op = root(ctx, row.text(0)).ok_or("refused")?;
     let before = whole(alloc, ctx, op)?;
-    compared_region(alloc, ctx, op, before.as_str(), row.text(1), said)
+    let done = compared_region(alloc, ctx, op, before.as_str(), row.text(1), said);
+    drop(before);
+    done
 }

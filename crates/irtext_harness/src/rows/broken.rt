@@ -1,7 +1,9 @@
 //! A text that ends early, or in which a character is replaced, at each of its characters in turn. It is given in pieces, each followed by
 //! what is said if the text is broken in that piece.
+use crate::fault::written;
 use crate::rows::modes::Trial;
 use crate::rows::row::Row;
+use crate::rows::said::if_said;
 use pliron_text::parsable::SourcePosition;
 use std::alloc::{AllocError, Global};
 use std::fmt::Write;
@@ -41,7 +43,7 @@ struct Spot {
 }
 
 /// Appends the pieces, one after the other.
-fn push_pieces(row: &Row, text: &mut String) -> Result<(), AllocError> {
+fn push_pieces(row: &Row, text: &mut String) -> Result<(), Fail> {
     for (index, piece) in row.texts.iter().enumerate() {
         if index % 2 == 0 {
             text.push_str(piece.as_str())?;
@@ -135,10 +137,19 @@ fn push_wanted(
 /// What is said of a text beside a live root: its printed text, in a context of its own, or its fault.
 fn said_of(alloc: Global, text: &str) -> Result<String, Fail> {
     let said = Trial::Beside(text).said(alloc)?;
-    match said.as_str() {
-        "read" => Trial::Printed(text).said(alloc),
-        _ => Ok(said),
+    if said.as_str() != "read" {
+        return Ok(said);
     }
+    drop(said);
+    Trial::Printed(text).said(alloc)
+}
+
+/// Adds a line if something else is said at an offset than what is wanted.
+fn push_unless(lines: &mut String, at: usize, said: &str, wanted: &str) -> Result<(), Fail> {
+    if said == wanted {
+        return Ok(());
+    }
+    written(writeln!(lines, "at {at}: {said}"))
 }
 
 /// Adds a line if this is not what is said of the text that is broken at an offset.
@@ -150,10 +161,9 @@ fn add_unless(
     wanted: &str,
 ) -> Result<(), Fail> {
     let said = said_of(alloc, text)?;
-    if said.as_str() == wanted {
-        return Ok(());
-    }
-    Ok(writeln!(lines, "at {at}: {said}")?)
+    let done = push_unless(lines, at, said.as_str(), wanted);
+    drop(said);
+    done
 }
 
 /// Adds a line if something else is said of the text that is broken at a place. Both texts are empty before: that text, and what has to be
@@ -182,7 +192,10 @@ fn add(
 ) -> Result<(), Fail> {
     let mut text = String::new(alloc);
     let mut wanted = String::new(alloc);
-    add_between(alloc, lines, test, spot, rule, &mut text, &mut wanted)
+    let done = add_between(alloc, lines, test, spot, rule, &mut text, &mut wanted);
+    drop(text);
+    drop(wanted);
+    done
 }
 
 /// Adds a line for each place of a piece of which something else is said. Returns the offset of its end.
@@ -209,21 +222,21 @@ fn add_lines(alloc: Global, lines: &mut String, test: Broken<'_>, row: &Row) -> 
             next = add_piece(alloc, lines, test, next, parts)?;
         }
     }
-    Ok(write!(lines, "{next} places")?)
+    written(write!(lines, "{next} places"))
 }
 
 /// The same for this text.
 fn lines(alloc: Global, test: Broken<'_>, row: &Row) -> Result<String, Fail> {
     let mut lines = String::new(alloc);
-    add_lines(alloc, &mut lines, test, row)?;
-    Ok(lines)
+    let done = add_lines(alloc, &mut lines, test, row);
+    if_said(done, lines)
 }
 
 /// The text of all pieces.
 fn joined(alloc: Global, row: &Row) -> Result<String, Fail> {
     let mut text = String::new(alloc);
-    push_pieces(row, &mut text)?;
-    Ok(text)
+    let done = push_pieces(row, &mut text);
+    if_said(done, text)
 }
 
 /// The number of the places of a row, after a line for each at which something else is said.
@@ -233,5 +246,7 @@ pub(crate) fn said(alloc: Global, row: &Row, way: Break) -> Result<String, Fail>
         text: text.as_str(),
         way,
     };
-    lines(alloc, test, row)
+    let lines = lines(alloc, test, row);
+    drop(text);
+    lines
 }

@@ -1,8 +1,9 @@
 //! Counters that are nearly full: a text that would exceed one fails with out of memory, and leaves no objects.
-use crate::roots::{Ctx, Form, push, read_root, register_dialects, whole};
-use crate::rows::row::{Group, Row};
+use crate::fault::written;
+use crate::roots::{Ctx, push_concrete, read_root, whole};
+use crate::rows::beside::is_unchanged;
+use crate::rows::said::require;
 use irtext_demo::DemoAttr;
-use irtext_tests_common::contexts::with_counters;
 use pliron_text::base::{Operation, Ptr};
 use pliron_text::result::{Cause, Error};
 use std::alloc::Global;
@@ -12,8 +13,8 @@ use std::test::Fail;
 /// Says an error: its cause, or that of the fault that it holds.
 fn refused(error: &Error<DemoAttr>, said: &mut String) -> Result<(), Fail> {
     match &error.err {
-        Cause::Parse { at: _, cause } => Ok(write!(said, "{cause}")?),
-        cause => Ok(write!(said, "{cause}")?),
+        Cause::Parse { at: _, cause } => written(write!(said, "{cause}")),
+        cause => written(write!(said, "{cause}")),
     }
 }
 
@@ -29,7 +30,7 @@ fn added(
     said: &mut String,
 ) -> Result<(), Fail> {
     parsed_roots.push((op, whole(alloc, ctx, op)?))?;
-    push(ctx, op, Form::Concrete, said)
+    push_concrete(ctx, op, said)
 }
 
 /// Says the result for a text. A root that is parsed is added to the live ones.
@@ -40,18 +41,20 @@ fn parsed(
     text: &str,
     said: &mut String,
 ) -> Result<(), Fail> {
-    match read_root(ctx, text) {
-        Ok(op) => added(alloc, ctx, parsed_roots, op, said),
-        Err(error) => refused(&error, said),
-    }
+    let answer = read_root(ctx, text);
+    let done = match &answer {
+        Ok(op) => added(alloc, ctx, parsed_roots, *op, said),
+        Err(error) => refused(error, said),
+    };
+    drop(answer);
+    done
 }
 
 /// Fails if a live root has another text than before.
 fn are_as_they_were(alloc: Global, ctx: &Ctx, parsed_roots: &[Root]) -> Result<(), Fail> {
     for root in parsed_roots {
-        if whole(alloc, ctx, root.0)?.as_str() != root.1.as_str() {
-            return Err(Fail::from("what stood has changed"));
-        }
+        let is_same = is_unchanged(alloc, ctx, root.0, root.1.as_str())?;
+        require(is_same, "what stood has changed")?;
     }
     Ok(())
 }
@@ -84,25 +87,15 @@ fn say_last(
     Ok(())
 }
 
-/// The result for the last of the texts, which are parsed one after the other.
-fn last(alloc: Global, ctx: &mut Ctx, texts: &[String]) -> Result<String, Fail> {
-    if register_dialects(ctx).is_err() {
-        return Err(Fail::from("not registered"));
-    }
+/// Says the result for the last of the texts, which are parsed one after the other.
+pub(crate) fn last(
+    alloc: Global,
+    ctx: &mut Ctx,
+    texts: &[String],
+    said: &mut String,
+) -> Result<(), Fail> {
     let mut parsed_roots = Vec::new(alloc);
-    let mut said = String::new(alloc);
-    say_last(alloc, ctx, &mut parsed_roots, texts, &mut said)?;
-    Ok(said)
-}
-
-/// The same in a context whose next value and next place have the numbers of the group.
-pub(crate) fn said(alloc: Global, group: &Group, row: &Row) -> Result<String, Fail> {
-    let places = u32::try_from(group.number(1)).unwrap_or(0);
-    let texts = row.texts.as_slice();
-    with_counters(
-        alloc,
-        group.number(0),
-        places,
-        |alloc, ctx| last(alloc, ctx, texts),
-    )
+    let done = say_last(alloc, ctx, &mut parsed_roots, texts, said);
+    drop(parsed_roots);
+    done
 }

@@ -1,12 +1,13 @@
 //! A file of rows: its groups, and the rows in them.
 use crate::rows::row::{Group, Item, Row};
+use crate::rows::said::if_said;
 use pliron_text::irfmt::parsers::{Class, identifier_parse, int_parse, quoted_string_parse};
 use pliron_text::parsable::{ParseFault, ParseResult, TextStream};
-use std::alloc::{AllocError, Global};
+use std::alloc::Global;
 use std::test::Fail;
 
 /// Appends the lines of a file, an empty one in place of each that begins with `#`.
-fn push_lines(file: &str, text: &mut String) -> Result<(), AllocError> {
+fn push_lines(file: &str, text: &mut String) -> Result<(), Fail> {
     for line in file.lines() {
         let is_comment = line.starts_with('#');
         text.push_str(if is_comment { "" } else { line })?;
@@ -18,8 +19,8 @@ fn push_lines(file: &str, text: &mut String) -> Result<(), AllocError> {
 /// The text of a file with an empty line in place of each line that begins with `#`.
 pub(crate) fn without_comments(alloc: Global, file: &str) -> Result<String, Fail> {
     let mut text = String::new(alloc);
-    push_lines(file, &mut text)?;
-    Ok(text)
+    let done = push_lines(file, &mut text);
+    if_said(done, text)
 }
 
 /// A failure with the text of a fault: its place and its cause, and `!` if it is committed.
@@ -32,7 +33,11 @@ fn failure(fault: &ParseFault<()>) -> Fail {
 fn value<X: Drop>(answer: ParseResult<X, ()>) -> Result<X, Fail> {
     match answer {
         Ok(value) => Ok(value),
-        Err(fault) => Err(failure(&fault)),
+        Err(fault) => {
+            let fail = failure(&fault);
+            drop(fault);
+            Err(fail)
+        }
     }
 }
 
@@ -51,9 +56,17 @@ fn push_numbers(stream: &mut TextStream, numbers: &mut Vec<u64>) -> Result<(), F
 /// Parses a group after its bracket.
 fn group(alloc: Global, stream: &mut TextStream) -> Result<Group, Fail> {
     let word = value(identifier_parse(stream))?;
-    let mut numbers = Vec::new(alloc);
-    push_numbers(stream, &mut numbers)?;
-    Ok(Group { word, numbers })
+    let mut group = Group {
+        word,
+        numbers: Vec::new(alloc),
+    };
+    match push_numbers(stream, &mut group.numbers) {
+        Ok(()) => Ok(group),
+        Err(fail) => {
+            drop(group);
+            Err(fail)
+        }
+    }
 }
 
 /// Parses a quoted text.
@@ -73,17 +86,28 @@ fn push_texts(stream: &mut TextStream, texts: &mut Vec<String>) -> Result<(), Fa
     Ok(())
 }
 
+/// Parses the texts of a row, and what has to be said of them. The row has neither before.
+fn fill(stream: &mut TextStream, row: &mut Row) -> Result<(), Fail> {
+    push_texts(stream, &mut row.texts)?;
+    row.wanted = quoted(stream)?;
+    Ok(())
+}
+
 /// Parses a row.
 fn row(alloc: Global, stream: &mut TextStream) -> Result<Row, Fail> {
     let line = stream.locate(stream.position()).line;
-    let mut texts = Vec::new(alloc);
-    push_texts(stream, &mut texts)?;
-    let wanted = quoted(stream)?;
-    Ok(Row {
+    let mut row = Row {
         line,
-        texts,
-        wanted,
-    })
+        texts: Vec::new(alloc),
+        wanted: String::new(alloc),
+    };
+    match fill(stream, &mut row) {
+        Ok(()) => Ok(row),
+        Err(fail) => {
+            drop(row);
+            Err(fail)
+        }
+    }
 }
 
 /// Parses what comes next in a file without comments: a group, a row, or its end.

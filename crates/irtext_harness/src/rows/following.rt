@@ -1,5 +1,6 @@
 //! Roots and whole texts that follow each other on one stream.
-use crate::roots::{Ctx, Form, push, push_location, two};
+use crate::fault::written;
+use crate::roots::{Ctx, push_location, push_whole, two};
 use crate::rows::row::Row;
 use crate::rows::streams::{Asked, on_stream};
 use irtext_tests_common::building::live;
@@ -17,7 +18,7 @@ pub(crate) fn second(
     let (first, second) = two(alloc, ctx, text)?;
     live(ctx, first)?;
     push_location(ctx, second, said)?;
-    Ok(write!(said, " {}", ctx.num_live())?)
+    written(write!(said, " {}", ctx.num_live()))
 }
 
 /// Says the text of the second of two roots.
@@ -28,7 +29,7 @@ pub(crate) fn second_text(
     said: &mut String,
 ) -> Result<(), Fail> {
     let (_first, second) = two(alloc, ctx, text)?;
-    push(ctx, second, Form::Whole, said)
+    push_whole(ctx, second, said)
 }
 
 /// Says the result for the second of two operations with the same mark, and the number of objects.
@@ -39,7 +40,7 @@ pub(crate) fn same_mark(
     said: &mut String,
 ) -> Result<(), Fail> {
     on_stream(alloc, ctx, text, Asked::SameMark, said)?;
-    Ok(write!(said, " {}", ctx.num_live())?)
+    written(write!(said, " {}", ctx.num_live()))
 }
 
 /// Says the result for the last of so many whole texts, whether a mark is recorded, and the number of objects.
@@ -51,7 +52,7 @@ pub(crate) fn whole_text(
     said: &mut String,
 ) -> Result<(), Fail> {
     let marks = on_stream(alloc, ctx, text, Asked::Whole(times), said)?;
-    Ok(write!(said, ", {marks}, {}", ctx.num_live())?)
+    written(write!(said, ", {marks}, {}", ctx.num_live()))
 }
 
 /// Says the results for two whole texts while the mark of an earlier operation is recorded.

@@ -1,9 +1,10 @@
 //! Operations that are parsed and printed in a format of their own, which is given by its letters.
+use crate::fault::written;
 use crate::roots;
-use crate::roots::{Ctx, Form, push, read_root, register};
+use crate::roots::{Ctx, push_concrete, push_whole, read_root, register};
 use crate::rows::modes::Trial;
 use crate::rows::row::Row;
-use crate::rows::said::{require, words};
+use crate::rows::said::require;
 use irtext_demo::DemoAttr;
 use pliron_text::base::{Operation, Ptr};
 use pliron_text::result::Error;
@@ -14,7 +15,7 @@ use std::test::Fail;
 /// Says the printed text of the root that a text is parsed as.
 pub(crate) fn printed(ctx: &mut Ctx, text: &str, said: &mut String) -> Result<(), Fail> {
     let root = roots::root(ctx, text).ok_or("refused")?;
-    push(ctx, root, Form::Whole, said)
+    push_whole(ctx, root, said)
 }
 
 /// Says the same, once `test.z` is registered with the format of these letters.
@@ -38,25 +39,32 @@ fn around(alloc: Global, op: &str) -> Result<String, Fail> {
 fn part(alloc: Global, letters: &str, printed: &str, wanted: &str) -> Result<String, Fail> {
     let again = Trial::Formatted(letters, printed).said(alloc)?;
     let holds = printed.contains(wanted) && again.as_str() == printed;
-    words(alloc, if holds { wanted } else { printed })
+    drop(again);
+    Ok(String::from_str(alloc, if holds { wanted } else { printed })?)
 }
 
 /// The same for the root that a text is parsed as.
 fn part_of(alloc: Global, letters: &str, text: &str, wanted: &str) -> Result<String, Fail> {
     let printed = Trial::Formatted(letters, text).said(alloc)?;
-    part(alloc, letters, printed.as_str(), wanted)
+    let part = part(alloc, letters, printed.as_str(), wanted);
+    drop(printed);
+    part
 }
 
 /// The part that is wanted of the printed text of the root around an operation, or the whole of it.
 pub(crate) fn in_a_root(alloc: Global, row: &Row) -> Result<String, Fail> {
     let text = around(alloc, row.text(1))?;
-    part_of(alloc, row.text(0), text.as_str(), row.wanted.as_str())
+    let part = part_of(alloc, row.text(0), text.as_str(), row.wanted.as_str());
+    drop(text);
+    part
 }
 
 /// Fails if a text is not parsed as a root of the same text.
 fn check_printed(alloc: Global, ctx: &mut Ctx, text: &str) -> Result<(), Fail> {
     let printed = roots::printed(alloc, ctx, text)?;
-    require(printed.as_str() == text, "other text")
+    let is_same = printed.as_str() == text;
+    drop(printed);
+    require(is_same, "other text")
 }
 
 /// Says the concrete text of a root whose whole text is parsed back.
@@ -66,30 +74,31 @@ fn comes_back(
     op: Ptr<Operation>,
     said: &mut String,
 ) -> Result<(), Fail> {
-    push(ctx, op, Form::Whole, said)?;
+    push_whole(ctx, op, said)?;
     check_printed(alloc, ctx, said.as_str())?;
     said.clear();
-    push(ctx, op, Form::Concrete, said)
+    push_concrete(ctx, op, said)
 }
 
 /// Says an error.
 fn refused(error: &Error<DemoAttr>, said: &mut String) -> Result<(), Fail> {
-    Ok(write!(said, "{error}")?)
+    written(write!(said, "{error}"))
 }
 
 /// Says the concrete text of the root that a text is parsed as, or the error, once `lab.d`, which is isolated, is registered with the format
 /// of the letters that come first. The context is empty before.
-fn say_root(alloc: Global, ctx: &mut Ctx, row: &Row, said: &mut String) -> Result<(), Fail> {
+pub(crate) fn as_a_root(
+    alloc: Global,
+    ctx: &mut Ctx,
+    row: &Row,
+    said: &mut String,
+) -> Result<(), Fail> {
     register(alloc, ctx, ("lab", "d"), row.text(0), true)?;
-    match read_root(ctx, row.text(1)) {
-        Ok(op) => comes_back(alloc, ctx, op, said),
-        Err(error) => refused(&error, said),
-    }
-}
-
-/// What is said of it.
-pub(crate) fn as_a_root(alloc: Global, ctx: &mut Ctx, row: &Row) -> Result<String, Fail> {
-    let mut said = String::new(alloc);
-    say_root(alloc, ctx, row, &mut said)?;
-    Ok(said)
+    let answer = read_root(ctx, row.text(1));
+    let done = match &answer {
+        Ok(op) => comes_back(alloc, ctx, *op, said),
+        Err(error) => refused(error, said),
+    };
+    drop(answer);
+    done
 }

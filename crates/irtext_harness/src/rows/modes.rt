@@ -1,21 +1,26 @@
 //! What the word of a group selects.
-use crate::roots::Ctx;
+use crate::roots::{Ctx, register_dialects};
 use crate::rows::beside::{beside, beside_formatted, region};
 use crate::rows::broken::Break;
 use crate::rows::following::{after, same_mark, second, second_text, whole_text};
 use crate::rows::row::{Group, Row};
+use crate::rows::said::{if_said, require};
 use crate::rows::streams::Asked;
 use crate::rows::uses::{of_operand, of_successor};
 use crate::rows::{broken, counters, formats, names, printing};
-use irtext_tests_common::contexts::{with_context, with_demo};
+use irtext_tests_common::contexts::with_counters;
 use std::alloc::Global;
 use std::test::Fail;
 
-/// What is done in a context of its own that has the demo dialects.
+/// What is done in a context of its own, which has the demo dialects if nothing else is said.
 #[derive(Clone, Copy)]
 pub(crate) enum Trial<'r> {
     /// What the word of a group selects, with the texts of a row.
     Row(&'r Group, &'r Row),
+    /// The texts of a row are parsed one after the other, in a context whose next value and next place have the numbers of the group.
+    Counted(&'r Group, &'r Row),
+    /// A text is parsed as a root in a context without dialects, and printed in a format.
+    Directives(&'r Row),
     /// A text is parsed as a root beside a live root.
     Beside(&'r str),
     /// A text is parsed as a root and printed.
@@ -25,26 +30,50 @@ pub(crate) enum Trial<'r> {
 }
 
 impl Trial<'_> {
-    /// Says this in a context that has the demo dialects.
+    /// The numbers of the next value and of the next place of the context.
+    fn counters(self) -> (u64, u32) {
+        match self {
+            Trial::Counted(group, _) => {
+                let places = u32::try_from(group.number(1)).unwrap_or(0);
+                (group.number(0), places)
+            }
+            _ => (0, 1),
+        }
+    }
+
+    /// Says this in a context that has the demo dialects, if it needs them.
     fn say(self, alloc: Global, ctx: &mut Ctx, said: &mut String) -> Result<(), Fail> {
         match self {
             Trial::Row(group, row) => in_demo(alloc, ctx, group, row, said),
+            Trial::Counted(_, row) => counters::last(alloc, ctx, row.texts.as_slice(), said),
+            Trial::Directives(row) => formats::as_a_root(alloc, ctx, row, said),
             Trial::Beside(text) => beside(alloc, ctx, text, Asked::Root, said),
             Trial::Printed(text) => formats::printed(ctx, text, said),
             Trial::Formatted(letters, text) => formats::registered(alloc, ctx, letters, text, said),
         }
     }
 
-    /// What is said in a context that has the demo dialects.
+    /// Says this in an empty context, to which the demo dialects are added if it needs them.
+    fn say_alone(self, alloc: Global, ctx: &mut Ctx, said: &mut String) -> Result<(), Fail> {
+        let needs_none = matches!(self, Trial::Directives(_));
+        require(
+            needs_none || register_dialects(ctx).is_ok(),
+            "not registered",
+        )?;
+        self.say(alloc, ctx, said)
+    }
+
+    /// What is said in an empty context.
     fn said_in(self, alloc: Global, ctx: &mut Ctx) -> Result<String, Fail> {
         let mut said = String::new(alloc);
-        self.say(alloc, ctx, &mut said)?;
-        Ok(said)
+        let done = self.say_alone(alloc, ctx, &mut said);
+        if_said(done, said)
     }
 
     /// What is said in a context of its own.
     pub(crate) fn said(self, alloc: Global) -> Result<String, Fail> {
-        with_demo(alloc, |alloc, ctx| self.said_in(alloc, ctx))
+        let (values, places) = self.counters();
+        with_counters(alloc, values, places, |alloc, ctx| self.said_in(alloc, ctx))
     }
 }
 
@@ -73,19 +102,14 @@ fn in_demo(
     }
 }
 
-/// What is said of a row's texts in a context without dialects.
-fn in_empty_context(alloc: Global, row: &Row) -> Result<String, Fail> {
-    with_context(alloc, |alloc, ctx| formats::as_a_root(alloc, ctx, row))
-}
-
 /// What is said of a row's texts.
 pub(crate) fn said(alloc: Global, group: &Group, row: &Row) -> Result<String, Fail> {
     match group.word.as_str() {
         "ended" => broken::said(alloc, row, Break::End),
         "replaced" => broken::said(alloc, row, Break::Character),
         "format" => formats::in_a_root(alloc, row),
-        "directives" => in_empty_context(alloc, row),
-        "counters" => counters::said(alloc, group, row),
+        "directives" => Trial::Directives(row).said(alloc),
+        "counters" => Trial::Counted(group, row).said(alloc),
         "value" => names::value(alloc, row.text(0)),
         "label" => names::label(alloc, row.text(0)),
         _ => Trial::Row(group, row).said(alloc),

@@ -1,15 +1,20 @@
 //! What is said of the text of a stream that has its state.
-use crate::failed::refuses_another;
+ghost use Rattle.std.specs.Prelude.{IsSome, IsTrue};
+ghost use Rattle.irtext_context.specs.Context.{operation};
+
+use crate::failed::{is_parsed, refuses_another};
+use crate::fault::written;
 use crate::roots::{Ctx, Stream, alone, push_location};
+use crate::rows::places::place_of;
 use crate::rows::said::{push_answer, push_fault, push_words, require};
 use irtext_demo::{DemoAttr, DemoType};
-use irtext_tests_common::building::live;
+use irtext_graph::held::HasGraph;
 use pliron_text::base::{BasicBlock, Operation, Ptr, Region};
 use pliron_text::ir::OperationText;
 use pliron_text::irfmt::parsers;
 use pliron_text::location::{Location, Source};
 use pliron_text::parsable::{
-    Parsable, ParseFault, ParseResult, State, StateStream, StreamLocation, TextStream,
+    Parsable, ParseFault, ParseResult, State, StreamLocation, TextStream,
     state_stream_from_iterator,
 };
 use std::alloc::Global;
@@ -23,6 +28,8 @@ pub(crate) enum Asked<'t> {
     Root,
     /// A block, which is an error here.
     Block,
+    /// A region of this operation.
+    Region(Ptr<Operation>),
     /// So many whole texts.
     Whole(u64),
     /// Two operations, without looking for a section.
@@ -48,10 +55,12 @@ fn answered<X: Drop>(
     answer: ParseResult<X, DemoAttr>,
     said: &mut String,
 ) -> Result<(), Fail> {
-    match answer {
+    let done = match &answer {
         Ok(_) => push_words("read", said),
-        Err(fault) => faulted(s, &fault, said),
-    }
+        Err(fault) => faulted(s, fault, said),
+    };
+    drop(answer);
+    done
 }
 
 /// Says the result for a root.
@@ -66,39 +75,95 @@ fn block(s: &mut Stream<'_>, said: &mut String) -> Result<(), Fail> {
     answered(s, answer, said)
 }
 
+/// Says the place of a region in an operation.
+fn push_place(
+    s: &mut Stream<'_>,
+    op: Ptr<Operation>,
+    region: Ptr<Region>,
+    said: &mut String,
+) -> Result<(), Fail> {
+    let ctx = &mut *s.state.ctx;
+    push_words(place_of(ctx.graph(), op, region), said)
+}
+
+/// Says the place of a region that was parsed into an operation, or the fault.
+fn placed(
+    s: &mut Stream<'_>,
+    op: Ptr<Operation>,
+    answer: ParseResult<Ptr<Region>, DemoAttr>,
+    said: &mut String,
+) -> Result<(), Fail> {
+    let done = match &answer {
+        Ok(region) => push_place(s, op, *region, said),
+        Err(fault) => faulted(s, fault, said),
+    };
+    drop(answer);
+    done
+}
+
+/// Whether an operation is in the context of a state.
+fn is_live(state: &State<'_, DemoType, DemoAttr, ()>, op: Ptr<Operation>) -> bool
+    ensures { IsTrue result → IsSome (operation state.now.ctx.now op) }
+{
+    state.ctx.contains_operation(op)
+}
+
+/// Says the result for a region of an operation.
+fn region(s: &mut Stream<'_>, op: Ptr<Operation>, said: &mut String) -> Result<(), Fail> {
+    if !is_live(&s.state, op) {
+        return Err(Fail::from("no such operation"));
+    }
+    let answer = <Region as Parsable<DemoType, DemoAttr, ()>>::parse(s, op);
+    placed(s, op, answer, said)
+}
+
 /// Says the result for the last of so many whole texts.
 fn whole(s: &mut Stream<'_>, times: u64, said: &mut String) -> Result<(), Fail> {
     for _time in 1..times {
-        let _ = Operation::whole_text_parse(s).is_ok();
+        let _ = is_parsed(Operation::whole_text_parse(s));
     }
     let answer = Operation::whole_text_parse(s);
     push_answer(answer, "root", said)
 }
 
-/// Says a result that is an error.
-fn refused(
-    answer: &ParseResult<Ptr<Operation>, DemoAttr>,
+/// Whether a location is a place of a text.
+fn is_place(location: Location<DemoAttr>) -> bool {
+    let is_place = matches!(&location, Location::SrcPos { .. });
+    drop(location);
+    is_place
+}
+
+/// Says a fault after the mark that is recorded, if the stream's next location is a place of its text.
+fn push_marked(
+    s: &Stream<'_>,
+    fault: &ParseFault<DemoAttr>,
     marks: bool,
     said: &mut String,
 ) -> Result<(), Fail> {
-    match answer {
-        Ok(_) => Err(Fail::from("accepted")),
-        Err(fault) => Ok(write!(said, "{marks} {}: {}", fault.pos, fault.cause)?),
-    }
+    let marks = marks && is_place(s.loc()) && is_place(parsers::location(s));
+    written(write!(said, "{marks} {}: {}", fault.pos, fault.cause))
 }
 
-/// Whether the stream's next location is a place of its text.
-fn is_located(s: &Stream<'_>) -> bool {
-    matches!(s.loc(), Location::SrcPos { .. })
-        && matches!(parsers::location(s), Location::SrcPos { .. })
+/// Says a result that is an error.
+fn refused(
+    s: &Stream<'_>,
+    answer: ParseResult<Ptr<Operation>, DemoAttr>,
+    marks: bool,
+    said: &mut String,
+) -> Result<(), Fail> {
+    let done = match &answer {
+        Ok(_) => Err(Fail::from("accepted")),
+        Err(fault) => push_marked(s, fault, marks, said),
+    };
+    drop(answer);
+    done
 }
 
 /// Parses two roots with the same mark. Says whether the first one's mark is in the state, and the result for the second one.
 fn same_mark(s: &mut Stream<'_>, said: &mut String) -> Result<(), Fail> {
-    let first = alone(s).is_ok();
-    let marks = s.state.has_marks();
+    let marks = is_parsed(alone(s)) && s.state.has_marks();
     let answer = alone(s);
-    refused(&answer, first && marks && is_located(s), said)
+    refused(s, answer, marks, said)
 }
 
 /// Says whether a mark is recorded after a whole text, the number of live objects, and the location of an earlier operation.
@@ -141,6 +206,7 @@ fn say(alloc: Global, s: &mut Stream<'_>, asked: Asked<'_>, said: &mut String) -
     match asked {
         Asked::Root => root(s, said),
         Asked::Block => block(s, said),
+        Asked::Region(op) => region(s, op, said),
         Asked::Whole(times) => whole(s, times, said),
         Asked::SameMark => same_mark(s, said),
         Asked::After(text, next) => both_after(alloc, s, text, next, said),
@@ -168,46 +234,7 @@ pub(crate) fn on_stream(
 ) -> Result<bool, Fail> {
     let state = State::new(ctx, Source::InMemory, ());
     let mut s = state_stream_from_iterator(text.chars(), state)?;
-    marked(alloc, &mut s, asked, said)
-}
-
-/// Returns the region of a result, or says the fault.
-fn region_of(
-    s: &mut Stream<'_>,
-    answer: ParseResult<Ptr<Region>, DemoAttr>,
-    said: &mut String,
-) -> Result<Option<Ptr<Region>>, Fail> {
-    match answer {
-        Ok(region) => Ok(Some(region)),
-        Err(fault) => {
-            faulted(s, &fault, said)?;
-            Ok(None)
-        }
-    }
-}
-
-/// The same, and whether a mark is recorded after it.
-fn region_and_marks(
-    s: &mut Stream<'_>,
-    answer: ParseResult<Ptr<Region>, DemoAttr>,
-    said: &mut String,
-) -> Result<(Option<Ptr<Region>>, bool), Fail> {
-    let marks = s.state.has_marks();
-    Ok((region_of(s, answer, said)?, marks))
-}
-
-/// Parses a text as a region of an operation. Returns the region, or says the fault; and whether a mark is recorded then.
-pub(crate) fn region_into(
-    alloc: Global,
-    ctx: &mut Ctx,
-    op: Ptr<Operation>,
-    text: &str,
-    said: &mut String,
-) -> Result<(Option<Ptr<Region>>, bool), Fail> {
-    live(ctx, op)?;
-    let stream = TextStream::new(alloc, text)?;
-    let state = State::new(ctx, Source::InMemory, ());
-    let mut s = StateStream { stream, state };
-    let answer = <Region as Parsable<DemoType, DemoAttr, ()>>::parse(&mut s, op);
-    region_and_marks(&mut s, answer, said)
+    let marks = marked(alloc, &mut s, asked, said);
+    drop(s);
+    marks
 }
