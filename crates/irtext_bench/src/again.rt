@@ -1,7 +1,7 @@
 //! Texts that are parsed and printed with a new context each: it has the demo dialects, and an operation in a format if one is given.
 
 use crate::directives::format_of;
-use crate::said::{Ctx, Said, say};
+use crate::said::{Ctx, Said, checked, say};
 use irtext_demo::DemoAttr;
 use irtext_demo::dialects::register_demo;
 use pliron_text::base::Context;
@@ -11,10 +11,7 @@ use std::fmt::Write;
 
 /// Registers the demo dialects with an empty context.
 pub fn register(ctx: &mut Ctx) -> Result<(), AllocError> {
-    match register_demo(ctx) {
-        Ok(()) => Ok(()),
-        Err(_) => Err(AllocError),
-    }
+    checked(register_demo(ctx))
 }
 
 /// Appends why a format is rejected.
@@ -32,7 +29,9 @@ fn add(alloc: Global, ctx: &mut Ctx, words: &str, out: &mut String) -> Result<bo
     match answer {
         Ok(()) => Ok(true),
         Err(error) => {
-            push_fault(&error, out)?;
+            let done = push_fault(&error, out);
+            drop(error);
+            done?;
             Ok(false)
         }
     }
@@ -64,7 +63,9 @@ pub fn say_alone(
     out: &mut String,
 ) -> Result<Said, AllocError> {
     let mut ctx = Context::new(alloc);
-    say_with(alloc, &mut ctx, words, text, out)
+    let said = say_with(alloc, &mut ctx, words, text, out);
+    drop(ctx);
+    said
 }
 
 /// Whether a text with this result is parsed and printed. Its format has to be accepted.
@@ -110,5 +111,8 @@ pub fn fate(
 ) -> Result<&'static str, AllocError> {
     let mut second = String::new(alloc);
     let mut third = String::new(alloc);
-    fate_by(alloc, words, first, unchanged, &mut second, &mut third)
+    let fate = fate_by(alloc, words, first, unchanged, &mut second, &mut third);
+    drop(second);
+    drop(third);
+    fate
 }

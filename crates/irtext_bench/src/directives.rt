@@ -1,10 +1,9 @@
 //! Formats written as words, one for each directive: `operand.0`, `operands`, `successor.0`, `successors`, `attribute.KEY`,
 //! `dictionary`, `result.0`, `region.0`, `regions`, `symbol`, and `literal.TEXT`. The word `canonical` alone is the canonical form.
 
-use irtext_demo::DemoAttr;
+use crate::said::checked;
 use pliron_text::base::Identifier;
 use pliron_text::format::{Directive, OpFormat};
-use pliron_text::result::Result as Answer;
 use std::alloc::{AllocError, Global};
 
 /// Returns the directive that a word without a dot denotes.
@@ -30,22 +29,13 @@ fn placed(kind: &str, place: usize) -> Option<Directive> {
     }
 }
 
-/// Returns the directive of an attribute.
-fn attribute(alloc: Global, key: &str) -> Result<Directive, AllocError> {
-    let name: Answer<Identifier, DemoAttr> = Identifier::try_new(alloc, key);
-    match name {
-        Ok(key) => Ok(Directive::Attr(key)),
-        Err(_) => Err(AllocError),
-    }
-}
-
 /// Returns the directive of this kind with a text.
 fn with_text(alloc: Global, kind: &str, text: &str) -> Result<Directive, AllocError> {
     if kind == "literal" {
         return Ok(Directive::Literal(String::from_str(alloc, text)?));
     }
     if kind == "attribute" {
-        return attribute(alloc, text);
+        return Ok(Directive::Attr(checked(Identifier::try_new(alloc, text))?));
     }
     match text.parse::<usize>() {
         Ok(place) => placed(kind, place).ok_or(AllocError),
@@ -79,6 +69,11 @@ pub fn format_of(alloc: Global, words: &str) -> Result<OpFormat, AllocError> {
         return Ok(OpFormat::Canonical);
     }
     let mut directives = Vec::new(alloc);
-    push_directives(alloc, words, &mut directives)?;
-    Ok(OpFormat::Custom(directives))
+    match push_directives(alloc, words, &mut directives) {
+        Ok(()) => Ok(OpFormat::Custom(directives)),
+        Err(error) => {
+            drop(directives);
+            Err(error)
+        }
+    }
 }

@@ -24,7 +24,11 @@ fn erase_all(s: &mut StateStream<'_, DemoType, DemoAttr, ()>) -> Result<Count, A
                 }
                 count = count.saturating_add(1);
             }
-            Err(fault) => return Ok((count, fault.pos)),
+            Err(fault) => {
+                let end = fault.pos;
+                drop(fault);
+                return Ok((count, end));
+            }
         }
     }
     Err(AllocError)
@@ -34,7 +38,10 @@ fn erase_all(s: &mut StateStream<'_, DemoType, DemoAttr, ()>) -> Result<Count, A
 fn read_and_erase(alloc: Global, ctx: &mut Ctx, text: &str) -> Result<Count, AllocError> {
     let stream = TextStream::new(alloc, text)?;
     let state = State::new(ctx, Source::InMemory, ());
-    erase_all(&mut StateStream { stream, state })
+    let mut s = StateStream { stream, state };
+    let count = erase_all(&mut s);
+    drop(s);
+    count
 }
 
 /// Does the same so many times, with an empty context. Appends a line with the number of roots, the position where the text is rejected
@@ -61,5 +68,7 @@ fn repeated(
 /// Does the same with a new context.
 pub fn erased(alloc: Global, text: &str, times: usize, out: &mut String) -> Result<(), AllocError> {
     let mut ctx = Context::new(alloc);
-    repeated(alloc, &mut ctx, text, times, out)
+    let done = repeated(alloc, &mut ctx, text, times, out);
+    drop(ctx);
+    done
 }

@@ -13,11 +13,14 @@ const PART: char = '\u{1}';
 
 /// Appends why the format of these words is rejected, or `accepted`.
 fn push_reason(alloc: Global, words: &str, out: &mut String) -> Result<(), AllocError> {
-    let mut unused = String::new(alloc);
-    match say_alone(alloc, Some(words), "", &mut unused)? {
-        Said::NoFormat => out.push_str(unused.as_str()),
-        _ => out.push_str("accepted"),
-    }
+    let mut reason = String::new(alloc);
+    let done = match say_alone(alloc, Some(words), "", &mut reason) {
+        Ok(Said::NoFormat) => out.push_str(reason.as_str()),
+        Ok(_) => out.push_str("accepted"),
+        Err(error) => Err(error),
+    };
+    drop(reason);
+    done
 }
 
 /// Checks a text with an operation in an accepted format, with an empty text for its print. Returns `back` if its printed text is printed
@@ -46,7 +49,9 @@ fn fate_of(
     wanted: &str,
 ) -> Result<&'static str, AllocError> {
     let mut first = String::new(alloc);
-    fate_by(alloc, words, text, wanted, &mut first)
+    let fate = fate_by(alloc, words, text, wanted, &mut first);
+    drop(first);
+    fate
 }
 
 /// Checks a row, and appends what is said of it. If it has only a format, that is why the format is rejected, or `accepted`.

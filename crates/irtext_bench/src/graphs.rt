@@ -6,6 +6,7 @@ mod names;
 mod objects;
 
 use crate::graphs::named::Call;
+use crate::graphs::objects::Way;
 use std::alloc::{AllocError, Global};
 use std::fmt::Write;
 
@@ -21,10 +22,10 @@ fn done(
         "rounds" => named::rounds(alloc, size, times, calls),
         "nested" => Ok(named::nested(alloc, size, calls)),
         "repeated" => Ok(named::repeated(alloc, size, calls)),
-        "make" => objects::make(alloc, size, times),
-        "replace" => objects::replace(alloc, size, times),
-        "fill" => objects::fill(alloc, size, times, false),
-        "erase" => objects::fill(alloc, size, times, true),
+        "make" => objects::counted(alloc, Way::Make, size, times),
+        "replace" => objects::counted(alloc, Way::Replace, size, times),
+        "fill" => objects::counted(alloc, Way::Fill, size, times),
+        "erase" => objects::counted(alloc, Way::Erase, size, times),
         "texts" => names::are_texts(alloc, size),
         "names" => names::new_names(alloc, size),
         "definitions" => names::definitions(alloc, size, times),
@@ -38,16 +39,15 @@ fn number(word: Option<&String>) -> Option<usize> {
     word?.as_str().parse::<usize>().ok()
 }
 
-/// Returns the calls that the words from the fifth on denote, or `None` if one denotes none.
-fn calls_of(alloc: Global, words: &[String]) -> Result<Option<Vec<Call>>, AllocError> {
-    let mut calls = Vec::new(alloc);
+/// Appends the calls that the words from the fifth on denote. Returns whether each denotes one.
+fn push_calls(words: &[String], calls: &mut Vec<Call>) -> Result<bool, AllocError> {
     for word in words.iter().skip(4) {
         match named::call_of(word.as_str()) {
             Some(call) => calls.push(call)?,
-            None => return Ok(None),
+            None => return Ok(false),
         }
     }
-    Ok(Some(calls))
+    Ok(true)
 }
 
 /// Does what the words after the first select, and appends a line about it. Returns whether each call returned what it should.
@@ -59,10 +59,16 @@ pub fn append_line(alloc: Global, words: &[String], out: &mut String) -> Result<
     ) else {
         return Ok(false);
     };
-    let Some(calls) = calls_of(alloc, words)? else {
-        return Ok(false);
+    let mut calls = Vec::new(alloc);
+    let all = match push_calls(words, &mut calls) {
+        Ok(true) => done(alloc, word.as_str(), size, times, &calls),
+        other => {
+            drop(calls);
+            return other;
+        }
     };
-    let all = done(alloc, word.as_str(), size, times, &calls)?;
+    drop(calls);
+    let all = all?;
     write!(out, "{word} {size} {times}: done")?;
     Ok(all)
 }

@@ -12,16 +12,19 @@ fn push_result<X: Drop>(
     bytes: usize,
     out: &mut String,
 ) -> Result<(), AllocError> {
-    match items {
+    let done = match &items {
         Ok(items) => write!(out, "{} items, {bytes} bytes read", items.len()),
         Err(fault) => write!(out, "{}: {}", fault.pos, fault.cause),
-    }
+    };
+    drop(items);
+    done
 }
 
 /// Parses a list of integers with commas between. Appends a line with their number.
 pub fn numbers(alloc: Global, text: &str, out: &mut String) -> Result<(), AllocError> {
     let mut stream = TextStream::new(alloc, text)?;
     let items: ParseResult<Vec<i64>, DemoAttr> = list_parser(&mut stream, ',', int_parse);
+    drop(stream);
     push_result(items, text.len(), out)
 }
 
@@ -33,5 +36,6 @@ pub fn strings(alloc: Global, text: &str, out: &mut String) -> Result<(), AllocE
         ',',
         quoted_string_parse,
     );
+    drop(stream);
     push_result(items, text.len(), out)
 }

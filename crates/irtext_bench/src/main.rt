@@ -83,7 +83,9 @@ impl Task {
 fn append_task(rt: &HostRuntime, task: Task, words: &[String], out: &mut String) -> io::Result<()> {
     let text = io::read_to_string(rt.alloc(), rt.reader())?;
     let times = words.len().saturating_sub(1);
-    task.measured(rt.alloc(), times, text.as_str(), out)
+    let done = task.measured(rt.alloc(), times, text.as_str(), out);
+    drop(text);
+    done
 }
 
 /// Makes the calls that the arguments after the first select, and appends the line.
@@ -108,7 +110,10 @@ fn write_line(rt: &HostRuntime, words: &[String], out: &mut String) -> io::Resul
 fn measure(rt: &HostRuntime) -> io::Result<()> {
     let words: Vec<String> = env::args(rt)?.skip(1).collect(rt.alloc())?;
     let mut out = String::new(rt.alloc());
-    write_line(rt, &words, &mut out)
+    let done = write_line(rt, &words, &mut out);
+    drop(out);
+    drop(words);
+    done
 }
 
 fn main(rt: HostRuntime) -> ExitCode {

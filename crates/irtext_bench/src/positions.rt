@@ -6,15 +6,9 @@ use std::fmt::Write;
 
 const MILLION: usize = 1_000_000;
 
-/// Requests the position of the end of a text so many million times. Appends that position.
-pub fn positions(
-    alloc: Global,
-    text: &str,
-    times: usize,
-    out: &mut String,
-) -> Result<(), AllocError> {
-    let mut stream = TextStream::new(alloc, text)?;
-    for _ in 0..text.len() {
+/// Takes so many characters, or all that come, and requests the position after them so many million times.
+fn position_after(stream: &mut TextStream, characters: usize, times: usize) -> SourcePosition {
+    for _ in 0..characters {
         let _ = stream.take();
     }
     let mut position = SourcePosition::default();
@@ -23,5 +17,18 @@ pub fn positions(
             position = stream.locate(stream.position());
         }
     }
+    position
+}
+
+/// Requests the position of the end of a text so many million times. Appends that position.
+pub fn positions(
+    alloc: Global,
+    text: &str,
+    times: usize,
+    out: &mut String,
+) -> Result<(), AllocError> {
+    let mut stream = TextStream::new(alloc, text)?;
+    let position = position_after(&mut stream, text.len(), times);
+    drop(stream);
     write!(out, "{position}")
 }

@@ -2,7 +2,7 @@
 //! a context that already contains a root.
 
 use crate::again::{fate, register, say_alone};
-use crate::said::{Ctx, Said, erase, print, read, read_or_refused};
+use crate::said::{Ctx, Said, checked, erase, print, read, read_or_refused};
 use pliron_text::base::{Context, Operation, Ptr};
 use std::alloc::{AllocError, Global};
 use std::fmt::Write;
@@ -57,7 +57,10 @@ fn is_as_it_was(
     live: u64,
 ) -> bool {
     let mut text = String::new(alloc);
-    print(ctx, live_root, &mut text) && text.as_str() == before && ctx.num_live() == live
+    let is_printed = print(ctx, live_root, &mut text);
+    let is_same = text.as_str() == before;
+    drop(text);
+    is_printed && is_same && ctx.num_live() == live
 }
 
 /// The first root, and its printed text.
@@ -98,17 +101,17 @@ fn push_line(
 ) -> Result<(), AllocError> {
     let mut alone = String::new(alloc);
     let mut beside = String::new(alloc);
-    push_line_by(alloc, ctx, first, text, &mut alone, &mut beside, out)?;
+    let done = push_line_by(alloc, ctx, first, text, &mut alone, &mut beside, out);
+    drop(alone);
+    drop(beside);
+    done?;
     out.push('\n')
 }
 
 /// Parses the first root with an empty context.
 fn first_root(ctx: &mut Ctx) -> Result<Ptr<Operation>, AllocError> {
     register(ctx)?;
-    match read(ctx, LIVE_ROOT) {
-        Ok(root) => Ok(root),
-        Err(_) => Err(AllocError),
-    }
+    checked(read(ctx, LIVE_ROOT))
 }
 
 /// Parses the first root with an empty context, prints it into an empty text, and then appends a line for each text.
@@ -138,5 +141,8 @@ fn push_beside(
 pub fn prints(alloc: Global, texts: &str, out: &mut String) -> Result<(), AllocError> {
     let mut before = String::new(alloc);
     let mut ctx = Context::new(alloc);
-    push_beside(alloc, &mut ctx, texts, &mut before, out)
+    let done = push_beside(alloc, &mut ctx, texts, &mut before, out);
+    drop(ctx);
+    drop(before);
+    done
 }

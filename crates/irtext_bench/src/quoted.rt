@@ -26,7 +26,9 @@ fn write_by(way: Way, text: &str, out: &mut String) -> Result<usize, AllocError>
 /// Writes the text. Returns the number of bytes.
 fn write_once(alloc: Global, way: Way, text: &str) -> Result<usize, AllocError> {
     let mut out = String::new(alloc);
-    write_by(way, text, &mut out)
+    let length = write_by(way, text, &mut out);
+    drop(out);
+    length
 }
 
 /// Writes the text so many times. Appends a line with the number of bytes.

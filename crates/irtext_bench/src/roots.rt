@@ -1,10 +1,10 @@
 //! Several roots, parsed from one stream, and printed.
 
 use crate::again::register;
-use crate::said::{Ctx, written};
+use crate::directives::format_of;
+use crate::said::{Ctx, checked, written};
 use irtext_demo::{DemoAttr, DemoType};
 use pliron_text::base::{Context, Operation, Ptr};
-use pliron_text::format::{Directive, OpFormat};
 use pliron_text::ir::OperationText;
 use pliron_text::location::Source;
 use pliron_text::parsable::{State, StateStream, TextStream};
@@ -21,7 +21,10 @@ fn read_all(
     for _ in 0..u64::MAX {
         match Operation::top_level_parse(s) {
             Ok(root) => roots.push(root)?,
-            Err(_) => break,
+            Err(fault) => {
+                drop(fault);
+                break;
+            }
         }
     }
     Ok(())
@@ -36,7 +39,10 @@ fn read_roots(
 ) -> Result<(), AllocError> {
     let stream = TextStream::new(alloc, text)?;
     let state = State::new(ctx, Source::InMemory, ());
-    read_all(&mut StateStream { stream, state }, roots)
+    let mut s = StateStream { stream, state };
+    let done = read_all(&mut s, roots);
+    drop(s);
+    done
 }
 
 /// Appends the text of a root, if it is live.
@@ -50,7 +56,9 @@ fn append(
         return Ok(());
     }
     let mut state = printable::State::new(alloc, ());
-    written(root.fmt(ctx, &mut state, text))
+    let done = root.fmt(ctx, &mut state, text);
+    drop(state);
+    written(done)
 }
 
 /// Appends the texts of roots, one after another.
@@ -69,24 +77,18 @@ fn append_all(
 /// Prints roots. Returns the number of bytes.
 fn print_roots(alloc: Global, ctx: &Ctx, roots: &[Ptr<Operation>]) -> Result<usize, AllocError> {
     let mut text = String::new(alloc);
-    append_all(alloc, ctx, roots, &mut text)?;
-    Ok(text.len())
-}
-
-/// Returns a format that is a dictionary alone.
-fn note_format(alloc: Global) -> Result<OpFormat, AllocError> {
-    let mut directives = Vec::new(alloc);
-    directives.push(Directive::AttrDict)?;
-    Ok(OpFormat::Custom(directives))
+    let done = append_all(alloc, ctx, roots, &mut text);
+    let bytes = text.len();
+    drop(text);
+    done?;
+    Ok(bytes)
 }
 
 /// Registers `bench.note`, which is printed as a dictionary of its attributes, in addition to the demo dialects.
 fn register_all(alloc: Global, ctx: &mut Ctx) -> Result<(), AllocError> {
     register(ctx)?;
-    match ctx.register_op("bench", "note", note_format(alloc)?, false) {
-        Ok(()) => Ok(()),
-        Err(_) => Err(AllocError),
-    }
+    let format = format_of(alloc, "dictionary")?;
+    checked(ctx.register_op("bench", "note", format, false))
 }
 
 /// Prints roots so many times. Returns the number of bytes.
@@ -126,5 +128,8 @@ fn roots_with(
 pub fn roots(alloc: Global, text: &str, times: usize, out: &mut String) -> Result<(), AllocError> {
     let mut roots = Vec::new(alloc);
     let mut ctx = Context::new(alloc);
-    roots_with(alloc, &mut ctx, text, times, &mut roots, out)
+    let done = roots_with(alloc, &mut ctx, text, times, &mut roots, out);
+    drop(ctx);
+    drop(roots);
+    done
 }

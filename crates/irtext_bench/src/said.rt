@@ -38,6 +38,17 @@ pub fn written(answer: fmt::Result) -> Result<(), AllocError> {
     }
 }
 
+/// Returns the value of a call, or out of memory for its error.
+pub fn checked<X: Drop>(answer: Answer<X, DemoAttr>) -> Result<X, AllocError> {
+    match answer {
+        Ok(value) => Ok(value),
+        Err(error) => {
+            drop(error);
+            Err(AllocError)
+        }
+    }
+}
+
 /// Parses a text as a root.
 pub fn read(ctx: &mut Ctx, text: &str) -> Answer<Ptr<Operation>, DemoAttr> {
     parse_from_str(|stream| Operation::top_level_parse(stream), ctx, text)
@@ -85,7 +96,11 @@ pub fn read_or_refused(
 ) -> Result<Result<Ptr<Operation>, Said>, AllocError> {
     match read(ctx, text) {
         Ok(root) => Ok(Ok(root)),
-        Err(error) => Ok(Err(refused(&error, out)?)),
+        Err(error) => {
+            let said = refused(&error, out);
+            drop(error);
+            Ok(Err(said?))
+        }
     }
 }
 

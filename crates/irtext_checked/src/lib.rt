@@ -1,5 +1,6 @@
 //! Calls for front ends and passes that test what the calls below them require: an operation is made, inserted and changed, and where the
-//! call without a test could not be made, the answer is an error. Also the types of the values of a context.
+//! call without a test could not be made, the answer is an error. Also the types of the values of a context, and what every context has by
+//! the types of its parts.
 #![tactic(auto)]
 
 ghost use Rattle.std.specs.Prelude.{◌≡◌};
@@ -8,8 +9,10 @@ ghost use Rattle.irtext_checked.specs.Checked.{IsMessage};
 
 pub mod access;
 pub mod contains;
+pub mod context;
 pub mod insert;
 pub mod make;
+mod parts;
 pub mod types;
 
 use irtext_base::location::Location;

@@ -1,5 +1,6 @@
 -- The formats of the demo operations are accepted: registering one fails only if out of memory, or by the name of its dialect.
-use Rattle.std.proofs.Common.{◌≡◌, ◌∙◌, ℕ, refl, ap, sym, subst, Bool, false, List, Option}
+use Rattle.std.proofs.Common.{◌≡◌, ◌∙◌, ◌<◌, ℕ, refl, ap, sym, subst, Bool, false, List, Option, drop, get_or, inl, length, map}
+use Rattle.std.proofs.lemmas.List.{drop_more}
 use Rattle.std.specs.Str.{bytes_eq}
 use Rattle.irtext_base.specs.Faults as faults
 use Rattle.irtext_base.specs.Faults.{Demand, demand_of, id_refused}
@@ -14,7 +15,7 @@ use Rattle.irtext_context.specs.DialectTable.{dialect_or_new, with_operation, Re
 use Rattle.irtext_context.specs.Named.{id_of_texts}
 use Rattle.irtext_base.specs.FormatViews.{format_of}
 use Rattle.irtext_format_check.specs.Directives.{condition_number}
-use Rattle.irtext_demo.specs.DemoDialects.{demo_op, with_demo, Refuses}
+use Rattle.irtext_demo.specs.DemoDialects.{demo_op, with_demo, Refuses, RefusesOne}
 use Rattle.irtext_demo.specs.declared.dialects.Demo.{Demo}
 use Rattle.irtext_demo.specs.declared.dialects.Demo.TheVariants as demo
 
@@ -65,6 +66,11 @@ refused dialects d dialect name format (WrongDialect id own) e f k (_, other, sa
     (subst (λ t. bytes_eq t (dialect_or_new dialects t).name ≡ false) e other, same ∙ (λ i. id_of_texts (e i) (f i)), named ∙ ap (λ t. (dialect_or_new dialects t).name) e)
 refused dialects d dialect name format (IsFault fault) e f k fails = absurd (no_fault fault (sym fails ∙ ap first_fault k ∙ accepted d))
 refused dialects d dialect name format _ e f k said_in_error = absurd said_in_error
+
+-- why registering one of the operations that are left fails is why registering these fails
+pub refused_there : {A : Type 0} (dialects : List (Text × Table)) (demos : List Demo) (i : ℕ) (d : Demo) (cause : Cause A) → i < length demos
+    → Refuses dialects (demo_op (get_or demos i d)) cause → RefusesOne dialects (map demo_op (drop i demos)) cause
+refused_there dialects demos i d cause below h = subst (λ ds. RefusesOne dialects (map demo_op ds) cause) (sym (drop_more demos i d below)) (inl h)
 
 -- the dialects with an operation of a demo operation's names, format and isolation are those with the demo operation
 pub registered_so : (dialects : List (Text × Table)) (d : Demo) (dialect name : Text) (format : OpFormat) (isolated : Bool)

@@ -1,15 +1,16 @@
 //! The demo dialects `builtin` and `test`, with their operations.
-ghost use Rattle.std.specs.Prelude.{◌≡◌, ◌⊎◌, IfOk, IfErr, IsTrue, OnOk, codes, map};
+ghost use Rattle.std.specs.Prelude.{◌≡◌, ◌⊎◌, [], IfOk, IfErr, IsTrue, OnOk, map};
+ghost use Rattle.std.specs.Str.{chars};
 ghost use Rattle.irtext_context.specs.Dialects.{IsRefusedBy};
 ghost use Rattle.irtext_context.specs.DialectTable.{dialect_or_new};
-ghost use Rattle.irtext_base.specs.FormatViews.{directive_of, format_of};
-ghost use Rattle.irtext_base.specs.Format.{word};
+ghost use Rattle.irtext_stream.specs.NotationPieces.{means};
+ghost use Rattle.irtext_base.specs.FormatViews.{format_of};
+ghost use Rattle.irtext_base.specs.Notation.{notation_at};
 ghost use Rattle.irtext_base.specs.Text.{is_identifier};
 ghost use Rattle.irtext_base.specs.declared.location.Location.{Unknown};
 ghost use Rattle.irtext_demo.specs.DemoDialects.{demo_operations, demo_op, with_demo, with_all, Refuses, RefusesOne};
 
-use irtext_base::base::Identifier;
-use irtext_base::format::{Directive, OpFormat};
+use irtext_base::format::OpFormat;
 use irtext_base::result::{ErrorKind, Result as Answer};
 use irtext_base::text::{AttrText, IrText};
 use irtext_context::base::Context;
@@ -75,48 +76,32 @@ fn row(demo: Demo) -> (&'static str, &'static str, bool)
     }
 }
 
+/// Returns the notation of the operation's format.
+fn notation(demo: Demo) -> &'static str
+    ensures { notation_at (chars result.now) ≡ means (demo_op demo).format [] }
+{
+    match demo {
+        Demo::Module => "@name {0}",
+        Demo::Function => "@name `:` $builtin_func_type {0}",
+        Demo::Constant => "$test_value `:` type($0)",
+        Demo::Return => "operands",
+        Demo::Use => "$0",
+        Demo::Make => "`:` type($0)",
+        Demo::Branch => "^0",
+        Demo::Scope => "{0}",
+        Demo::Nop => "",
+        Demo::Global => "canonical",
+    }
+}
+
 /// Returns the operation's format, newly allocated.
 fn op_format(alloc: Global, demo: Demo) -> Result<OpFormat, AllocError>
     ensures { IfOk result (λ f. format_of f ≡ (demo_op demo).format) }
 {
-    let mut directives = Vec::new(alloc);
-    match demo {
-        Demo::Module => {
-            directives.push(Directive::SymbolHeader)?;
-            directives.push(Directive::Region(0))?;
-        }
-        Demo::Function => {
-            directives.push(Directive::SymbolHeader)?;
-            directives.push(colon(alloc)?)?;
-            let key = Identifier::from_word(alloc, "builtin_func_type")?;
-            directives.push(Directive::Attr(key))?;
-            directives.push(Directive::Region(0))?;
-        }
-        Demo::Constant => {
-            let key = Identifier::from_word(alloc, "test_value")?;
-            directives.push(Directive::Attr(key))?;
-            directives.push(colon(alloc)?)?;
-            directives.push(Directive::ResultType(0))?;
-        }
-        Demo::Return => directives.push(Directive::Operands)?,
-        Demo::Use => directives.push(Directive::Operand(0))?,
-        Demo::Make => {
-            directives.push(colon(alloc)?)?;
-            directives.push(Directive::ResultType(0))?;
-        }
-        Demo::Branch => directives.push(Directive::Successor(0))?,
-        Demo::Scope => directives.push(Directive::Region(0))?,
-        Demo::Nop => {}
-        Demo::Global => return Ok(OpFormat::Canonical),
+    match OpFormat::parse(alloc, notation(demo)) {
+        Ok(format) => Ok(format),
+        Err(_) => Err(AllocError),
     }
-    Ok(OpFormat::Custom(directives))
-}
-
-/// Returns the literal `:`.
-fn colon(alloc: Global) -> Result<Directive, AllocError>
-    ensures { IfOk result (λ d. directive_of d ≡ word (codes ":")) }
-{
-    Ok(Directive::Literal(String::from_str(alloc, ":")?))
 }
 
 /// Registers the operation, and its dialect if it is not registered yet. On an error the context is unchanged.

@@ -46,3 +46,4 @@ pub mod TextBack
 pub mod Tracked
 pub mod UsesSame
 pub mod Whole
+pub mod Founds

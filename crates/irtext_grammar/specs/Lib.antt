@@ -24,6 +24,9 @@ pub mod Tracks
 pub mod Unchanged
 pub mod UniqueNames
 pub mod Uses
+pub mod Parsed
+pub mod Found
+pub mod Forms
 pub use Rattle.irtext_base.specs.Answers
 pub use Rattle.irtext_base.specs.Causes
 pub use Rattle.irtext_base.specs.Faults

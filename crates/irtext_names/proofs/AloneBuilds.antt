@@ -52,7 +52,7 @@ use Rattle.irtext_names.specs.Placed.{RegionsAre}
 use Rattle.irtext_names.proofs.Builds.{in_among}
 use Rattle.irtext_names.proofs.Depths.{region_is}
 use Rattle.irtext_names.proofs.Equal.{Keeps, regions_same}
-use Rattle.irtext_names.proofs.Given.{region_has}
+use Rattle.irtext_names.proofs.ItemsGiven.{region_has}
 use Rattle.irtext_names.proofs.Located.{IsPlaced, located_in, bound_uses, operand_uses, successor_uses}
 use Rattle.irtext_names.proofs.Occurs.{region_whole_occurs}
 use Rattle.irtext_names.proofs.Paths.{once_regions}

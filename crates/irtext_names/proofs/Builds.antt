@@ -40,7 +40,7 @@ use Rattle.irtext_names.specs.Held.{placed_under, held_root}
 use Rattle.irtext_names.specs.Placed.{RootIs}
 use Rattle.irtext_names.proofs.Depths.{root_is}
 use Rattle.irtext_names.proofs.Equal.{Keeps, root_same}
-use Rattle.irtext_names.proofs.Given.{root_has}
+use Rattle.irtext_names.proofs.ItemsGiven.{root_has}
 use Rattle.irtext_names.proofs.LinksSame.{links_same}
 use Rattle.irtext_names.proofs.Located.{IsPlaced, located, bound_uses, operand_uses, successor_uses}
 use Rattle.irtext_names.proofs.Occurs.{item_occurs}

@@ -15,9 +15,11 @@ pub mod OnlyNew
 pub mod Placed
 pub mod Placeholders
 pub mod Placing
-pub mod PrintedRoot
 pub mod Promises
 pub mod Rows
 pub mod Tied
 pub mod Uses
 pub mod WithSection
+pub mod Definitions
+pub mod Gathering
+pub mod Labels

@@ -1,4 +1,4 @@
--- The loop of the parser of locations
+-- The loop of the parser of locations; and steps of the check of entries, and of what they give
 pub mod AfterSteps
 pub mod FrameOutcomes
 pub mod FrameSteps
@@ -8,3 +8,13 @@ pub mod Plain
 pub mod Refusals
 pub mod SetBack
 pub mod SourceSteps
+pub mod ApplySteps
+pub mod CheckSteps
+pub mod Copies
+pub mod Swaps
+pub mod FinishedFirst
+pub mod TakenBack
+pub mod AllOrNone
+pub mod EditedBlock
+pub mod Edits
+pub mod GivenSteps

@@ -19,20 +19,19 @@ use Rattle.irtext_graph.specs.declared.object.Operation.{Operation}
 use Rattle.irtext_graph.specs.declared.object.Object.TheVariants.{TheBlock, TheOperation, TheRegion}
 use Rattle.irtext_names.specs.Tied.{MatchesGraph}
 use Rattle.irtext_grammar.specs.Unchanged.{IsThere}
-use Rattle.irtext_parse_pieces.specs.declared.pieces.ReadPiece.{ReadPiece}
-use Rattle.irtext_parse_pieces.specs.Fronts.{IsPart}
-use Rattle.irtext_parse_pieces.specs.Named.{Each}
+use Rattle.irtext_grammar.specs.declared.parsed.ReadPiece.{ReadPiece}
+use Rattle.irtext_grammar.specs.Parsed.{IsPart, Each}
 use Rattle.irtext_grammar.specs.Grammar.Tree.{in_order, Part}
 use Rattle.irtext_names.specs.declared.gathered.Gathered.{Gathered}
-use Rattle.irtext_parse_nested.specs.declared.operation_parts.NotGathered.{NotGathered}
-use Rattle.irtext_parse_nested.specs.declared.operation_parts.NotGathered.TheVariants as refusal
+use Rattle.irtext_names.specs.declared.operation_parts.NotGathered.{NotGathered}
+use Rattle.irtext_names.specs.declared.operation_parts.NotGathered.TheVariants as refusal
 use Rattle.irtext_names.specs.Gathered.{types_made, IsNothing, AllUsesLive}
 use Rattle.irtext_parse_nested.specs.Beginning.{CreatesOf, IsKnownIn}
 use Rattle.irtext_names.specs.Uses.{KeepsScopes}
-use Rattle.irtext_parse_nested.specs.Gathered.{Gathers, RefusesGathering}
+use Rattle.irtext_names.specs.Gathering.{Gathers, RefusesGathering}
 use Rattle.irtext_names.specs.Items.{Names, KeepsLive}
 use Rattle.irtext_parse_nested.proofs.BlockReady.{within}
-use Rattle.irtext_parse_nested.proofs.Gathers.{gathers_none}
+use Rattle.irtext_names.proofs.Gathers.{gathers_none}
 use Rattle.irtext_names.proofs.Lasting.{lasts_then, block_is_live}
 use Rattle.irtext_names.proofs.Steady.{steady_itself}
 use Rattle.irtext_parse_nested.proofs.UsedLive.{used_lasts, made_lasts, made_new}

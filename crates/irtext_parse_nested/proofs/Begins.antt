@@ -38,7 +38,7 @@ use Rattle.irtext_names.specs.Rows.{AreHeldBy}
 use Rattle.irtext_names.proofs.NamesInRow.{rest_fails}
 use Rattle.irtext_names.specs.declared.gathered.Placed.{Placed}
 use Rattle.irtext_names.specs.Items.{Names}
-use Rattle.irtext_parse_nested.specs.Gathered.{IsInHand, AreInHand}
+use Rattle.irtext_names.specs.Gathering.{IsInHand, AreInHand}
 
 -- ---- lists
 got_front : {X : Type 0} (xs ys : List X) (i : ℕ) (x : X) → slice_get xs i ≡ Some x → slice_get (xs ++ ys) i ≡ Some x

@@ -10,13 +10,12 @@ use Rattle.irtext_grammar.proofs.Lists.InOrder.{firsts, firsts_length}
 use Rattle.irtext_grammar.proofs.Lists.Numbering.{in_order_length}
 use Rattle.irtext_grammar.specs.Heads.{Step, flat, types, one, all, step_of, steps_of, canonical_steps, front_steps, region_steps}
 use Rattle.irtext_grammar.specs.Naming.{body_of, canonical_of, unmarked, single_operands, single_successors}
-use Rattle.irtext_parse_pieces.specs.declared.names.ReadName.{ReadName}
-use Rattle.irtext_parse_pieces.specs.declared.pieces.ReadPiece.{ReadPiece}
-use Rattle.irtext_parse_pieces.specs.Named.{Each}
-use Rattle.irtext_parse_pieces.specs.Pieces.{IsPiece}
+use Rattle.irtext_grammar.specs.declared.parsed.ReadName.{ReadName}
+use Rattle.irtext_grammar.specs.declared.parsed.ReadPiece.{ReadPiece}
+use Rattle.irtext_grammar.specs.Parsed.{Each, IsPiece}
 use Rattle.irtext_parse_nested.specs.Beginning.{ArePartsOf}
 use Rattle.irtext_parse_nested.specs.OpenOperation.{ReadNeither}
-use Rattle.irtext_parse_nested.specs.Gathered.{operand_place, successor_place, operand_list, successor_list, type_list}
+use Rattle.irtext_names.specs.Gathering.{operand_place, successor_place, operand_list, successor_list, type_list}
 use Rattle.irtext_parse_nested.proofs.BegunParts.{single_operand, named_operands, single_successor, named_successors, views_both, views_pieces, after_neither, operand_places_are, successor_places_are, later_untyped, listed_later, two_lists, only_regions, alike}
 use Rattle.irtext_parse_nested.proofs.StepParts.{AreOfSteps, picked, operand_of, successor_of}
 

@@ -16,20 +16,17 @@ use Rattle.irtext_grammar.specs.Exact.{IsOfStep}
 use Rattle.irtext_grammar.specs.Heads.{Step, flat, types, one, all, step_of, steps_of, canonical_steps, front_steps, region_steps}
 use Rattle.irtext_grammar.specs.Naming.{body_of, canonical_of, single_operands, single_successors}
 use Rattle.irtext_names.specs.Rows.{AreKnown}
-use Rattle.irtext_parse_pieces.specs.declared.entries.Key.{Key}
-use Rattle.irtext_parse_pieces.specs.declared.names.ReadName.{ReadName}
-use Rattle.irtext_parse_pieces.specs.declared.pieces.ReadPiece.{ReadPiece}
-use Rattle.irtext_parse_pieces.specs.declared.pieces.ReadPiece.TheVariants as read
-use Rattle.irtext_parse_pieces.specs.Entries.{IsEntry}
-use Rattle.irtext_parse_pieces.specs.Fronts.{IsPart}
-use Rattle.irtext_parse_pieces.specs.Named.{Represents, Each}
-use Rattle.irtext_parse_pieces.specs.Pieces.{IsPiece, seen_attribute}
+use Rattle.irtext_grammar.specs.declared.parsed.Key.{Key}
+use Rattle.irtext_grammar.specs.declared.parsed.ReadName.{ReadName}
+use Rattle.irtext_grammar.specs.declared.parsed.ReadPiece.{ReadPiece}
+use Rattle.irtext_grammar.specs.declared.parsed.ReadPiece.TheVariants as read
+use Rattle.irtext_grammar.specs.Parsed.{IsEntry, IsPart, Represents, Each, IsPiece, seen_attribute}
 use Rattle.irtext_names.specs.Gathered.{types_made}
 use Rattle.irtext_parse_nested.specs.Beginning.{IsPartOf, ArePartsOf}
 use Rattle.irtext_parse_nested.specs.OpenOperation.{HasNoType, ReadsNeither, ReadNeither}
-use Rattle.irtext_parse_nested.specs.Gathered.{entry_read, operand_place, successor_place, operand_list, successor_list, placed_type, type_list, stored_of, last_list, CanUse, CanUseAll, LackOperands, LackSuccessors, OperandsOnce, SuccessorsOnce, CanGather}
+use Rattle.irtext_names.specs.Gathering.{entry_read, operand_place, successor_place, operand_list, successor_list, placed_type, type_list, stored_of, last_list, CanUse, CanUseAll, LackOperands, LackSuccessors, OperandsOnce, SuccessorsOnce, CanGather}
 use Rattle.irtext_names.specs.Items.{Names}
-use Rattle.irtext_parse_nested.proofs.Gathers.{map_both}
+use Rattle.irtext_names.proofs.Gathers.{map_both}
 use Rattle.irtext_names.proofs.Ordering.{none_left}
 use Rattle.irtext_parse_nested.proofs.Faults.{each_length}
 use Rattle.irtext_parse_nested.proofs.StepParts.{AreOfSteps, directive_of_step, picked, operand_of, successor_of, flag, list_in, OnlyEarly, is_early, shown_by_steps, shown_in_front, flagged, accepted_places}

@@ -27,15 +27,14 @@ use Rattle.irtext_grammar.specs.Grows.{with_last_block, BlockCame, RegionGains}
 use Rattle.irtext_grammar.specs.Unchanged.{HasHead, IsThere, ModifiesOnly}
 use Rattle.irtext_grammar.proofs.Edits.{spares_then, spares_fewer, made_head, block_was_new, block_came, block_came_last, block_came_spares}
 use Rattle.irtext_context.specs.Made.{made_block}
-use Rattle.irtext_parse_pieces.specs.declared.entries.Key.{Key}
+use Rattle.irtext_grammar.specs.declared.parsed.Key.{Key}
 use Rattle.irtext_parse_pieces.specs.declared.headers.BlockHead.{BlockHead}
-use Rattle.irtext_parse_pieces.specs.Entries.{IsEntry}
+use Rattle.irtext_grammar.specs.Parsed.{IsEntry, Leaves, Each}
 use Rattle.irtext_parse_pieces.specs.Headers.{IsHead}
-use Rattle.irtext_parse_pieces.specs.Named.{Leaves, Each}
 use Rattle.irtext_names.proofs.SameBut.{results_in, results_are}
-use Rattle.irtext_parse_nested.specs.Blocks.{entries_in, MakesHead}
+use Rattle.irtext_names.specs.Gathering.{entries_in, entry_read}
+use Rattle.irtext_parse_nested.specs.Blocks.{MakesHead}
 use Rattle.irtext_names.specs.LosesPlaceholders.{LosesPlaceholders}
-use Rattle.irtext_parse_nested.specs.Gathered.{entry_read}
 use Rattle.irtext_names.specs.Items.{KeepsLive}
 use Rattle.irtext_names.specs.Located.{IsLocated, IsLocatedAt}
 use Rattle.irtext_names.specs.Placing.{PlacesBlock}

@@ -28,15 +28,16 @@ use Rattle.irtext_grammar.specs.Readers.Streams.{itself, replaced}
 use Rattle.irtext_grammar.specs.Heads.{head_at}
 use Rattle.irtext_grammar.specs.Grows.{BlockCame, RegionGains}
 use Rattle.irtext_grammar.specs.Unchanged.{ModifiesOnly}
-use Rattle.irtext_names.specs.Rows.{AreKnown}
+use Rattle.irtext_names.specs.Rows.{AreKnown, ValuesReady}
 use Rattle.irtext_parse_pieces.specs.declared.headers.BlockHead.{BlockHead}
-use Rattle.irtext_parse_pieces.specs.declared.names.ReadName.{ReadName}
+use Rattle.irtext_grammar.specs.declared.parsed.ReadName.{ReadName}
 use Rattle.irtext_parse_pieces.specs.Headers.{MustHead}
 use Rattle.irtext_parse_pieces.specs.Named.{NamesRead}
-use Rattle.irtext_parse_nested.specs.Blocks.{entries_in, MakesHead, NamesHead, RefusesHead}
-use Rattle.irtext_parse_nested.specs.Definitions.{ValuesReady}
+use Rattle.irtext_names.specs.Gathering.{entries_in}
+use Rattle.irtext_parse_nested.specs.Blocks.{MakesHead, NamesHead, RefusesHead}
 use Rattle.irtext_names.specs.LosesPlaceholders.{LosesPlaceholders}
-use Rattle.irtext_parse_nested.specs.Ends.{numbers_of, noted_as}
+use Rattle.irtext_names.specs.Definitions.{numbers_of}
+use Rattle.irtext_parse_nested.specs.Ends.{noted_as}
 use Rattle.irtext_names.specs.Items.{Names, IsSound, KeepsLive}
 use Rattle.irtext_names.specs.Located.{IsLocated}
 use Rattle.irtext_parse_nested.specs.Read.{BeginsBlock, RefusesBlock}

@@ -23,11 +23,10 @@ use Rattle.irtext_names.specs.Tied.{MatchesGraph, ArePending, IsNoPlaceholder}
 use Rattle.irtext_names.proofs.Added.{made_none, added_ties, block_waits}
 use Rattle.irtext_names.proofs.Gained.{block_added}
 use Rattle.irtext_names.proofs.SameBut.{same_defined}
-use Rattle.irtext_names.specs.Rows.{made_values}
+use Rattle.irtext_names.specs.Rows.{made_values, ValuesReady}
 use Rattle.irtext_names.proofs.Made.{value_made, numbered_there}
 use Rattle.irtext_names.proofs.Linked.Steps.{block_made}
 use Rattle.irtext_names.proofs.Linked.Placed.{block_placed, block_placed_ties, block_placed_waits}
-use Rattle.irtext_parse_nested.specs.Definitions.{ValuesReady}
 
 -- the arguments of the block at a path from i on, one for each of these, and what they were made into
 abbrev pub arguments_made : {X : Type 0} → Path → Ptr BasicBlock → ℕ → List X → List (Place × Value)

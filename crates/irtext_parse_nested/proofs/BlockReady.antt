@@ -26,13 +26,12 @@ use Rattle.irtext_grammar.specs.Graphs.Build.{put_all, read_names}
 use Rattle.irtext_grammar.specs.Grammar.Tree.{Name}
 use Rattle.irtext_grammar.specs.Names.Acts.{block_may_hold}
 use Rattle.irtext_names.specs.Tied.{MatchesGraph, ArePending}
-use Rattle.irtext_names.specs.Rows.{AreNamed, AreKnown}
-use Rattle.irtext_parse_pieces.specs.declared.entries.Key.{Key}
-use Rattle.irtext_parse_pieces.specs.declared.names.ReadName.{ReadName}
+use Rattle.irtext_names.specs.Rows.{AreNamed, AreKnown, ValuesReady}
+use Rattle.irtext_grammar.specs.declared.parsed.Key.{Key}
+use Rattle.irtext_grammar.specs.declared.parsed.ReadName.{ReadName}
 use Rattle.irtext_parse_nested.specs.Blocks.{PlacesLabelled, MakesHead}
-use Rattle.irtext_parse_nested.specs.Definitions.{ValuesReady}
-use Rattle.irtext_parse_nested.specs.Ends.{numbers_of}
-use Rattle.irtext_parse_nested.specs.Gathered.{entry_read, AreAllowed}
+use Rattle.irtext_names.specs.Definitions.{numbers_of}
+use Rattle.irtext_names.specs.Gathering.{entry_read, AreAllowed}
 use Rattle.irtext_names.specs.Items.{Names, IsSound, BlanksDefine}
 use Rattle.irtext_parse_nested.proofs.Blanks.{blanks_on}
 use Rattle.irtext_names.proofs.Losing.{blanks_by}

@@ -34,17 +34,17 @@ use Rattle.irtext_grammar.specs.Readers.Streams.{itself, replaced}
 use Rattle.irtext_grammar.proofs.Readers.Answered.{Answered, answered}
 use Rattle.irtext_grammar.proofs.Readers.Honest.{honest_nothing}
 use Rattle.irtext_grammar.specs.Heads.{name_at, name_of, label_at, pair_at, dictionary_by, dictionary_at, argument_at, head_at}
-use Rattle.irtext_parse_pieces.specs.declared.entries.Key.{Key}
+use Rattle.irtext_grammar.specs.declared.parsed.Key.{Key}
 use Rattle.irtext_parse_pieces.specs.declared.headers.BlockHead.{BlockHead}
 use Rattle.irtext_parse_pieces.specs.Headers.{IsHead, MustHead}
 use Rattle.irtext_parse_pieces.specs.Named.{NamesRead}
 use Rattle.irtext_parse_pieces.proofs.Meanings.{must_whole}
 use Rattle.irtext_parse_nested.specs.declared.frame.BegunBlock.{BegunBlock}
-use Rattle.irtext_parse_nested.specs.declared.operation_parts.NotGathered.{NotGathered}
-use Rattle.irtext_parse_nested.specs.declared.operation_parts.NotGathered.TheVariants as refusal
-use Rattle.irtext_parse_nested.specs.Blocks.{entries_in, IsOfEntries, IsRefusalFault, RefusesKeys, MakesHead, NamesHead, RefusesHead}
+use Rattle.irtext_names.specs.declared.operation_parts.NotGathered.{NotGathered}
+use Rattle.irtext_names.specs.declared.operation_parts.NotGathered.TheVariants as refusal
+use Rattle.irtext_names.specs.Gathering.{entries_in, Forbids}
+use Rattle.irtext_parse_nested.specs.Blocks.{IsOfEntries, IsRefusalFault, RefusesKeys, MakesHead, NamesHead, RefusesHead}
 use Rattle.irtext_parse_nested.specs.Ends.{noted_as}
-use Rattle.irtext_parse_nested.specs.Gathered.{Forbids}
 use Rattle.irtext_names.specs.Items.{Names, ActFails, ActsWith}
 use Rattle.irtext_parse_nested.specs.Read.{heads_of, BeginsBlock, RefusesBlock}
 use Rattle.irtext_parse_nested.proofs.OperationClosed.{noted_is}

@@ -25,8 +25,8 @@ use Rattle.irtext_grammar.proofs.Readers.Answered.{Answered, answered}
 use Rattle.irtext_grammar.proofs.Readers.Honest.{honest_nothing}
 use Rattle.irtext_grammar.specs.Heads.{mark_at, mark_if_at}
 use Rattle.irtext_grammar.specs.Resume.{OpenOperation}
-use Rattle.irtext_parse_pieces.specs.declared.marks.ReadMark.{ReadMark}
-use Rattle.irtext_parse_pieces.specs.Marks.{IsMarkIf}
+use Rattle.irtext_grammar.specs.declared.parsed.ReadMark.{ReadMark}
+use Rattle.irtext_grammar.specs.Parsed.{IsMarkIf}
 use Rattle.irtext_parse_pieces.specs.Named.{MustMean}
 use Rattle.irtext_parse_pieces.proofs.Meanings.{must_whole}
 use Rattle.irtext_parse_nested.specs.declared.frame.BegunOperation.{BegunOperation}

@@ -16,39 +16,29 @@ use Rattle.irtext_grammar.specs.Contexts.Formats.{format_of}
 use Rattle.irtext_grammar.specs.Grammar.Tree.{Name}
 use Rattle.irtext_grammar.specs.Names.Acts.{result_types, result_definitions, word_of}
 use Rattle.irtext_grammar.specs.Names.History.{act, Event, State, Outcome, going, failed, outcome, scopes_of, run, after}
-use Rattle.irtext_grammar.specs.Names.Scopes.{fact_of, nothing}
+use Rattle.irtext_grammar.specs.Names.Scopes.{fact_of}
 use Rattle.irtext_grammar.specs.Names.Script as script
 use Rattle.irtext_grammar.specs.Names.Script.{Path, Place, result, claim, define_value}
 use Rattle.irtext_grammar.specs.Names.TextScopes.{Act, Failure, act_failures}
 use Rattle.irtext_names.specs.Linked.{Known, NamesAgree}
-use Rattle.irtext_names.proofs.Linked.Moving.{onto_nothing}
 use Rattle.irtext_names.proofs.Linked.Outside.{value_definition_outside}
 use Rattle.irtext_grammar.specs.Promises.Section.{indices_of}
 use Rattle.irtext_scopes.specs.Scopes.{is_open}
 use Rattle.irtext_grammar.specs.Naming.{body_of}
 use Rattle.irtext_grammar.specs.Resume.{OpenOperation}
-use Rattle.irtext_names.specs.Rows.{AreNamed}
+use Rattle.irtext_names.specs.Rows.{AreNamed, definitions_from, AreMadeAs, DefinesRow, FailsRow}
 use Rattle.irtext_names.proofs.NamesInRow.{rest_fails}
-use Rattle.irtext_parse_pieces.specs.declared.names.ReadName.{ReadName}
-use Rattle.irtext_parse_pieces.specs.Named.{Represents}
+use Rattle.irtext_grammar.specs.declared.parsed.ReadName.{ReadName}
+use Rattle.irtext_grammar.specs.Parsed.{Represents}
 use Rattle.irtext_parse_nested.specs.declared.frame.BegunOperation.{BegunOperation}
 use Rattle.irtext_parse_nested.specs.OpenOperation.{IsBegun, pledge_of}
-use Rattle.irtext_parse_nested.specs.Definitions.{definitions_from, AreMadeAs, DefinesRow, FailsRow, IsFaultOf}
+use Rattle.irtext_names.specs.Definitions.{IsFaultOf}
 use Rattle.irtext_parse_nested.specs.Ends.{RefusesResults, uncounted, no_scope, defined_twice}
 use Rattle.irtext_names.specs.Items.{Made, Names, Pledge, MachineAgrees, Acts, ActFails, doing}
 use Rattle.irtext_parse_nested.proofs.Faults.{place_is_there, named_each, each_length, each_there, some_same, name_failure}
+use Rattle.irtext_names.proofs.Gathers.{after_nothing}
 
 -- ---- the machine
--- an empty fact leaves the state of the machine unchanged
-pub after_nothing : (st : State) → after st nothing ≡ st
-after_nothing st = λ i. record {
-  values = onto_nothing st.values i;
-  labels = onto_nothing st.labels i;
-  marks = append-nil st.marks i;
-  entries = append-nil st.entries i;
-  bound = append-nil st.bound i;
-}
-
 -- a state that is reached is the only one
 pub same_going : {st next : State} → going st ≡ going next → st ≡ next
 same_going e = cc

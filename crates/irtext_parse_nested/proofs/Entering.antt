@@ -26,7 +26,7 @@ use Rattle.irtext_grammar.specs.Promises.Root.{UnlessMemory}
 use Rattle.irtext_grammar.specs.Promises.Section.{IsOutOfMemory}
 use Rattle.irtext_grammar.specs.Readers.Streams.{itself, replaced}
 use Rattle.irtext_grammar.proofs.Readers.Answered.{answered}
-use Rattle.irtext_parse_pieces.specs.Named.{Leaves}
+use Rattle.irtext_grammar.specs.Parsed.{Leaves}
 use Rattle.irtext_names.specs.Items.{Names, Acts}
 use Rattle.irtext_parse_nested.specs.Read.{enters_of, Demands, BeginsRegion, RefusesRegion, not_isolated, no_brace}
 use Rattle.irtext_parse_nested.specs.declared.frame.BegunRegion.{BegunRegion}

@@ -17,9 +17,9 @@ use Rattle.irtext_grammar.specs.Grammar.Tree.{Name}
 use Rattle.irtext_grammar.specs.Names.Script.{Cause}
 use Rattle.irtext_grammar.specs.Promises.Root.{IsCause, UnlessMemory}
 use Rattle.irtext_names.specs.Rows.{AreNamed}
-use Rattle.irtext_parse_pieces.specs.declared.names.ReadName.{ReadName}
-use Rattle.irtext_parse_pieces.specs.Named.{Leaves, Represents, Each}
-use Rattle.irtext_parse_nested.specs.Definitions.{IsFaultOf}
+use Rattle.irtext_grammar.specs.declared.parsed.ReadName.{ReadName}
+use Rattle.irtext_grammar.specs.Parsed.{Leaves, Represents, Each}
+use Rattle.irtext_names.specs.Definitions.{IsFaultOf}
 use Rattle.irtext_names.specs.Items.{IsFailure, IsTextFault}
 use Rattle.irtext_parse_nested.specs.Read.{Demands}
 

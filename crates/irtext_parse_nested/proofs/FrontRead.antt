@@ -26,11 +26,12 @@ use Rattle.irtext_grammar.proofs.Readers.Answered.{Answered, answered, may_answe
 use Rattle.irtext_grammar.specs.Heads.{steps_of, front_steps, led_at}
 use Rattle.irtext_grammar.specs.Reached.{steps_in}
 use Rattle.irtext_grammar.specs.Resume.{front_at}
-use Rattle.irtext_parse_pieces.specs.declared.names.ReadName.{ReadName}
-use Rattle.irtext_parse_pieces.specs.declared.pieces.ReadPiece.{ReadPiece}
-use Rattle.irtext_parse_pieces.specs.Fronts.{IsPart, MustFront, front_of}
+use Rattle.irtext_grammar.specs.declared.parsed.ReadName.{ReadName}
+use Rattle.irtext_grammar.specs.declared.parsed.ReadPiece.{ReadPiece}
+use Rattle.irtext_grammar.specs.Parsed.{IsPart, Represents, Each}
+use Rattle.irtext_parse_pieces.specs.Fronts.{MustFront, front_of}
 use Rattle.irtext_parse_pieces.specs.Ids.{IsLed, IsKnown}
-use Rattle.irtext_parse_pieces.specs.Named.{Represents, Each, MayMean}
+use Rattle.irtext_parse_pieces.specs.Named.{MayMean}
 use Rattle.irtext_parse_pieces.proofs.Meanings.{still_represents, may_whole}
 use Rattle.irtext_parse_nested.specs.Beginning.{FrontComes, MissesFront, misses_lead, misses_piece}
 use Rattle.irtext_parse_nested.specs.Read.{Demands}

@@ -36,16 +36,17 @@ use Rattle.irtext_grammar.specs.Promises.Section.{indices_of}
 use Rattle.irtext_names.specs.Rows.{AreNamed}
 use Rattle.irtext_names.proofs.NamesInRow.{rest_fails}
 use Rattle.irtext_parse_pieces.specs.declared.headers.BlockHead.{BlockHead}
-use Rattle.irtext_parse_pieces.specs.declared.marks.ReadMark.{ReadMark}
-use Rattle.irtext_parse_pieces.specs.declared.names.ReadName.{ReadName}
+use Rattle.irtext_grammar.specs.declared.parsed.ReadMark.{ReadMark}
+use Rattle.irtext_grammar.specs.declared.parsed.ReadName.{ReadName}
 use Rattle.irtext_parse_pieces.specs.Headers.{IsHead}
-use Rattle.irtext_parse_pieces.specs.Marks.{IsMarkIf}
-use Rattle.irtext_parse_pieces.specs.Named.{Represents, Each, NamesRead}
-use Rattle.irtext_parse_nested.specs.Blocks.{entries_in, RefusesKeys, MakesHead, RefusesArguments, DefinesArguments, NamesHead, RefusesHead, same_argument, same_mark, same_label}
-use Rattle.irtext_parse_nested.specs.Definitions.{IsFaultOf}
-use Rattle.irtext_parse_nested.specs.Ends.{numbers_of, NotesMark, RefusesMark}
+use Rattle.irtext_grammar.specs.Parsed.{IsMarkIf, Represents, Each}
+use Rattle.irtext_parse_pieces.specs.Named.{NamesRead}
+use Rattle.irtext_names.specs.Gathering.{entries_in}
+use Rattle.irtext_parse_nested.specs.Blocks.{RefusesKeys, MakesHead, RefusesArguments, DefinesArguments, NamesHead, RefusesHead, same_argument, same_mark, same_label}
+use Rattle.irtext_names.specs.Definitions.{IsFaultOf, numbers_of}
+use Rattle.irtext_parse_nested.specs.Ends.{NotesMark, RefusesMark}
 use Rattle.irtext_names.specs.Items.{Made, Names, Pledge, MachineAgrees, ActsWith, ActFails, doing}
-use Rattle.irtext_parse_nested.specs.Placing.{RefusesLabel}
+use Rattle.irtext_names.specs.Labels.{RefusesLabel}
 use Rattle.irtext_parse_nested.proofs.BlockPlaced.{arguments_made, with_block, placed_agrees}
 use Rattle.irtext_parse_nested.proofs.Ends.{definitions_unmarked}
 use Rattle.irtext_parse_nested.proofs.Faults.{place_is_there, named_each, each_there, some_same, name_failure}

@@ -21,13 +21,13 @@ use Rattle.irtext_grammar.specs.Names.TextScopes.{Word}
 use Rattle.irtext_names.specs.Linked.{TakesDefinition}
 use Rattle.irtext_names.specs.Tied.{MatchesGraph, ArePending, IsNoPlaceholder}
 use Rattle.irtext_grammar.specs.Promises.Root.{UnlessMemory}
-use Rattle.irtext_parse_pieces.specs.declared.marks.ReadMark.{ReadMark}
-use Rattle.irtext_parse_pieces.specs.declared.names.ReadName.{ReadName}
+use Rattle.irtext_grammar.specs.declared.parsed.ReadMark.{ReadMark}
+use Rattle.irtext_grammar.specs.declared.parsed.ReadName.{ReadName}
 use Rattle.irtext_parse_nested.specs.Blocks.{DefinesArguments, NamesHead, RefusesHead, same_mark, same_label}
 use Rattle.irtext_names.specs.LosesPlaceholders.{LosesPlaceholders}
 use Rattle.irtext_parse_nested.specs.Ends.{NotesMark, RefusesMark}
 use Rattle.irtext_names.specs.Items.{Names, IsSound, BlanksDefine}
-use Rattle.irtext_parse_nested.specs.Placing.{RefusesLabel}
+use Rattle.irtext_names.specs.Labels.{RefusesLabel}
 
 -- ---- the block, where nothing but placeholders is lost
 nothing_there : {X : Type 0} (o : Option X) → o ≡ None → IsSome o → ⊥

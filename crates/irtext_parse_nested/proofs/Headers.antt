@@ -26,20 +26,17 @@ use Rattle.irtext_grammar.specs.Names.TextScopes.{Act, Failure}
 use Rattle.irtext_names.specs.Linked.{Known, NamesAgree}
 use Rattle.irtext_grammar.specs.Promises.Section.{indices_of}
 use Rattle.irtext_names.proofs.NamesInRow.{rest_fails, map-through}
-use Rattle.irtext_parse_pieces.specs.declared.entries.Key.{Key}
-use Rattle.irtext_parse_pieces.specs.declared.marks.ReadMark.{ReadMark}
-use Rattle.irtext_parse_pieces.specs.declared.names.ReadName.{ReadName}
+use Rattle.irtext_grammar.specs.declared.parsed.Key.{Key}
+use Rattle.irtext_grammar.specs.declared.parsed.ReadMark.{ReadMark}
+use Rattle.irtext_grammar.specs.declared.parsed.ReadName.{ReadName}
 use Rattle.irtext_parse_pieces.specs.Arguments.{IsArgument}
-use Rattle.irtext_parse_pieces.specs.Entries.{IsKey, IsEntry, AreEntries}
-use Rattle.irtext_parse_pieces.specs.Marks.{IsMarkIf}
-use Rattle.irtext_parse_pieces.specs.Named.{Represents, Each, Optional}
-use Rattle.irtext_parse_nested.specs.Blocks.{entries_in}
-use Rattle.irtext_parse_nested.specs.Gathered.{AreAllowed, IsFirstForbidden}
-use Rattle.irtext_parse_nested.specs.Definitions.{definitions_from, AreMadeAs}
+use Rattle.irtext_grammar.specs.Parsed.{IsKey, IsEntry, AreEntries, IsMarkIf, Represents, Each, Optional}
+use Rattle.irtext_names.specs.Gathering.{entries_in, AreAllowed, IsFirstForbidden}
+use Rattle.irtext_names.specs.Rows.{definitions_from, AreMadeAs}
 use Rattle.irtext_parse_nested.specs.Ends.{NotesMark}
 use Rattle.irtext_names.specs.Items.{Names}
 use Rattle.irtext_parse_nested.proofs.BlockPlaced.{arguments_made, with_block}
-use Rattle.irtext_parse_nested.proofs.Ends.{after_nothing}
+use Rattle.irtext_names.proofs.Gathers.{after_nothing}
 use Rattle.irtext_parse_nested.proofs.Marking.{mark_agrees, not_noted}
 
 -- ---- the machine over acts in a row

@@ -1,10 +1,9 @@
 -- A piece after a region of its operation: what it does with names and keys, and where its parser fails.
 use Rattle.std.proofs.Common.{◌≡◌, ◌∙◌, ℕ, zero, suc, Bool, true, List, [], ◌∷◌, drop, slice_get, Option, Some, None, option_map, Result, IfOk, false, refl, sym, ap, subst}
-use Rattle.irtext_base.specs.Text.{Text}
+use Rattle.irtext_base.specs.Text.{Text, front, after}
 use Rattle.std.specs.Char.{is_whitespace}
 use Rattle.std.specs.Prelude.{Vec}
 use Rattle.std.specs.Global.{Global}
-use Rattle.irtext_base.specs.Text.{front, after}
 use Rattle.irtext_base.specs.Own.{Sincere}
 use Rattle.irtext_base.specs.Stream.{StreamView}
 use Rattle.irtext_base.specs.declared.parsable.fault.ParseFault.{ParseFault}
@@ -35,23 +34,23 @@ use Rattle.irtext_grammar.proofs.Joins.Answers.{followed_read}
 use Rattle.irtext_grammar.specs.Exact.{IsOfStep}
 use Rattle.irtext_grammar.specs.Heads.{Step, flat, types, one, all, steps_of, directive_at, piece_at}
 use Rattle.irtext_names.specs.Rows.{TakesUses}
-use Rattle.irtext_parse_pieces.specs.declared.entries.Key.{Key}
-use Rattle.irtext_parse_pieces.specs.declared.names.ReadName.{ReadName}
-use Rattle.irtext_parse_pieces.specs.declared.pieces.ReadPiece.{ReadPiece}
-use Rattle.irtext_parse_pieces.specs.declared.pieces.ReadPiece.TheVariants as read
-use Rattle.irtext_parse_pieces.specs.Entries.{IsKey}
-use Rattle.irtext_parse_pieces.specs.Pieces.{IsPiece, MustPiece, seen_attribute}
+use Rattle.irtext_grammar.specs.declared.parsed.Key.{Key}
+use Rattle.irtext_grammar.specs.declared.parsed.ReadName.{ReadName}
+use Rattle.irtext_grammar.specs.declared.parsed.ReadPiece.{ReadPiece}
+use Rattle.irtext_grammar.specs.declared.parsed.ReadPiece.TheVariants as read
+use Rattle.irtext_grammar.specs.Parsed.{IsKey, IsPiece, seen_attribute}
+use Rattle.irtext_parse_pieces.specs.Pieces.{MustPiece}
 use Rattle.irtext_base.specs.declared.base.attributes.AttrObj.{AttrObj}
-use Rattle.irtext_parse_nested.specs.declared.operation_parts.NotGathered.{NotGathered}
-use Rattle.irtext_parse_nested.specs.declared.operation_parts.NotGathered.TheVariants as refusal
+use Rattle.irtext_names.specs.declared.operation_parts.NotGathered.{NotGathered}
+use Rattle.irtext_names.specs.declared.operation_parts.NotGathered.TheVariants as refusal
 use Rattle.irtext_parse_nested.specs.Beginning.{IsKnownIn, IsPartOf}
 use Rattle.irtext_parse_nested.specs.OpenOperation.{ReadsNeither}
-use Rattle.irtext_parse_nested.specs.Gathered.{FailsUses, IsFirstReserved, stored_of}
+use Rattle.irtext_names.specs.Gathering.{FailsUses, IsFirstReserved, stored_of}
 use Rattle.irtext_names.specs.Items.{Names}
 use Rattle.irtext_parse_nested.specs.Later.{given_by, IsFlatNext, MayStore, RefusesStored}
 use Rattle.irtext_parse_nested.proofs.Faults.{StaysWithin}
 use Rattle.irtext_parse_nested.proofs.FrontHonest.{spaced_within}
-use Rattle.irtext_parse_nested.proofs.Pieces.{silent, entries_pass, entries_fail}
+use Rattle.irtext_names.proofs.Pieces.{silent, entries_pass, entries_fail}
 use Rattle.irtext_parse_nested.proofs.StepParts.{piece_of}
 
 -- ---- steps

@@ -46,17 +46,18 @@ use Rattle.irtext_grammar.specs.Heads.{Step, piece_at}
 use Rattle.irtext_grammar.specs.Naming.{body_of, single_operands, single_successors}
 use Rattle.irtext_grammar.specs.Reached.{steps_in}
 use Rattle.irtext_grammar.specs.Resume.{OpenOperation, with_steps}
-use Rattle.irtext_parse_pieces.specs.declared.pieces.ReadPiece.{ReadPiece}
+use Rattle.irtext_grammar.specs.declared.parsed.ReadPiece.{ReadPiece}
 use Rattle.irtext_parse_pieces.specs.Named.{NamesRead}
-use Rattle.irtext_parse_pieces.specs.Pieces.{IsPiece, MustPiece}
+use Rattle.irtext_grammar.specs.Parsed.{IsPiece}
+use Rattle.irtext_parse_pieces.specs.Pieces.{MustPiece}
 use Rattle.irtext_parse_pieces.proofs.Meanings.{takes_whole}
 use Rattle.irtext_parse_nested.specs.declared.frame.BegunOperation.{BegunOperation}
-use Rattle.irtext_parse_nested.specs.declared.operation_parts.NotGathered.{NotGathered}
-use Rattle.irtext_parse_nested.specs.declared.operation_parts.NotGathered.TheVariants as refusal
+use Rattle.irtext_names.specs.declared.operation_parts.NotGathered.{NotGathered}
+use Rattle.irtext_names.specs.declared.operation_parts.NotGathered.TheVariants as refusal
 use Rattle.irtext_parse_nested.specs.Beginning.{HasBegun, SaysGather}
 use Rattle.irtext_parse_nested.specs.OpenOperation.{IsBegun, HasNoType, ReadNeither}
 use Rattle.irtext_parse_nested.specs.Ends.{WritesAttributes}
-use Rattle.irtext_parse_nested.specs.Gathered.{stored_of}
+use Rattle.irtext_names.specs.Gathering.{stored_of}
 use Rattle.irtext_names.specs.Items.{Names, Pledge, Made, MachineAgrees, Acts, IsSound, KeepsLive, doing}
 use Rattle.irtext_parse_nested.specs.Later.{IsFlatNext, RefusesStored, StoresPiece, NotStored, GoesOn}
 use Rattle.irtext_names.specs.Located.{IsLocated}

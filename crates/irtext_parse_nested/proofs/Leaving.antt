@@ -19,10 +19,10 @@ use Rattle.irtext_names.specs.Linked.{Takes}
 use Rattle.irtext_grammar.specs.Promises.Root.{UnlessMemory}
 use Rattle.irtext_grammar.specs.Readers.Streams.{itself, replaced}
 use Rattle.irtext_grammar.proofs.Readers.Answered.{answered}
-use Rattle.irtext_parse_pieces.specs.Named.{Leaves}
+use Rattle.irtext_grammar.specs.Parsed.{Leaves}
 use Rattle.irtext_parse_pieces.proofs.Meanings.{must_whole}
 use Rattle.irtext_parse_nested.specs.declared.frame.BegunRegion.{BegunRegion}
-use Rattle.irtext_parse_nested.specs.Definitions.{IsFaultOf}
+use Rattle.irtext_names.specs.Definitions.{IsFaultOf}
 use Rattle.irtext_names.specs.Items.{Names}
 use Rattle.irtext_parse_nested.specs.Leaving.{IsUnresolved}
 use Rattle.irtext_parse_nested.specs.Read.{EndsRegion, RefusesRegionEnd}

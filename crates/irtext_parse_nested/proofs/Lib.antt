@@ -1,8 +1,7 @@
--- Lemmas on the parsing of nested text: what is unchanged by acts and edits, pieces that are gathered, and the turns of the loop.
+-- Lemmas on the parsing of nested text: what is unchanged by acts and edits, operations that are begun, and the turns of the loop.
 pub mod Agreement
 pub mod RegionAdded
 pub mod Blanks
-pub mod Numbered
 pub mod Faults
 pub mod Ends
 pub mod Marking
@@ -11,22 +10,13 @@ pub mod BlockPlaced
 pub mod Unplaced
 pub mod RegionBegun
 pub mod StepParts
-pub mod Gathering
-pub mod Gathers
-pub mod Pieces
-pub mod Words
-pub mod Stores
 pub mod Begins
 pub mod Entering
 pub mod Leaving
 pub mod OfItems
 pub mod Sparing
 pub mod Edited
-pub mod NamesGiven
-pub mod BlockEntries
-pub mod EntriesStored
 pub mod Headers
-pub mod Halves
 pub mod HeadActs
 pub mod Depths
 pub mod OperationClosed

@@ -1,5 +1,5 @@
 -- The effect of a mark that was parsed, and acts one after another.
-use Rattle.std.proofs.Common.{◌≡◌, ◌==◌, ◌∙◌, ℕ, Bool, true, false, cond, List, [], ◌∷◌, ◌++◌, map, Option, Some, None, is_some, Result, Ok, Err, IfOk, OnOk, OnErr, IfErr, refl, sym, ap, subst, append-nil, nat_eq, eqb-true, eq-eqb}
+use Rattle.std.proofs.Common.{◌≡◌, ◌==◌, ◌∙◌, ℕ, Bool, true, false, cond, List, [], ◌∷◌, ◌++◌, map, Option, Some, None, is_some, Result, Ok, Err, IfOk, OnOk, OnErr, refl, sym, ap, subst, append-nil, nat_eq, eqb-true, eq-eqb}
 use Rattle.std.specs.Map.{lookup}
 use Rattle.irtext_base.specs.Text.{Text}
 use Rattle.irtext_base.specs.Faults as causes
@@ -24,18 +24,14 @@ use Rattle.irtext_names.specs.Linked.{Known, NamesAgree}
 use Rattle.irtext_names.proofs.Linked.Moving.{onto_nothing}
 use Rattle.irtext_grammar.specs.Promises.Section.{indices_of}
 use Rattle.irtext_names.proofs.NamesInRow.{map-through}
-use Rattle.irtext_parse_pieces.specs.declared.marks.ReadMark.{ReadMark}
-use Rattle.irtext_parse_pieces.specs.Marks.{IsMarkIf}
+use Rattle.irtext_grammar.specs.declared.parsed.ReadMark.{ReadMark}
+use Rattle.irtext_grammar.specs.Parsed.{IsMarkIf}
 use Rattle.irtext_parse_nested.specs.Ends.{NotesMark, GainsMarks, RefusesMark}
 use Rattle.irtext_names.specs.Items.{Made, Names, Pledge, MachineAgrees, Acts, ActFails}
 use Rattle.irtext_parse_nested.proofs.Faults.{place_is_there}
 
 -- ---- results
 -- what holds if a result is a value, and so on
-pub on_ok : {X E P Q : Type 0} (r : Result X E) → (P → Q) → OnOk r P → OnOk r Q
-on_ok (Ok x) f p = f p
-on_ok (Err e) f p = p
-
 pub always_ok : {X E Q : Type 0} (r : Result X E) → Q → OnOk r Q
 always_ok (Ok x) q = q
 always_ok (Err e) q = tt
@@ -51,10 +47,6 @@ on_err (Err e) f p = f p
 pub always_err : {X E Q : Type 0} (r : Result X E) → Q → OnErr r Q
 always_err (Ok x) q = tt
 always_err (Err e) q = q
-
-pub if_err : {X E : Type 0} {P Q : E → Type 0} (r : Result X E) → ((e : E) → P e → Q e) → IfErr r P → IfErr r Q
-if_err (Ok x) f p = p
-if_err (Err e) f p = f e p
 
 pub if_ok_two : {X E : Type 0} {P Q R : X → Type 0} (r : Result X E) → ((x : X) → P x → Q x → R x) → IfOk r P → IfOk r Q → IfOk r R
 if_ok_two (Ok x) f p q = f x p q

@@ -50,21 +50,20 @@ use Rattle.irtext_names.specs.Rows.{made_results, with_operation}
 use Rattle.irtext_names.proofs.Made.{made_agrees}
 use Rattle.irtext_grammar.specs.Unchanged.{OwnSoFar, IsThere}
 use Rattle.irtext_grammar.proofs.Edits.{made_own}
-use Rattle.irtext_parse_pieces.specs.declared.names.ReadName.{ReadName}
-use Rattle.irtext_parse_pieces.specs.declared.pieces.ReadPiece.{ReadPiece}
-use Rattle.irtext_parse_pieces.specs.Fronts.{IsPart}
-use Rattle.irtext_parse_pieces.specs.Named.{Leaves, Represents, Each, NamesRead}
-use Rattle.irtext_parse_pieces.specs.Pieces.{IsPiece}
+use Rattle.irtext_grammar.specs.declared.parsed.ReadName.{ReadName}
+use Rattle.irtext_grammar.specs.declared.parsed.ReadPiece.{ReadPiece}
+use Rattle.irtext_grammar.specs.Parsed.{IsPart, Leaves, Represents, Each, IsPiece}
+use Rattle.irtext_parse_pieces.specs.Named.{NamesRead}
 use Rattle.irtext_parse_nested.specs.declared.beginning.ReadFront.{ReadFront}
 use Rattle.irtext_parse_nested.specs.declared.frame.BegunOperation.{BegunOperation}
-use Rattle.irtext_parse_nested.specs.declared.operation_parts.NotGathered.{NotGathered}
-use Rattle.irtext_parse_nested.specs.declared.operation_parts.NotGathered.TheVariants as refusal
+use Rattle.irtext_names.specs.declared.operation_parts.NotGathered.{NotGathered}
+use Rattle.irtext_names.specs.declared.operation_parts.NotGathered.TheVariants as refusal
 use Rattle.irtext_parse_nested.specs.Beginning.{FrontComes, MissesFront, misses_lead, misses_piece, SaysGather, NotGatheredAs, ran_out, refused, MakesOf, ArePartsOf, HasBegun, ComesInto}
 use Rattle.irtext_names.specs.Gathered.{types_made}
 use Rattle.irtext_names.specs.Placing.{PlacedIn}
 use Rattle.irtext_parse_nested.specs.OpenOperation.{HasNoType, ReadNeither, IsBegun, pledge_of}
 use Rattle.irtext_parse_pieces.specs.Coming.{IsStep}
-use Rattle.irtext_parse_nested.specs.Gathered.{FailsUses, operand_place, operand_list, successor_place, successor_list, placed_type, type_list, stored_of, last_list, CanGather, RefusesGathering, FailsAt}
+use Rattle.irtext_names.specs.Gathering.{FailsUses, operand_place, operand_list, successor_place, successor_list, placed_type, type_list, stored_of, last_list, CanGather, RefusesGathering, FailsAt}
 use Rattle.irtext_names.specs.Items.{Names, Pledge, Made, AreMadeAt, MachineAgrees, IsFailure, ActsWith, ActFails}
 use Rattle.irtext_names.specs.Located.{IsLocated}
 use Rattle.irtext_parse_nested.specs.Read.{ReadsFront, begun_by, uses_of, BeginsOperation, RefusesOperation, no_lead, no_front, no_uses}

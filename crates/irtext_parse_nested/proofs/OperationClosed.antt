@@ -21,10 +21,9 @@ use Rattle.irtext_grammar.proofs.Edits.{spares_then, spares_fewer, attributes_wr
 use Rattle.irtext_grammar.proofs.Kept.{uses_kept}
 use Rattle.irtext_names.specs.Tied.{MatchesGraph}
 use Rattle.irtext_grammar.specs.Resume.{OpenOperation}
-use Rattle.irtext_parse_pieces.specs.declared.marks.ReadMark.{ReadMark}
-use Rattle.irtext_parse_pieces.specs.declared.names.ReadName.{ReadName}
-use Rattle.irtext_parse_pieces.specs.Marks.{IsMarkIf}
-use Rattle.irtext_parse_pieces.specs.Named.{Represents, Each}
+use Rattle.irtext_grammar.specs.declared.parsed.ReadMark.{ReadMark}
+use Rattle.irtext_grammar.specs.declared.parsed.ReadName.{ReadName}
+use Rattle.irtext_grammar.specs.Parsed.{IsMarkIf, Represents, Each}
 use Rattle.irtext_parse_nested.specs.declared.frame.BegunOperation.{BegunOperation}
 use Rattle.irtext_parse_nested.specs.OpenOperation.{pledge_of}
 use Rattle.irtext_parse_nested.specs.Ends.{closes_at, NotesMark, noted_as, WritesAttributes, GivesNames, BecomesNamed}

@@ -2,9 +2,8 @@
 use Rattle.std.specs.Prelude.{◌≡◌, ◌<◌, ℕ, Bool, true, ◌||◌, List, [], ◌∷◌, ◌++◌, length, Option, Some, None, ⊤}
 use Rattle.irtext_base.specs.Text.{Text}
 use Rattle.irtext_base.specs.Format.{Format, Id, Accepted}
-use Rattle.irtext_base.specs.Faults.{id_of}
+use Rattle.irtext_base.specs.Faults.{id_of, fault_of}
 use Rattle.irtext_base.specs.Faults as causes
-use Rattle.irtext_base.specs.Faults.{fault_of}
 use Rattle.irtext_base.specs.Answers.{Read}
 use Rattle.irtext_base.specs.Locations.{AttrView}
 use Rattle.irtext_base.specs.Stream.{StreamView, IsAt}
@@ -37,20 +36,19 @@ use Rattle.irtext_grammar.specs.Reached.{steps_in}
 use Rattle.irtext_grammar.specs.Resume.{OpenOperation, front_at}
 use Rattle.irtext_grammar.specs.Grows.{BlockGains, OperationCame}
 use Rattle.irtext_grammar.specs.Unchanged.{OwnSoFar, ModifiesOnly}
-use Rattle.irtext_parse_pieces.specs.declared.names.ReadName.{ReadName}
-use Rattle.irtext_parse_pieces.specs.declared.pieces.ReadPiece.{ReadPiece}
-use Rattle.irtext_parse_pieces.specs.Fronts.{IsPart}
-use Rattle.irtext_parse_pieces.specs.Named.{Represents, Each}
+use Rattle.irtext_grammar.specs.declared.parsed.ReadName.{ReadName}
+use Rattle.irtext_grammar.specs.declared.parsed.ReadPiece.{ReadPiece}
+use Rattle.irtext_grammar.specs.Parsed.{IsPart, Represents, Each}
 use Rattle.irtext_parse_nested.specs.declared.beginning.ReadFront.{ReadFront}
 use Rattle.irtext_parse_nested.specs.declared.frame.BegunOperation.{BegunOperation}
 use Rattle.irtext_names.specs.declared.gathered.Gathered.{Gathered}
-use Rattle.irtext_parse_nested.specs.declared.operation_parts.NotGathered.{NotGathered}
-use Rattle.irtext_parse_nested.specs.declared.operation_parts.NotGathered.TheVariants as refusal
-use Rattle.irtext_parse_nested.specs.Definitions.{IsFaultOf}
+use Rattle.irtext_names.specs.declared.operation_parts.NotGathered.{NotGathered}
+use Rattle.irtext_names.specs.declared.operation_parts.NotGathered.TheVariants as refusal
+use Rattle.irtext_names.specs.Definitions.{IsFaultOf}
 use Rattle.irtext_names.specs.Gathered.{IsNothing, types_made}
 use Rattle.irtext_names.specs.Placing.{PlacedIn}
 use Rattle.irtext_names.specs.Uses.{KeepsScopes}
-use Rattle.irtext_parse_nested.specs.Gathered.{Gathers, RefusesGathering}
+use Rattle.irtext_names.specs.Gathering.{Gathers, RefusesGathering}
 use Rattle.irtext_names.specs.Items.{Names}
 use Rattle.irtext_parse_nested.specs.Read.{Demands}
 

@@ -1,7 +1,6 @@
 -- Between functions: what the header of a block gives: its dictionary is stored, the block is created in its region, and its names are
 -- defined.
-use Rattle.std.specs.Prelude.{◌≡◌, ℕ, true, List, [], ◌++◌, map, Option, Some, None, Vec, slice_get, ⊤}
-use Rattle.std.specs.Global.{Global}
+use Rattle.std.specs.Prelude.{◌≡◌, ℕ, true, List, [], ◌++◌, map, Option, Some, slice_get, ⊤}
 use Rattle.irtext_base.specs.Text.{Text}
 use Rattle.irtext_base.specs.Faults as causes
 use Rattle.irtext_base.specs.Faults.{fault_of}
@@ -31,26 +30,21 @@ use Rattle.irtext_grammar.specs.Names.Acts.{block_may_hold}
 use Rattle.irtext_grammar.specs.Names.Script.{Place, define_label}
 use Rattle.irtext_grammar.specs.Names.TextScopes.{Word}
 use Rattle.irtext_names.specs.Linked.{TakesDefinition}
-use Rattle.irtext_names.specs.Rows.{AreNamed}
-use Rattle.irtext_parse_pieces.specs.declared.entries.Key.{Key}
-use Rattle.irtext_parse_pieces.specs.declared.marks.ReadMark.{ReadMark}
-use Rattle.irtext_parse_pieces.specs.declared.names.ReadName.{ReadName}
-use Rattle.irtext_parse_nested.specs.declared.operation_parts.NotGathered.{NotGathered}
-use Rattle.irtext_parse_nested.specs.declared.operation_parts.NotGathered.TheVariants as refusal
-use Rattle.irtext_parse_nested.specs.Definitions.{DefinesRow, FailsRow, IsFaultOf}
-use Rattle.irtext_parse_nested.specs.Ends.{numbers_of, NotesMark, RefusesMark}
-use Rattle.irtext_parse_nested.specs.Gathered.{entry_read, AreAllowed, IsFirstForbidden}
+use Rattle.irtext_names.specs.Rows.{AreNamed, DefinesRow, FailsRow}
+use Rattle.irtext_grammar.specs.declared.parsed.Key.{Key}
+use Rattle.irtext_grammar.specs.declared.parsed.ReadMark.{ReadMark}
+use Rattle.irtext_grammar.specs.declared.parsed.ReadName.{ReadName}
+use Rattle.irtext_names.specs.declared.operation_parts.NotGathered.{NotGathered}
+use Rattle.irtext_names.specs.declared.operation_parts.NotGathered.TheVariants as refusal
+use Rattle.irtext_names.specs.Definitions.{IsFaultOf, numbers_of}
+use Rattle.irtext_parse_nested.specs.Ends.{NotesMark, RefusesMark}
+use Rattle.irtext_names.specs.Gathering.{entry_read, AreAllowed, IsFirstForbidden}
 use Rattle.irtext_names.specs.Items.{Names}
 use Rattle.irtext_names.specs.Located.{IsLocatedAt}
 use Rattle.irtext_names.specs.Placing.{PlacesBlock}
-use Rattle.irtext_parse_nested.specs.Placing.{RefusesLabel}
+use Rattle.irtext_names.specs.Labels.{RefusesLabel}
 
 -- ---- the dictionary
--- the entries of a dictionary, if there is one
-abbrev pub entries_in : {X : Type 0} → Option (Vec X Global) → List X
-entries_in None = []
-entries_in (Some es) = es.items
-
 -- the fault is `ReservedKey` for this key, at the key
 pub record IsKeyFault {A : Type 0} (text : Text) (key : Key) (fault : ParseFault A) : Type 0 where
   pub because : fault_of fault.cause ≡ causes.ReservedKey key.name

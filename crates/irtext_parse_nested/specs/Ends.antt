@@ -10,13 +10,12 @@ use Rattle.irtext_stream.specs.Places.{AtOffset}
 use Rattle.irtext_graph.specs.declared.object.Value.TheVariants.{Result}
 use Rattle.irtext_graph.specs.Graph.{GraphView}
 use Rattle.irtext_scopes.specs.Scopes.{is_open}
-use Rattle.irtext_scopes.specs.declared.scopes.DefineFault.{DefineFault}
-use Rattle.irtext_names.specs.declared.definitions.UndefinedName.{UndefinedName}
 use Rattle.irtext_parse_state.specs.States.{same_index, Notes}
-use Rattle.irtext_parse_pieces.specs.declared.marks.ReadMark.{ReadMark}
-use Rattle.irtext_parse_pieces.specs.declared.names.ReadName.{ReadName}
+use Rattle.irtext_grammar.specs.declared.parsed.ReadMark.{ReadMark}
+use Rattle.irtext_grammar.specs.declared.parsed.ReadName.{ReadName}
 use Rattle.irtext_parse_nested.specs.declared.frame.BegunOperation.{BegunOperation}
-use Rattle.irtext_parse_nested.specs.Definitions.{FailsRow, IsFaultOf}
+use Rattle.irtext_names.specs.Rows.{FailsRow, AreNamed}
+use Rattle.irtext_names.specs.Definitions.{IsFaultOf, numbers_of}
 use Rattle.irtext_parse_state.specs.declared.parsable.state.State as code
 use Rattle.irtext_grammar.specs.Names.History.{Outcome}
 use Rattle.irtext_grammar.specs.Names.Script.{Path}
@@ -25,8 +24,7 @@ use Rattle.irtext_grammar.specs.Grammar.Tree.{Name, Mark}
 use Rattle.irtext_grammar.specs.Graphs.Build.{put_all, read_names}
 use Rattle.irtext_grammar.specs.Grows.{OwnBecame}
 use Rattle.irtext_grammar.specs.Unchanged.{OwnSoFar, HasOwn, HasUses}
-use Rattle.irtext_names.specs.Rows.{AreNamed}
-use Rattle.irtext_parse_pieces.specs.Named.{Represents, Each}
+use Rattle.irtext_grammar.specs.Parsed.{Represents, Each}
 use Rattle.irtext_context.specs.Context.{ContextView, OperationView, operation, EditsOperation, with_attributes}
 use Rattle.irtext_graph.specs.declared.arena.Ptr.{Ptr}
 use Rattle.irtext_graph.specs.declared.object.Operation.{Operation}
@@ -34,10 +32,6 @@ use Rattle.irtext_base.specs.declared.base.attributes.AttrObj.{AttrObj}
 use Rattle.irtext_base.specs.declared.location.Location.{Location}
 use Rattle.irtext_grammar.specs.Resume.{OpenOperation}
 use Rattle.irtext_names.specs.Items.{Names, doing}
-
--- the numbers of the parsed names
-abbrev pub numbers_of : List ReadName → List ℕ
-numbers_of ns = map (λ n. n.name) ns
 
 -- the operation's results are not defined: there are not as many names as results; or no scope of values is open for them; or a name is
 -- already defined
@@ -70,13 +64,6 @@ pub record RefusesMark {X A : Type 0} (text : Text) (mark : Option ReadMark) (ma
   pub because : fault_of fault.cause ≡ causes.DuplicateIndex read.index
   pub flag : fault.committed ≡ true
   pub place : AtOffset read.at.offset text (λ passed rest. IsAt fault.pos.line fault.pos.column passed)
-
--- the name of this index is already defined in its scope, and the fault is for it, at the name
-pub record RefusesTwice {A : Type 0} (names : List Text) (text : Text) (defined : List ReadName) (undefined : UndefinedName) (fault : ParseFault A) : Type 0 where
-  pub twice : undefined.fault ≡ DefineFault.MultipleDefinitions
-  pub read : ReadName
-  pub is : slice_get defined undefined.index ≡ Some read
-  pub says : IsFaultOf names text causes.MultipleDefinitions read fault
 
 -- what the end of an operation does, before its mark
 abbrev pub closes_at : {T A U : Type 0} → OpenOperation T A → code.State T A U → (ℕ → Path) → Outcome → Outcome

@@ -18,14 +18,14 @@ use Rattle.irtext_grammar.specs.Heads.{Step}
 use Rattle.irtext_grammar.specs.Resume.{OpenOperation, is_flat, with_steps}
 use Rattle.irtext_grammar.specs.Grows.{OwnBecame}
 use Rattle.irtext_grammar.specs.Unchanged.{OwnSoFar, HasOwn, HasUses}
-use Rattle.irtext_parse_pieces.specs.declared.pieces.ReadPiece.{ReadPiece}
-use Rattle.irtext_parse_pieces.specs.declared.pieces.ReadPiece.TheVariants as read
+use Rattle.irtext_grammar.specs.declared.parsed.ReadPiece.{ReadPiece}
+use Rattle.irtext_grammar.specs.declared.parsed.ReadPiece.TheVariants as read
 use Rattle.irtext_parse_nested.specs.declared.frame.BegunOperation.{BegunOperation}
-use Rattle.irtext_parse_nested.specs.declared.operation_parts.NotGathered.{NotGathered}
-use Rattle.irtext_parse_nested.specs.declared.operation_parts.NotGathered.TheVariants as refusal
+use Rattle.irtext_names.specs.declared.operation_parts.NotGathered.{NotGathered}
+use Rattle.irtext_names.specs.declared.operation_parts.NotGathered.TheVariants as refusal
 use Rattle.irtext_parse_nested.specs.Beginning.{HasBegun, SaysGather}
 use Rattle.irtext_parse_nested.specs.OpenOperation.{IsBegun}
-use Rattle.irtext_parse_nested.specs.Gathered.{MayAllHold, RefusesEntries, stored_of}
+use Rattle.irtext_names.specs.Gathering.{MayAllHold, RefusesEntries, stored_of}
 use Rattle.irtext_names.specs.Items.{Names}
 use Rattle.irtext_names.specs.Located.{IsLocated}
 use Rattle.irtext_parse_nested.specs.Read.{ReadsPiece}

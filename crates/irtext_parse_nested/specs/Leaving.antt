@@ -8,7 +8,7 @@ use Rattle.irtext_grammar.specs.Names.History.{leave}
 use Rattle.irtext_grammar.specs.Names.Script.{UnresolvedReference}
 use Rattle.irtext_names.specs.Linked.{FailsBy}
 use Rattle.irtext_parse_nested.specs.declared.frame.BegunRegion.{BegunRegion}
-use Rattle.irtext_parse_nested.specs.Definitions.{IsFaultOf}
+use Rattle.irtext_names.specs.Definitions.{IsFaultOf}
 use Rattle.irtext_names.specs.Items.{Names}
 
 -- this name has no definition; the fault is for it, at the beginning of the region, and the machine fails in the same way

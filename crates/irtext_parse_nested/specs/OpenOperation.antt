@@ -16,7 +16,7 @@ use Rattle.irtext_grammar.specs.Heads.{Step, flat, types}
 use Rattle.irtext_grammar.specs.Naming.{body_of}
 use Rattle.irtext_grammar.specs.Reached.{steps_in}
 use Rattle.irtext_grammar.specs.Resume.{OpenOperation}
-use Rattle.irtext_parse_pieces.specs.Named.{Leaves, Represents, Each}
+use Rattle.irtext_grammar.specs.Parsed.{Leaves, Represents, Each}
 use Rattle.irtext_parse_nested.specs.declared.frame.BegunOperation.{BegunOperation}
 use Rattle.irtext_parse_nested.specs.declared.frame.BegunRegion.{BegunRegion}
 use Rattle.irtext_parse_nested.specs.declared.frame.BegunBlock.{BegunBlock}

@@ -4,8 +4,8 @@ use irtext_base::base::OpId;
 use irtext_base::parsable::Place;
 use irtext_context::base::{BasicBlock, Operation, Ptr, Region};
 use irtext_few::Few;
+use irtext_grammar::parsed::ReadName;
 use irtext_parse_pieces::coming::Coming;
-use irtext_parse_pieces::names::ReadName;
 
 /// An operation that was created, with everything before its first region parsed.
 #[derive(Drop)]

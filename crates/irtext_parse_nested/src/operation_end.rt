@@ -1,5 +1,6 @@
 //! The end of an operation: the names of its results are defined, and its mark is parsed and recorded.
-ghost use Rattle.std.specs.Prelude.{◌≡◌, ◌≤◌, ℕ, List, [], ◌∷◌, ◌++◌, Option, length, map, true, false, IfErr, OnOk, OnErr, IsSome};
+ghost use Rattle.std.specs.Prelude.{◌≡◌, ◌≤◌, ℕ, List, [], ◌∷◌, ◌++◌, Option, length, map, true, false, IfErr, IfSome, OnOk, OnErr, IsSome};
+ghost use Rattle.irtext_base.specs.Format.{given_names_key};
 ghost use Rattle.irtext_base.specs.Text.{Text};
 ghost use Rattle.irtext_base.specs.Answers.{Read};
 ghost use Rattle.irtext_base.specs.Faults as fault;
@@ -28,31 +29,34 @@ ghost use Rattle.irtext_grammar.specs.Unchanged.{ModifiesOnly};
 ghost use Rattle.irtext_grammar.specs.Grammar.Tree.{Mark};
 ghost use Rattle.irtext_grammar.specs.Heads.{mark_if_at};
 ghost use Rattle.irtext_grammar.specs.Resume.{OpenOperation};
-ghost use Rattle.irtext_names.specs.Rows.{AreKnown};
-ghost use Rattle.irtext_parse_pieces.specs.Marks.{IsMarkIf};
+ghost use Rattle.irtext_names.specs.Rows.{AreKnown, ValuesReady, DefinesRow};
+ghost use Rattle.irtext_grammar.specs.Parsed.{IsMarkIf};
 ghost use Rattle.irtext_parse_pieces.specs.Named.{MustMean};
 ghost use Rattle.irtext_parse_nested.specs.OpenOperation.{IsBegun, pledge_of};
-ghost use Rattle.irtext_parse_nested.specs.Definitions.{ValuesReady, DefinesRow};
 ghost use Rattle.irtext_names.specs.LosesPlaceholders.{LosesPlaceholders};
-ghost use Rattle.irtext_parse_nested.specs.Ends.{numbers_of, closes_at, RefusesResults, NotesMark, noted_as, GainsMarks, RefusesMark, WritesAttributes, GivesNames, BecomesNamed};
+ghost use Rattle.irtext_names.specs.Definitions.{numbers_of};
+ghost use Rattle.irtext_parse_nested.specs.Ends.{closes_at, RefusesResults, NotesMark, noted_as, GainsMarks, RefusesMark, WritesAttributes, GivesNames, BecomesNamed};
 ghost use Rattle.irtext_names.specs.Items.{Acts, ActFails, IsSound, KeepsLive, KeepsDepths};
 ghost use Rattle.irtext_names.specs.Located.{IsLocated};
 ghost use Rattle.irtext_parse_nested.specs.Read.{EndsOperation, RefusesItsEnd};
 
-use crate::definitions::{Definer, define_values, undefined_error};
 use crate::frame::BegunOperation;
-use crate::given::{names_shared, shared_key};
-use crate::name_errors::name_error;
+use irtext_base::base::Identifier;
 use irtext_base::parsable::{CharStream, ParseFault, ParseResult, TextStream};
 use irtext_base::result::Cause;
 use irtext_base::text::{AttrText, IrText};
 use irtext_context::base::{Context, Item};
+use irtext_grammar::parsed::ReadMark;
 use irtext_graph::graph::Graph;
 use irtext_graph::held::HasGraph;
+use irtext_names::defining::{Definer, define_values, undefined_error};
+use irtext_names::errors::name_error;
+use irtext_names::given::names_shared;
+use irtext_names::keys::neighbour_key;
 use irtext_names::kinds::Names;
 use irtext_names::memory::or_memory;
 use irtext_names::name_errors::NameFault;
-use irtext_parse_pieces::marks::{ReadMark, mark_parse};
+use irtext_parse_pieces::marks::mark_parse;
 use irtext_parse_state::parsable::StateStream;
 use irtext_parse_state::parsable::state::Noting;
 use irtext_tokens::irfmt::faults::{out_of_memory, refuse_at};
@@ -157,6 +161,19 @@ fn results_defined<T: IrText<A>, A: AttrText<A>, U>(
 {
     let ctx = &mut *s.state.ctx;
     define_results(&mut s.stream, names, ctx.graph_mut(), begun)
+}
+
+/// Returns the key of given names of an operation's neighbour if it has one to share, and if there are names to store under it.
+fn shared_key<T: IrText<A>, A: AttrText<A>>(
+    ctx: &Context<T, A>,
+    begun: &BegunOperation,
+) -> Option<Identifier>
+    ensures { IfSome result (λ key. key ≡ given_names_key) }
+{
+    if begun.names.len() == 0 {
+        return None;
+    }
+    neighbour_key(ctx, begun.op)
 }
 
 /// Stores the names of an operation's results as given names. If an allocation fails, the attributes may have been changed.

@@ -23,16 +23,16 @@ ghost use Rattle.irtext_names.specs.Placing.{CreatesIn};
 ghost use Rattle.irtext_parse_nested.specs.Read.{BeginsRegion, RefusesRegion, EndsRegion, RefusesRegionEnd};
 
 use crate::frame::BegunRegion;
-use crate::name_errors::name_error;
 use irtext_base::parsable::{CharStream, ParseResult, TextStream};
 use irtext_base::text::{AttrText, IrText};
 use irtext_context::base::{Operation, Ptr};
+use irtext_grammar::parsed::ReadName;
 use irtext_graph::graph::Graph;
 use irtext_names::entering::{brace_demanded, create, enter_here, graph_of};
+use irtext_names::errors::name_error;
 use irtext_names::kinds::Names;
 use irtext_names::name_errors::NameFault;
 use irtext_names::regions::exit_region;
-use irtext_parse_pieces::names::ReadName;
 use irtext_parse_state::parsable::StateStream;
 use irtext_tokens::irfmt::demanded::text_demanded;
 use irtext_tokens::irfmt::faults::out_of_memory;

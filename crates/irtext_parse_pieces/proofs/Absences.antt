@@ -11,8 +11,8 @@ use Rattle.irtext_tokens.specs.Tokens.{word_at}
 use Rattle.irtext_tokens.proofs.Steps.{Lens}
 use Rattle.irtext_grammar.specs.Grammar.Tree.{Name}
 use Rattle.irtext_grammar.specs.Heads.{name_at, target_at, outside}
-use Rattle.irtext_parse_pieces.specs.declared.lists.NameKind.{NameKind}
-use Rattle.irtext_parse_pieces.specs.declared.lists.NameKind.TheVariants as kind
+use Rattle.irtext_grammar.specs.declared.parsed.NameKind.{NameKind}
+use Rattle.irtext_grammar.specs.declared.parsed.NameKind.TheVariants as kind
 use Rattle.irtext_parse_pieces.specs.Kinds.{beginning, named_at}
 use Rattle.irtext_parse_pieces.specs.Named.{MustMean}
 

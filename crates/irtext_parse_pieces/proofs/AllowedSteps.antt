@@ -17,8 +17,9 @@ use Rattle.irtext_grammar.specs.Grammar.Tree.{Name, Attribute}
 use Rattle.irtext_grammar.specs.Names.Acts.{may_hold}
 use Rattle.irtext_grammar.specs.Heads.{allowed, pair_at, entry_by}
 use Rattle.irtext_grammar.specs.Readers.Operations.{RefusesAt}
-use Rattle.irtext_parse_pieces.specs.declared.entries.Key.{Key}
-use Rattle.irtext_parse_pieces.specs.Entries.{IsEntry, Allows}
+use Rattle.irtext_grammar.specs.declared.parsed.Key.{Key}
+use Rattle.irtext_grammar.specs.Parsed.{IsEntry}
+use Rattle.irtext_parse_pieces.specs.Entries.{Allows}
 use Rattle.irtext_parse_pieces.specs.Named.{whole, MayMean}
 use Rattle.irtext_parse_pieces.proofs.Absences.{missing_followed, no_name_begins}
 

@@ -10,11 +10,12 @@ use Rattle.irtext_base.specs.declared.parsable.fault.ParseFault.{ParseFault}
 use Rattle.irtext_scopes.specs.Names.{KeepsNames}
 use Rattle.irtext_tokens.proofs.Steps.{Lens, fine_there}
 use Rattle.irtext_grammar.specs.Heads.{Step}
-use Rattle.irtext_parse_pieces.specs.declared.entries.Key.{Key}
-use Rattle.irtext_parse_pieces.specs.declared.lists.NameKind.TheVariants as kind
-use Rattle.irtext_parse_pieces.specs.declared.names.ReadName.{ReadName}
-use Rattle.irtext_parse_pieces.specs.declared.pieces.ReadPiece.{ReadPiece}
-use Rattle.irtext_parse_pieces.specs.Canonical.{canonical_front, name_steps, dictionary_steps, signature_steps, name_pieces, dictionary_pieces, signature_pieces, pieces_of, MustSteps}
+use Rattle.irtext_grammar.specs.declared.parsed.Key.{Key}
+use Rattle.irtext_grammar.specs.declared.parsed.NameKind.TheVariants as kind
+use Rattle.irtext_grammar.specs.declared.parsed.ReadName.{ReadName}
+use Rattle.irtext_grammar.specs.declared.parsed.ReadPiece.{ReadPiece}
+use Rattle.irtext_parse_pieces.specs.Canonical.{canonical_front, name_steps, dictionary_steps, signature_steps, MustSteps}
+use Rattle.irtext_grammar.specs.Forms.{name_pieces, dictionary_pieces, signature_pieces, pieces_of}
 use Rattle.irtext_parse_pieces.proofs.CanonicalSteps.{Through, steps_begin, steps_more, steps_refused, steps_end}
 
 -- the names of the operands, in parentheses

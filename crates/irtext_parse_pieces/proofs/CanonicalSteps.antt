@@ -19,12 +19,11 @@ use Rattle.irtext_grammar.specs.Grammar.Tree.{Piece, Part}
 use Rattle.irtext_grammar.specs.Heads.{Step, piece_at}
 use Rattle.irtext_grammar.specs.Resume.{front_at}
 use Rattle.irtext_parse_pieces.specs.Beside as closing
-use Rattle.irtext_parse_pieces.specs.declared.pieces.ReadPiece.{ReadPiece}
-use Rattle.irtext_parse_pieces.specs.declared.pieces.ReadPiece.TheVariants as read
+use Rattle.irtext_grammar.specs.declared.parsed.ReadPiece.{ReadPiece}
+use Rattle.irtext_grammar.specs.declared.parsed.ReadPiece.TheVariants as read
 use Rattle.irtext_parse_pieces.specs.Canonical.{word_step, MustSteps}
-use Rattle.irtext_parse_pieces.specs.Fronts.{IsPart}
-use Rattle.irtext_parse_pieces.specs.Pieces.{IsPiece}
-use Rattle.irtext_parse_pieces.specs.Named.{whole, Each, MustMean}
+use Rattle.irtext_grammar.specs.Parsed.{IsPart, IsPiece, Each}
+use Rattle.irtext_parse_pieces.specs.Named.{whole, MustMean}
 use Rattle.irtext_parse_pieces.proofs.FrontSteps.{followed_followed, piece_on}
 use Rattle.irtext_parse_pieces.proofs.Listings.{each_on}
 use Rattle.irtext_parse_pieces.proofs.Meanings.{means_on, passed_whole}

@@ -24,9 +24,10 @@ use Rattle.irtext_grammar.specs.Grammar.Tree.{Name, Attribute}
 use Rattle.irtext_grammar.specs.Spelling.AttrText.{attr_tree}
 use Rattle.irtext_grammar.specs.Heads.{name_of, name_at, entry_by, dictionary_by, dictionary_at}
 use Rattle.irtext_parse_pieces.specs.Beside.{closed}
-use Rattle.irtext_parse_pieces.specs.declared.entries.Key.{Key}
-use Rattle.irtext_parse_pieces.specs.Entries.{IsKey, IsEntry, AreEntries, MustEntries, EntriesAfter, dictionary_if}
-use Rattle.irtext_parse_pieces.specs.Named.{whole, Optional, MayMean, MustMean}
+use Rattle.irtext_grammar.specs.declared.parsed.Key.{Key}
+use Rattle.irtext_grammar.specs.Parsed.{IsKey, IsEntry, AreEntries, Optional}
+use Rattle.irtext_parse_pieces.specs.Entries.{MustEntries, EntriesAfter, dictionary_if}
+use Rattle.irtext_parse_pieces.specs.Named.{whole, MayMean, MustMean}
 use Rattle.irtext_parse_pieces.proofs.Listings.{list_some}
 use Rattle.irtext_parse_pieces.proofs.Meanings.{takes_whole, may_whole, must_refuse, passed_whole}
 

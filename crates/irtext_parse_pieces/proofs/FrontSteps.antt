@@ -18,11 +18,12 @@ use Rattle.irtext_grammar.specs.Heads.{Step, front_steps, piece_at}
 use Rattle.irtext_grammar.specs.Resume.{is_flat, front_at}
 use Rattle.irtext_grammar.proofs.Resume.Front.{in_front}
 use Rattle.irtext_base.proofs.Compose.{runs_out_after, answers_demanded}
-use Rattle.irtext_parse_pieces.specs.declared.pieces.ReadPiece.{ReadPiece}
-use Rattle.irtext_parse_pieces.specs.declared.pieces.ReadPiece.TheVariants as read
-use Rattle.irtext_parse_pieces.specs.Fronts.{IsPart, front_of, MustFront, MustFind}
-use Rattle.irtext_parse_pieces.specs.Pieces.{IsPiece, MustPiece}
-use Rattle.irtext_parse_pieces.specs.Named.{whole, Represents, Each}
+use Rattle.irtext_grammar.specs.declared.parsed.ReadPiece.{ReadPiece}
+use Rattle.irtext_grammar.specs.declared.parsed.ReadPiece.TheVariants as read
+use Rattle.irtext_grammar.specs.Parsed.{IsPart, IsPiece, Represents, Each}
+use Rattle.irtext_parse_pieces.specs.Fronts.{front_of, MustFront, MustFind}
+use Rattle.irtext_parse_pieces.specs.Pieces.{MustPiece}
+use Rattle.irtext_parse_pieces.specs.Named.{whole}
 use Rattle.irtext_parse_pieces.proofs.Listings.{each_on, each_more}
 use Rattle.irtext_parse_pieces.proofs.PieceSteps.{no_tree, plain_there, piece_refused}
 use Rattle.irtext_parse_pieces.proofs.Meanings.{still_represents, must_refuse, passed_whole}

@@ -17,15 +17,15 @@ use Rattle.irtext_tokens.specs.Tokens.{space_at, text_at}
 use Rattle.irtext_tokens.proofs.Steps.{Lens, Passed, mapped_followed, mapped_mapped, starts, turned, first, spaced, more, refuses, refuses_seen, last_seen, fine_there}
 use Rattle.irtext_grammar.specs.Grammar.Tree.{Name, Mark, Attribute, Head}
 use Rattle.irtext_grammar.specs.Heads.{label_at, argument_at, mark_if_at, head_at}
-use Rattle.irtext_parse_pieces.specs.declared.entries.Key.{Key}
-use Rattle.irtext_parse_pieces.specs.declared.marks.ReadMark.{ReadMark}
-use Rattle.irtext_parse_pieces.specs.declared.names.ReadName.{ReadName}
+use Rattle.irtext_grammar.specs.declared.parsed.Key.{Key}
+use Rattle.irtext_grammar.specs.declared.parsed.ReadMark.{ReadMark}
+use Rattle.irtext_grammar.specs.declared.parsed.ReadName.{ReadName}
 use Rattle.irtext_parse_pieces.specs.Beside.{paired}
 use Rattle.irtext_parse_pieces.specs.Arguments.{IsArgument, MustArguments}
-use Rattle.irtext_parse_pieces.specs.Entries.{AreEntries, MustDictionaryIf, dictionary_if}
+use Rattle.irtext_grammar.specs.Parsed.{AreEntries, IsMarkIf, Each, Optional}
+use Rattle.irtext_parse_pieces.specs.Entries.{MustDictionaryIf, dictionary_if}
 use Rattle.irtext_parse_pieces.specs.Headers.{mark_end_at, head_end_at, MustHeadEnd, MustHead}
-use Rattle.irtext_parse_pieces.specs.Marks.{IsMarkIf}
-use Rattle.irtext_parse_pieces.specs.Named.{whole, Each, Optional, MustMean, MustName}
+use Rattle.irtext_parse_pieces.specs.Named.{whole, MustMean, MustName}
 use Rattle.irtext_parse_pieces.proofs.EntrySteps.{first_refused}
 use Rattle.irtext_parse_pieces.proofs.Meanings.{must_refuse, passed_whole, still_represents}
 use Rattle.irtext_parse_pieces.proofs.NameSteps.{nobody}

@@ -6,12 +6,12 @@ use Rattle.irtext_base.specs.Text.{Text}
 use Rattle.irtext_tokens.specs.ListOutcomes.{separated_at}
 use Rattle.irtext_grammar.specs.Grammar.Tree.{Name}
 use Rattle.irtext_grammar.specs.Heads.{flat, piece_at}
-use Rattle.irtext_parse_pieces.specs.declared.lists.NameKind.{NameKind}
-use Rattle.irtext_parse_pieces.specs.declared.lists.NameKind.TheVariants as kind
-use Rattle.irtext_parse_pieces.specs.declared.names.ReadName.{ReadName}
-use Rattle.irtext_parse_pieces.specs.Kinds.{named_at, names_directive, names_tree, read_names}
-use Rattle.irtext_parse_pieces.specs.Named.{Represents, Each}
-use Rattle.irtext_parse_pieces.specs.Pieces.{IsPiece}
+use Rattle.irtext_grammar.specs.declared.parsed.NameKind.{NameKind}
+use Rattle.irtext_grammar.specs.declared.parsed.NameKind.TheVariants as kind
+use Rattle.irtext_grammar.specs.declared.parsed.ReadName.{ReadName}
+use Rattle.irtext_parse_pieces.specs.Kinds.{named_at, names_directive, names_tree}
+use Rattle.irtext_grammar.specs.Forms.{read_names}
+use Rattle.irtext_grammar.specs.Parsed.{Represents, Each, IsPiece}
 
 -- what the directive of all names of a kind parses
 pub names_step : {T A : Type 0} (types : Text → Outcome T) (attr : Text → Outcome (AttrView A)) (inside : Bool) (kind : NameKind) (u : Text) → piece_at types attr inside (flat (names_directive kind)) u ≡ mapped (names_tree kind) (separated_at 44 (named_at kind inside) u)

@@ -19,7 +19,7 @@ use Rattle.irtext_context.specs.Dialects.{Table, same_id}
 use Rattle.irtext_context.specs.DialectTable as table
 use Rattle.irtext_context.specs.DialectTable.{dialect_of, registered}
 use Rattle.irtext_context.specs.Named.{id_of_texts}
-use Rattle.irtext_tokens.specs.Tokens.{id_at, id_with, word_at}
+use Rattle.irtext_tokens.specs.Tokens.{id_at, id_with, word_at, space_at}
 use Rattle.irtext_tokens.proofs.SetBack.{set_within}
 use Rattle.irtext_tokens.proofs.Spelling.{begins_the, takes_next, takes_none_is}
 use Rattle.irtext_tokens.proofs.Steps.{Lens}
@@ -28,11 +28,10 @@ use Rattle.irtext_grammar.specs.Contexts.Formats.{op_id}
 use Rattle.irtext_grammar.specs.Readers.Parts.{after_lead, is_led}
 use Rattle.irtext_grammar.specs.Readers.Operations.{registered_after, Registers, RefusesAt}
 use Rattle.std.specs.Char.{is_whitespace}
-use Rattle.irtext_tokens.specs.Tokens.{space_at}
 use Rattle.irtext_grammar.specs.Grammar.Tree.{Name}
 use Rattle.irtext_grammar.specs.Heads.{lead_at, led_by, led_at}
 use Rattle.irtext_grammar.proofs.Readers.Leads.{is_led-bytes}
-use Rattle.irtext_parse_pieces.specs.declared.names.ReadName.{ReadName}
+use Rattle.irtext_grammar.specs.declared.parsed.ReadName.{ReadName}
 use Rattle.irtext_parse_pieces.specs.Named.{whole, MayMean, MustMean, MustNames}
 use Rattle.irtext_parse_pieces.specs.Results.{results_if_at}
 use Rattle.irtext_parse_pieces.specs.Ids.{TakesId, IsLed, id_in, AnswersLed}

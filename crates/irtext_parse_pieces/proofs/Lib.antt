@@ -3,7 +3,6 @@ pub mod CanonicalParts
 pub mod CanonicalSteps
 pub mod EntrySteps
 pub mod FormatSteps
-pub mod Founds
 pub mod FrontSteps
 pub mod HeaderSteps
 pub mod Interned

@@ -15,10 +15,11 @@ use Rattle.irtext_tokens.specs.Tokens.{space_at}
 use Rattle.irtext_tokens.proofs.ListOutcomes.{Found, found_first, found_all, goes_on, falls_after, after_separator, after_spaces, list_begun, list_empty, separated_never_missing}
 use Rattle.irtext_tokens.proofs.Steps.{Lens, Passed, first, more, took, spaced, refuses, ran_out, last_spaced, begins_with, begins_refused, begun_by, fine_there, never_missing}
 use Rattle.irtext_grammar.specs.Grammar.Tree.{Name}
-use Rattle.irtext_parse_pieces.specs.declared.names.ReadName.{ReadName}
+use Rattle.irtext_grammar.specs.declared.parsed.ReadName.{ReadName}
 use Rattle.irtext_parse_pieces.specs.Arguments.{IsArgument, MustArguments, ArgumentsAfter}
 use Rattle.irtext_parse_pieces.specs.Lists.{IsAfterComma, Appends, KeptNext, KeepsNext}
-use Rattle.irtext_parse_pieces.specs.Named.{whole, Represents, Each, MayMean, MustMean, MayName, MustNames, NamesAfter}
+use Rattle.irtext_parse_pieces.specs.Named.{whole, MayMean, MustMean, MayName, MustNames, NamesAfter}
+use Rattle.irtext_grammar.specs.Parsed.{Represents, Each}
 use Rattle.irtext_parse_pieces.proofs.Meanings.{passed_whole, takes_whole, may_whole, must_refuse, insisted_mean}
 
 -- one more of each, after the others

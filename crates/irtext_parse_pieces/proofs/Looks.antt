@@ -16,9 +16,10 @@ use Rattle.irtext_tokens.proofs.Spelling.{begins_the}
 use Rattle.irtext_tokens.proofs.Steps.{Lens, Passed, mapped_is_followed, turned, first, took, ends, begins_with, fine_there}
 use Rattle.irtext_grammar.specs.Grammar.Tree.{Name}
 use Rattle.irtext_grammar.specs.Heads.{name_at, results_at, named}
-use Rattle.irtext_parse_pieces.specs.declared.names.ReadName.{ReadName}
+use Rattle.irtext_grammar.specs.declared.parsed.ReadName.{ReadName}
 use Rattle.irtext_parse_pieces.specs.Lists.{IsAfterComma}
-use Rattle.irtext_parse_pieces.specs.Named.{whole, Represents, MayMean, MayName, MustNames}
+use Rattle.irtext_parse_pieces.specs.Named.{whole, MayMean, MayName, MustNames}
+use Rattle.irtext_grammar.specs.Parsed.{Represents}
 use Rattle.irtext_parse_pieces.specs.Results.{is_read, results_if_at, Looks, LooksAfter}
 use Rattle.irtext_parse_pieces.proofs.Meanings.{takes_whole, may_whole}
 use Rattle.irtext_parse_pieces.proofs.Listings.{Listing, after_first, first_read, list_names, list_none, listing_next}

@@ -11,8 +11,8 @@ use Rattle.irtext_tokens.specs.MustRead.{MustRead}
 use Rattle.irtext_tokens.proofs.Steps.{Lens, seen_alone, mapped_mapped}
 use Rattle.irtext_grammar.specs.Grammar.Tree.{Mark}
 use Rattle.irtext_grammar.specs.Heads.{mark_if_at}
-use Rattle.irtext_parse_pieces.specs.declared.marks.ReadMark.{ReadMark}
-use Rattle.irtext_parse_pieces.specs.Marks.{IsMarkIf}
+use Rattle.irtext_grammar.specs.declared.parsed.ReadMark.{ReadMark}
+use Rattle.irtext_grammar.specs.Parsed.{IsMarkIf}
 use Rattle.irtext_parse_pieces.specs.Named.{whole, MustMean}
 
 -- the mark of an index, at a place

@@ -11,8 +11,9 @@ use Rattle.irtext_scopes.specs.declared.tracker.NameTracker.{NameTracker}
 use Rattle.irtext_tokens.specs.MustRead.{MayRead, MustRead}
 use Rattle.irtext_tokens.proofs.Steps.{Lens, Passed, insisted, last, begins_with, begun_by}
 use Rattle.irtext_grammar.specs.Grammar.Tree.{Name}
-use Rattle.irtext_parse_pieces.specs.declared.names.ReadName.{ReadName}
-use Rattle.irtext_parse_pieces.specs.Named.{whole, Leaves, Represents, NamesRead, MayMean, MustMean, Misses}
+use Rattle.irtext_grammar.specs.declared.parsed.ReadName.{ReadName}
+use Rattle.irtext_parse_pieces.specs.Named.{whole, NamesRead, MayMean, MustMean, Misses}
+use Rattle.irtext_grammar.specs.Parsed.{Leaves, Represents}
 
 -- a name represents the same when more names are added and more text is parsed
 pub still_represents : (names more : List Text) {text other : Text} (n : ReadName) (x : Name ℕ) → KeepsNames names more → text ≡ other → Represents names text n x → Represents more other n x

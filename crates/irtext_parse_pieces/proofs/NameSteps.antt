@@ -16,9 +16,10 @@ use Rattle.irtext_tokens.proofs.Steps.{Lens, first, last_seen, refuses_seen, beg
 use Rattle.irtext_grammar.specs.Grammar.Tree.{Name}
 use Rattle.irtext_grammar.specs.Heads.{name_of, name_at, symbol_at, used_at, target_at}
 use Rattle.irtext_parse_pieces.proofs.Meanings.{after_may, may_whole, still_represents}
-use Rattle.irtext_parse_pieces.specs.declared.names.ReadName.{ReadName}
-use Rattle.irtext_parse_pieces.specs.declared.names.Symbol.{Symbol}
-use Rattle.irtext_parse_pieces.specs.Named.{whole, Represents, IsSymbol, MayMean, MustMean, MayName, MustName}
+use Rattle.irtext_grammar.specs.declared.parsed.ReadName.{ReadName}
+use Rattle.irtext_grammar.specs.declared.parsed.Symbol.{Symbol}
+use Rattle.irtext_parse_pieces.specs.Named.{whole, MayMean, MustMean, MayName, MustName}
+use Rattle.irtext_grammar.specs.Parsed.{Represents, IsSymbol}
 
 -- a name without letters, for when none was parsed
 pub nobody : Name ℕ

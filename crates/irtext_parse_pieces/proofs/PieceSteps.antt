@@ -22,8 +22,9 @@ use Rattle.irtext_grammar.specs.Readers.Directives.{attribute_at}
 use Rattle.irtext_grammar.specs.Readers.Marker.{marker, starts_with}
 use Rattle.irtext_grammar.specs.Heads.{outlined_or_at}
 use Rattle.irtext_grammar.proofs.Readers.MarkerSteps.{starts_whole, starts_not}
-use Rattle.irtext_parse_pieces.specs.Pieces.{MustTypes, TypesAfter, seen_attribute}
-use Rattle.irtext_parse_pieces.specs.Named.{Each, MayMean, MustMean}
+use Rattle.irtext_parse_pieces.specs.Pieces.{MustTypes, TypesAfter}
+use Rattle.irtext_grammar.specs.Parsed.{seen_attribute, Each}
+use Rattle.irtext_parse_pieces.specs.Named.{MayMean, MustMean}
 use Rattle.irtext_parse_pieces.proofs.Listings.{list_some}
 
 gives_demanded : {S X : Type 0} (l : Lens S) (f : Text → Outcome X) (old new : S) (x : X) → (l.view old).failed ≡ false → Gives l.view l.at (f (l.view old).rest) old x new → Gives l.view l.at (demanded (unless_failed (l.view old).failed (f (l.view old).rest))) old x new

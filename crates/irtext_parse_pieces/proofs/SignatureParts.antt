@@ -9,10 +9,11 @@ use Rattle.irtext_tokens.specs.MustRead.{MustRead}
 use Rattle.irtext_tokens.specs.Tokens.{space_at, text_at}
 use Rattle.irtext_tokens.proofs.Steps.{Lens, fine_there}
 use Rattle.irtext_grammar.specs.Heads.{Step}
-use Rattle.irtext_parse_pieces.specs.declared.pieces.ReadPiece.{ReadPiece}
-use Rattle.irtext_parse_pieces.specs.declared.pieces.ReadPiece.TheVariants as read
+use Rattle.irtext_grammar.specs.declared.parsed.ReadPiece.{ReadPiece}
+use Rattle.irtext_grammar.specs.declared.parsed.ReadPiece.TheVariants as read
 use Rattle.irtext_parse_pieces.specs.Beside.{closed}
-use Rattle.irtext_parse_pieces.specs.Canonical.{type_steps, type_pieces, signature_steps, signature_pieces, MustSteps}
+use Rattle.irtext_parse_pieces.specs.Canonical.{type_steps, signature_steps, MustSteps}
+use Rattle.irtext_grammar.specs.Forms.{type_pieces, signature_pieces}
 use Rattle.irtext_parse_pieces.proofs.CanonicalSteps.{Through, steps_begin, steps_more, steps_refused, steps_end, word_more, word_refused}
 
 module _ {S T A : Type 0} (l : Lens S) (types : Text → Outcome T) (attr : Text → Outcome (AttrView A)) (inside : Bool) (names : List Text) {old : S} (fine : (l.view old).failed ≡ false) where

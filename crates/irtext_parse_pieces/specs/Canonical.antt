@@ -1,5 +1,5 @@
 -- Between functions: what was parsed of the canonical form.
-use Rattle.std.specs.Prelude.{Bool, List, [], ◌∷◌, ◌++◌, codes, Result, Vec}
+use Rattle.std.specs.Prelude.{Bool, List, [], ◌∷◌, ◌++◌, codes, Result}
 use Rattle.irtext_base.specs.Format as format
 use Rattle.irtext_base.specs.Text.{Text}
 use Rattle.irtext_base.specs.Stream.{StreamView}
@@ -8,18 +8,11 @@ use Rattle.irtext_base.specs.Locations.{AttrView}
 use Rattle.irtext_base.specs.declared.parsable.fault.ParseFault.{ParseFault}
 use Rattle.irtext_grammar.specs.Heads.{Step, flat, types, canonical_steps, front_steps}
 use Rattle.irtext_grammar.specs.Resume.{front_at}
-use Rattle.irtext_parse_pieces.specs.declared.canonical.CanonicalPieces.{CanonicalPieces}
-use Rattle.irtext_parse_pieces.specs.declared.names.ReadName.{ReadName}
-use Rattle.irtext_parse_pieces.specs.declared.pieces.ReadPiece.{ReadPiece}
-use Rattle.std.specs.Global.{Global}
-use Rattle.irtext_base.specs.declared.base.attributes.AttrObj.{AttrObj}
-use Rattle.irtext_parse_pieces.specs.declared.entries.Key.{Key}
-use Rattle.irtext_parse_pieces.specs.declared.pieces.ReadPiece.TheVariants as read
-use Rattle.irtext_parse_pieces.specs.declared.lists.NameKind.{NameKind}
-use Rattle.irtext_parse_pieces.specs.declared.lists.NameKind.TheVariants as kind
-use Rattle.irtext_parse_pieces.specs.Kinds.{names_directive, read_names}
-use Rattle.irtext_parse_pieces.specs.Fronts.{IsPart}
-use Rattle.irtext_parse_pieces.specs.Named.{whole, Each, MustMean}
+use Rattle.irtext_grammar.specs.declared.parsed.ReadPiece.{ReadPiece}
+use Rattle.irtext_grammar.specs.declared.parsed.NameKind.{NameKind}
+use Rattle.irtext_parse_pieces.specs.Kinds.{names_directive}
+use Rattle.irtext_grammar.specs.Parsed.{IsPart, Each}
+use Rattle.irtext_parse_pieces.specs.Named.{whole, MustMean}
 
 -- the step of a fixed text
 abbrev pub word_step : Text → Step
@@ -44,27 +37,6 @@ signature_steps = word_step (codes ":") ∷ word_step (codes "<") ∷ type_steps
 -- the steps of the canonical form before its regions
 abbrev pub canonical_front : List Step
 canonical_front = front_steps canonical_steps
-
-module _ {T A : Type 0} where
-  -- the pieces of the names of this kind between two fixed texts
-  abbrev pub name_pieces : NameKind → List ReadName → List (ReadPiece T A)
-  name_pieces kind ns = read.Word ∷ read_names kind ns ∷ read.Word ∷ []
-
-  -- the piece of the dictionary
-  abbrev pub dictionary_pieces : Vec (Key × AttrObj A) Global → List (ReadPiece T A)
-  dictionary_pieces es = read.Dictionary es ∷ []
-
-  -- the pieces of types in parentheses
-  abbrev pub type_pieces : List T → List (ReadPiece T A)
-  type_pieces ts = read.Word ∷ read.Types ts ∷ read.Word ∷ []
-
-  -- the pieces of the types of the operands and of the results
-  abbrev pub signature_pieces : List T × List T → List (ReadPiece T A)
-  signature_pieces ts = read.Word ∷ read.Word ∷ type_pieces ts.0 ++ read.Word ∷ type_pieces ts.1 ++ read.Word ∷ []
-
--- the pieces of the canonical form
-abbrev pub pieces_of : {T A : Type 0} → CanonicalPieces T A → List (ReadPiece T A)
-pieces_of p = name_pieces kind.Value p.operands ++ name_pieces kind.Block p.successors ++ dictionary_pieces p.entries ++ signature_pieces (p.inputs, p.results)
 
 module _ {S T A Y : Type 0} (view : S → StreamView) (at : S → StreamView → S) where
   -- the result is what the steps parse, or their fault; `see` gives the pieces of a value

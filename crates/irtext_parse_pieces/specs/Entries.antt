@@ -18,8 +18,9 @@ use Rattle.irtext_grammar.specs.Grammar.Tree.{Name, Attribute}
 use Rattle.irtext_grammar.specs.Names.Acts.{may_hold}
 use Rattle.irtext_grammar.specs.Heads.{dictionary_at}
 use Rattle.irtext_grammar.specs.Readers.Operations.{RefusesAt}
-use Rattle.irtext_parse_pieces.specs.declared.entries.Key.{Key}
-use Rattle.irtext_parse_pieces.specs.Named.{whole, Leaves, Each, Optional, MustMean}
+use Rattle.irtext_grammar.specs.declared.parsed.Key.{Key}
+use Rattle.irtext_parse_pieces.specs.Named.{whole, MustMean}
+use Rattle.irtext_grammar.specs.Parsed.{Optional, IsEntry, AreEntries}
 
 -- Characters of a word were consumed, or nothing. If there is a key, it is these, and no character of a word follows.
 pub record TakesWord {S : Type 0} (view : S → StreamView) (at : S → StreamView → S) (old : S) (key : Option Text) (new : S) : Type 0 where
@@ -27,19 +28,6 @@ pub record TakesWord {S : Type 0} (view : S → StreamView) (at : S → StreamVi
   pub in_words : list_all in_word word ≡ true
   pub takes : Takes view at word (view new).rest old new
   pub ends : IfSome key (λ k. (k ≡ word) × (begins in_word (view new).rest ≡ false))
-
--- the key has the text of the name, and is at the name's place
-pub record IsKey (text : Text) (key : Key) (name : Name ℕ) : Type 0 where
-  pub named : key.name ≡ name.text
-  pub place : Leaves text key.at name.place
-
--- the parsed entry has this key and this attribute
-abbrev pub IsEntry : {A : Type 0} → Text → Key × AttrObj A → Name ℕ × Attribute A → Type 0
-IsEntry text read entry = IsKey text read.0 entry.0 × (attribute_of read.1 ≡ entry.1)
-
--- the parsed entries are these
-abbrev pub AreEntries : {A : Type 0} → Text → Vec (Key × AttrObj A) Global → List (Name ℕ × Attribute A) → Type 0
-AreEntries text read entries = Each (IsEntry text) read.items entries
 
 -- a dictionary if `[` comes next; otherwise none
 abbrev pub dictionary_if : {A : Type 0} → (Text → Outcome (AttrView A)) → Reader (Option (List (Name ℕ × Attribute A)))

@@ -8,18 +8,13 @@ use Rattle.irtext_base.specs.declared.parsable.fault.ParseFault.{ParseFault}
 use Rattle.irtext_stream.specs.Classes.{after_spaces}
 use Rattle.irtext_stream.specs.Stream.{Comes}
 use Rattle.irtext_tokens.specs.Infix.{Reader}
-use Rattle.irtext_grammar.specs.Grammar.Tree as tree
 use Rattle.irtext_grammar.specs.Grammar.Tree.{Piece, Part}
 use Rattle.irtext_grammar.specs.Heads.{Step, front_steps}
 use Rattle.irtext_grammar.specs.Resume.{front_at}
-use Rattle.irtext_parse_pieces.specs.declared.pieces.ReadPiece.{ReadPiece}
-use Rattle.irtext_parse_pieces.specs.Found.{only_words}
-use Rattle.irtext_parse_pieces.specs.Pieces.{IsPiece}
-use Rattle.irtext_parse_pieces.specs.Named.{whole, Each, MustMean}
-
--- the piece represents this part
-abbrev pub IsPart : {T A : Type 0} → List Text → Text → ReadPiece T A → Part ℕ T A → Type 0
-IsPart {T = T} {A = A} names text read part = (p : Piece ℕ T A) × (part ≡ tree.piece p) × IsPiece names text read p
+use Rattle.irtext_grammar.specs.declared.parsed.ReadPiece.{ReadPiece}
+use Rattle.irtext_grammar.specs.Found.{only_words}
+use Rattle.irtext_grammar.specs.Parsed.{IsPiece, Each, IsPart}
+use Rattle.irtext_parse_pieces.specs.Named.{whole, MustMean}
 
 -- the parts found so far, and those that the steps before the first region parse
 abbrev pub front_of : {T A : Type 0} → (Text → Outcome T) → (Text → Outcome (AttrView A)) → Bool → List Step → List (Part ℕ T A) → Reader (List (Part ℕ T A))

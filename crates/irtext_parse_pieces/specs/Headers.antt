@@ -11,13 +11,13 @@ use Rattle.irtext_tokens.specs.Infix.{Reader, ◌▷◌, ◌▶◌, ◌⇒◌}
 use Rattle.irtext_tokens.specs.Tokens.{space_at, word}
 use Rattle.irtext_grammar.specs.Grammar.Tree.{Name, Mark, Attribute, Head}
 use Rattle.irtext_grammar.specs.Heads.{mark_if_at, head_at}
-use Rattle.irtext_parse_pieces.specs.declared.entries.Key.{Key}
+use Rattle.irtext_grammar.specs.declared.parsed.Key.{Key}
 use Rattle.irtext_parse_pieces.specs.declared.headers.BlockHead.{BlockHead}
-use Rattle.irtext_parse_pieces.specs.declared.marks.ReadMark.{ReadMark}
+use Rattle.irtext_grammar.specs.declared.parsed.ReadMark.{ReadMark}
 use Rattle.irtext_parse_pieces.specs.Arguments.{IsArgument}
-use Rattle.irtext_parse_pieces.specs.Entries.{AreEntries, dictionary_if}
-use Rattle.irtext_parse_pieces.specs.Marks.{IsMarkIf}
-use Rattle.irtext_parse_pieces.specs.Named.{whole, Represents, Each, Optional, MustMean}
+use Rattle.irtext_grammar.specs.Parsed.{AreEntries, IsMarkIf, Represents, Each, Optional}
+use Rattle.irtext_parse_pieces.specs.Entries.{dictionary_if}
+use Rattle.irtext_parse_pieces.specs.Named.{whole, MustMean}
 
 -- all parts of the header represent those of the text
 pub record IsHead {T A : Type 0} (names : List Text) (text : Text) (read : BlockHead T A) (head : Head ℕ T A) : Type 0 where

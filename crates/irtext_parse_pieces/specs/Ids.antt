@@ -17,8 +17,8 @@ use Rattle.irtext_tokens.specs.Tokens.{id_at}
 use Rattle.irtext_grammar.specs.Grammar.Tree.{Name}
 use Rattle.irtext_grammar.specs.Readers.Parts.{after_lead, is_led}
 use Rattle.irtext_grammar.specs.Readers.Operations.{registered_after}
-use Rattle.irtext_parse_pieces.specs.declared.names.ReadName.{ReadName}
-use Rattle.irtext_parse_pieces.specs.Named.{Represents, Each}
+use Rattle.irtext_grammar.specs.declared.parsed.ReadName.{ReadName}
+use Rattle.irtext_grammar.specs.Parsed.{Represents, Each}
 
 -- the id that comes next was consumed
 pub record TakesId {S : Type 0} (view : S → StreamView) (at : S → StreamView → S) (old : S) (id : OpId) (new : S) : Type 0 where

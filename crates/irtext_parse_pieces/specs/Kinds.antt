@@ -8,11 +8,8 @@ use Rattle.irtext_tokens.specs.Infix.{Reader}
 use Rattle.irtext_grammar.specs.Grammar.Tree as tree
 use Rattle.irtext_grammar.specs.Grammar.Tree.{Name, Piece}
 use Rattle.irtext_grammar.specs.Heads.{used_at, target_at}
-use Rattle.irtext_parse_pieces.specs.declared.lists.NameKind.{NameKind}
-use Rattle.irtext_parse_pieces.specs.declared.lists.NameKind.TheVariants as kind
-use Rattle.irtext_parse_pieces.specs.declared.names.ReadName.{ReadName}
-use Rattle.irtext_parse_pieces.specs.declared.pieces.ReadPiece.{ReadPiece}
-use Rattle.irtext_parse_pieces.specs.declared.pieces.ReadPiece.TheVariants as read
+use Rattle.irtext_grammar.specs.declared.parsed.NameKind.{NameKind}
+use Rattle.irtext_grammar.specs.declared.parsed.NameKind.TheVariants as kind
 
 -- the characters with which a name of this kind begins
 abbrev pub beginning : NameKind → ℕ → Bool
@@ -39,8 +36,3 @@ module _ {T A : Type 0} where
   abbrev pub names_tree : NameKind → List (Name ℕ) → Piece ℕ T A
   names_tree kind.Value = tree.operands
   names_tree kind.Block = tree.successors
-
-  -- the piece that was parsed, of several names of this kind
-  abbrev pub read_names : NameKind → List ReadName → ReadPiece T A
-  read_names kind.Value = read.Operands
-  read_names kind.Block = read.Successors

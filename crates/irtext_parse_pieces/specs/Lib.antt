@@ -4,14 +4,11 @@ pub mod Beside
 pub mod Canonical
 pub mod Coming
 pub mod Entries
-pub mod Forms
-pub mod Found
 pub mod Fronts
 pub mod Headers
 pub mod Ids
 pub mod Kinds
 pub mod Lists
-pub mod Marks
 pub mod Named
 pub mod Pieces
 pub mod Results

@@ -1,54 +1,20 @@
 -- Between functions: what the parsed names represent, and the results of parsers whose values contain names.
-use Rattle.std.specs.Prelude.{◌≡◌, ◌⊎◌, ℕ, true, false, List, [], ◌∷◌, ◌++◌, length, slice_get, Option, Some, None, Result, IfOk}
+use Rattle.std.specs.Prelude.{◌≡◌, ◌⊎◌, ℕ, true, false, List, [], ◌∷◌, ◌++◌, length, slice_get, Some, Result, IfOk}
 use Rattle.irtext_base.specs.Text.{Text, is_identifier}
 use Rattle.irtext_base.specs.Stream.{StreamView}
 use Rattle.irtext_base.specs.Answers.{Outcome, RunsOut, Refuses, unless_failed}
 use Rattle.irtext_base.specs.declared.parsable.fault.ParseFault.{ParseFault}
-use Rattle.irtext_stream.specs.Places.{IsPlaceAfter}
-use Rattle.irtext_stream.specs.declared.position.Place.{Place}
 use Rattle.irtext_scopes.specs.Names.{KeepsNames}
 use Rattle.irtext_scopes.specs.declared.tracker.NameTracker.{NameTracker}
 use Rattle.irtext_tokens.specs.ListOutcomes.{items_after}
 use Rattle.irtext_tokens.specs.MustRead.{MayRead, MustRead}
 use Rattle.irtext_grammar.specs.Grammar.Tree.{Name}
-use Rattle.irtext_parse_pieces.specs.declared.names.ReadName.{ReadName}
-use Rattle.irtext_parse_pieces.specs.declared.names.Symbol.{Symbol}
+use Rattle.irtext_grammar.specs.declared.parsed.ReadName.{ReadName}
+use Rattle.irtext_grammar.specs.Parsed.{Represents, Each}
 
 -- the whole text of a stream
 abbrev pub whole : StreamView → Text
 whole v = v.passed ++ v.rest
-
--- this many characters of the text are left after the position
-pub record Leaves (text : Text) (place : Place) (left : ℕ) : Type 0 where
-  pub passed : Text
-  pub rest : Text
-  pub same : passed ++ rest ≡ text
-  pub positioned : IsPlaceAfter place passed
-  pub counts : left ≡ length rest
-
--- the name's number is that of the text, and its position is the name's place
-pub record Represents (names : List Text) (text : Text) (read : ReadName) (name : Name ℕ) : Type 0 where
-  pub named : slice_get names read.name ≡ Some name.text
-  pub place : Leaves text read.at name.place
-
--- the symbol has the text of the name, and is at the name's place
-pub record IsSymbol (text : Text) (symbol : Symbol) (name : Name ℕ) : Type 0 where
-  pub named : symbol.name ≡ name.text
-  pub place : Leaves text symbol.at name.place
-
--- each element of the one list is related to the element of the other at the same index
-abbrev pub Each : {X Y : Type 0} → (Y → X → Type 0) → List Y → List X → Type 0
-Each R [] [] = Unit {0}
-Each R [] (x ∷ xs) = ⊥
-Each R (y ∷ ys) [] = ⊥
-Each R (y ∷ ys) (x ∷ xs) = R y x × Each R ys xs
-
--- both are there and related, or neither is there
-abbrev pub Optional : {X Y : Type 0} → (Y → X → Type 0) → Option Y → Option X → Type 0
-Optional R None None = Unit {0}
-Optional R None (Some x) = ⊥
-Optional R (Some y) None = ⊥
-Optional R (Some y) (Some x) = R y x
 
 -- each name is an identifier
 abbrev pub AreWords : List Text → Type 0

@@ -1,39 +1,17 @@
 -- Between functions: what the parsed pieces represent.
-use Rattle.std.specs.Prelude.{◌≡◌, ℕ, Bool, false, List, [], ◌∷◌, length, Option, Some, None, Result, MatchBool}
+use Rattle.std.specs.Prelude.{◌≡◌, ℕ, Bool, false, List, [], ◌∷◌, length, Result, MatchBool}
 use Rattle.irtext_base.specs.Text.{Text}
 use Rattle.irtext_base.specs.Stream.{StreamView}
 use Rattle.irtext_base.specs.Answers.{Outcome}
-use Rattle.irtext_base.specs.declared.base.attributes.AttrObj.{AttrObj}
 use Rattle.irtext_base.specs.declared.parsable.fault.ParseFault.{ParseFault}
 use Rattle.irtext_stream.specs.Stream.{Comes}
 use Rattle.irtext_stream.specs.Text.{BeginsOtherwise}
 use Rattle.irtext_tokens.specs.ListOutcomes.{items_after}
 use Rattle.irtext_tokens.specs.Infix.{Reader}
-use Rattle.irtext_grammar.specs.Contexts.Held.{attribute_of}
-use Rattle.irtext_grammar.specs.Grammar.Tree as tree
-use Rattle.irtext_grammar.specs.Grammar.Tree.{Name, Attribute, Piece}
-use Rattle.irtext_parse_pieces.specs.declared.pieces.ReadPiece.{ReadPiece}
-use Rattle.irtext_parse_pieces.specs.declared.pieces.ReadPiece.TheVariants as read
-use Rattle.irtext_parse_pieces.specs.Entries.{AreEntries}
-use Rattle.irtext_parse_pieces.specs.Named.{whole, Represents, IsSymbol, Each, MustMean}
-
--- the parsed attribute, or none
-abbrev pub seen_attribute : {A : Type 0} → Option (AttrObj A) → Option (Attribute A)
-seen_attribute None = None
-seen_attribute (Some a) = Some (attribute_of a)
-
--- the parsed piece represents this piece of the text, with all parts
-abbrev pub IsPiece : {T A : Type 0} → List Text → Text → ReadPiece T A → Piece ℕ T A → Type 0
-IsPiece names text read.Word p = (s : Text) × (p ≡ tree.word s)
-IsPiece names text (read.Operand i n) p = (m : Name ℕ) × (p ≡ tree.operand i m) × Represents names text n m
-IsPiece names text (read.Operands ns) p = (ms : List (Name ℕ)) × (p ≡ tree.operands ms) × Each (Represents names text) ns ms
-IsPiece names text (read.Successor i n) p = (m : Name ℕ) × (p ≡ tree.successor i m) × Represents names text n m
-IsPiece names text (read.Successors ns) p = (ms : List (Name ℕ)) × (p ≡ tree.successors ms) × Each (Represents names text) ns ms
-IsPiece names text (read.Attr k a) p = p ≡ tree.attribute k (seen_attribute a)
-IsPiece {A = A} names text (read.Dictionary es) p = (ds : List (Name ℕ × Attribute A)) × (p ≡ tree.dictionary ds) × AreEntries text es ds
-IsPiece names text (read.ResultType i t) p = p ≡ tree.result_type i t
-IsPiece names text (read.Header s) p = (n : Name ℕ) × (p ≡ tree.header n) × IsSymbol text s n
-IsPiece names text (read.Types ts) p = p ≡ tree.types ts
+use Rattle.irtext_grammar.specs.Grammar.Tree.{Piece}
+use Rattle.irtext_grammar.specs.declared.parsed.ReadPiece.{ReadPiece}
+use Rattle.irtext_grammar.specs.Parsed.{Each, IsPiece}
+use Rattle.irtext_parse_pieces.specs.Named.{whole, MustMean}
 
 module _ {S : Type 0} (view : S → StreamView) (at : S → StreamView → S) where
   -- the word was consumed if the whole of it comes next; otherwise the stream is unchanged

@@ -8,8 +8,9 @@ use Rattle.irtext_tokens.specs.ListOutcomes.{items_after}
 use Rattle.irtext_tokens.specs.Infix.{Reader}
 use Rattle.irtext_grammar.specs.Grammar.Tree.{Name}
 use Rattle.irtext_grammar.specs.Heads.{name_at, results_at, named}
-use Rattle.irtext_parse_pieces.specs.declared.names.ReadName.{ReadName}
-use Rattle.irtext_parse_pieces.specs.Named.{whole, Represents, MustNames}
+use Rattle.irtext_grammar.specs.declared.parsed.ReadName.{ReadName}
+use Rattle.irtext_parse_pieces.specs.Named.{whole, MustNames}
+use Rattle.irtext_grammar.specs.Parsed.{Represents}
 
 -- whether the outcome is a value
 abbrev pub is_read : {X : Type 0} → Outcome X → Bool

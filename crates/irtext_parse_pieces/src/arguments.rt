@@ -6,11 +6,12 @@ ghost use Rattle.irtext_parse_pieces.specs.Arguments.{IsArgument, MustArguments,
 ghost use Rattle.irtext_parse_pieces.specs.Named.{MayMean, NamesRead, whole};
 
 use crate::beside::beside;
-use crate::lists::{NameKind, comma_taken, next_kept, none_named, unless_committed};
-use crate::names::{ReadName, name_parse};
+use crate::lists::{comma_taken, next_kept, none_named, unless_committed};
+use crate::names::name_parse;
 use irtext_base::parsable::{CharStream, ParseResult};
 use irtext_base::text::{AttrText, IrText};
 use irtext_few::Few;
+use irtext_grammar::parsed::{NameKind, ReadName};
 use irtext_scopes::tracker::NameTracker;
 use irtext_tokens::irfmt::demanded::spaced_text_demanded;
 use irtext_tokens::irfmt::faults::committed;

@@ -6,37 +6,23 @@ ghost use Rattle.irtext_tokens.specs.AttrTexts.{attr_at};
 ghost use Rattle.irtext_tokens.specs.Infix.{◌▷◌};
 ghost use Rattle.irtext_tokens.specs.MustRead.{MustRead};
 ghost use Rattle.irtext_tokens.specs.Tokens.{space_at, text_at};
-ghost use Rattle.irtext_parse_pieces.specs.Canonical.{canonical_front, name_steps, dictionary_steps, type_steps, signature_steps, name_pieces, dictionary_pieces, type_pieces, signature_pieces, pieces_of, MustSteps};
+ghost use Rattle.irtext_parse_pieces.specs.Canonical.{canonical_front, name_steps, dictionary_steps, type_steps, signature_steps, MustSteps};
+ghost use Rattle.irtext_grammar.specs.Forms.{name_pieces, dictionary_pieces, type_pieces, signature_pieces, pieces_of};
 ghost use Rattle.irtext_parse_pieces.specs.Named.{NamesRead};
 
 use crate::beside::{closed_by, failed};
-use crate::entries::{ReadEntry, dictionary_parse};
+use crate::entries::dictionary_parse;
 use crate::keys::Keys;
-use crate::lists::{NameKind, names_parse};
-use crate::names::ReadName;
+use crate::lists::names_parse;
 use crate::types::types_parse;
 use irtext_base::parsable::{CharStream, ParseResult};
 use irtext_base::text::{AttrText, IrText};
 use irtext_few::Few;
+use irtext_grammar::parsed::{CanonicalPieces, NameKind, ReadEntry, ReadName};
 use irtext_scopes::tracker::NameTracker;
 use irtext_tokens::irfmt::demanded::text_demanded;
 use irtext_tokens::irfmt::parsers::skip_white_space;
 use irtext_tokens::parsable::OwnStream;
-
-/// What the canonical form has before its regions.
-#[derive(Drop)]
-pub struct CanonicalPieces<T, A> {
-    /// The names of the operands.
-    pub operands: Few<ReadName>,
-    /// The labels of the successors.
-    pub successors: Few<ReadName>,
-    /// The entries of the dictionary.
-    pub entries: Vec<ReadEntry<A>>,
-    /// The types of the operands.
-    pub inputs: Few<T>,
-    /// The types of the results.
-    pub results: Few<T>,
-}
 
 /// The slow path of `word_parse`, for a text that does not come next as a whole.
 #[cold]

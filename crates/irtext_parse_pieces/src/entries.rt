@@ -9,32 +9,24 @@ ghost use Rattle.irtext_grammar.specs.Readers.Directives.{attribute_at};
 ghost use Rattle.irtext_grammar.specs.Contexts.Held.{attribute_of};
 ghost use Rattle.irtext_grammar.specs.Names.Acts.{is_given, may_hold};
 ghost use Rattle.irtext_grammar.specs.Heads.{name_at, pair_at, entry_by, dictionary_by};
-ghost use Rattle.irtext_parse_pieces.specs.Entries.{IsKey, IsEntry, TakesWord, Allows, MustEntries, EntriesAfter, MustDictionaryIf};
+ghost use Rattle.irtext_grammar.specs.Parsed.{IsKey, IsEntry};
+ghost use Rattle.irtext_parse_pieces.specs.Entries.{TakesWord, Allows, MustEntries, EntriesAfter, MustDictionaryIf};
 ghost use Rattle.irtext_parse_pieces.specs.Named.{MayMean, whole};
 
 use crate::beside::{beside, closed_by, failed};
 use crate::keys::Keys;
-use crate::lists::{NameKind, comma_taken, ended, none_named, unless_committed};
+use crate::lists::{comma_taken, ended, none_named, unless_committed};
 use irtext_base::base::{AttrObj, Identifier};
 use irtext_base::parsable::{CharStream, ParseResult, Place};
 use irtext_base::result::{Cause, Expected};
 use irtext_base::text::AttrText;
+use irtext_grammar::parsed::{Key, NameKind, ReadEntry};
 use irtext_tokens::irfmt::demanded::{spaced_text_demanded, text_demanded};
 use irtext_tokens::irfmt::faults::{
     begins, committed, next_is, out_of_memory, refuse, refuse_at, unexpected,
 };
 use irtext_tokens::irfmt::parsers::{Class, attr_parse, skip_class, skip_white_space};
 use irtext_tokens::parsable::OwnStream;
-
-/// A parsed key, and the position where it begins.
-#[derive(Drop)]
-pub struct Key {
-    pub name: Identifier,
-    pub at: Place,
-}
-
-/// A parsed entry of a dictionary: a key and its attribute.
-pub type ReadEntry<A> = (Key, AttrObj<A>);
 
 /// Parses an attribute. Every error is committed.
 pub fn attr_demanded<S: OwnStream, A: AttrText<A>>(stream: &mut S) -> ParseResult<AttrObj<A>, A>

@@ -14,14 +14,15 @@ ghost use Rattle.irtext_parse_pieces.specs.Steps.{custom_steps, seen_step};
 
 use crate::beside::failed;
 use crate::canonical::canonical_parse;
-use crate::found::{CustomPieces, Pieces};
 use crate::keys::Keys;
-use crate::pieces::{ReadPiece, accepts, step_parse};
+use crate::pieces::{accepts, step_parse};
 use crate::steps::{FormatStep, custom_step, reads_piece, word_of};
 use irtext_base::format::{Directive, OpFormat};
 use irtext_base::parsable::{CharStream, ParseResult};
 use irtext_base::result::Cause;
 use irtext_base::text::{AttrText, IrText};
+use irtext_grammar::found::{CustomPieces, Pieces};
+use irtext_grammar::parsed::ReadPiece;
 use irtext_scopes::tracker::NameTracker;
 use irtext_tokens::irfmt::demanded::text_demanded;
 use irtext_tokens::irfmt::faults::{out_of_memory, refuse};

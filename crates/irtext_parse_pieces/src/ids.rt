@@ -7,7 +7,6 @@ ghost use Rattle.irtext_parse_pieces.specs.Ids.{TakesId, IsKnown, IsLed, id_in, 
 ghost use Rattle.irtext_parse_pieces.specs.Named.{MayMean, MustNames, NamesRead, whole};
 
 use crate::beside::failed;
-use crate::names::ReadName;
 use crate::results::results_parse;
 use irtext_base::base::OpId;
 use irtext_base::parsable::{CharStream, ParseResult, Place};
@@ -16,6 +15,7 @@ use irtext_base::text::{AttrText, IrText};
 use irtext_context::base::Context;
 use irtext_context::dialect::OpInfo;
 use irtext_few::Few;
+use irtext_grammar::parsed::ReadName;
 use irtext_scopes::tracker::NameTracker;
 use irtext_tokens::irfmt::faults::{committed, next_is, out_of_memory, refuse, refuse_at};
 use irtext_tokens::irfmt::parsers::{id_parse, skip_identifier, skip_white_space};

@@ -8,7 +8,6 @@ pub mod canonical;
 pub mod coming;
 pub mod counting;
 pub mod entries;
-pub mod found;
 pub mod fronts;
 pub mod headers;
 pub mod ids;

@@ -7,20 +7,14 @@ ghost use Rattle.irtext_parse_pieces.specs.Named.{MayName, MustNames, NamesAfter
 ghost use Rattle.irtext_parse_pieces.specs.Kinds.{beginning, named_at};
 
 use crate::beside::failed;
-use crate::names::{ReadName, used_parse};
+use crate::names::used_parse;
 use irtext_base::parsable::{CharStream, ParseFault, ParseResult};
 use irtext_few::{Few, Items};
+use irtext_grammar::parsed::{NameKind, ReadName};
 use irtext_scopes::tracker::NameTracker;
 use irtext_tokens::irfmt::faults::{begins, committed, next_is, out_of_memory};
 use irtext_tokens::irfmt::parsers::{Class, skip_white_space, text_parse};
 use std::alloc::{AllocError, Global};
-
-/// What a name refers to.
-#[derive(Clone, Copy)]
-pub enum NameKind {
-    Value,
-    Block,
-}
 
 /// Returns a list of three items.
 fn many<X: Drop>(alloc: Global, first: X, second: X, third: X) -> Result<Few<X>, AllocError>

@@ -1,19 +1,13 @@
 //! Parsing of the marks of operations and of blocks.
 ghost use Rattle.irtext_grammar.specs.Heads.{mark_if_at};
-ghost use Rattle.irtext_parse_pieces.specs.Marks.{IsMarkIf};
+ghost use Rattle.irtext_grammar.specs.Parsed.{IsMarkIf};
 ghost use Rattle.irtext_parse_pieces.specs.Named.{MustMean, whole};
 
-use irtext_base::parsable::{CharStream, ParseResult, Place};
+use irtext_base::parsable::{CharStream, ParseResult};
 use irtext_base::result::Cause;
+use irtext_grammar::parsed::ReadMark;
 use irtext_tokens::irfmt::demanded::index_demanded;
 use irtext_tokens::irfmt::faults::{next_is, refuse};
-
-/// A parsed mark: its index, and the position of its `!`.
-#[derive(Clone, Copy)]
-pub struct ReadMark {
-    pub index: usize,
-    pub at: Place,
-}
 
 /// Parses a mark, if `!` comes next.
 #[inline(never)]

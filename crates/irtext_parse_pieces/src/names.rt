@@ -3,11 +3,13 @@ ghost use Rattle.std.specs.Prelude.{◌≡◌, List, false, IsErrAnd};
 ghost use Rattle.irtext_base.specs.Answers.{RunsOutHere};
 ghost use Rattle.irtext_base.specs.Text.{Text, begins, begins_word};
 ghost use Rattle.irtext_grammar.specs.Heads.{name_at, label_at, symbol_at, used_at};
-ghost use Rattle.irtext_parse_pieces.specs.Named.{whole, IsSymbol, MustMean, MayName, MustName, NamesRead, Misses};
+ghost use Rattle.irtext_parse_pieces.specs.Named.{whole, MustMean, MayName, MustName, NamesRead, Misses};
+ghost use Rattle.irtext_grammar.specs.Parsed.{IsSymbol};
 
 use irtext_base::base::Identifier;
-use irtext_base::parsable::{CharStream, ParseFault, ParseResult, Place};
+use irtext_base::parsable::{CharStream, ParseFault, ParseResult};
 use irtext_base::result::{Cause, Expected};
+use irtext_grammar::parsed::{ReadName, Symbol};
 use irtext_scopes::tracker::NameTracker;
 use irtext_tokens::irfmt::demanded;
 use irtext_tokens::irfmt::demanded::text_demanded;
@@ -15,20 +17,6 @@ use irtext_tokens::irfmt::faults::{
     begins, committed, out_of_memory, refuse, refuse_at, unexpected,
 };
 use irtext_tokens::irfmt::parsers::{Class, identifier_parse, skip_class};
-
-/// A parsed name: its number among the names of the parse, and its position.
-#[derive(Clone, Copy)]
-pub struct ReadName {
-    pub name: usize,
-    pub at: Place,
-}
-
-/// A parsed name of a symbol, which is not numbered, and the position of its `@`.
-#[derive(Drop)]
-pub struct Symbol {
-    pub name: Identifier,
-    pub at: Place,
-}
 
 /// Parses `@` and a symbol's name, as `@main`. Every error is committed.
 pub fn symbol_demanded<S: CharStream, A>(stream: &mut S) -> ParseResult<Symbol, A>

@@ -11,15 +11,16 @@ ghost use Rattle.irtext_grammar.specs.Grammar.Tree.{word, attribute, dictionary,
 ghost use Rattle.irtext_base.specs.FormatViews.{directive_of};
 ghost use Rattle.irtext_grammar.specs.Heads.{outlined_or_at, symbol_at, dictionary_by, directive_at, piece_at};
 ghost use Rattle.irtext_parse_pieces.specs.Kinds.{named_at, name_tree, names_tree};
-ghost use Rattle.irtext_parse_pieces.specs.Pieces.{seen_attribute, Accepts, AnyPiece, MustPiece};
+ghost use Rattle.irtext_grammar.specs.Parsed.{seen_attribute};
+ghost use Rattle.irtext_parse_pieces.specs.Pieces.{Accepts, AnyPiece, MustPiece};
 ghost use Rattle.irtext_parse_pieces.specs.Named.{NamesRead};
 ghost use Rattle.irtext_parse_pieces.specs.Steps.{seen_step};
 
 use crate::beside::failed;
-use crate::entries::{ReadEntry, attr_demanded, dictionary_parse};
+use crate::entries::{attr_demanded, dictionary_parse};
 use crate::keys::Keys;
-use crate::lists::{NameKind, named_parse, names_parse};
-use crate::names::{ReadName, Symbol, symbol_demanded};
+use crate::lists::{named_parse, names_parse};
+use crate::names::symbol_demanded;
 use crate::steps::FormatStep;
 use crate::types::types_parse;
 use irtext_base::base::{AttrObj, Identifier};
@@ -27,36 +28,11 @@ use irtext_base::format::Directive;
 use irtext_base::parsable::{CharStream, ParseResult};
 use irtext_base::result::{Cause, Expected};
 use irtext_base::text::{AttrText, IrText};
-use irtext_few::Few;
+use irtext_grammar::parsed::{NameKind, ReadPiece};
 use irtext_scopes::tracker::NameTracker;
 use irtext_tokens::irfmt::demanded::text_demanded;
 use irtext_tokens::irfmt::faults::{commit_unexpected, committed, out_of_memory, refuse};
 use irtext_tokens::parsable::OwnStream;
-
-/// What one directive of a format parsed, or a list of types of the canonical form.
-#[derive(Drop)]
-pub enum ReadPiece<T, A> {
-    /// A fixed text, of which nothing is stored.
-    Word,
-    /// The name of the operand at this place.
-    Operand(usize, ReadName),
-    /// The names of the other operands.
-    Operands(Few<ReadName>),
-    /// The label of the successor at this place.
-    Successor(usize, ReadName),
-    /// The labels of the other successors.
-    Successors(Few<ReadName>),
-    /// The attribute under this key; `None` if the text has the marker of an attribute that is in the section.
-    Attr(Identifier, Option<AttrObj<A>>),
-    /// The entries of a dictionary.
-    Dictionary(Vec<ReadEntry<A>>),
-    /// The type of the result at this place.
-    ResultType(usize, T),
-    /// The symbol's name.
-    Header(Symbol),
-    /// A list of types.
-    Types(Few<T>),
-}
 
 /// The result of parsing a piece.
 pub type PieceResult<T, A> = ParseResult<ReadPiece<T, A>, A>;

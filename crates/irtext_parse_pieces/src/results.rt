@@ -6,10 +6,11 @@ ghost use Rattle.irtext_parse_pieces.specs.Named.{MustNames, NamesRead};
 ghost use Rattle.irtext_parse_pieces.specs.Results.{is_read, results_if_at, Looks, LooksAfter};
 
 use crate::lists::{comma_taken, ended, unless_committed, with_spaced};
-use crate::names::{ReadName, name_parse};
+use crate::names::name_parse;
 use irtext_base::parsable::{CharStream, ParseResult};
 use irtext_base::result::Cause;
 use irtext_few::Few;
+use irtext_grammar::parsed::ReadName;
 use irtext_scopes::tracker::NameTracker;
 use irtext_tokens::irfmt::faults::{next_is, refuse};
 use irtext_tokens::irfmt::parsers::{skip_identifier, skip_white_space};

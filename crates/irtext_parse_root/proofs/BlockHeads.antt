@@ -34,20 +34,20 @@ use Rattle.irtext_grammar.proofs.Readers.EntryIndices.{refusal}
 use Rattle.irtext_grammar.proofs.Readers.FirstMissing.{FirstMissing}
 use Rattle.irtext_grammar.proofs.Readers.PlainStream.{alone}
 use Rattle.irtext_grammar.specs.Heads.{name_of, label_at, head_at}
-use Rattle.irtext_parse_pieces.specs.declared.entries.Key.{Key}
+use Rattle.irtext_grammar.specs.declared.parsed.Key.{Key}
 use Rattle.irtext_parse_pieces.specs.declared.headers.BlockHead.{BlockHead}
-use Rattle.irtext_parse_pieces.specs.declared.marks.ReadMark.{ReadMark}
-use Rattle.irtext_parse_pieces.specs.declared.names.ReadName.{ReadName}
+use Rattle.irtext_grammar.specs.declared.parsed.ReadMark.{ReadMark}
+use Rattle.irtext_grammar.specs.declared.parsed.ReadName.{ReadName}
 use Rattle.irtext_parse_pieces.specs.Arguments.{IsArgument}
-use Rattle.irtext_parse_pieces.specs.Entries.{IsEntry}
+use Rattle.irtext_grammar.specs.Parsed.{IsEntry, IsMark, IsMarkIf, Represents, Each}
 use Rattle.irtext_parse_pieces.specs.Headers.{IsHead}
-use Rattle.irtext_parse_pieces.specs.Marks.{IsMark, IsMarkIf}
-use Rattle.irtext_parse_pieces.specs.Named.{Represents, Each, MayMean, MustMean}
+use Rattle.irtext_parse_pieces.specs.Named.{MayMean, MustMean}
 use Rattle.irtext_parse_pieces.proofs.Meanings.{may_whole}
 use Rattle.irtext_names.specs.Alone.{FailsOutside, RefusesBlock}
 use Rattle.irtext_names.specs.Promises.{outside_with, IsOf, IsFirst}
-use Rattle.irtext_parse_nested.specs.Blocks.{entries_in, IsKeyFault}
-use Rattle.irtext_parse_nested.specs.Definitions.{IsFaultOf}
+use Rattle.irtext_names.specs.Gathering.{entries_in}
+use Rattle.irtext_parse_nested.specs.Blocks.{IsKeyFault}
+use Rattle.irtext_names.specs.Definitions.{IsFaultOf}
 use Rattle.irtext_parse_nested.proofs.Faults.{place_is_there, some_same}
 use Rattle.irtext_parse_nested.proofs.Headers.{keys_each}
 use Rattle.irtext_parse_nested.proofs.Marking.{not_noted, noted_before}

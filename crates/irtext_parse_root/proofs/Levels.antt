@@ -15,8 +15,8 @@ use Rattle.irtext_grammar.specs.Heads.{Step}
 use Rattle.irtext_grammar.specs.Naming.{body_of}
 use Rattle.irtext_grammar.specs.Reached.{steps_in}
 use Rattle.irtext_grammar.specs.Resume.{OpenOperation, Open, Pops, weight, weights, work, by_character}
-use Rattle.irtext_parse_pieces.specs.declared.names.ReadName.{ReadName}
-use Rattle.irtext_parse_pieces.specs.Named.{Represents, Each}
+use Rattle.irtext_grammar.specs.declared.parsed.ReadName.{ReadName}
+use Rattle.irtext_grammar.specs.Parsed.{Represents, Each}
 use Rattle.irtext_parse_pieces.proofs.Meanings.{still_represents}
 use Rattle.irtext_parse_nested.specs.declared.frame.BegunOperation.{BegunOperation}
 use Rattle.irtext_parse_nested.specs.Beginning.{HasBegun}

@@ -21,7 +21,7 @@ use Rattle.irtext_grammar.specs.Building.{finished}
 use Rattle.irtext_grammar.specs.Unchanged.{IsThere}
 use Rattle.irtext_grammar.specs.Tracks.{Made, HoldsMade}
 use Rattle.irtext_parse_root.specs.Carried.{marks_in, object_of, AreCarried}
-use Rattle.irtext_parse_section.specs.Applied.{IsNewer, AreNewer}
+use Rattle.irtext_parse_locations.specs.Applied.{IsNewer, AreNewer}
 use Rattle.irtext_parse_root.proofs.Marks.{carried_back}
 
 older_is : {X : Type 0} (m : ℕ) (x : Option (Entry X)) (e : Entry X) → older m x ≡ Some e → x ≡ Some e

@@ -34,7 +34,7 @@ use Rattle.irtext_parse_nested.specs.declared.frame.BegunRegion.{BegunRegion}
 use Rattle.irtext_parse_nested.specs.declared.frame.BegunBlock.{BegunBlock}
 use Rattle.irtext_parse_nested.specs.Beginning.{HasBegun}
 use Rattle.irtext_parse_nested.specs.OpenOperation.{IsBegun, IsRegion}
-use Rattle.irtext_parse_pieces.specs.Named as placing
+use Rattle.irtext_grammar.specs.Parsed as placing
 use Rattle.irtext_names.specs.Items.{Names}
 use Rattle.irtext_parse_nested.specs.Read.{begun_by, EndsRegion}
 use Rattle.irtext_parse_root.specs.declared.frames.Frame.{Frame}

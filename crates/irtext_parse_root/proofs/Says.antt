@@ -19,7 +19,7 @@ use Rattle.irtext_grammar.proofs.Readers.EntryIndices.{demanded_refusal}
 use Rattle.irtext_grammar.specs.Readers.Refusals.{CommittedRefusal}
 use Rattle.irtext_names.specs.Promises.{HasFault, RefusesWith}
 use Rattle.irtext_parse_pieces.proofs.Meanings.{takes_whole}
-use Rattle.irtext_parse_section.specs.Applied.{AreNewer}
+use Rattle.irtext_parse_locations.specs.Applied.{AreNewer}
 use Rattle.irtext_parse_section.specs.Section.{ReadsSection}
 use Rattle.irtext_parse_root.specs.AnyState.{MissesSection, ReadsTree, no_operation, no_section}
 use Rattle.irtext_parse_root.specs.Ended.{EndsAny, MissesEnd}

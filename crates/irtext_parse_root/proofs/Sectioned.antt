@@ -34,10 +34,9 @@ use Rattle.irtext_grammar.proofs.Grammar.PartsOfFormats.{Formed}
 use Rattle.irtext_grammar.proofs.Grammar.WholeTree as trees
 use Rattle.irtext_grammar.proofs.Graphs.Links.{all_there}
 use Rattle.irtext_grammar.proofs.Names.ResolvedRoot as resolved
-use Rattle.irtext_grammar.specs.Promises.Root.{location_of}
+use Rattle.irtext_grammar.specs.Promises.Root.{location_of, UnlessMemory}
 use Rattle.irtext_grammar.specs.Promises.Section.{indices_of, is_noted}
 use Rattle.irtext_grammar.specs.Promises.Supported.{location_verdict}
-use Rattle.irtext_grammar.specs.Promises.Root.{UnlessMemory}
 use Rattle.irtext_grammar.proofs.Readers.Answered.{moves_more}
 use Rattle.irtext_grammar.proofs.Knot.Whole as knot
 use Rattle.irtext_grammar.proofs.Naming.Places.{places_fall}
@@ -54,7 +53,7 @@ use Rattle.irtext_names.proofs.Kept as kept
 use Rattle.irtext_names.proofs.Root as root
 use Rattle.irtext_names.proofs.WithSection.{pointers_same, builds_given, only_still}
 use Rattle.irtext_names.proofs.Wholes.{root_whole}
-use Rattle.irtext_names.proofs.Given.{root_has}
+use Rattle.irtext_names.proofs.ItemsGiven.{root_has}
 use Rattle.irtext_grammar.specs.Agrees.{refused, ReadOrStops}
 use Rattle.irtext_grammar.specs.Entries.{section_at}
 use Rattle.irtext_grammar.proofs.Lawful.{section_read, section_found}
@@ -64,7 +63,7 @@ use Rattle.irtext_parse_root.proofs.Carrying.{marks_are}
 use Rattle.irtext_parse_pieces.proofs.Meanings.{takes_whole}
 use Rattle.irtext_tokens.proofs.Steps.{alone}
 use Rattle.irtext_names.specs.Located.{IsLocated}
-use Rattle.irtext_parse_section.specs.Applied.{AreNewer}
+use Rattle.irtext_parse_locations.specs.Applied.{AreNewer}
 use Rattle.irtext_parse_section.specs.Said.{rules_of}
 use Rattle.irtext_parse_section.specs.Section.{ReadsSection}
 use Rattle.irtext_parse_root.proofs.Laws.{Laws}

@@ -20,13 +20,13 @@ use Rattle.irtext_grammar.specs.Resume.{OpenOperation}
 use Rattle.irtext_grammar.proofs.Resume.Front.{splits_piece}
 use Rattle.irtext_grammar.specs.Unchanged.{OwnSoFar}
 use Rattle.irtext_names.specs.Rows.{AreKnown}
-use Rattle.irtext_parse_pieces.specs.declared.names.ReadName.{ReadName}
-use Rattle.irtext_parse_pieces.specs.Named.{Leaves, Represents, Each}
+use Rattle.irtext_grammar.specs.declared.parsed.ReadName.{ReadName}
+use Rattle.irtext_grammar.specs.Parsed.{Leaves, Represents, Each}
 use Rattle.irtext_parse_nested.specs.declared.frame.BegunOperation.{BegunOperation}
 use Rattle.irtext_parse_nested.specs.declared.frame.BegunRegion.{BegunRegion}
 use Rattle.irtext_parse_nested.specs.declared.frame.BegunBlock.{BegunBlock}
 use Rattle.irtext_parse_nested.specs.OpenOperation.{IsBegun, IsRegion}
-use Rattle.irtext_parse_nested.specs.Ends.{numbers_of}
+use Rattle.irtext_names.specs.Definitions.{numbers_of}
 use Rattle.irtext_names.specs.Items.{Names, doing}
 use Rattle.irtext_parse_nested.specs.Read as read
 use Rattle.irtext_parse_nested.specs.Read.{RefusesOperation, RefusesPiece, RefusesEnd, RefusesRegion, RefusesRegionEnd, RefusesBlock}

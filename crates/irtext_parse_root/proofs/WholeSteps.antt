@@ -20,9 +20,9 @@ use Rattle.irtext_grammar.specs.Readers.Refusals.{CommittedRefusal}
 use Rattle.irtext_grammar.specs.Readers.Streams.{itself, replaced}
 use Rattle.irtext_grammar.specs.Promises.Root.{UnlessMemory}
 use Rattle.irtext_names.specs.Promises.{RefusesRoot}
-use Rattle.irtext_parse_section.specs.Applied.{GivesAll}
+use Rattle.irtext_parse_locations.specs.Applied.{GivesAll}
 use Rattle.irtext_parse_section.specs.Entries.{items_of, once_of}
-use Rattle.irtext_parse_section.specs.declared.said.Entries.{Entries}
+use Rattle.irtext_parse_locations.specs.declared.said.Entries.{Entries}
 use Rattle.irtext_parse_section.proofs.SectionSteps.{SectionRead, reads_section}
 use Rattle.irtext_parse_root.specs.AnyState as any
 use Rattle.irtext_parse_root.specs.AnyState.{ReadsTree}

@@ -13,9 +13,9 @@ use Rattle.irtext_grammar.specs.Grammar.Tree.{Head}
 use Rattle.irtext_grammar.specs.Names.Acts.{block_may_hold}
 use Rattle.irtext_grammar.specs.Readers.Streams.{itself, replaced}
 use Rattle.irtext_grammar.specs.Heads.{head_at}
-use Rattle.irtext_parse_pieces.specs.declared.entries.Key.{Key}
+use Rattle.irtext_grammar.specs.declared.parsed.Key.{Key}
 use Rattle.irtext_parse_pieces.specs.declared.headers.BlockHead.{BlockHead}
-use Rattle.irtext_parse_pieces.specs.declared.marks.ReadMark.{ReadMark}
+use Rattle.irtext_grammar.specs.declared.parsed.ReadMark.{ReadMark}
 use Rattle.irtext_parse_pieces.specs.Headers.{IsHead}
 use Rattle.irtext_names.specs.Alone.{FailsOutside}
 

@@ -13,7 +13,7 @@ ghost use Rattle.irtext_grammar.specs.Resume.{OpenOperation};
 ghost use Rattle.irtext_grammar.specs.Unchanged.{IsThere};
 ghost use Rattle.irtext_names.specs.Rows.{AreKnown};
 ghost use Rattle.irtext_parse_nested.specs.OpenOperation.{IsBegun, IsRegion};
-ghost use Rattle.irtext_parse_nested.specs.Ends.{numbers_of};
+ghost use Rattle.irtext_names.specs.Definitions.{numbers_of};
 ghost use Rattle.irtext_parse_nested.specs.Read.{RefusesOperation, RefusesNext, RefusesItsEnd, RefusesRegion, RefusesRegionEnd, RefusesBlock};
 ghost use Rattle.irtext_parse_root.specs.Turned.{IsSoundOnce, Spares};
 ghost use Rattle.irtext_parse_root.specs.Turns.{IsNext, Begins, Continues, Ends, Enters, Leaves, Heads};

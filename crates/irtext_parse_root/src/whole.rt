@@ -6,7 +6,7 @@ ghost use Rattle.irtext_parse_state.specs.States.{KeepsRest, marks_of};
 ghost use Rattle.irtext_grammar.specs.Contexts.Held.{whole};
 ghost use Rattle.irtext_grammar.specs.Readers.Refusals.{CommittedRefusal};
 ghost use Rattle.irtext_grammar.specs.Promises.Root.{UnlessMemory};
-ghost use Rattle.irtext_parse_section.specs.Applied.{AreNewer};
+ghost use Rattle.irtext_parse_locations.specs.Applied.{AreNewer};
 ghost use Rattle.irtext_parse_root.specs.Ended.{EndsAny, MissesEnd};
 ghost use Rattle.irtext_parse_root.specs.Parses.{CanUndo, Parses, AnswersWhole};
 ghost use Rattle.irtext_parse_root.specs.Whole.{OnlySpace, ExpectsEnd};

@@ -15,15 +15,15 @@ use Rattle.irtext_grammar.specs.Grammar.Section.{Entry, of_item, of_once, direct
 use Rattle.irtext_grammar.specs.Grammar.Tree.{Name, Attribute}
 use Rattle.irtext_grammar.specs.Graphs.Build.{resolved}
 use Rattle.irtext_grammar.specs.Names.Acts.{shared_attribute}
-use Rattle.irtext_parse_pieces.specs.Named.{Each}
-use Rattle.irtext_parse_pieces.specs.declared.entries.Key.{Key}
-use Rattle.irtext_parse_section.specs.Applied.{under, stored_by, all_stored, Gives, GivesAll, AppliesAll, IsNewer, ItemsAreNewer, AreNewer}
+use Rattle.irtext_grammar.specs.Parsed.{Each}
+use Rattle.irtext_grammar.specs.declared.parsed.Key.{Key}
+use Rattle.irtext_parse_locations.specs.Applied.{under, stored_by, all_stored, Gives, GivesAll, AppliesAll, IsNewer, ItemsAreNewer, AreNewer}
 use Rattle.irtext_parse_section.specs.Entries.{AreItems, AreOnce}
 use Rattle.irtext_parse_section.specs.Said.{IsPair}
-use Rattle.irtext_parse_section.specs.declared.said.GivenAttr.{GivenAttr}
-use Rattle.irtext_parse_section.specs.declared.said.GivenAttr.TheVariants as given
-use Rattle.irtext_parse_section.specs.declared.said.ItemEntry.{ItemEntry}
-use Rattle.irtext_parse_section.proofs.GivenSteps.{newer_still}
+use Rattle.irtext_parse_locations.specs.declared.said.GivenAttr.{GivenAttr}
+use Rattle.irtext_parse_locations.specs.declared.said.GivenAttr.TheVariants as given
+use Rattle.irtext_parse_locations.specs.declared.said.ItemEntry.{ItemEntry}
+use Rattle.irtext_parse_locations.proofs.GivenSteps.{newer_still}
 
 under_shared : {A : Type 0} (k n : Text) (o : Option (Attribute A)) → k ≡ n → under k o ≡ elim o [ Some a ↦ (n, a) ∷ [] | None ↦ [] ]
 under_shared k n None e = refl

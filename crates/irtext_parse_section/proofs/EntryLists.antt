@@ -28,9 +28,9 @@ use Rattle.irtext_parse_section.specs.OnlyPaths.{may_follow}
 use Rattle.irtext_grammar.proofs.Joins.Answers.{followed_read, mapped_read}
 use Rattle.irtext_grammar.specs.Entries.{begins_given, tested, entry_head_at, given_at, entry_at, may_have}
 use Rattle.irtext_parse_section.specs.Entries.{IsItemEntry, IsEntry, AreItems, AreSeen, AreOnce, Noted, AreNoted, entry_kept, all_entries_kept, Notes}
-use Rattle.irtext_parse_section.specs.declared.said.ItemEntry.{ItemEntry}
-use Rattle.irtext_parse_section.specs.declared.said.ReadEntry.{ReadEntry}
-use Rattle.irtext_parse_section.specs.declared.said.ReadEntry.TheVariants as read
+use Rattle.irtext_parse_locations.specs.declared.said.ItemEntry.{ItemEntry}
+use Rattle.irtext_parse_locations.specs.declared.said.ReadEntry.{ReadEntry}
+use Rattle.irtext_parse_locations.specs.declared.said.ReadEntry.TheVariants as read
 
 -- ---- indices
 swap_sides : (i j : ℕ) → (i == j) ≡ nat_eq j i

@@ -22,16 +22,17 @@ use Rattle.irtext_grammar.specs.Names.Acts.{Rule}
 use Rattle.irtext_grammar.specs.Readers.Directives.{attribute_at}
 use Rattle.irtext_grammar.specs.Readers.Streams.{itself, replaced}
 use Rattle.irtext_parse_pieces.specs.Named.{whole, MustMean}
-use Rattle.irtext_parse_pieces.specs.declared.entries.Key.{Key}
+use Rattle.irtext_grammar.specs.declared.parsed.Key.{Key}
 use Rattle.irtext_parse_pieces.proofs.EntrySteps.{first_refused}
 use Rattle.irtext_parse_pieces.proofs.Meanings.{must_refuse, must_whole}
 use Rattle.irtext_grammar.specs.Entries.{begins_given, tested, entry_head_at, given_at, entry_at}
-use Rattle.irtext_parse_section.specs.Said.{rule_for, rules_of, rule_of_item, is_block, ArePairs}
+use Rattle.irtext_parse_locations.specs.Rules.{rule_for, is_block}
+use Rattle.irtext_parse_section.specs.Said.{rules_of, rule_of_item, ArePairs}
 use Rattle.irtext_parse_section.specs.Entries.{IsHead, IsGivenOver, IsEntry}
 use Rattle.irtext_parse_section.specs.declared.entry.EntryHead.{EntryHead}
-use Rattle.irtext_parse_section.specs.declared.said.GivenAttr.{GivenAttr}
-use Rattle.irtext_parse_section.specs.declared.said.ReadEntry.{ReadEntry}
-use Rattle.irtext_parse_section.specs.declared.said.ReadEntry.TheVariants as read
+use Rattle.irtext_parse_locations.specs.declared.said.GivenAttr.{GivenAttr}
+use Rattle.irtext_parse_locations.specs.declared.said.ReadEntry.{ReadEntry}
+use Rattle.irtext_parse_locations.specs.declared.said.ReadEntry.TheVariants as read
 use Rattle.irtext_parse_section.proofs.HeadSteps.{a_mark}
 
 -- what follows the head

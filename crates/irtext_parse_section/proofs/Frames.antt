@@ -17,7 +17,7 @@ use Rattle.irtext_graph.specs.declared.object.Operation.{Operation}
 use Rattle.irtext_parse_state.specs.States.{same_index}
 use Rattle.irtext_grammar.specs.Grammar.Section.{Entry, of_item, of_once}
 use Rattle.irtext_grammar.specs.Grammar.Tree.{Attribute}
-use Rattle.irtext_parse_section.specs.Applied.{no_label, label_in, LocatesOperation, StoresOperation, LocatesBlock, StoresBlock, LabelsBlock, Gives, AppliesAll}
+use Rattle.irtext_parse_locations.specs.Applied.{no_label, label_in, LocatesOperation, StoresOperation, LocatesBlock, StoresBlock, LabelsBlock, Gives, AppliesAll}
 
 -- ---- what each edit keeps
 module _ {T A : Type 0} (R : ContextView T A → ContextView T A → Type 0) (itself : (c : ContextView T A) → R c c) (joins : (a b c : ContextView T A) → R a b → R b c → R a c)

@@ -20,9 +20,9 @@ use Rattle.irtext_grammar.specs.Grammar.Tree.{Mark}
 use Rattle.irtext_parse_section.specs.OnlyPaths.{may_follow}
 use Rattle.irtext_grammar.specs.Readers.Operations.{RefusesAt}
 use Rattle.irtext_grammar.specs.Readers.Streams.{itself, replaced}
-use Rattle.irtext_parse_pieces.specs.Marks.{IsMark}
+use Rattle.irtext_grammar.specs.Parsed.{IsMark}
 use Rattle.irtext_parse_pieces.specs.Named.{whole, MustMean}
-use Rattle.irtext_parse_pieces.specs.declared.marks.ReadMark.{ReadMark}
+use Rattle.irtext_grammar.specs.declared.parsed.ReadMark.{ReadMark}
 use Rattle.irtext_grammar.specs.Entries.{begins_given, tested, entry_head_at}
 use Rattle.irtext_parse_section.specs.Entries.{IsHead, next_item}
 use Rattle.irtext_parse_section.specs.declared.entry.EntryHead.{EntryHead}

@@ -32,7 +32,7 @@ use Rattle.irtext_grammar.specs.Promises.Section.{indices_of, given_over}
 use Rattle.irtext_grammar.specs.Agrees.{refused}
 use Rattle.irtext_grammar.specs.Entries.{wrong_references}
 use Rattle.irtext_grammar.proofs.Claims.{wrong_index, wrong_pairs, wrong_entries, refused_parts}
-use Rattle.irtext_parse_section.specs.Applied.{no_label, label_by, label_in, LocatesOperation, StoresOperation, LocatesBlock, StoresBlock, LabelsBlock, Gives, AppliesAll}
+use Rattle.irtext_parse_locations.specs.Applied.{no_label, label_by, label_in, LocatesOperation, StoresOperation, LocatesBlock, StoresBlock, LabelsBlock, Gives, AppliesAll}
 use Rattle.irtext_parse_section.specs.Items.{CarriesOnly, OperationHas, BlockHas, OperationGiven, BlockGiven}
 use Rattle.irtext_parse_section.specs.Section.{ReadsSection}
 use Rattle.irtext_parse_section.proofs.Frames.{Avoids, applied_paths, operation_beside, block_beside, operation_avoided, block_avoided}

@@ -1,6 +1,5 @@
 -- Steps of the loop over entries.
-use Rattle.std.proofs.Common.{◌≡◌, ◌∙◌, ◌<◌, ℕ, Bool, true, false, List, [], ◌∷◌, ◌++◌, length, Result, Ok, Err, OnOk, OnErr, refl, sym, ap, subst, true≢false}
-use Rattle.std.specs.Result.{is_err}
+use Rattle.std.proofs.Common.{◌≡◌, ◌∙◌, ◌<◌, ℕ, Bool, true, false, List, [], ◌∷◌, ◌++◌, length, Result, Ok, Err, refl, sym, ap, subst}
 use Rattle.std.specs.Char.{is_whitespace}
 use Rattle.irtext_base.specs.Text.{Text, begins, front, after}
 use Rattle.irtext_base.specs.Reading.{the}
@@ -27,23 +26,13 @@ use Rattle.irtext_parse_pieces.proofs.Meanings.{takes_whole, must_refuse}
 use Rattle.irtext_grammar.specs.Entries.{entry_at, may_have, entries_after}
 use Rattle.irtext_parse_section.specs.Said.{rules_of}
 use Rattle.irtext_parse_section.specs.Entries.{items_of, once_of, IsEntry, Noted, nothing, one_noted, AreEntriesOver, AreItems, AreOnce, entry_kept, Notes, EntriesSoFar}
-use Rattle.irtext_parse_section.specs.declared.said.Entries.{Entries}
-use Rattle.irtext_parse_section.specs.declared.said.Entries.TheVariants as said
-use Rattle.irtext_parse_section.specs.declared.said.ItemEntry.{ItemEntry}
-use Rattle.irtext_parse_section.specs.declared.said.ReadEntry.{ReadEntry}
-use Rattle.irtext_parse_section.specs.declared.said.ReadEntry.TheVariants as read
+use Rattle.irtext_parse_locations.specs.declared.said.Entries.{Entries}
+use Rattle.irtext_parse_locations.specs.declared.said.Entries.TheVariants as said
+use Rattle.irtext_parse_locations.specs.declared.said.ItemEntry.{ItemEntry}
+use Rattle.irtext_parse_locations.specs.declared.said.ReadEntry.{ReadEntry}
+use Rattle.irtext_parse_locations.specs.declared.said.ReadEntry.TheVariants as read
 use Rattle.irtext_parse_section.proofs.EntryLists.{test_same, entry_more, entry_fresh}
 use Rattle.irtext_parse_section.proofs.LoopText.{text_begins, text_ends, text_ran_out_here, text_refused, text_ran_out, entry_shorter, text_more}
-
--- what a call promises if it returned no error
-pub unless_err : {X E P : Type 0} (r : Result X E) → is_err r ≡ false → OnOk r P → P
-unless_err (Ok x) e h = h
-unless_err (Err y) e h = absurd (true≢false e)
-
--- what a call promises if it returned an error
-pub where_err : {X E P : Type 0} (r : Result X E) → is_err r ≡ true → OnErr r P → P
-where_err (Ok x) e h = absurd (true≢false (sym e))
-where_err (Err y) e h = h
 
 -- one entry, recorded after no other
 notes_one : {A : Type 0} (e : ReadEntry A) → Notes nothing e (one_noted e)

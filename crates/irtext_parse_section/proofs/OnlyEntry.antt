@@ -13,14 +13,14 @@ use Rattle.irtext_graph.specs.Data.{with_data, with_block}
 use Rattle.irtext_graph.specs.Store.{get, object_of}
 use Rattle.irtext_graph.specs.declared.object.Operation.{Operation}
 use Rattle.irtext_grammar.specs.Contexts.Held.{entries_of}
-use Rattle.irtext_parse_section.specs.Applied.{all_stored, StoresOperation, StoresBlock, Gives, GivesAll}
-use Rattle.irtext_parse_section.specs.Checked.{pairs_wrong, items_wrong}
-use Rattle.irtext_parse_section.specs.Said.{is_block}
-use Rattle.irtext_parse_section.specs.Together.{Stores, Finishes}
-use Rattle.irtext_parse_section.specs.declared.said.ItemEntry.{ItemEntry}
+use Rattle.irtext_parse_locations.specs.Applied.{all_stored, StoresOperation, StoresBlock, Gives, GivesAll}
+use Rattle.irtext_parse_locations.specs.Checked.{pairs_wrong, items_wrong}
+use Rattle.irtext_parse_locations.specs.Rules.{is_block}
+use Rattle.irtext_parse_locations.specs.Together.{Stores, Finishes}
+use Rattle.irtext_parse_locations.specs.declared.said.ItemEntry.{ItemEntry}
 use Rattle.irtext_graph.proofs.Nests.{some_eq}
-use Rattle.irtext_parse_section.proofs.Edits.{operation_unedited, block_unedited}
-use Rattle.irtext_parse_section.proofs.FinishedFirst.{gives_both}
+use Rattle.irtext_parse_locations.proofs.Edits.{operation_unedited, block_unedited}
+use Rattle.irtext_parse_locations.proofs.FinishedFirst.{gives_both}
 
 -- ---- nothing is put into attributes
 -- no label

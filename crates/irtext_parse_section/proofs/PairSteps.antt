@@ -23,16 +23,18 @@ use Rattle.irtext_grammar.specs.Grammar.Tree.{Name}
 use Rattle.irtext_grammar.specs.Names.Acts.{Rule}
 use Rattle.irtext_grammar.specs.Readers.Directives.{attribute_at}
 use Rattle.irtext_grammar.specs.Readers.Streams.{itself, replaced}
-use Rattle.irtext_parse_pieces.specs.Named.{whole, Each, MayMean, MustMean}
-use Rattle.irtext_parse_pieces.specs.declared.entries.Key.{Key}
-use Rattle.irtext_parse_pieces.specs.declared.marks.ReadMark.{ReadMark}
+use Rattle.irtext_parse_pieces.specs.Named.{whole, MayMean, MustMean}
+use Rattle.irtext_grammar.specs.Parsed.{Each}
+use Rattle.irtext_grammar.specs.declared.parsed.Key.{Key}
+use Rattle.irtext_grammar.specs.declared.parsed.ReadMark.{ReadMark}
 use Rattle.irtext_parse_pieces.proofs.Listings.{list_some}
 use Rattle.irtext_parse_pieces.proofs.Meanings.{takes_whole, may_whole}
 use Rattle.irtext_grammar.specs.Entries.{item_at, pair_at, is_allowed, kept}
 use Rattle.irtext_parse_section.proofs.HeadSteps.{refused_there}
-use Rattle.irtext_parse_section.specs.Said.{is_allowed_under, IsGiven, IsPair, Allows, MustPairs, PairsAfter}
-use Rattle.irtext_parse_section.specs.declared.said.GivenAttr.{GivenAttr}
-use Rattle.irtext_parse_section.specs.declared.said.GivenAttr.TheVariants as given
+use Rattle.irtext_parse_locations.specs.Rules.{is_allowed_under}
+use Rattle.irtext_parse_section.specs.Said.{IsGiven, IsPair, Allows, MustPairs, PairsAfter}
+use Rattle.irtext_parse_locations.specs.declared.said.GivenAttr.{GivenAttr}
+use Rattle.irtext_parse_locations.specs.declared.said.GivenAttr.TheVariants as given
 
 -- a pair that is kept
 abbrev pub kept_at : {A : Type 0} → (Text → Outcome (AttrView A)) → Rule A → Text → Outcome (Name ℕ × Item ℕ A)

@@ -13,13 +13,13 @@ use Rattle.irtext_tokens.specs.Tokens.{word_at, text_at, space_at}
 use Rattle.irtext_tokens.proofs.Steps.{mapped_followed, mapped_prefixed}
 use Rattle.irtext_grammar.specs.Readers.Streams.{itself, replaced}
 use Rattle.irtext_grammar.specs.Names.Acts.{Rule}
-use Rattle.irtext_parse_pieces.specs.declared.entries.Key.{Key}
+use Rattle.irtext_grammar.specs.declared.parsed.Key.{Key}
 use Rattle.irtext_grammar.specs.Entries.{pairs_at}
 use Rattle.irtext_parse_locations.specs.Plain.{TakesDigits, DigitsAfter, SpaceAfter, Gets}
 use Rattle.irtext_parse_locations.proofs.Plain.{number_taken, after_label, gets_must, chars_ascii}
 use Rattle.irtext_parse_section.specs.Entries.{location_end_at}
 use Rattle.irtext_parse_section.specs.Said.{MustPairs}
-use Rattle.irtext_parse_section.specs.declared.said.GivenAttr.{GivenAttr}
+use Rattle.irtext_parse_locations.specs.declared.said.GivenAttr.{GivenAttr}
 
 -- `!` was consumed, and digits after it
 pub index_taken : (old mid new : StreamView) (rest : Text) (n : ℕ) → old.rest ≡ codes "!" ++ rest → mid ≡ after_taken old (codes "!") rest → TakesDigits mid n new → Gets index_at old new n

@@ -35,9 +35,9 @@ use Rattle.irtext_grammar.specs.Readers.Streams.{itself, replaced}
 use Rattle.irtext_grammar.proofs.Joins.Answers.{followed_read}
 use Rattle.irtext_grammar.proofs.Readers.Answered.{Answered, answered}
 use Rattle.irtext_grammar.proofs.Exact.Attributes.{lawful_needs_word}
-use Rattle.irtext_parse_pieces.specs.Entries.{IsKey}
-use Rattle.irtext_parse_pieces.specs.Named.{whole, Leaves, Each, MustMean}
-use Rattle.irtext_parse_pieces.specs.declared.entries.Key.{Key}
+use Rattle.irtext_grammar.specs.Parsed.{IsKey, Leaves, Each}
+use Rattle.irtext_parse_pieces.specs.Named.{whole, MustMean}
+use Rattle.irtext_grammar.specs.declared.parsed.Key.{Key}
 use Rattle.irtext_parse_pieces.proofs.Meanings.{must_refuse}
 use Rattle.irtext_grammar.specs.Entries.{fault_for, upto, wrong_references, unless_wrong, referred, entries_after, entries_at, section_at}
 use Rattle.irtext_grammar.proofs.Claims.{wrong, wrongs, references_fail}
@@ -45,12 +45,13 @@ use Rattle.irtext_grammar.proofs.Entries.{entries_read}
 use Rattle.irtext_grammar.proofs.Given.{splits_spaced}
 use Rattle.irtext_grammar.proofs.Lawful.{splits_attr}
 use Rattle.irtext_grammar.proofs.Places.{EntryNear, IsWithin, late_near, entries_near}
-use Rattle.irtext_parse_section.specs.Checked.{Wrong, reference_wrong, pair_wrong, pairs_wrong, items_wrong, RefusesFirst}
+use Rattle.irtext_parse_locations.specs.Checked.{Wrong, reference_wrong, pair_wrong, pairs_wrong, items_wrong, RefusesFirst}
 use Rattle.irtext_parse_section.specs.Entries.{AreItems, AreOnce}
-use Rattle.irtext_parse_section.specs.Said.{rule_for, rule_of_item, rules_of, is_block, IsPair}
-use Rattle.irtext_parse_section.specs.declared.said.GivenAttr.{GivenAttr}
-use Rattle.irtext_parse_section.specs.declared.said.GivenAttr.TheVariants as given
-use Rattle.irtext_parse_section.specs.declared.said.ItemEntry.{ItemEntry}
+use Rattle.irtext_parse_locations.specs.Rules.{rule_for, is_block}
+use Rattle.irtext_parse_section.specs.Said.{rule_of_item, rules_of, IsPair}
+use Rattle.irtext_parse_locations.specs.declared.said.GivenAttr.{GivenAttr}
+use Rattle.irtext_parse_locations.specs.declared.said.GivenAttr.TheVariants as given
+use Rattle.irtext_parse_locations.specs.declared.said.ItemEntry.{ItemEntry}
 
 -- a failure of the parsed entries is the failure of the grammar, at its place in the text
 pub record IsWrong (text : Text) (w : Wrong) (f : Failure Text ℕ) : Type 0 where

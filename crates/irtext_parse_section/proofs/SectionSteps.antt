@@ -20,11 +20,11 @@ use Rattle.irtext_grammar.proofs.Readers.Answered.{answered}
 use Rattle.irtext_grammar.proofs.Readers.NewPaths.{adds_kept}
 use Rattle.irtext_parse_pieces.specs.Named.{whole, MustMean}
 use Rattle.irtext_grammar.specs.Entries.{section_at}
-use Rattle.irtext_parse_section.specs.Applied.{GivesAll, ItemsAreNewer, AreNewer}
+use Rattle.irtext_parse_locations.specs.Applied.{GivesAll, ItemsAreNewer, AreNewer}
 use Rattle.irtext_parse_section.specs.Entries.{AreEntriesOver, items_of, once_of}
 use Rattle.irtext_parse_section.specs.Said.{rules_of}
 use Rattle.irtext_parse_section.specs.Section.{ReadsSection}
-use Rattle.irtext_parse_section.specs.declared.said.Entries.{Entries}
+use Rattle.irtext_parse_locations.specs.declared.said.Entries.{Entries}
 use Rattle.irtext_parse_section.proofs.AppliedEntries.{applies_all, entries_newer, still_newer}
 
 -- more paths close nothing and open nothing

@@ -28,19 +28,19 @@ use Rattle.irtext_grammar.specs.Names.Scopes.{is_among}
 use Rattle.irtext_grammar.specs.Promises.Section.{known_given, given_over, given_kept, indices_of, Moves}
 use Rattle.irtext_grammar.specs.Readers.NewPaths.{AddsPaths}
 use Rattle.irtext_grammar.specs.Readers.Streams.{itself, replaced}
-use Rattle.irtext_parse_pieces.specs.Marks.{IsMark}
+use Rattle.irtext_grammar.specs.Parsed.{IsMark}
 use Rattle.irtext_parse_pieces.specs.Named.{whole, MustMean}
-use Rattle.irtext_parse_pieces.specs.declared.entries.Key.{Key}
+use Rattle.irtext_grammar.specs.declared.parsed.Key.{Key}
 use Rattle.irtext_grammar.specs.Entries.{begins_given, entries_after}
 use Rattle.irtext_parse_section.specs.Said.{ArePairs, rules_of}
 use Rattle.irtext_parse_section.specs.declared.entry.EntryHead.{EntryHead}
-use Rattle.irtext_parse_section.specs.declared.said.GivenAttr.{GivenAttr}
-use Rattle.irtext_parse_section.specs.declared.said.ItemEntry.{ItemEntry}
-use Rattle.irtext_parse_section.specs.declared.said.ReadEntry.{ReadEntry}
-use Rattle.irtext_parse_section.specs.declared.said.ReadEntry.TheVariants as read
-use Rattle.irtext_parse_section.specs.declared.said.Entries.{Entries}
-use Rattle.irtext_parse_section.specs.declared.said.Entries.TheVariants as said
-use Rattle.irtext_parse_section.specs.declared.said.NotedEntries.{NotedEntries}
+use Rattle.irtext_parse_locations.specs.declared.said.GivenAttr.{GivenAttr}
+use Rattle.irtext_parse_locations.specs.declared.said.ItemEntry.{ItemEntry}
+use Rattle.irtext_parse_locations.specs.declared.said.ReadEntry.{ReadEntry}
+use Rattle.irtext_parse_locations.specs.declared.said.ReadEntry.TheVariants as read
+use Rattle.irtext_parse_locations.specs.declared.said.Entries.{Entries}
+use Rattle.irtext_parse_locations.specs.declared.said.Entries.TheVariants as said
+use Rattle.irtext_parse_locations.specs.declared.said.NotedEntries.{NotedEntries}
 
 -- the indices of earlier entries, if there are any
 abbrev pub earlier_indices : {X : Type 0} → Option (List (ℕ × X)) → List (ℕ × X)

@@ -1,9 +1,6 @@
--- What the parsed entries represent, and what applying them does
+-- What the parsed entries represent, and what parsing a section does
 pub mod OnlyPaths
 pub mod Said
 pub mod Entries
-pub mod Checked
-pub mod Applied
 pub mod Section
 pub mod Items
-pub mod Together

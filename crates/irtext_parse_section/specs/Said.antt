@@ -1,5 +1,5 @@
 -- Between functions: what the parsed entries represent.
-use Rattle.std.specs.Prelude.{◌≡◌, ℕ, Bool, true, false, cond, List, [], ◌∷◌, length, Option, Some, None, Result, Ok, Err, Vec}
+use Rattle.std.specs.Prelude.{◌≡◌, ℕ, Bool, true, false, List, [], ◌∷◌, length, Option, Some, None, Result, Ok, Err, Vec}
 use Rattle.std.specs.Global.{Global}
 use Rattle.std.specs.Map.{lookup}
 use Rattle.irtext_base.specs.Text.{Text}
@@ -9,7 +9,6 @@ use Rattle.irtext_base.specs.Faults.{ReservedKey}
 use Rattle.irtext_base.specs.declared.parsable.fault.ParseFault.{ParseFault}
 use Rattle.irtext_stream.specs.declared.position.Place.{Place}
 use Rattle.irtext_context.specs.declared.base.item.Item.{Item}
-use Rattle.irtext_context.specs.declared.base.item.Item.TheVariants as item
 use Rattle.irtext_parse_state.specs.States.{same_index}
 use Rattle.irtext_tokens.specs.AttrTexts.{attr_at}
 use Rattle.irtext_tokens.specs.Infix.{Reader}
@@ -18,25 +17,16 @@ use Rattle.irtext_grammar.specs.Contexts.Held.{attribute_of}
 use Rattle.irtext_grammar.specs.Grammar.Tree.{Name}
 use Rattle.irtext_grammar.specs.Grammar.Section as section
 use Rattle.irtext_grammar.specs.Grammar.Section.{direct, reference}
-use Rattle.irtext_grammar.specs.Names.Acts.{Rule, may_hold, keeps_label_key}
+use Rattle.irtext_grammar.specs.Names.Acts.{Rule}
 use Rattle.irtext_grammar.specs.Entries.{pairs_at}
 use Rattle.irtext_grammar.specs.Readers.Operations.{RefusesAt}
 use Rattle.irtext_grammar.specs.Readers.Streams.{itself, replaced}
-use Rattle.irtext_parse_pieces.specs.Entries.{IsKey}
-use Rattle.irtext_parse_pieces.specs.Marks.{IsMark}
-use Rattle.irtext_parse_pieces.specs.Named.{whole, Each, MustMean}
-use Rattle.irtext_parse_pieces.specs.declared.entries.Key.{Key}
-use Rattle.irtext_parse_section.specs.declared.said.GivenAttr.{GivenAttr}
-use Rattle.irtext_parse_section.specs.declared.said.GivenAttr.TheVariants as given
-
--- what is allowed under a key of the entry of a block, or of an operation
-abbrev pub rule_for : {A : Type 0} → Bool → Rule A
-rule_for of_block = cond of_block keeps_label_key may_hold
-
--- the item is a block
-abbrev pub is_block : Item → Bool
-is_block (item.Operation p) = false
-is_block (item.Block b) = true
+use Rattle.irtext_grammar.specs.Parsed.{IsKey, IsMark, Each}
+use Rattle.irtext_parse_pieces.specs.Named.{whole, MustMean}
+use Rattle.irtext_grammar.specs.declared.parsed.Key.{Key}
+use Rattle.irtext_parse_locations.specs.declared.said.GivenAttr.{GivenAttr}
+use Rattle.irtext_parse_locations.specs.declared.said.GivenAttr.TheVariants as given
+use Rattle.irtext_parse_locations.specs.Rules.{rule_for, is_block, is_allowed_under}
 
 -- what is allowed in the entry of an item, if there is one
 abbrev pub rule_of_item : {A : Type 0} → Option Item → Rule A
@@ -46,11 +36,6 @@ rule_of_item (Some x) = rule_for (is_block x)
 -- what is allowed in the entry of a mark, by the item that carries it
 abbrev pub rules_of : {A : Type 0} → List (ℕ × Item) → ℕ → Rule A
 rules_of marks i = rule_of_item (lookup (same_index i) marks)
-
--- an attribute in the entry is allowed under its key; a reference always is
-abbrev pub is_allowed_under : {A : Type 0} → Rule A → Text → GivenAttr A → Bool
-is_allowed_under rule key (given.Direct a) = rule key (attribute_of a)
-is_allowed_under rule key (given.Reference m) = true
 
 -- what was parsed under a key represents what is given there
 abbrev pub IsGiven : {A : Type 0} → Text → GivenAttr A → section.Item ℕ A → Type 0

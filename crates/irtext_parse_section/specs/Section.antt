@@ -12,7 +12,7 @@ use Rattle.irtext_grammar.specs.Grammar.Section.{Entry}
 use Rattle.irtext_grammar.specs.Promises.Section.{indices_of, Moves}
 use Rattle.irtext_grammar.specs.Readers.NewPaths.{AddsPaths}
 use Rattle.irtext_grammar.specs.Entries.{section_at}
-use Rattle.irtext_parse_section.specs.Applied.{AppliesAll}
+use Rattle.irtext_parse_locations.specs.Applied.{AppliesAll}
 use Rattle.irtext_parse_section.specs.Entries.{all_entries_kept}
 use Rattle.irtext_parse_section.specs.Said.{rules_of}
 

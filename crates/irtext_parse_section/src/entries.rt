@@ -9,10 +9,10 @@ ghost use Rattle.irtext_grammar.specs.Entries.{entries_after};
 ghost use Rattle.irtext_parse_section.specs.Said.{rules_of};
 
 use crate::entry::entry_parse;
-use crate::said::{Entries, NotedEntries, ReadEntry};
 use indexmap::IndexMap;
 use irtext_base::parsable::{CharStream, ParseResult};
 use irtext_base::text::{AttrText, IrText};
+use irtext_parse_locations::said::{Entries, NotedEntries, ReadEntry};
 use irtext_parse_pieces::keys::Keys;
 use irtext_parse_state::parsable::StateStream;
 use irtext_parse_state::parsable::numbered::Numbered;

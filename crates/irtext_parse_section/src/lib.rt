@@ -2,14 +2,9 @@
 //! carries a mark. The section is first parsed and checked as a whole; then each item gets what its entry gives.
 #![tactic(auto)]
 
-mod applied;
-mod checked;
 mod entries;
 mod entry;
 mod given;
 mod pairs;
-pub mod rules;
-pub mod said;
 pub mod section;
-mod together;
 mod whole;

@@ -12,16 +12,16 @@ ghost use Rattle.irtext_parse_section.specs.OnlyPaths.{AddsOnlyPaths};
 ghost use Rattle.irtext_grammar.specs.Readers.Refusals.{CommittedRefusal};
 ghost use Rattle.irtext_grammar.specs.Readers.Streams.{itself, replaced};
 ghost use Rattle.irtext_grammar.specs.Entries.{entries_at, section_at};
-ghost use Rattle.irtext_parse_section.specs.Applied.{GivesAll, KeepsOthers, StaysClosed, AreNewer};
+ghost use Rattle.irtext_parse_locations.specs.Applied.{GivesAll, KeepsOthers, StaysClosed, AreNewer};
 ghost use Rattle.irtext_parse_section.specs.Entries.{MustReadEntries, items_of, once_of};
 ghost use Rattle.irtext_parse_section.specs.Said.{rules_of};
 ghost use Rattle.irtext_parse_section.specs.Section.{ReadsSection};
 
 use crate::entries::entries_parse;
-use crate::said::Entries;
 use crate::whole::{all_given, entries_checked};
 use irtext_base::parsable::{CharStream, ParseResult};
 use irtext_base::text::{AttrText, IrText};
+use irtext_parse_locations::said::Entries;
 use irtext_parse_state::parsable::StateStream;
 use irtext_parse_state::parsable::state::Noting;
 use irtext_tokens::irfmt::demanded::spaced_text_demanded;

@@ -2,19 +2,19 @@
 ghost use Rattle.std.specs.Prelude.{◌≡◌, ℕ, true, [], ◌∷◌, IfOk, OnOk, OnErr};
 ghost use Rattle.irtext_context.specs.Context.{KeepsOlder};
 ghost use Rattle.irtext_graph.specs.Back.{IsClosedBelow};
-ghost use Rattle.irtext_parse_section.specs.Applied.{GivesAll, ItemsAreNewer};
-ghost use Rattle.irtext_parse_section.specs.Checked.{items_wrong, Checks};
+ghost use Rattle.irtext_parse_locations.specs.Applied.{GivesAll, ItemsAreNewer};
+ghost use Rattle.irtext_parse_locations.specs.Checked.{items_wrong, Checks};
 ghost use Rattle.irtext_parse_section.specs.Entries.{items_of, once_of};
 
-use crate::applied::{item_given, items_given};
-use crate::checked::{items_checked, pairs_checked};
-use crate::rules::is_block;
-use crate::said::{Entries, ItemEntry, NotedEntries};
-use crate::together::{item_located, items_given_together};
 use indexmap::IndexMap;
 use irtext_base::parsable::{CharStream, ParseResult, TextStream};
 use irtext_base::text::{AttrText, IrText};
 use irtext_context::base::Context;
+use irtext_parse_locations::applied::{item_given, items_given};
+use irtext_parse_locations::checked::{items_checked, pairs_checked};
+use irtext_parse_locations::rules::is_block;
+use irtext_parse_locations::said::{Entries, ItemEntry, NotedEntries};
+use irtext_parse_locations::together::{item_located, items_given_together};
 use std::alloc::{AllocError, Global};
 
 /// Fails at the first reference of the only entry: there are no print-once attributes.

@@ -1,6 +1,7 @@
 //! Parts that may be left out.
 use crate::part::{Item, Part, TryClone};
 use irtext_base::parsable::{ParseResult, TextStream};
+use irtext_tokens::irfmt::faults::unless_committed;
 use std::alloc::AllocError;
 use std::fmt;
 
@@ -26,13 +27,7 @@ impl<A: Drop, P: Item<A>> Part<A> for Option<P> {
     fn read(stream: &mut TextStream) -> ParseResult<Option<P>, A> {
         match <P as Part<A>>::read(stream) {
             Ok(value) => Ok(Some(value)),
-            Err(fault) => {
-                if fault.committed {
-                    return Err(fault);
-                }
-                drop(fault);
-                Ok(None)
-            }
+            Err(fault) => unless_committed(fault, None),
         }
     }
 

@@ -100,7 +100,9 @@ pub fn said<
     requires { F.IsAlwaysCallable read }
 {
     let mut stream = TextStream::new(alloc, text)?;
-    said_next(alloc, &mut stream, read)
+    let said = said_next(alloc, &mut stream, read);
+    drop(stream);
+    said
 }
 
 /// The text of what a parser returns on a stream.
@@ -115,7 +117,7 @@ pub fn said_next<
 }
 
 /// The text of the result of a parser, which ends here.
-fn told<X: fmt::Display + Drop, A: Drop>(
+pub fn told<X: fmt::Display + Drop, A: Drop>(
     alloc: Global,
     answer: ParseResult<X, A>,
 ) -> Result<String, Fail> {

@@ -37,10 +37,11 @@ pub fn live(ctx: &Ctx, op: Ptr<Operation>) -> Result<(), Fail>
 
 /// The id of these two words, a dialect and a name.
 pub fn id(alloc: Global, words: (&str, &str)) -> Result<OpId, Fail> {
-    Ok(OpId {
-        dialect: named(alloc, words.0)?,
-        name: named(alloc, words.1)?,
-    })
+    let dialect = named(alloc, words.0)?;
+    match named(alloc, words.1) {
+        Ok(name) => Ok(OpId { dialect, name }),
+        Err(fail) => failed(dialect, fail),
+    }
 }
 
 fn add(ctx: &mut Ctx, dialect: &DialectName, id: OpId, format: OpFormat) -> Answer<(), DemoAttr> {
@@ -58,7 +59,9 @@ pub fn register(
     letters: &str,
 ) -> Result<(), Fail> {
     let dialect = DialectName::from(named(alloc, words.0)?);
-    register_with(alloc, ctx, &dialect, words, letters)
+    let done = register_with(alloc, ctx, &dialect, words, letters);
+    drop(dialect);
+    done
 }
 
 /// Registers such an operation with this dialect.
@@ -92,13 +95,21 @@ fn type_of(letter: char) -> Option<DemoType> {
     }
 }
 
-/// The types for letters.
-pub fn types(alloc: Global, letters: &str) -> Result<Few<DemoType>, Fail> {
-    let mut types = Vec::new(alloc);
+/// Appends the types for letters.
+fn push_types(types: &mut Vec<DemoType>, letters: &str) -> Result<(), Fail> {
     for letter in letters.chars() {
         types.push(type_of(letter).ok_or("no such width")?)?;
     }
-    Ok(Few::from_vec(types))
+    Ok(())
+}
+
+/// The types for letters.
+pub fn types(alloc: Global, letters: &str) -> Result<Few<DemoType>, Fail> {
+    let mut types = Vec::new(alloc);
+    match push_types(&mut types, letters) {
+        Ok(()) => Ok(Few::from_vec(types)),
+        Err(fail) => failed(types, fail),
+    }
 }
 
 /// Makes an operation, if what it uses is live.
@@ -216,9 +227,12 @@ pub fn attribute(alloc: Global, letter: char) -> Result<AttrObj<DemoAttr>, Fail>
 
 /// The attribute of one given name.
 pub fn one_name(alloc: Global, name: &str) -> Result<AttrObj<DemoAttr>, Fail> {
+    let name = named(alloc, name)?;
     let mut names = Vec::new(alloc);
-    names.push(Some(named(alloc, name)?))?;
-    Ok(AttrObj::GivenNames(names))
+    match names.push(Some(name)) {
+        Ok(()) => Ok(AttrObj::GivenNames(names)),
+        Err(error) => failed(names, Fail::from(error)),
+    }
 }
 
 fn characters(alloc: Global, text: &str) -> Result<Characters, Fail> {

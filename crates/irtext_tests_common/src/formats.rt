@@ -1,5 +1,5 @@
 //! Formats written as letters, one for each directive.
-use crate::answers::named;
+use crate::answers::{failed, named};
 use irtext_base::format::{Directive, OpFormat};
 use std::alloc::Global;
 use std::test::Fail;
@@ -68,11 +68,23 @@ pub fn format_or_canonical(alloc: Global, letters: &str) -> Result<OpFormat, Fai
     format_of(alloc, letters)
 }
 
-/// The format with one directive for each character.
-pub fn format_of(alloc: Global, letters: &str) -> Result<OpFormat, Fail> {
-    let mut directives = Vec::new(alloc);
+/// Appends one directive for each character.
+fn push_directives(
+    alloc: Global,
+    directives: &mut Vec<Directive>,
+    letters: &str,
+) -> Result<(), Fail> {
     for letter in letters.chars() {
         directives.push(directive(alloc, letter)?)?;
     }
-    Ok(OpFormat::Custom(directives))
+    Ok(())
+}
+
+/// The format with one directive for each character.
+pub fn format_of(alloc: Global, letters: &str) -> Result<OpFormat, Fail> {
+    let mut directives = Vec::new(alloc);
+    match push_directives(alloc, &mut directives, letters) {
+        Ok(()) => Ok(OpFormat::Custom(directives)),
+        Err(fail) => failed(directives, fail),
+    }
 }

@@ -1,6 +1,25 @@
 //! Texts and locations nested deeper than the stack allows for recursion.
+use crate::answers::failed;
 use irtext_base::location::Location;
 use std::alloc::{AllocError, Global};
+
+/// Appends a text between two others, each so many times.
+fn push_between(
+    text: &mut String,
+    depth: usize,
+    before: &str,
+    inside: &str,
+    following: &str,
+) -> Result<(), AllocError> {
+    for _ in 0..depth {
+        text.push_str(before)?;
+    }
+    text.push_str(inside)?;
+    for _ in 0..depth {
+        text.push_str(following)?;
+    }
+    Ok(())
+}
 
 /// A text between two others, each so many times.
 pub fn between(
@@ -11,14 +30,10 @@ pub fn between(
     following: &str,
 ) -> Result<String, AllocError> {
     let mut text = String::new(alloc);
-    for _ in 0..depth {
-        text.push_str(before)?;
+    match push_between(&mut text, depth, before, inside, following) {
+        Ok(()) => Ok(text),
+        Err(error) => failed(text, error),
     }
-    text.push_str(inside)?;
-    for _ in 0..depth {
-        text.push_str(following)?;
-    }
-    Ok(text)
 }
 
 /// Where a location is in the one around it.
@@ -50,17 +65,56 @@ fn called<A: Drop>(
     callee: Location<A>,
     caller: Location<A>,
 ) -> Result<Location<A>, AllocError> {
-    Ok(Location::CallSite {
-        callee: Box::new(alloc, callee)?,
-        caller: Box::new(alloc, caller)?,
-    })
+    let callee = match Box::new(alloc, callee) {
+        Ok(callee) => callee,
+        Err(error) => return failed(caller, error.into()),
+    };
+    match Box::new(alloc, caller) {
+        Ok(caller) => Ok(Location::CallSite { callee, caller }),
+        Err(error) => failed(callee, error.into()),
+    }
+}
+
+/// The name `a` in a box.
+fn name(alloc: Global) -> Result<Box<String>, AllocError> {
+    let name = String::from_str(alloc, "a")?;
+    Ok(Box::new(alloc, name)?)
 }
 
 fn named<A: Drop>(alloc: Global, child: Location<A>) -> Result<Location<A>, AllocError> {
-    Ok(Location::Named {
-        name: Box::new(alloc, String::from_str(alloc, "a")?)?,
-        child_loc: Box::new(alloc, child)?,
-    })
+    let name = match name(alloc) {
+        Ok(name) => name,
+        Err(error) => return failed(child, error),
+    };
+    match Box::new(alloc, child) {
+        Ok(child_loc) => Ok(Location::Named { name, child_loc }),
+        Err(error) => failed(name, error.into()),
+    }
+}
+
+/// Appends two locations to a list.
+fn push_both<A: Drop>(
+    locations: &mut Vec<Location<A>>,
+    first: Location<A>,
+    last: Location<A>,
+) -> Result<(), AllocError> {
+    match locations.push(first) {
+        Ok(()) => Ok(locations.push(last)?),
+        Err(error) => failed(last, error.into()),
+    }
+}
+
+/// Two locations as a list, which is in a box.
+fn both<A: Drop>(
+    alloc: Global,
+    first: Location<A>,
+    last: Location<A>,
+) -> Result<Box<Vec<Location<A>>>, AllocError> {
+    let mut locations = Vec::new(alloc);
+    match push_both(&mut locations, first, last) {
+        Ok(()) => Ok(Box::new(alloc, locations)?),
+        Err(error) => failed(locations, error),
+    }
 }
 
 fn fused<A: Drop>(
@@ -68,13 +122,14 @@ fn fused<A: Drop>(
     first: Location<A>,
     last: Location<A>,
 ) -> Result<Location<A>, AllocError> {
-    let mut locations = Vec::with_capacity(alloc, 2)?;
-    locations.push(first)?;
-    locations.push(last)?;
-    Ok(Location::Fused {
-        metadata: Box::new(alloc, None)?,
-        locations: Box::new(alloc, locations)?,
-    })
+    let locations = both(alloc, first, last)?;
+    match Box::new(alloc, None) {
+        Ok(metadata) => Ok(Location::Fused {
+            metadata,
+            locations,
+        }),
+        Err(error) => failed(locations, error.into()),
+    }
 }
 
 /// A location with this one inside it.

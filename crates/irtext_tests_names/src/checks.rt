@@ -52,7 +52,10 @@ fn result(
 /// Whether a check of this graph succeeds.
 fn holds(mut graph: Tested, alloc: Global, check: Check) -> bool {
     let mut names = no_names(alloc, &graph);
-    result(&mut names, &mut graph, alloc, check).unwrap_or(false)
+    let holds = result(&mut names, &mut graph, alloc, check).unwrap_or(false);
+    drop(names);
+    drop(graph);
+    holds
 }
 
 /// The number of the first check that does not succeed with a graph of its own.

@@ -9,7 +9,6 @@ use std::alloc::{AllocError, Global};
 /// What the names of one kind refer to.
 #[derive(Drop)]
 pub(crate) struct Referred {
-    alloc: Global,
     // what each index that was ever bound refers to
     bound: Vec<Held>,
     // for each use the index of what it holds
@@ -21,7 +20,6 @@ pub(crate) struct Referred {
 impl Referred {
     fn new(alloc: Global) -> Referred {
         Referred {
-            alloc,
             bound: Vec::new(alloc),
             uses: Vec::new(alloc),
             definitions: 0,
@@ -68,15 +66,14 @@ impl Referred {
         Ok(Answer::Done)
     }
 
-    /// What each use has to hold.
-    pub(crate) fn helds(&self) -> Result<Vec<Held>, AllocError> {
-        let mut helds = Vec::new(self.alloc);
-        for index in &self.uses {
-            if let Some(held) = self.bound.get(*index) {
-                helds.push(*held)?;
-            }
-        }
-        Ok(helds)
+    /// The number of uses.
+    pub(crate) fn num_uses(&self) -> usize {
+        self.uses.len()
+    }
+
+    /// What the use of this number has to hold.
+    pub(crate) fn held(&self, number: usize) -> Option<Held> {
+        self.bound.get(*self.uses.get(number)?).copied()
     }
 
     /// The number of objects for names of this kind: users, what was made as definitions, and placeholders.

@@ -26,24 +26,22 @@ impl Named for ByNumber {
     }
 }
 
-/// The values that two names refer to if they are used one after the other.
-fn used(
+/// Appends the values that two names refer to if they are used one after the other.
+fn uses(
     names: &mut Names,
     graph: &mut Tested,
-    alloc: Global,
     first: usize,
     second: usize,
-) -> Result<Vec<Value>, AllocError>
+    values: &mut Vec<Value>,
+) -> Result<(), AllocError>
     requires tied { MatchesGraph names.old.values names.old.labels graph.old }
     ensures tied { MatchesGraph names.new.values names.new.labels graph.new }
 {
-    let mut values = Vec::new(alloc);
     if !names.has_value_scope() || first >= names.num_names() || second >= names.num_names() {
-        return Ok(values);
+        return Ok(());
     }
     let row = [ByNumber { name: first }, ByNumber { name: second }];
-    use_names(names, graph, &row, &mut values)?;
-    Ok(values)
+    use_names(names, graph, &row, values)
 }
 
 /// Defines two names as the results of an operation that is made for them, and returns it.
@@ -70,11 +68,12 @@ fn defined(
 }
 
 /// Whether two names that are used, defined and used again refer to the results of one operation, and a third definition in the row
-/// fails.
-pub(crate) fn goes_in_rows(
+/// fails. The values to which they refer at first and in the end are appended to two vectors, which are empty.
+fn are_alike(
     names: &mut Names,
     graph: &mut Tested,
-    alloc: Global,
+    early: &mut Vec<Value>,
+    late: &mut Vec<Value>,
 ) -> Result<bool, AllocError>
     requires tied { MatchesGraph names.old.values names.old.labels graph.old }
 {
@@ -83,12 +82,28 @@ pub(crate) fn goes_in_rows(
     if enter_region(names, graph, true).is_err() {
         return Ok(false);
     }
-    let early = used(names, graph, alloc, first, second)?;
+    uses(names, graph, first, second, early)?;
     let Some(op) = defined(names, graph, first, second) else {
         return Ok(false);
     };
-    let late = used(names, graph, alloc, first, second)?;
+    uses(names, graph, first, second, late)?;
     let twice = defined(names, graph, second, first).is_none();
     let results = [Value::Result(op, 0), Value::Result(op, 1)];
     Ok(twice & (early.len() == 2) & (early[..] != results[..]) & (late[..] == results[..]))
+}
+
+/// The same, with vectors of its own for the values.
+pub(crate) fn goes_in_rows(
+    names: &mut Names,
+    graph: &mut Tested,
+    alloc: Global,
+) -> Result<bool, AllocError>
+    requires tied { MatchesGraph names.old.values names.old.labels graph.old }
+{
+    let mut early = Vec::new(alloc);
+    let mut late = Vec::new(alloc);
+    let alike = are_alike(names, graph, &mut early, &mut late);
+    drop(early);
+    drop(late);
+    alike
 }

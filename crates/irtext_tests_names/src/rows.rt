@@ -121,10 +121,12 @@ fn works(alloc: Global, script: &str, values: &[Held], labels: &[Held], objects:
     let mut names = no_names(alloc, &graph);
     let mut made = Made::new(alloc);
     let answered = answers(&mut names, &mut graph, &mut made, script).unwrap_or(false);
-    answered
-        & holds_all(&graph, &made.values, values)
-        & holds_all(&graph, &made.labels, labels)
-        & (graph.num_live() == objects)
+    drop(names);
+    let held = holds_all(&graph, &made.values, values) & holds_all(&graph, &made.labels, labels);
+    let counted = graph.num_live() == objects;
+    drop(made);
+    drop(graph);
+    answered & held & counted
 }
 
 /// The number of the first value that was defined.
@@ -147,8 +149,11 @@ pub(crate) fn placeholder_is_numbered(
     requires { MatchesGraph names.old.values names.old.labels graph.old }
 {
     let mut made = Made::new(alloc);
-    answers(names, graph, &mut made, EARLY_USES)?;
-    Ok(first_number(graph, &made) == Some(1))
+    let answered = answers(names, graph, &mut made, EARLY_USES);
+    let number = first_number(graph, &made);
+    drop(made);
+    answered?;
+    Ok(number == Some(1))
 }
 
 /// The number of the first script without its results.

@@ -1,7 +1,7 @@
 //! A random script: names over a graph and a plain model of them get the same calls.
 ghost use Rattle.irtext_names.specs.Tied.{MatchesGraph};
 
-use crate::held::holds_all;
+use crate::held::holds;
 use crate::model::{Model, Referred};
 use crate::steps::{Kind, Made, Names, Tested, step};
 use irtext_tests_common::calls::{Call, NAMES, next_call};
@@ -65,17 +65,24 @@ fn differing(
 }
 
 /// Whether each use of names of one kind holds what the model has.
-fn kind_alike(graph: &Tested, made: &Kind, model: &Referred) -> Result<bool, AllocError> {
-    let helds = model.helds()?;
-    Ok(holds_all(graph, made, &helds))
+fn kind_alike(graph: &Tested, made: &Kind, model: &Referred) -> bool {
+    for number in 0..model.num_uses() {
+        let Some(held) = model.held(number) else {
+            return false;
+        };
+        if !holds(graph, made, number, held) {
+            return false;
+        }
+    }
+    made.users.len() == model.num_uses()
 }
 
 /// Whether each use holds what the model has, and there are no other objects.
-fn ends_alike(graph: &Tested, made: &Made, model: &Model) -> Result<bool, AllocError> {
-    let values = kind_alike(graph, &made.values, &model.values)?;
-    let labels = kind_alike(graph, &made.labels, &model.labels)?;
+fn ends_alike(graph: &Tested, made: &Made, model: &Model) -> bool {
+    let values = kind_alike(graph, &made.values, &model.values);
+    let labels = kind_alike(graph, &made.labels, &model.labels);
     let same = graph.num_live() == model.num_objects();
-    Ok(values & labels & same & !model.scopes.is_open())
+    values & labels & same & !model.scopes.is_open()
 }
 
 /// Whether a script has the results of its model up to its end.
@@ -85,6 +92,8 @@ pub(crate) fn goes_alike(names: &mut Names, graph: &mut Tested, alloc: Global) -
     let mut made = Made::new(alloc);
     let mut model = Model::new(alloc);
     let same = differing(names, graph, &mut made, &mut model).ok() == Some(None);
-    let ended = ends_alike(graph, &made, &model).unwrap_or(false);
+    let ended = ends_alike(graph, &made, &model);
+    drop(model);
+    drop(made);
     same & ended
 }

@@ -17,28 +17,24 @@ fn register_make(ctx: &mut Context<DemoType, DemoAttr>) -> Answer<(), DemoAttr> 
     ctx.register_op("mine", "make", format, false)
 }
 
-use crate::value::{same, value_of};
-use irtext_tests_common::contexts::with_demo;
-use irtext_tests_print::reading::{root, whole};
-use std::test::Fail;
+use crate::checks::{Check, alone};
+use crate::reading::{root, whole};
+use crate::value::{is_done, same, value_of};
+use std::process::Abort;
 
 /// The printed text of a module with one such operation.
 const PRINTED: &str =
     "builtin.module @m \n{\n  ^a_block1v1() !0:\n    x_v0 = mine.make: test.ptr  !1\n} !2\n\noutlined_attributes:\n!0 = @[<in-memory>: line: 1, column: 21], [builtin_block_label = builtin.identifier a]\n!1 = @[<in-memory>: line: 1, column: 27], [builtin_given_names = builtin.given_names [x]]\n!2 = @[<in-memory>: line: 1, column: 1], []\n";
 
-/// Registers the operation, parses the module and prints it.
-fn made(alloc: Global, ctx: &mut Context<DemoType, DemoAttr>) -> Result<String, Fail> {
-    if register_make(ctx).is_err() {
-        return Err(Fail::from("not registered"));
-    }
-    match root(ctx, "builtin.module @m { ^a(): x = mine.make: test.ptr }") {
-        Some(root) => whole(alloc, ctx, root),
-        None => Err(Fail::from("refused")),
-    }
+/// Registers the operation, parses the module, and checks its printed text.
+pub(crate) fn check(rt: &impl Abort, alloc: Global, ctx: &mut Context<DemoType, DemoAttr>) {
+    assert!(rt; is_done(register_make(ctx)));
+    let root = root(ctx, "builtin.module @m { ^a(): x = mine.make: test.ptr }");
+    let text = whole(alloc, ctx, root.expect(rt, "refused"));
+    same(rt, value_of(rt, text, "no text"), PRINTED);
 }
 
 #[test]
 fn the_example_of_the_page_registers_an_operation(rt: HostRuntime) {
-    let text = value_of(&rt, with_demo(rt.alloc(), made), "no text");
-    same(&rt, text.as_str(), PRINTED);
+    alone(&rt, rt.alloc(), Check::Page);
 }

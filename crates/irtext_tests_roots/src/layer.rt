@@ -1,4 +1,4 @@
-//! The tests, a file for each subject.
+//! The tests of what `pliron_text` re-exports, a file for each subject.
 mod apart;
 pub(crate) mod checked;
 pub(crate) mod dialects;

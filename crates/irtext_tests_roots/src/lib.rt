@@ -1,5 +1,6 @@
-//! Worked rows of graphs that a caller makes, of contexts that were filled separately, of names outside of regions, and of what
-//! `pliron_text` re-exports: dialects, checked calls, errors and macros; and the examples of the pages.
+//! Tests of parsed roots, and of what `pliron_text` re-exports: graphs that a caller makes, contexts that were filled separately, names
+//! outside of regions, dialects, checked calls, errors and macros; of what is `Parsable`, and of the texts of errors and of their causes;
+//! and the examples of the pages. The library parses and prints roots, and registers operations, for `irtext_harness` too.
 #![tactic(auto)]
 
 #[cfg(test)]
@@ -9,8 +10,10 @@ mod dialects_page;
 #[cfg(test)]
 mod layer;
 #[cfg(test)]
-mod readme;
+mod parse;
+pub mod reading;
 #[cfg(test)]
-mod tests;
+mod readme;
+pub mod registering;
 #[cfg(test)]
 mod value;

@@ -46,5 +46,5 @@ fn the_example_of_the_readme_prints_a_text(rt: HostRuntime) {
         parsed_and_printed(rt.alloc(), "builtin.module @m { }"),
         "no text",
     );
-    same(&rt, text.as_str(), PRINTED);
+    same(&rt, text, PRINTED);
 }

@@ -17,7 +17,7 @@ use Rattle.irtext_print_ir.specs.Printers.Printed.{block_round}
 use Rattle.irtext_names.specs.OnlyNew.{OnlyNew}
 use Rattle.irtext_tokens.specs.AttrTexts.{attr_at}
 use Rattle.irtext_grammar.specs.Back.{ClosedRoot}
-use Rattle.irtext_names.proofs.ReadClosed.{read_closed}
+use Rattle.pliron_text.proofs.ReadClosed.{read_closed}
 use Rattle.pliron_text.specs.Calls.{ReadsText}
 use Rattle.pliron_text.proofs.Nowhere.{root_nowhere}
 

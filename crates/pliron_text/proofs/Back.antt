@@ -38,8 +38,8 @@ use Rattle.irtext_names.specs.Held.{held_root}
 use Rattle.irtext_tokens.specs.AttrTexts.{attr_at}
 use Rattle.irtext_grammar.specs.Back.{ClosedRoot, HeldBack, HeldWhole}
 use Rattle.irtext_grammar.specs.RootParts.{KeptRoot}
-use Rattle.irtext_names.specs.PrintedRoot.{PrintedRoot}
-use Rattle.irtext_names.proofs.PrintedBack.{gives_back_root, gives_back_whole, not_refused, none_read}
+use Rattle.pliron_text.specs.PrintedRoot.{PrintedRoot}
+use Rattle.pliron_text.proofs.PrintedBack.{gives_back_root, gives_back_whole, not_refused, none_read}
 use Rattle.pliron_text.specs.Calls.{IsClosed, IsPrinted, ComesBack, ComesBackWhole, ReadsText, RefusesText}
 use Rattle.pliron_text.proofs.Fitting.{fits_whole}
 

@@ -2,5 +2,11 @@ pub mod Again
 pub mod Back
 pub mod ErrorCauses
 pub mod Fitting
+pub mod HeldRepresents
+pub mod NamesDiffer
 pub mod Nowhere
+pub mod PrintedBack
+pub mod ReadClosed
 pub mod RoundTrips
+pub mod Shown
+pub mod TrueFacts

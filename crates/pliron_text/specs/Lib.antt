@@ -2,6 +2,7 @@
 -- graphs, what is printed of them, what a context holds, and the promises to a caller. Then what functions promise one another:
 -- streams, faults and causes, what a parser returns, what a printer appends.
 pub mod Calls
+pub mod PrintedRoot
 pub mod Promises
 pub use Rattle.irtext_base.specs.Answers
 pub use Rattle.irtext_base.specs.Causes

@@ -14,5 +14,5 @@ pub use Rattle.irtext_names.specs.Alone
 pub use Rattle.irtext_parse_root.specs.Whole
 pub use Rattle.irtext_parse_root.specs.AnyState
 pub use Rattle.irtext_parse_root.specs.Parses
-pub use Rattle.irtext_names.specs.PrintedRoot
+pub use Rattle.pliron_text.specs.PrintedRoot
 pub use Rattle.pliron_text.specs.Calls

@@ -11,10 +11,10 @@ pub use irtext_context::base::{
     Operation, OperationAccess, Ptr, Region,
 };
 pub use irtext_few::Few;
-pub use irtext_grammar::UniqueName;
 pub use irtext_graph::object::{Site, Value};
 pub use irtext_graph_queries::block::BlockParts;
 pub use irtext_graph_queries::nested::NestedOperations;
 pub use irtext_graph_queries::operation::OperationParts;
 pub use irtext_graph_queries::region::RegionParts;
 pub use irtext_graph_queries::value::{UseSite, ValueUses};
+pub use irtext_print::UniqueName;

@@ -2,7 +2,7 @@
 
 mod text;
 
-pub use irtext_grammar::context::keeps_parts;
+pub use irtext_checked::context::keeps_parts;
 pub use irtext_parse_root::ir::read::OperationParserConfig;
 pub use irtext_print_ir::ir::print::concrete::{OpObj, print_concrete};
 pub use irtext_print_ir::ir::print::debug::{OpDbg, print_dbg};

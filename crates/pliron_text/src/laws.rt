@@ -28,11 +28,15 @@ ghost use Rattle.irtext_grammar.specs.Grammar.Tree.{Tree};
 ghost use Rattle.irtext_grammar.specs.Graphs.Identifiers.{HasIdentifiers};
 ghost use Rattle.irtext_grammar.specs.Spelling.Writable.{AfterOperation, AfterRoot, Writable};
 
+pub mod actions;
 pub mod attributes;
 pub mod building;
 pub mod causes;
+pub mod closed;
+pub mod entries;
 pub mod headline;
 pub mod locations;
+pub mod nested;
 
 use irtext_base::text::{AttrText, IrText};
 

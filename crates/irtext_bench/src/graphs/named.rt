@@ -207,6 +207,9 @@ pub fn rounds(
     for _ in 0..times {
         all = round(&mut names, &mut graph, calls, &texts) && all;
     }
+    drop(names);
+    drop(graph);
+    drop(texts);
     Ok(all)
 }
 
@@ -243,6 +246,8 @@ pub fn nested(alloc: Global, size: usize, calls: &[Call]) -> bool {
     let mut names = no_names(alloc, &graph);
     let entered = nest(&mut names, &mut graph, size, *call);
     let left = leave_all(&mut names, &graph, size);
+    drop(names);
+    drop(graph);
     entered && left
 }
 
@@ -264,5 +269,8 @@ pub fn repeated(alloc: Global, size: usize, calls: &[Call]) -> bool {
     };
     let mut graph = Graph::new(alloc);
     let mut names = no_names(alloc, &graph);
-    repeat(&mut names, &mut graph, size, *often, *last)
+    let all = repeat(&mut names, &mut graph, size, *often, *last);
+    drop(names);
+    drop(graph);
+    all
 }

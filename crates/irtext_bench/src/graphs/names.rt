@@ -5,19 +5,32 @@ use std::alloc::{AllocError, Global};
 
 type Measured = NameTracker<u32, u32>;
 
+/// Appends so many names.
+fn push_texts(alloc: Global, size: usize, texts: &mut Vec<String>) -> Result<(), AllocError> {
+    for number in 0..size {
+        texts.push(format!(in alloc; "name_{number}")?)?;
+    }
+    Ok(())
+}
+
 /// Returns so many names.
 pub fn texts(alloc: Global, size: usize) -> Result<Vec<String>, AllocError> {
     let mut texts = Vec::new(alloc);
-    for number in 0..size {
-        let text = format!(in alloc; "name_{number}")?;
-        texts.push(text)?;
+    match push_texts(alloc, size, &mut texts) {
+        Ok(()) => Ok(texts),
+        Err(error) => {
+            drop(texts);
+            Err(error)
+        }
     }
-    Ok(texts)
 }
 
 /// Makes so many names. Returns whether they are so many.
 pub fn are_texts(alloc: Global, size: usize) -> Result<bool, AllocError> {
-    Ok(texts(alloc, size)?.len() == size)
+    let texts = texts(alloc, size)?;
+    let length = texts.len();
+    drop(texts);
+    Ok(length == size)
 }
 
 /// Defines a name in the innermost scope, if it is new there.
@@ -61,14 +74,20 @@ fn intern_all(tracker: &mut Measured, texts: &[String]) -> Result<usize, AllocEr
 pub fn new_names(alloc: Global, size: usize) -> Result<bool, AllocError> {
     let texts = texts(alloc, size)?;
     let mut tracker: Measured = NameTracker::new(alloc);
-    Ok(intern_all(&mut tracker, &texts)? == size)
+    let known = intern_all(&mut tracker, &texts);
+    drop(tracker);
+    drop(texts);
+    Ok(known? == size)
 }
 
 /// Defines so many names in a region of their own, so many times.
 pub fn definitions(alloc: Global, size: usize, times: usize) -> Result<bool, AllocError> {
     let texts = texts(alloc, size)?;
     let mut tracker: Measured = NameTracker::new(alloc);
-    define_often(&mut tracker, &texts, times)
+    let all = define_often(&mut tracker, &texts, times);
+    drop(tracker);
+    drop(texts);
+    all
 }
 
 /// Uses all these names, which are known.
@@ -94,7 +113,10 @@ fn use_often(tracker: &mut Measured, texts: &[String], times: usize) -> Result<b
 pub fn uses(alloc: Global, size: usize, times: usize) -> Result<bool, AllocError> {
     let texts = texts(alloc, size)?;
     let mut tracker: Measured = NameTracker::new(alloc);
-    use_often(&mut tracker, &texts, times)
+    let all = use_often(&mut tracker, &texts, times);
+    drop(tracker);
+    drop(texts);
+    all
 }
 
 /// Enters so many regions, each inside the one before, and leaves them all.
@@ -116,5 +138,7 @@ pub fn regions(alloc: Global, size: usize, times: usize) -> bool {
     for _ in 0..times {
         all = enter_and_leave(&mut tracker, size) && all;
     }
-    all && !tracker.has_value_scope()
+    let is_inside = tracker.has_value_scope();
+    drop(tracker);
+    all && !is_inside
 }

@@ -7,6 +7,17 @@ use std::alloc::{AllocError, Global};
 
 type Measured = Graph<u32, u32, u8>;
 
+/// What is done. `Make`: in a graph of so many operations an operation with one result and one operand is created and erased, so many times.
+/// `Replace`: so many uses of a value are moved to another value and back, so many times. `Fill`: so many blocks of so many operations are
+/// created. `Erase`: the same, and then each is erased.
+#[derive(Clone, Copy)]
+pub enum Way {
+    Make,
+    Replace,
+    Fill,
+    Erase,
+}
+
 /// Creates an operation with one result, which uses the value if there is one.
 fn make_one(graph: &mut Measured, operand: Option<Value>) -> Result<Value, AllocError> {
     let types = Few::one(1);
@@ -35,17 +46,16 @@ fn erase_one(graph: &mut Measured, o: Object) -> bool {
     true
 }
 
-/// In a graph of so many operations, creates an operation with one result and one operand and erases it, so many times.
-pub fn make(alloc: Global, size: usize, times: usize) -> Result<bool, AllocError> {
-    let mut graph = Graph::new(alloc);
+/// Creates so many operations, and then, so many times, one that uses the last of them, which is erased.
+fn make(graph: &mut Measured, size: usize, times: usize) -> Result<bool, AllocError> {
     let mut last = None;
     for _ in 0..size {
-        last = Some(make_one(&mut graph, None)?);
+        last = Some(make_one(graph, None)?);
     }
     let mut all = true;
     for _ in 0..times {
-        let v = make_one(&mut graph, last)?;
-        all = erase_one(&mut graph, owner(v)) && all;
+        let v = make_one(graph, last)?;
+        all = erase_one(graph, owner(v)) && all;
     }
     Ok(all)
 }
@@ -60,18 +70,15 @@ fn replace_all(graph: &mut Measured, v: Value, w: Value) -> bool {
 }
 
 /// Creates so many uses of a value, and moves them to another value and back, so many times.
-pub fn replace(alloc: Global, size: usize, times: usize) -> Result<bool, AllocError> {
-    let mut graph = Graph::new(alloc);
-    let first = make_one(&mut graph, None)?;
-    let second = make_one(&mut graph, None)?;
+fn replace(graph: &mut Measured, size: usize, times: usize) -> Result<bool, AllocError> {
+    let first = make_one(graph, None)?;
+    let second = make_one(graph, None)?;
     for _ in 0..size {
-        make_one(&mut graph, Some(first))?;
+        make_one(graph, Some(first))?;
     }
     let mut all = true;
     for _ in 0..times {
-        all = replace_all(&mut graph, first, second)
-            && replace_all(&mut graph, second, first)
-            && all;
+        all = replace_all(graph, first, second) && replace_all(graph, second, first) && all;
     }
     Ok(all)
 }
@@ -95,20 +102,54 @@ fn make_block(graph: &mut Measured, size: usize) -> Result<Option<Object>, Alloc
     Ok(Some(Object::TheBlock(block)))
 }
 
-/// Creates so many blocks of so many operations, and then, if `erases`, erases each.
-pub fn fill(alloc: Global, size: usize, times: usize, erases: bool) -> Result<bool, AllocError> {
-    let mut graph = Graph::new(alloc);
-    let mut blocks = Vec::new(alloc);
+/// Creates so many blocks of so many operations, and appends them.
+fn push_blocks(
+    graph: &mut Measured,
+    size: usize,
+    times: usize,
+    blocks: &mut Vec<Object>,
+) -> Result<bool, AllocError> {
     for _ in 0..times {
-        if let Some(block) = make_block(&mut graph, size)? {
+        if let Some(block) = make_block(graph, size)? {
             blocks.push(block)?;
         }
     }
-    let mut all = blocks.len() == times;
-    if erases {
-        for block in &blocks {
-            all = erase_one(&mut graph, *block) && all;
-        }
+    Ok(blocks.len() == times)
+}
+
+/// Erases these objects. Returns whether each could be erased.
+fn erase_all(graph: &mut Measured, objects: &[Object]) -> bool {
+    let mut all = true;
+    for object in objects {
+        all = erase_one(graph, *object) && all;
     }
-    Ok(all)
+    all
+}
+
+/// Creates so many blocks of so many operations, and then, if `erases`, erases each.
+fn fill(
+    alloc: Global,
+    graph: &mut Measured,
+    size: usize,
+    times: usize,
+    erases: bool,
+) -> Result<bool, AllocError> {
+    let mut blocks = Vec::new(alloc);
+    let made = push_blocks(graph, size, times, &mut blocks);
+    let erased = !erases || erase_all(graph, blocks.as_slice());
+    drop(blocks);
+    Ok(made? && erased)
+}
+
+/// Does this in an empty graph.
+pub fn counted(alloc: Global, way: Way, size: usize, times: usize) -> Result<bool, AllocError> {
+    let mut graph = Graph::new(alloc);
+    let all = match way {
+        Way::Make => make(&mut graph, size, times),
+        Way::Replace => replace(&mut graph, size, times),
+        Way::Fill => fill(alloc, &mut graph, size, times, false),
+        Way::Erase => fill(alloc, &mut graph, size, times, true),
+    };
+    drop(graph);
+    all
 }

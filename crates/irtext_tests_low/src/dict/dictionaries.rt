@@ -70,7 +70,9 @@ fn listed(rt: &impl Abort, alloc: Global, dictionary: &AttributeDict<()>) -> Str
         Some(attr) => shown(attr),
         None => "-",
     };
-    format!(in alloc; "{text}|{found}").expect(rt, "out of memory")
+    let said = format!(in alloc; "{text}|{found}").expect(rt, "out of memory");
+    drop(text);
+    said
 }
 
 /// The attribute for a key: given names, or an identifier of this name.
@@ -85,7 +87,8 @@ fn attr_for(rt: &impl Abort, alloc: Global, key: &str, name: &str) -> AttrObj<()
 fn edit(rt: &impl Abort, alloc: Global, dictionary: &mut AttributeDict<()>, key: &str, name: &str) {
     let key = must(rt, named(alloc, key));
     if name == "" {
-        let _taken = dictionary.remove(&key);
+        drop(dictionary.remove(&key));
+        drop(key);
         return;
     }
     let attr = attr_for(rt, alloc, key.as_str(), name);
@@ -106,6 +109,7 @@ fn step(
     for letter in letters.chars() {
         let key = format!(in alloc; "{letter}").expect(rt, "out of memory");
         edit(rt, alloc, dictionary, key.as_str(), name);
+        drop(key);
     }
     listed(rt, alloc, dictionary)
 }
@@ -114,12 +118,9 @@ fn step(
 fn keys_keep_their_order(rt: HostRuntime) {
     let mut dictionary = AttributeDict::new(rt.alloc());
     for (number, wanted) in LISTED.iter().enumerate() {
-        same(
-            &rt,
-            step(&rt, rt.alloc(), &mut dictionary, number).as_str(),
-            *wanted,
-        );
+        same(&rt, step(&rt, rt.alloc(), &mut dictionary, number), *wanted);
     }
+    drop(dictionary);
 }
 
 /// Attributes in the order in which they are inserted, and those that are copied: `g` for given names, `n` for a debug note, `t` for a
@@ -137,8 +138,10 @@ fn key_of(rt: &impl Abort, alloc: Global, letter: char, length: usize) -> Identi
     if letter == 'g' {
         return must(rt, named(alloc, GIVEN_NAMES_KEY));
     }
-    let key = format!(in alloc; "key_{length}").expect(rt, "out of memory");
-    must(rt, named(alloc, key.as_str()))
+    let text = format!(in alloc; "key_{length}").expect(rt, "out of memory");
+    let key = must(rt, named(alloc, text.as_str()));
+    drop(text);
+    key
 }
 
 /// Inserts the attribute for a letter.
@@ -166,7 +169,9 @@ fn letters(rt: &impl Abort, alloc: Global, dictionary: &AttributeDict<DemoAttr>)
 /// The letters of a dictionary's copy.
 fn copied(rt: &impl Abort, alloc: Global, dictionary: &AttributeDict<DemoAttr>) -> String {
     let copy = dictionary.clone_skip_outlined().expect(rt, "out of memory");
-    letters(rt, alloc, &copy)
+    let said = letters(rt, alloc, &copy);
+    drop(copy);
+    said
 }
 
 /// Checks that a dictionary of a row's attributes, which begins empty, has the row's copy, and stays as it was.
@@ -179,8 +184,8 @@ fn check(
     for letter in row.0.chars() {
         insert(rt, alloc, dictionary, letter);
     }
-    same(rt, copied(rt, alloc, dictionary).as_str(), row.1);
-    same(rt, letters(rt, alloc, dictionary).as_str(), row.0);
+    same(rt, copied(rt, alloc, dictionary), row.1);
+    same(rt, letters(rt, alloc, dictionary), row.0);
 }
 
 #[test]

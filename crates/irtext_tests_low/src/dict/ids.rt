@@ -22,6 +22,6 @@ fn id(rt: &impl Abort, alloc: Global, dialect: &str, name: &str) -> String {
 #[test]
 fn ids_are_made_of_texts(rt: HostRuntime) {
     for row in IDS {
-        same(&rt, id(&rt, rt.alloc(), row.0, row.1).as_str(), row.2);
+        same(&rt, id(&rt, rt.alloc(), row.0, row.1), row.2);
     }
 }

@@ -30,24 +30,30 @@ fn identifier(rt: &impl Abort, alloc: Global, text: &str) -> Identifier {
 fn copied(rt: &impl Abort, alloc: Global) -> bool {
     let name = identifier(rt, alloc, "a_1");
     let copy = name.clone().expect(rt, "out of memory");
-    copy == name
+    let same = copy == name;
+    drop(copy);
+    drop(name);
+    same
 }
 
 #[test]
 fn identifiers_are_words(rt: HostRuntime) {
     for row in WORDS {
-        same(&rt, word(&rt, rt.alloc(), row.0).as_str(), row.1);
+        same(&rt, word(&rt, rt.alloc(), row.0), row.1);
     }
     assert!(rt; copied(&rt, rt.alloc()));
 }
 
 /// Inserts an attribute into a dictionary.
 pub fn put(dictionary: &mut AttributeDict<()>, key: Identifier, attr: AttrObj<()>) -> &'static str {
-    match dictionary.insert(key, attr) {
+    let answer = dictionary.insert(key, attr);
+    let said = match &answer {
         Ok(()) => "kept",
         Err(Refusal::ReservedKey(_)) => "reserved",
         Err(_) => "refused",
-    }
+    };
+    drop(answer);
+    said
 }
 
 /// Inserts an identifier into a dictionary.
@@ -78,7 +84,9 @@ fn at_one(rt: &impl Abort, alloc: Global, dictionary: &AttributeDict<()>) -> boo
     let key = identifier(rt, alloc, "k");
     let found = matches!(dictionary.get(&key), Some(AttrObj::Ident(name)) if name.as_str() == "y");
     let there = dictionary.get_str("k").is_some();
-    found && there && matches!(dictionary.get_index(1), Some((name, _)) if *name == key)
+    let second = matches!(dictionary.get_index(1), Some((name, _)) if *name == key);
+    drop(key);
+    found & there & second
 }
 
 /// Whether the dictionary has two pairs.
@@ -90,7 +98,11 @@ fn two_pairs(dictionary: &AttributeDict<()>) -> bool {
 /// Removes the given names, and returns whether there were any.
 fn remove(rt: &impl Abort, alloc: Global, dictionary: &mut AttributeDict<()>) -> bool {
     let given = identifier(rt, alloc, GIVEN_NAMES_KEY);
-    dictionary.remove(&given).is_some()
+    let removed = dictionary.remove(&given);
+    drop(given);
+    let found = removed.is_some();
+    drop(removed);
+    found
 }
 
 /// The number of pairs after the call of `keeps_keys`.
@@ -115,4 +127,5 @@ fn pairs_are_put_replaced_and_taken_out(rt: HostRuntime) {
     assert!(rt; at_one(&rt, rt.alloc(), &dictionary) && two_pairs(&dictionary));
     assert!(rt; remove(&rt, rt.alloc(), &mut dictionary));
     assert!(rt; dictionary.len() == 1 && kept(&dictionary) == 1);
+    drop(dictionary);
 }

@@ -44,11 +44,7 @@ fn excerpt(rt: &impl Abort, alloc: Global, text: &str, line: i32, column: i32) -
 #[test]
 fn lines_with_carets(rt: HostRuntime) {
     for row in EXCERPTS {
-        same(
-            &rt,
-            excerpt(&rt, rt.alloc(), row.0, row.1, row.2).as_str(),
-            row.3,
-        );
+        same(&rt, excerpt(&rt, rt.alloc(), row.0, row.1, row.2), row.3);
     }
 }
 
@@ -87,10 +83,6 @@ const CUT: &[(i32, &str)] = &[
 #[test]
 fn long_lines_are_cut(rt: HostRuntime) {
     for row in CUT {
-        same(
-            &rt,
-            excerpt(&rt, rt.alloc(), WIDE, 1, row.0).as_str(),
-            row.1,
-        );
+        same(&rt, excerpt(&rt, rt.alloc(), WIDE, 1, row.0), row.1);
     }
 }

@@ -99,23 +99,23 @@ fn items(stream: &mut TextStream, reader: Reader) -> ParseResult<Vec<i32>, ()> {
 fn read(rt: &impl Abort, alloc: Global, stream: &mut TextStream, reader: Reader) -> String {
     let answer = items(stream, reader);
     let at = stream.locate(stream.position());
-    must(rt, listed(alloc, &answer, at, stream.peek()))
+    let said = must(rt, listed(alloc, &answer, at, stream.peek()));
+    drop(answer);
+    said
 }
 
 /// The same on a text of its own.
 fn read_text(rt: &impl Abort, alloc: Global, reader: Reader, text: &str) -> String {
     let mut stream = TextStream::new(alloc, text).expect(rt, "out of memory");
-    read(rt, alloc, &mut stream, reader)
+    let said = read(rt, alloc, &mut stream, reader);
+    drop(stream);
+    said
 }
 
 #[test]
 fn lists_of_a_text(rt: HostRuntime) {
     for row in LISTS {
-        same(
-            &rt,
-            read_text(&rt, rt.alloc(), row.0, row.1).as_str(),
-            row.2,
-        );
+        same(&rt, read_text(&rt, rt.alloc(), row.0, row.1), row.2);
     }
 }
 
@@ -127,16 +127,14 @@ fn two(rt: &impl Abort, alloc: Global, first: Reader, second: Reader, text: &str
     let following = read(rt, alloc, &mut stream, second);
     said.push_str(following.as_str())
         .expect(rt, "out of memory");
+    drop(following);
+    drop(stream);
     said
 }
 
 #[test]
 fn lists_that_follow_a_refusal(rt: HostRuntime) {
     for row in FOLLOWING {
-        same(
-            &rt,
-            two(&rt, rt.alloc(), row.0, row.1, row.2).as_str(),
-            row.3,
-        );
+        same(&rt, two(&rt, rt.alloc(), row.0, row.1, row.2), row.3);
     }
 }

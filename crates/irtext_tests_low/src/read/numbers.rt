@@ -1,13 +1,12 @@
 //! Numbers of every type, in decimal and hexadecimal digits and as their text, and booleans.
 ghost use Rattle.std.specs.Prelude.{◌≤◌};
 
-use crate::must::{must, same};
+use crate::must::{line_told, same};
 use crate::read::numbers::Kind::{
     HexI64, HexU8, HexU16, HexU32, HexU64, HexUsize, I8, I16, I32, I64, Isize, Text, Truth, U8,
     U16, U32, U64, Usize,
 };
-use irtext_base::parsable::{CharStream, ParseResult, TextStream};
-use irtext_tests_common::answers::line;
+use irtext_base::parsable::{CharStream, TextStream};
 use irtext_tokens::irfmt::parsers::{
     FromStrRadix, bool_parse, hex_int_parse, int_parse, number_as_string_parse,
 };
@@ -117,81 +116,73 @@ const AFTER_SKIPPED: &[(u8, &str, &str)] = &[
     ),
 ];
 
-/// The text of the result of a parser.
-fn text_of<X: fmt::Display + Drop>(
-    rt: &impl Abort,
-    alloc: Global,
-    answer: ParseResult<X, ()>,
-) -> String {
-    must(rt, line(alloc, &answer))
-}
-
 /// An integer of a type.
 fn int<N: FromStrRadix + fmt::Display + Drop>(
     rt: &impl Abort,
     alloc: Global,
-    text: &str,
+    stream: &mut TextStream,
 ) -> String {
-    let mut stream = TextStream::new(alloc, text).expect(rt, "out of memory");
-    text_of(rt, alloc, int_parse::<TextStream, N, ()>(&mut stream))
+    line_told(rt, alloc, int_parse::<TextStream, N, ()>(stream))
 }
 
 /// An integer of a type in hexadecimal digits.
 fn hex<N: FromStrRadix + fmt::Display + Drop>(
     rt: &impl Abort,
     alloc: Global,
-    text: &str,
+    stream: &mut TextStream,
 ) -> String {
-    let mut stream = TextStream::new(alloc, text).expect(rt, "out of memory");
-    text_of(rt, alloc, hex_int_parse::<TextStream, N, ()>(&mut stream))
+    line_told(rt, alloc, hex_int_parse::<TextStream, N, ()>(stream))
 }
 
 /// The text of a number.
-fn digits(rt: &impl Abort, alloc: Global, text: &str) -> String {
-    let mut stream = TextStream::new(alloc, text).expect(rt, "out of memory");
-    text_of(
-        rt,
-        alloc,
-        number_as_string_parse::<TextStream, ()>(&mut stream),
-    )
+fn digits(rt: &impl Abort, alloc: Global, stream: &mut TextStream) -> String {
+    line_told(rt, alloc, number_as_string_parse::<TextStream, ()>(stream))
 }
 
 /// A boolean.
-fn truth(rt: &impl Abort, alloc: Global, text: &str) -> String {
-    let mut stream = TextStream::new(alloc, text).expect(rt, "out of memory");
-    text_of(rt, alloc, bool_parse::<TextStream, ()>(&mut stream))
+fn truth(rt: &impl Abort, alloc: Global, stream: &mut TextStream) -> String {
+    line_told(rt, alloc, bool_parse::<TextStream, ()>(stream))
+}
+
+/// The result for what comes next, parsed as this kind.
+fn read_next(rt: &impl Abort, alloc: Global, kind: Kind, stream: &mut TextStream) -> String {
+    match kind {
+        U8 => int::<u8>(rt, alloc, stream),
+        U16 => int::<u16>(rt, alloc, stream),
+        U32 => int::<u32>(rt, alloc, stream),
+        U64 => int::<u64>(rt, alloc, stream),
+        Usize => int::<usize>(rt, alloc, stream),
+        I8 => int::<i8>(rt, alloc, stream),
+        I16 => int::<i16>(rt, alloc, stream),
+        I32 => int::<i32>(rt, alloc, stream),
+        I64 => int::<i64>(rt, alloc, stream),
+        Isize => int::<isize>(rt, alloc, stream),
+        HexU8 => hex::<u8>(rt, alloc, stream),
+        HexU16 => hex::<u16>(rt, alloc, stream),
+        HexU32 => hex::<u32>(rt, alloc, stream),
+        HexU64 => hex::<u64>(rt, alloc, stream),
+        HexUsize => hex::<usize>(rt, alloc, stream),
+        HexI64 => hex::<i64>(rt, alloc, stream),
+        Text => digits(rt, alloc, stream),
+        Truth => truth(rt, alloc, stream),
+    }
 }
 
 /// The result for a text that is parsed as this kind.
 fn read(rt: &impl Abort, alloc: Global, kind: Kind, text: &str) -> String {
-    match kind {
-        U8 => int::<u8>(rt, alloc, text),
-        U16 => int::<u16>(rt, alloc, text),
-        U32 => int::<u32>(rt, alloc, text),
-        U64 => int::<u64>(rt, alloc, text),
-        Usize => int::<usize>(rt, alloc, text),
-        I8 => int::<i8>(rt, alloc, text),
-        I16 => int::<i16>(rt, alloc, text),
-        I32 => int::<i32>(rt, alloc, text),
-        I64 => int::<i64>(rt, alloc, text),
-        Isize => int::<isize>(rt, alloc, text),
-        HexU8 => hex::<u8>(rt, alloc, text),
-        HexU16 => hex::<u16>(rt, alloc, text),
-        HexU32 => hex::<u32>(rt, alloc, text),
-        HexU64 => hex::<u64>(rt, alloc, text),
-        HexUsize => hex::<usize>(rt, alloc, text),
-        HexI64 => hex::<i64>(rt, alloc, text),
-        Text => digits(rt, alloc, text),
-        Truth => truth(rt, alloc, text),
-    }
+    let mut stream = TextStream::new(alloc, text).expect(rt, "out of memory");
+    let said = read_next(rt, alloc, kind, &mut stream);
+    drop(stream);
+    said
 }
 
 /// An integer of eight bits, and then a boolean.
 fn two(rt: &impl Abort, alloc: Global, stream: &mut TextStream) -> String {
-    let mut said = text_of(rt, alloc, int_parse::<TextStream, i8, ()>(stream));
+    let mut said = int::<i8>(rt, alloc, stream);
     said.push(' ').expect(rt, "out of memory");
-    let truth = text_of(rt, alloc, bool_parse::<TextStream, ()>(stream));
+    let truth = truth(rt, alloc, stream);
     said.push_str(truth.as_str()).expect(rt, "out of memory");
+    drop(truth);
     said
 }
 
@@ -201,7 +192,9 @@ fn following(rt: &impl Abort, alloc: Global, skipped: u8, text: &str) -> String 
     for _ in 0..skipped {
         let _ = stream.take();
     }
-    two(rt, alloc, &mut stream)
+    let said = two(rt, alloc, &mut stream);
+    drop(stream);
+    said
 }
 
 /// The error for a number that is out of range.
@@ -219,34 +212,24 @@ fn not_expected(rt: &impl Abort, alloc: Global, column: u8, error: &str) -> Stri
 #[test]
 fn numbers_and_truth_values_of_a_text(rt: HostRuntime) {
     for row in READ {
-        same(&rt, read(&rt, rt.alloc(), row.0, row.1).as_str(), row.2);
+        same(&rt, read(&rt, rt.alloc(), row.0, row.1), row.2);
     }
     for row in OUT_OF_RANGE {
-        let said = read(&rt, rt.alloc(), row.0, row.1);
-        same(
-            &rt,
-            said.as_str(),
-            out_of_range(&rt, rt.alloc(), row.1).as_str(),
-        );
+        let wanted = out_of_range(&rt, rt.alloc(), row.1);
+        same(&rt, read(&rt, rt.alloc(), row.0, row.1), wanted.as_str());
+        drop(wanted);
     }
     for row in UNEXPECTED {
-        let said = read(&rt, rt.alloc(), row.0, row.1);
-        same(
-            &rt,
-            said.as_str(),
-            not_expected(&rt, rt.alloc(), row.2, row.3).as_str(),
-        );
+        let wanted = not_expected(&rt, rt.alloc(), row.2, row.3);
+        same(&rt, read(&rt, rt.alloc(), row.0, row.1), wanted.as_str());
+        drop(wanted);
     }
 }
 
 #[test]
 fn a_refused_number_leaves_the_stream_failed(rt: HostRuntime) {
     for row in AFTER_SKIPPED {
-        same(
-            &rt,
-            following(&rt, rt.alloc(), row.0, row.1).as_str(),
-            row.2,
-        );
+        same(&rt, following(&rt, rt.alloc(), row.0, row.1), row.2);
     }
 }
 
@@ -300,11 +283,7 @@ fn in_radix(rt: &impl Abort, alloc: Global, kind: Kind, radix: u32, text: &str) 
 #[test]
 fn numbers_in_a_radix(rt: HostRuntime) {
     for row in RADICES {
-        same(
-            &rt,
-            in_radix(&rt, rt.alloc(), row.0, row.1, row.2).as_str(),
-            row.3,
-        );
+        same(&rt, in_radix(&rt, rt.alloc(), row.0, row.1, row.2), row.3);
     }
 }
 

@@ -49,12 +49,15 @@ const QUOTED: &[(&str, &str)] = &[
 fn read(rt: &impl Abort, alloc: Global, text: &str) -> String {
     let mut stream = TextStream::new(alloc, text).expect(rt, "out of memory");
     let answer = quoted_string_parse::<TextStream, ()>(&mut stream);
-    must(rt, with_next(alloc, &answer, stream.peek()))
+    let said = must(rt, with_next(alloc, &answer, stream.peek()));
+    drop(answer);
+    drop(stream);
+    said
 }
 
 #[test]
 fn texts_in_quotation_marks(rt: HostRuntime) {
     for row in QUOTED {
-        same(&rt, read(&rt, rt.alloc(), row.0).as_str(), row.1);
+        same(&rt, read(&rt, rt.alloc(), row.0), row.1);
     }
 }

@@ -98,7 +98,10 @@ fn taken(rt: &impl Abort, alloc: Global, text: &str, number: usize) -> String {
         last = stream.take();
     }
     let state_text = state_text(rt, alloc, &stream);
-    format!(in alloc; "{last:?} {state_text}").expect(rt, "out of memory")
+    drop(stream);
+    let said = format!(in alloc; "{last:?} {state_text}").expect(rt, "out of memory");
+    drop(state_text);
+    said
 }
 
 /// The text from the beginning of `é\nb` to the place after two characters, and the next character once the stream is reset to the start.
@@ -108,7 +111,10 @@ fn given_back(rt: &impl Abort, alloc: Global) -> String {
     assert!(rt; stream.take() == Some('é') && stream.take() == Some('\n'));
     let text = String::from_str(alloc, stream.text_since(start)).expect(rt, "out of memory");
     stream.reset(start);
-    format!(in alloc; "{text:?} {:?}", stream.peek()).expect(rt, "out of memory")
+    let said = format!(in alloc; "{text:?} {:?}", stream.peek()).expect(rt, "out of memory");
+    drop(text);
+    drop(stream);
+    said
 }
 
 /// Whether a stream has failed, before and after it is failed.
@@ -116,26 +122,26 @@ fn failed(rt: &impl Abort, alloc: Global) -> (bool, bool) {
     let mut stream = TextStream::new(alloc, "").expect(rt, "out of memory");
     let before = stream.has_failed();
     stream.fail();
-    (before, stream.has_failed())
+    let after = stream.has_failed();
+    drop(stream);
+    (before, after)
 }
 
 #[test]
 fn a_stream_counts_lines_and_characters(rt: HostRuntime) {
     assert!(rt; SourcePosition::default() == SourcePosition { line: 1, column: 1 });
     for row in TAKEN {
-        same(&rt, taken(&rt, rt.alloc(), "é\nb", row.0).as_str(), row.1);
+        same(&rt, taken(&rt, rt.alloc(), "é\nb", row.0), row.1);
     }
-    same(
-        &rt,
-        given_back(&rt, rt.alloc()).as_str(),
-        "\"é\\n\" Some('é')",
-    );
+    same(&rt, given_back(&rt, rt.alloc()), "\"é\\n\" Some('é')");
     assert!(rt; failed(&rt, rt.alloc()) == (false, true));
 }
 
 /// The text of a fault.
 fn text_of(rt: &impl Abort, alloc: Global, fault: ParseFault<()>) -> String {
-    must(rt, result_text(alloc, &fault))
+    let said = must(rt, result_text(alloc, &fault));
+    drop(fault);
+    said
 }
 
 /// The result for a fixed text.
@@ -181,12 +187,9 @@ fn words_and_fixed_texts(rt: HostRuntime) {
     let stream = TextStream::new(rt.alloc(), " \t_a1 builtin.module ->x");
     let mut stream = stream.expect(&rt, "out of memory");
     for (number, wanted) in WORDS.iter().enumerate() {
-        same(
-            &rt,
-            word(&rt, rt.alloc(), &mut stream, number).as_str(),
-            *wanted,
-        );
+        same(&rt, word(&rt, rt.alloc(), &mut stream, number), *wanted);
     }
+    drop(stream);
 }
 
 /// The fault of a line, at the position of the stream, at its start or elsewhere.
@@ -213,7 +216,11 @@ fn refused(rt: &impl Abort, alloc: Global, text: &str, number: usize) -> String 
     let start = stream.position();
     let _ = stream.take();
     let text = text_of(rt, alloc, fault(number, &mut stream, start));
-    format!(in alloc; "{text} {}", stream.has_failed()).expect(rt, "out of memory")
+    let failed = stream.has_failed();
+    drop(stream);
+    let said = format!(in alloc; "{text} {failed}").expect(rt, "out of memory");
+    drop(text);
+    said
 }
 
 /// Checks what begins at the start of `ab`, and after its first character.
@@ -222,6 +229,7 @@ fn check_classes(rt: &impl Abort, alloc: Global) {
     assert!(rt; next_is(&stream, 'a') && begins(&stream, Class::Beginning));
     let _ = stream.take();
     assert!(rt; !next_is(&stream, 'a') && !begins(&stream, Class::WhiteSpace));
+    drop(stream);
 }
 
 /// A value as the result of a parser.
@@ -233,14 +241,9 @@ fn value(stream: &mut TextStream) -> ParseResult<u8, ()> {
 fn faults_are_committed_or_not(rt: HostRuntime) {
     check_classes(&rt, rt.alloc());
     for (number, wanted) in FAULTS.iter().enumerate() {
-        same(
-            &rt,
-            refused(&rt, rt.alloc(), "ab", number).as_str(),
-            *wanted,
-        );
+        same(&rt, refused(&rt, rt.alloc(), "ab", number), *wanted);
     }
-    let said = must(&rt, said(rt.alloc(), "ab", value));
-    same(&rt, said.as_str(), "7");
+    same(&rt, must(&rt, said(rt.alloc(), "ab", value)), "7");
 }
 
 /// Whether two fixed texts are skipped after white space, and the position of the stream then.
@@ -250,7 +253,10 @@ fn slices(rt: &impl Abort, alloc: Global, text: &str) -> String {
     let first = stream.accept("é!=");
     let second = stream.accept("ab");
     let state_text = state_text(rt, alloc, &stream);
-    format!(in alloc; "{first} {second} {state_text}").expect(rt, "out of memory")
+    drop(stream);
+    let said = format!(in alloc; "{first} {second} {state_text}").expect(rt, "out of memory");
+    drop(state_text);
+    said
 }
 
 /// A text, and the result for it.
@@ -261,7 +267,7 @@ const SLICES: (&str, &str) = (
 
 #[test]
 fn a_stream_goes_by_slices(rt: HostRuntime) {
-    same(&rt, slices(&rt, rt.alloc(), SLICES.0).as_str(), SLICES.1);
+    same(&rt, slices(&rt, rt.alloc(), SLICES.0), SLICES.1);
 }
 
 /// Fails the stream, or not.
@@ -276,8 +282,9 @@ fn accepted(rt: &impl Abort, alloc: Global, text: &str, failed: bool) -> String 
     let mut stream = TextStream::new(alloc, text).expect(rt, "out of memory");
     fail_if(&mut stream, failed);
     let accepted = stream.accept_spaced("->");
-    let at = stream.locate(stream.position());
-    format!(in alloc; "{accepted} {at} {}", stream.has_failed()).expect(rt, "out of memory")
+    let (at, failed) = (stream.locate(stream.position()), stream.has_failed());
+    drop(stream);
+    format!(in alloc; "{accepted} {at} {failed}").expect(rt, "out of memory")
 }
 
 /// The position of a stream.
@@ -290,19 +297,21 @@ fn position_text(rt: &impl Abort, alloc: Global, stream: &TextStream) -> String 
 fn arrow(rt: &impl Abort, alloc: Global, text: &str, failed: bool) -> String {
     let mut stream = TextStream::new(alloc, text).expect(rt, "out of memory");
     fail_if(&mut stream, failed);
-    match spaced_text_demanded::<TextStream, ()>(&mut stream, "->") {
+    let said = match spaced_text_demanded::<TextStream, ()>(&mut stream, "->") {
         Ok(()) => position_text(rt, alloc, &stream),
         Err(fault) => text_of(rt, alloc, fault),
-    }
+    };
+    drop(stream);
+    said
 }
 
 #[test]
 fn a_fixed_text_after_white_space(rt: HostRuntime) {
     for row in ACCEPTED {
-        same(&rt, accepted(&rt, rt.alloc(), row.0, row.1).as_str(), row.2);
+        same(&rt, accepted(&rt, rt.alloc(), row.0, row.1), row.2);
     }
     for row in ARROWS {
-        same(&rt, arrow(&rt, rt.alloc(), row.0, row.1).as_str(), row.2);
+        same(&rt, arrow(&rt, rt.alloc(), row.0, row.1), row.2);
     }
 }
 
@@ -318,9 +327,7 @@ fn long_line(rt: &impl Abort, alloc: Global) -> String {
 #[test]
 fn a_long_line_counts_characters(rt: HostRuntime) {
     let text = long_line(&rt, rt.alloc());
-    same(
-        &rt,
-        taken(&rt, rt.alloc(), text.as_str(), 1100).as_str(),
-        "Some('a') line: 2, column: 1100 Some('é') false",
-    );
+    let said = taken(&rt, rt.alloc(), text.as_str(), 1100);
+    drop(text);
+    same(&rt, said, "Some('a') line: 2, column: 1100 Some('é') false");
 }

@@ -1,7 +1,8 @@
 //! Blocks of a context: how they are made, labelled and changed.
 use crate::checks::{Check, alone, counting};
-use crate::must::{must, same, told};
+use crate::must::{is_allowed, must, same, told};
 use crate::tests::locations::{at, make};
+use crate::tests::made::has_type;
 use irtext_base::base::{AttrObj, GIVEN_NAMES_KEY, SYM_NAME_KEY};
 use irtext_base::location::Source;
 use irtext_base::result::Result as Answer;
@@ -29,13 +30,6 @@ fn made(
     BasicBlock::new(ctx, None, must(rt, types(alloc, letters)))
 }
 
-/// Whether the first argument of a block is a pointer.
-fn begins_with_pointer(ctx: &Ctx, block: Ptr<BasicBlock>) -> bool {
-    let graph = ctx.graph();
-    let first = Value::Argument(block, 0);
-    graph.contains_value(first) && *graph.type_of(first) == Some(DemoType::Pointer)
-}
-
 /// The text of a block: its label, how many arguments and attributes it has, and whether its location is unknown.
 fn shown(rt: &impl Abort, alloc: Global, ctx: &Ctx, block: Ptr<BasicBlock>) -> String {
     assert!(rt; ctx.contains_block(block));
@@ -49,22 +43,13 @@ fn shown(rt: &impl Abort, alloc: Global, ctx: &Ctx, block: Ptr<BasicBlock>) -> S
     format!(in alloc; "{label} {arguments} {attributes} {unknown}").expect(rt, "out of memory")
 }
 
-/// A change of a block.
+/// A change of a block: it gets a label, or none, a place, or an identifier under a key.
 #[derive(Clone, Copy)]
 enum Step {
     Label,
     NoLabel,
     Place,
-    Name,
-    GivenNames,
-}
-
-/// Puts an identifier under a key of a block, and returns whether that was allowed.
-fn put(rt: &impl Abort, alloc: Global, ctx: &mut Ctx, block: Ptr<BasicBlock>, key: &str) -> bool {
-    assert!(rt; ctx.contains_block(block));
-    let key = must(rt, named(alloc, key));
-    let attr = AttrObj::Ident(must(rt, named(alloc, "main")));
-    block.set_attribute(ctx, key, attr).is_ok()
+    Key(&'static str),
 }
 
 /// Changes a block, and returns whether that was allowed.
@@ -80,8 +65,11 @@ fn write(
         Step::Label => block.set_label(ctx, Some(must(rt, named(alloc, "entry")))),
         Step::NoLabel => block.set_label(ctx, None),
         Step::Place => block.set_loc(ctx, at(Source::InMemory)),
-        Step::Name => return put(rt, alloc, ctx, block, SYM_NAME_KEY),
-        Step::GivenNames => return put(rt, alloc, ctx, block, GIVEN_NAMES_KEY),
+        Step::Key(key) => {
+            let key = must(rt, named(alloc, key));
+            let attr = AttrObj::Ident(must(rt, named(alloc, "main")));
+            return is_allowed(block.set_attribute(ctx, key, attr));
+        }
     }
     true
 }
@@ -89,8 +77,8 @@ fn write(
 /// Changes, one after the other, whether each is allowed, and the text of the block after it.
 const STEPS: &[(Step, bool, &str)] = &[
     (Step::Label, true, "entry 3 0 true"),
-    (Step::Name, true, "entry 3 1 true"),
-    (Step::GivenNames, false, "entry 3 1 true"),
+    (Step::Key(SYM_NAME_KEY), true, "entry 3 1 true"),
+    (Step::Key(GIVEN_NAMES_KEY), false, "entry 3 1 true"),
     (Step::Place, true, "entry 3 1 false"),
     (Step::NoLabel, true, "- 3 1 false"),
 ];
@@ -98,11 +86,11 @@ const STEPS: &[(Step, bool, &str)] = &[
 /// Checks the result of each step, and how it leaves a block that begins with three arguments.
 pub(crate) fn check_steps(rt: &impl Abort, alloc: Global, ctx: &mut Ctx) {
     let block = made(rt, alloc, ctx, "ppp").ok().expect(rt, "refused");
-    assert!(rt; begins_with_pointer(ctx, block));
-    same(rt, shown(rt, alloc, ctx, block).as_str(), "- 3 0 true");
+    assert!(rt; has_type(ctx.graph(), Value::Argument(block, 0), DemoType::Pointer));
+    same(rt, shown(rt, alloc, ctx, block), "- 3 0 true");
     for row in STEPS {
         assert!(rt; write(rt, alloc, ctx, block, row.0) == row.1);
-        same(rt, shown(rt, alloc, ctx, block).as_str(), row.2);
+        same(rt, shown(rt, alloc, ctx, block), row.2);
     }
 }
 
@@ -111,16 +99,16 @@ fn blocks_are_labelled_and_written(rt: HostRuntime) {
     alone(&rt, rt.alloc(), Check::Blocks);
 }
 
-/// The text of the result for a block with arguments of these types.
-fn said(rt: &impl Abort, alloc: Global, ctx: &mut Ctx, letters: &str) -> String {
-    told(rt, alloc, made(rt, alloc, ctx, letters), "made")
-}
-
 /// Checks that no block of two arguments is made if one number is left for values, and that one of one argument is.
 pub(crate) fn fill(rt: &impl Abort, alloc: Global, ctx: &mut Ctx) {
-    same(rt, said(rt, alloc, ctx, "pp").as_str(), "Out of memory");
+    let refused = told(rt, alloc, made(rt, alloc, ctx, "pp"), "made");
+    same(rt, refused, "Out of memory");
     assert!(rt; ctx.num_live() == 0);
-    same(rt, said(rt, alloc, ctx, "p").as_str(), "made");
+    same(
+        rt,
+        told(rt, alloc, made(rt, alloc, ctx, "p"), "made"),
+        "made",
+    );
 }
 
 #[test]

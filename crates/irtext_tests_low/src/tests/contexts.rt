@@ -4,10 +4,10 @@ ghost use Rattle.irtext_context.specs.Context.{KeepsOlder};
 
 use crate::checks::{Check, alone, counting};
 use crate::must::{must, same};
-use irtext_base::base::OpId;
 use irtext_base::location::Location;
 use irtext_context::base::context::making::Making;
 use irtext_context::base::{AttributeDict, Operation, OperationAccess, Ptr, Region};
+use irtext_graph::graph::Graph;
 use irtext_graph::held::HasGraph;
 use irtext_graph::object::Object;
 use irtext_tests_common::building::id;
@@ -15,15 +15,11 @@ use irtext_tests_common::contexts::Ctx;
 use std::alloc::{AllocError, Global};
 use std::process::Abort;
 
-/// The id of modules.
-fn module_id(rt: &impl Abort, alloc: Global) -> OpId {
-    must(rt, id(alloc, ("builtin", "module")))
-}
-
-/// Makes an operation without attributes, if there is a place for it.
-fn try_make(alloc: Global, ctx: &mut Ctx, id: OpId) -> Result<Ptr<Operation>, AllocError>
+/// Makes a module without attributes, if there is a place for it.
+fn try_make(rt: &impl Abort, alloc: Global, ctx: &mut Ctx) -> Result<Ptr<Operation>, AllocError>
     ensures kept { (mark : ℕ) → mark ≤ ctx.old.graph.made → KeepsOlder mark ctx.old ctx.new }
 {
+    let id = must(rt, id(alloc, ("builtin", "module")));
     ctx.make_operation(id, AttributeDict::new(alloc), Location::Unknown)
 }
 
@@ -31,7 +27,7 @@ fn try_make(alloc: Global, ctx: &mut Ctx, id: OpId) -> Result<Ptr<Operation>, Al
 fn make(rt: &impl Abort, alloc: Global, ctx: &mut Ctx) -> Ptr<Operation>
     ensures kept { (mark : ℕ) → mark ≤ ctx.old.graph.made → KeepsOlder mark ctx.old ctx.new }
 {
-    try_make(alloc, ctx, module_id(rt, alloc)).expect(rt, "out of memory")
+    try_make(rt, alloc, ctx).expect(rt, "out of memory")
 }
 
 /// The text of a module without attributes: its id, its regions, and whether its location is unknown.
@@ -53,8 +49,12 @@ fn passes(rt: &impl Abort, alloc: Global, ctx: &mut Ctx) -> (Ptr<Operation>, u64
 }
 
 /// Whether a region is in an operation.
-fn is_in(ctx: &Ctx, region: Ptr<Region>, op: Ptr<Operation>) -> bool {
-    let (graph, region) = (ctx.graph(), Object::TheRegion(region));
+fn is_in<O: Drop, B: Drop, T: Drop>(
+    graph: &Graph<O, B, T>,
+    region: Ptr<Region>,
+    op: Ptr<Operation>,
+) -> bool {
+    let region = Object::TheRegion(region);
     graph.contains(region) && graph.get_parent(region) == Some(Object::TheOperation(op))
 }
 
@@ -63,17 +63,13 @@ pub(crate) fn rolls_back(rt: &impl Abort, alloc: Global, ctx: &mut Ctx) {
     let first = make(rt, alloc, ctx);
     assert!(rt; ctx.contains_operation(first));
     let region = ctx.add_region(first).expect(rt, "out of memory");
-    assert!(rt; is_in(ctx, region, first));
+    assert!(rt; is_in(ctx.graph(), region, first));
     let (second, before) = passes(rt, alloc, ctx);
-    assert!(rt; is_in(ctx, region, first) & !ctx.contains_operation(second));
+    assert!(rt; is_in(ctx.graph(), region, first) & !ctx.contains_operation(second));
     assert!(rt; (before == 3) & (ctx.num_live() == 2));
     let third = make(rt, alloc, ctx);
     assert!(rt; (second.place() == 2) & (third.place() == 2) & (third.generation() == 2));
-    same(
-        rt,
-        shown(rt, alloc, ctx, first).as_str(),
-        "builtin.module 1 true",
-    );
+    same(rt, shown(rt, alloc, ctx, first), "builtin.module 1 true");
 }
 
 #[test]
@@ -83,8 +79,8 @@ fn objects_are_made_kept_and_given_back(rt: HostRuntime) {
 
 /// Checks that one operation is made, and not another one.
 pub(crate) fn fill(rt: &impl Abort, alloc: Global, ctx: &mut Ctx) {
-    assert!(rt; try_make(alloc, ctx, module_id(rt, alloc)).is_ok());
-    assert!(rt; try_make(alloc, ctx, module_id(rt, alloc)).is_err());
+    assert!(rt; try_make(rt, alloc, ctx).is_ok());
+    assert!(rt; try_make(rt, alloc, ctx).is_err());
     assert!(rt; ctx.num_live() == 1);
 }
 

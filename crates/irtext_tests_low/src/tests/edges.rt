@@ -1,6 +1,6 @@
 //! Attributes that are set on an operation, and `Refusal`s as errors.
 use crate::checks::{Check, alone};
-use crate::must::{must, same, told};
+use crate::must::{error_told, must, same, told};
 use crate::tests::locations::make;
 use irtext_base::base::{AttrObj, GIVEN_NAMES_KEY, Refusal, SYM_NAME_KEY};
 use irtext_base::result::{Error, Result as Answer};
@@ -40,29 +40,19 @@ fn step(rt: &impl Abort, alloc: Global, ctx: &mut Ctx, op: Ptr<Operation>, key: 
 pub(crate) fn check_keys(rt: &impl Abort, alloc: Global, ctx: &mut Ctx) {
     let op = make(rt, alloc, ctx);
     for row in KEYS {
-        same(rt, step(rt, alloc, ctx, op, row.0).as_str(), row.1);
+        same(rt, step(rt, alloc, ctx, op, row.0), row.1);
     }
     assert!(rt; ctx.contains_operation(op));
     assert!(rt; op.attributes(ctx).len() == 1);
 }
 
-/// The text of an error.
-fn text_of(rt: &impl Abort, alloc: Global, error: &Error<DemoAttr>) -> String {
-    format!(in alloc; "{error}").expect(rt, "out of memory")
-}
-
-/// The text of the error for out of memory.
-fn no_memory(rt: &impl Abort, alloc: Global) -> String {
-    let error: Error<DemoAttr> = Error::from(AllocError);
-    text_of(rt, alloc, &error)
-}
-
 #[test]
 fn attributes_are_set_and_refused(rt: HostRuntime) {
     alone(&rt, rt.alloc(), Check::Keys);
+    let error: Error<DemoAttr> = Error::from(AllocError);
     same(
         &rt,
-        no_memory(&rt, rt.alloc()).as_str(),
+        error_told(&rt, rt.alloc(), error),
         "Compilation error: invalid argument.\nOut of memory",
     );
 }

@@ -1,6 +1,6 @@
 //! Attributes that are borrowed mutably from a context: an inserted key is there, a reserved one is rejected, other objects are unchanged.
 use crate::checks::{Check, alone};
-use crate::must::must;
+use crate::must::{is_allowed, must};
 use crate::tests::locations::make;
 use crate::tests::unique::make_block;
 use irtext_base::base::{AttrObj, GIVEN_NAMES_KEY, SYM_NAME_KEY};
@@ -20,7 +20,7 @@ fn put(
     key: &str,
 ) -> bool {
     let attr = AttrObj::Ident(must(rt, named(alloc, "main")));
-    attributes.insert(must(rt, named(alloc, key)), attr).is_ok()
+    is_allowed(attributes.insert(must(rt, named(alloc, key)), attr))
 }
 
 /// Puts an identifier under a key of an item, and returns whether that was allowed.

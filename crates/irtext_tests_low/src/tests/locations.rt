@@ -74,9 +74,17 @@ fn keep_once(rt: &impl Abort, alloc: Global, ctx: &mut Ctx, other: &Ctx) {
     let c = file(rt, ctx, "c");
     let again = file(rt, ctx, "b");
     assert!(rt; (b != c) & (b == again) & (ctx.num_paths() == 2));
-    assert!(rt; b.is_of(ctx) & !b.is_of(other) & !other.contains_paths(&at(b)));
+    assert!(rt; b.is_of(ctx) & !b.is_of(other) & !has_path(other, b));
     assert!(rt; has_single(rt, alloc, b) & in_order(rt, alloc, b) & lists_once(rt, alloc, b));
     assert!(rt; path_of(ctx, b) == "b");
+}
+
+/// Whether a context keeps the path of a place of the source.
+fn has_path(ctx: &Ctx, source: Source) -> bool {
+    let place = at(source);
+    let kept = ctx.contains_paths(&place);
+    drop(place);
+    kept
 }
 
 /// The path of a source of the context.
@@ -97,46 +105,62 @@ fn has_sources(
     wanted: &[Source],
 ) -> bool {
     let sources = location.sources(alloc).ok().expect(rt, "out of memory");
-    sources.as_slice() == wanted
+    let same = sources.as_slice() == wanted;
+    drop(sources);
+    same
 }
 
 /// Whether a location of one source has that alone.
 fn has_single(rt: &impl Abort, alloc: Global, b: Source) -> bool {
     let one = fused(rt, alloc, at(b), at(b));
-    one.source() == Some(b)
+    let source = one.source();
+    drop(one);
+    source == Some(b)
 }
 
 /// Whether the sources of a location in another are in the order of their first mention.
 fn in_order(rt: &impl Abort, alloc: Global, b: Source) -> bool {
     let one = fused(rt, alloc, at(b), at(b));
     let all = fused(rt, alloc, one, at(Source::InMemory));
-    all.source().is_none() && has_sources(rt, alloc, &all, &[b, Source::InMemory])
+    let listed = has_sources(rt, alloc, &all, &[b, Source::InMemory]);
+    let source = all.source();
+    drop(all);
+    listed & source.is_none()
 }
 
 /// Whether a source that is mentioned first and last is listed once, first.
 fn lists_once(rt: &impl Abort, alloc: Global, b: Source) -> bool {
     let locations = Vec::from_array(alloc, [at(b), at(Source::InMemory), at(b)]);
     let all = fused_of(rt, alloc, locations.expect(rt, "out of memory"));
-    has_sources(rt, alloc, &all, &[b, Source::InMemory])
+    let listed = has_sources(rt, alloc, &all, &[b, Source::InMemory]);
+    drop(all);
+    listed
 }
 
 /// Whether a copy equals its source.
 fn copied(rt: &impl Abort, alloc: Global) -> bool {
     let location = fused(rt, alloc, at(Source::InMemory), Location::Unknown);
-    equals_copy(rt, alloc, &location)
+    let same = equals_copy(rt, alloc, &location);
+    drop(location);
+    same
 }
 
 /// Whether the copy of a location equals it.
 fn equals_copy(rt: &impl Abort, alloc: Global, location: &Location<DemoAttr>) -> bool {
     let copy = location.try_clone(alloc).ok().expect(rt, "out of memory");
-    copy == *location
+    let same = copy == *location;
+    drop(copy);
+    same
 }
 
 /// Whether the copy of an attribute equals it.
 fn attribute_copied(rt: &impl Abort, alloc: Global) -> bool {
     let attribute: AttrObj<DemoAttr> = AttrObj::Ident(must(rt, named(alloc, "x")));
     let copy = attribute.try_clone(alloc).expect(rt, "out of memory");
-    copy == attribute
+    let same = copy == attribute;
+    drop(copy);
+    drop(attribute);
+    same
 }
 
 /// Whether the hash of a place is computed from its path.
@@ -148,7 +172,9 @@ fn hashed(rt: &impl Abort, ctx: &mut Ctx) -> bool {
     "b".hash(&mut wanted);
     wanted.write_i32(1);
     wanted.write_i32(2);
-    hash_of(ctx, &place) == wanted.finish()
+    let hash = hash_of(ctx, &place);
+    drop(place);
+    hash == wanted.finish()
 }
 
 /// Whether the hash of fused locations counts them.
@@ -162,7 +188,9 @@ fn counted(rt: &impl Abort, alloc: Global, ctx: &Ctx) -> bool {
     wanted.write_u8(1);
     wanted.write_u8(0);
     wanted.write_u64(0);
-    hash_of(ctx, &none) == wanted.finish()
+    let hash = hash_of(ctx, &none);
+    drop(none);
+    hash == wanted.finish()
 }
 
 /// Checks that a source moves to another context under the same path, and a place without a path stays the same.
@@ -186,7 +214,10 @@ fn is_alike(rt: &impl Abort, location: &Location<DemoAttr>, from: &Ctx, to: &mut
         .clone_into_context(from, to)
         .ok()
         .expect(rt, "out of memory");
-    hash_of(to, &moved) == hash_of(from, location) && moved != *location
+    let hash = hash_of(to, &moved);
+    let kept = moved == *location;
+    drop(moved);
+    !kept && hash == hash_of(from, location)
 }
 
 /// Checks that for a location of two files, of which one path is new in the other context.
@@ -194,6 +225,7 @@ fn carry(rt: &impl Abort, alloc: Global, from: &mut Ctx, to: &mut Ctx) {
     let (d, a) = (file(rt, from, "d"), file(rt, from, "a"));
     let location = fused(rt, alloc, at(d), at(a));
     assert!(rt; is_alike(rt, &location, from, to) && to.num_paths() == 3);
+    drop(location);
 }
 
 /// Makes a module with a place.

@@ -1,6 +1,6 @@
 //! Operations of a context that are made with results, operands, successors and regions, or fail.
 use crate::checks::{Check, alone, counting};
-use crate::must::{must, same, told};
+use crate::must::{is_allowed, must, same, told};
 use crate::tests::unique::make_block;
 use irtext_base::result::Result as Answer;
 use irtext_context::base::{
@@ -9,6 +9,7 @@ use irtext_context::base::{
 use irtext_demo::dialects::register_demo;
 use irtext_demo::{DemoAttr, DemoType, IntegerType, Signedness, Width};
 use irtext_few::Few;
+use irtext_graph::graph::Graph;
 use irtext_graph::held::HasGraph;
 use irtext_graph::object::{Defined, Object};
 use irtext_tests_common::building::id;
@@ -18,7 +19,7 @@ use std::process::Abort;
 
 /// Registers the demo dialects.
 fn add_demo(rt: &impl Abort, ctx: &mut Ctx) {
-    assert!(rt; register_demo(ctx).is_ok());
+    assert!(rt; is_allowed(register_demo(ctx)));
 }
 
 /// The result of making an operation with two results, a pointer and a byte, with these operands and successors, and with
@@ -63,8 +64,12 @@ fn made(
 }
 
 /// Whether an operation uses these three values and this block, and nothing else.
-fn is_linked(ctx: &Ctx, op: Ptr<Operation>, operands: [Value; 3], block: Ptr<BasicBlock>) -> bool {
-    let graph = ctx.graph();
+fn is_linked<O: Drop, B: Drop, T: Drop>(
+    graph: &Graph<O, B, T>,
+    op: Ptr<Operation>,
+    operands: [Value; 3],
+    block: Ptr<BasicBlock>,
+) -> bool {
     graph.contains(Object::TheOperation(op))
         && graph.num_operands(op) == 3
         && graph.num_successors(op) == 1
@@ -82,21 +87,27 @@ fn byte(rt: &impl Abort) -> DemoType {
 }
 
 /// Whether a value has this type.
-fn has_type(ctx: &Ctx, value: Value, of_type: DemoType) -> bool {
-    let graph = ctx.graph();
+pub(crate) fn has_type<O: Drop, B: Drop>(
+    graph: &Graph<O, B, Option<DemoType>>,
+    value: Value,
+    of_type: DemoType,
+) -> bool {
     graph.contains_value(value) && *graph.type_of(value) == Some(of_type)
 }
 
 /// Whether an operation has two results, a pointer and a byte.
-fn is_typed(rt: &impl Abort, ctx: &Ctx, op: Ptr<Operation>) -> bool {
-    has_type(ctx, Value::Result(op, 0), DemoType::Pointer)
-        && has_type(ctx, Value::Result(op, 1), byte(rt))
-        && !ctx.graph().contains_value(Value::Result(op, 2))
+fn is_typed<O: Drop, B: Drop>(
+    rt: &impl Abort,
+    graph: &Graph<O, B, Option<DemoType>>,
+    op: Ptr<Operation>,
+) -> bool {
+    has_type(graph, Value::Result(op, 0), DemoType::Pointer)
+        && has_type(graph, Value::Result(op, 1), byte(rt))
+        && !graph.contains_value(Value::Result(op, 2))
 }
 
 /// The number of operands that are a value, if it is live.
-fn num_uses(ctx: &Ctx, value: Value) -> Option<usize> {
-    let graph = ctx.graph();
+fn num_uses<O: Drop, B: Drop, T: Drop>(graph: &Graph<O, B, T>, value: Value) -> Option<usize> {
     if !graph.contains_value(value) {
         return None;
     }
@@ -104,8 +115,13 @@ fn num_uses(ctx: &Ctx, value: Value) -> Option<usize> {
 }
 
 /// Whether an operation has so many regions, of which this is one.
-fn has_region(ctx: &Ctx, op: Ptr<Operation>, count: usize, region: Ptr<Region>) -> bool {
-    let (graph, op) = (ctx.graph(), Object::TheOperation(op));
+fn has_region<O: Drop, B: Drop, T: Drop>(
+    graph: &Graph<O, B, T>,
+    op: Ptr<Operation>,
+    count: usize,
+    region: Ptr<Region>,
+) -> bool {
+    let op = Object::TheOperation(op);
     let region = Object::TheRegion(region);
     graph.contains(op)
         && graph.contains(region)
@@ -117,7 +133,20 @@ fn has_region(ctx: &Ctx, op: Ptr<Operation>, count: usize, region: Ptr<Region>) 
 fn grow(rt: &impl Abort, ctx: &mut Ctx, op: Ptr<Operation>) {
     assert!(rt; ctx.contains_operation(op));
     let region = op.add_region(ctx).expect(rt, "out of memory");
-    assert!(rt; has_region(ctx, op, 3, region));
+    assert!(rt; has_region(ctx.graph(), op, 3, region));
+}
+
+/// Checks that an operation uses a result twice, an argument and a block, and has its results.
+fn check_parts<O: Drop, B: Drop>(
+    rt: &impl Abort,
+    graph: &Graph<O, B, Option<DemoType>>,
+    op: Ptr<Operation>,
+    used: (Value, Value),
+    block: Ptr<BasicBlock>,
+) {
+    let (result, argument) = used;
+    assert!(rt; is_linked(graph, op, [result, argument, result], block) & is_typed(rt, graph, op));
+    assert!(rt; (num_uses(graph, result) == Some(2)) & (num_uses(graph, argument) == Some(1)));
 }
 
 /// Checks that an operation that uses a result twice, an argument and a block has the parts that it was made with.
@@ -127,8 +156,7 @@ pub(crate) fn link(rt: &impl Abort, alloc: Global, ctx: &mut Ctx) {
     let block = make_block(rt, alloc, ctx, "", "p");
     let (result, argument) = (Value::Result(first, 1), Value::Argument(block, 0));
     let op = made(rt, alloc, ctx, &[result, argument, result], &[block]);
-    assert!(rt; is_linked(ctx, op, [result, argument, result], block) & is_typed(rt, ctx, op));
-    assert!(rt; (num_uses(ctx, result) == Some(2)) & (num_uses(ctx, argument) == Some(1)));
+    check_parts(rt, ctx.graph(), op, (result, argument), block);
     grow(rt, ctx, op);
 }
 
@@ -149,8 +177,8 @@ pub(crate) fn refuse(rt: &impl Abort, alloc: Global, ctx: &mut Ctx, row: usize) 
     let row = UNREGISTERED.get(row).expect(rt, "no such row");
     let used = Value::Result(made(rt, alloc, ctx, &[], &[]), 0);
     let said = said(rt, alloc, ctx, (row.0, row.1), &[used], &[]);
-    same(rt, said.as_str(), row.2);
-    assert!(rt; (ctx.num_live() == 3) & (num_uses(ctx, used) == Some(0)));
+    same(rt, said, row.2);
+    assert!(rt; (ctx.num_live() == 3) & (num_uses(ctx.graph(), used) == Some(0)));
 }
 
 #[test]
@@ -166,8 +194,8 @@ pub(crate) fn fill(rt: &impl Abort, alloc: Global, ctx: &mut Ctx) {
     let used = Value::Result(made(rt, alloc, ctx, &[], &[]), 0);
     let block = make_block(rt, alloc, ctx, "", "p");
     let said = said(rt, alloc, ctx, ("builtin", "module"), &[used], &[block]);
-    same(rt, said.as_str(), "Out of memory");
-    assert!(rt; (ctx.num_live() == 4) & (num_uses(ctx, used) == Some(0)));
+    same(rt, said, "Out of memory");
+    assert!(rt; (ctx.num_live() == 4) & (num_uses(ctx.graph(), used) == Some(0)));
 }
 
 #[test]

@@ -24,7 +24,10 @@ fn is_nested(nesting: Nesting, location: &Location<DemoAttr>, source: Source) ->
             None => return false,
         }
     }
-    *innermost == at(source)
+    let place = at(source);
+    let same = *innermost == place;
+    drop(place);
+    same
 }
 
 /// Whether a text in memory is the only source of a location.
@@ -36,12 +39,15 @@ fn has_one_source(
 ) -> bool {
     let sources = location.sources(alloc).ok().expect(rt, "out of memory");
     let found = sources.len() == 1 && sources[0] == Source::InMemory;
+    drop(sources);
     found && (!is_last_nested(nesting) || location.source() == Some(Source::InMemory))
 }
 
 fn is_copied(rt: &impl Abort, alloc: Global, nesting: Nesting) -> bool {
     let location = nested(alloc, nesting, DEPTH, at(Source::InMemory)).expect(rt, "out of memory");
-    has_copy(rt, alloc, nesting, &location)
+    let copied = has_copy(rt, alloc, nesting, &location);
+    drop(location);
+    copied
 }
 
 /// Whether a nested location is copied, and its source found in the copy.
@@ -53,7 +59,10 @@ fn has_copy(
 ) -> bool {
     let copy = location.try_clone(alloc).ok().expect(rt, "out of memory");
     let same = !is_last_nested(nesting) || copy == *location;
-    same && is_nested(nesting, &copy, Source::InMemory) && has_one_source(rt, alloc, nesting, &copy)
+    let nested = is_nested(nesting, &copy, Source::InMemory);
+    let sourced = has_one_source(rt, alloc, nesting, &copy);
+    drop(copy);
+    same & nested & sourced
 }
 
 fn is_carried(
@@ -65,7 +74,9 @@ fn is_carried(
 ) -> bool {
     let place = at(file(rt, from, "e"));
     let location = nested(alloc, nesting, DEPTH, place).expect(rt, "out of memory");
-    comes_over(rt, nesting, &location, from, to)
+    let moved = comes_over(rt, nesting, &location, from, to);
+    drop(location);
+    moved
 }
 
 /// Whether a nested location moves to another context.
@@ -81,7 +92,9 @@ fn comes_over(
         .clone_into_context(from, to)
         .ok()
         .expect(rt, "out of memory");
-    is_nested(nesting, &moved, file(rt, to, "e"))
+    let nested = is_nested(nesting, &moved, file(rt, to, "e"));
+    drop(moved);
+    nested
 }
 
 /// Checks that locations nested in every way are copied, and their sources found.

@@ -6,48 +6,43 @@ use irtext_base::base::{AttrObj, GIVEN_NAMES_KEY, Identifier};
 use irtext_context::base::{BasicBlock, Item, Operation, OperationData, Ptr};
 use irtext_demo::{DemoAttr, DemoType};
 use irtext_few::Few;
-use irtext_grammar::UniqueName;
 use irtext_graph::held::HasGraph;
 use irtext_graph::object::Value;
+use irtext_print::UniqueName;
 use irtext_tests_common::building::{block, erase, give, types};
 use irtext_tests_common::contexts::{Ctx, named};
-use std::alloc::Global;
+use std::alloc::{AllocError, Global};
 use std::process::Abort;
 
-/// The name of a value, or `-` if it is not live.
-fn value_name(rt: &impl Abort, alloc: Global, ctx: &Ctx, v: Value) -> String {
-    if !ctx.graph().contains_value(v) {
-        return String::from_str(alloc, "-").expect(rt, "out of memory");
-    }
-    v.unique_name(ctx).expect(rt, "out of memory")
-}
-
-/// Appends a name, and a space.
-fn append_name(rt: &impl Abort, name: &str, names: &mut String) {
-    names.push_str(name).expect(rt, "out of memory");
+/// Appends a text, and a space.
+fn append_text(rt: &impl Abort, text: &str, names: &mut String) {
+    names.push_str(text).expect(rt, "out of memory");
     names.push(' ').expect(rt, "out of memory");
 }
 
-/// Appends the name of a block, or `-` if it is not live, and a space.
-fn append_block(
-    rt: &impl Abort,
-    alloc: Global,
-    ctx: &Ctx,
-    block: Ptr<BasicBlock>,
-    names: &mut String,
-) {
-    if !ctx.contains_block(block) {
-        append_name(rt, "-", names);
-        return;
-    }
-    let name = block.unique_name(ctx).expect(rt, "out of memory");
-    append_name(rt, name.as_str(), names);
+/// Appends a name, which ends here, and a space.
+fn append_name(rt: &impl Abort, name: Result<String, AllocError>, names: &mut String) {
+    let name = name.expect(rt, "out of memory");
+    append_text(rt, name.as_str(), names);
+    drop(name);
 }
 
-/// Appends the name of a value, and a space.
-fn append(rt: &impl Abort, alloc: Global, ctx: &Ctx, v: Value, names: &mut String) {
-    let name = value_name(rt, alloc, ctx, v);
-    append_name(rt, name.as_str(), names);
+/// Appends the name of a block, or `-` if it is not live, and a space.
+fn append_block(rt: &impl Abort, ctx: &Ctx, block: Ptr<BasicBlock>, names: &mut String) {
+    if ctx.contains_block(block) {
+        append_name(rt, block.unique_name(ctx), names);
+    } else {
+        append_text(rt, "-", names);
+    }
+}
+
+/// Appends the name of a value, or `-` if it is not live, and a space.
+fn append(rt: &impl Abort, ctx: &Ctx, v: Value, names: &mut String) {
+    if ctx.graph().contains_value(v) {
+        append_name(rt, v.unique_name(ctx), names);
+    } else {
+        append_text(rt, "-", names);
+    }
 }
 
 /// A name, if there is a text.
@@ -70,15 +65,9 @@ fn given(rt: &impl Abort, alloc: Global, texts: &[Option<&str>]) -> AttrObj<Demo
 }
 
 /// Appends the names of the first four arguments of a block.
-fn append_arguments(
-    rt: &impl Abort,
-    alloc: Global,
-    ctx: &Ctx,
-    block: Ptr<BasicBlock>,
-    names: &mut String,
-) {
+fn append_arguments(rt: &impl Abort, ctx: &Ctx, block: Ptr<BasicBlock>, names: &mut String) {
     for index in 0..4 {
-        append(rt, alloc, ctx, Value::Argument(block, index), names);
+        append(rt, ctx, Value::Argument(block, index), names);
     }
 }
 
@@ -103,10 +92,10 @@ pub(crate) fn make_block(
 /// Appends the names of a block's three arguments, without given names and with two, of which one is left out.
 fn of_arguments(rt: &impl Abort, alloc: Global, ctx: &mut Ctx, names: &mut String) {
     let block = make_block(rt, alloc, ctx, "entry", "ppp");
-    append_arguments(rt, alloc, ctx, block, names);
-    append_name(rt, "|", names);
+    append_arguments(rt, ctx, block, names);
+    append_text(rt, "|", names);
     give_names(rt, alloc, ctx, Item::Block(block), &[None, Some("x")]);
-    append_arguments(rt, alloc, ctx, block, names);
+    append_arguments(rt, ctx, block, names);
 }
 
 /// The data of a module whose first result has the name `c0`.
@@ -134,25 +123,22 @@ fn of_results(rt: &impl Abort, alloc: Global, ctx: &mut Ctx, names: &mut String)
     let op = with_results(rt, ctx, data);
     let placeholder = with_results(rt, ctx, None);
     for index in 0..3 {
-        append(rt, alloc, ctx, Value::Result(op, index), names);
+        append(rt, ctx, Value::Result(op, index), names);
     }
-    append(rt, alloc, ctx, Value::Result(placeholder, 0), names);
+    append(rt, ctx, Value::Result(placeholder, 0), names);
 }
 
 /// Appends the names of two blocks, the second with a label, and of one that is at the place of the first.
 fn of_blocks(rt: &impl Abort, alloc: Global, ctx: &mut Ctx, names: &mut String) {
     let first = make_block(rt, alloc, ctx, "", "p");
     let second = make_block(rt, alloc, ctx, "entry", "");
-    append_block(rt, alloc, ctx, first, names);
+    append_block(rt, ctx, first, names);
     must(rt, erase(ctx, Item::Block(first)));
     let third = make_block(rt, alloc, ctx, "", "p");
     for block in &[first, second, third] {
-        append_block(rt, alloc, ctx, *block, names);
+        append_block(rt, ctx, *block, names);
     }
-    let argument = value_name(rt, alloc, ctx, Value::Argument(third, 0));
-    names
-        .push_str(argument.as_str())
-        .expect(rt, "out of memory");
+    append(rt, ctx, Value::Argument(third, 0), names);
 }
 
 /// What is named.
@@ -167,12 +153,12 @@ enum Kind {
 const NAMES: &[(Kind, u64, u32, &str)] = &[
     (Kind::Arguments, 0, 1, "v0 v1 v2 - | v0 x_v1 v2 - "),
     (Kind::Results, 0, 1, "c0_v0 v1 - v2 "),
-    (Kind::Blocks, 0, 1, "block1v1 - entry_block2v1 block1v2 v1"),
+    (Kind::Blocks, 0, 1, "block1v1 - entry_block2v1 block1v2 v1 "),
     (
         Kind::Blocks,
         7,
         40,
-        "block40v1 - entry_block41v1 block40v2 v8",
+        "block40v1 - entry_block41v1 block40v2 v8 ",
     ),
 ];
 
@@ -185,7 +171,7 @@ pub(crate) fn check(rt: &impl Abort, alloc: Global, ctx: &mut Ctx, row: usize) {
         Kind::Results => of_results(rt, alloc, ctx, &mut names),
         Kind::Blocks => of_blocks(rt, alloc, ctx, &mut names),
     }
-    same(rt, names.as_str(), row.3);
+    same(rt, names, row.3);
 }
 
 #[test]

@@ -27,7 +27,9 @@ fn result(tracker: &mut Tracker, alloc: Global, check: Check) -> Result<bool, Al
 /// Whether a check of a new tracker succeeds.
 fn holds(alloc: Global, check: Check) -> bool {
     let mut tracker: Tracker = NameTracker::new(alloc);
-    result(&mut tracker, alloc, check).unwrap_or(false)
+    let holds = result(&mut tracker, alloc, check).unwrap_or(false);
+    drop(tracker);
+    holds
 }
 
 #[test]

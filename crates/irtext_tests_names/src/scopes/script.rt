@@ -48,5 +48,7 @@ fn differing(
 /// Whether all calls of a script have the same results.
 pub(crate) fn goes_alike(tracker: &mut Tracker, alloc: Global) -> bool {
     let mut model = Model::new(alloc);
-    differing(tracker, &mut model, CALLS).ok() == Some(None)
+    let same = differing(tracker, &mut model, CALLS).ok() == Some(None);
+    drop(model);
+    same
 }

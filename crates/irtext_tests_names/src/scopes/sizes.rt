@@ -35,7 +35,9 @@ fn answers_numbered(
         _ => Done,
     };
     let text = format!(in alloc; "name_{number}")?;
-    answers(tracker, call, text.as_str(), number, answer)
+    let answered = answers(tracker, call, text.as_str(), number, answer);
+    drop(text);
+    answered
 }
 
 /// Makes a call on each of so many names, and returns whether each has the expected result.

@@ -156,5 +156,7 @@ fn answers_on(tracker: &mut Tracker, script: &str) -> Result<bool, AllocError> {
 /// The same for a script on a new tracker.
 pub(crate) fn answers(alloc: Global, script: &str) -> bool {
     let mut tracker: Tracker = NameTracker::new(alloc);
-    answers_on(&mut tracker, script).unwrap_or(false)
+    let answered = answers_on(&mut tracker, script).unwrap_or(false);
+    drop(tracker);
+    answered
 }

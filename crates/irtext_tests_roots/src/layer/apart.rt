@@ -1,18 +1,17 @@
 //! The laws of the two calls over two contexts. If the same dialect is registered with each separately, they have the same dialects, and the
 //! printed text of the one is parsed back in the other; if they have no dialects, no root is printed.
-ghost use Rattle.std.specs.Prelude.{◌≡◌, [], IfOk, OnOk, codes};
+ghost use Rattle.std.specs.Prelude.{◌≡◌, [], IfOk, codes};
 ghost use Rattle.irtext_base.specs.Format as format;
 ghost use Rattle.irtext_base.specs.FormatViews.{directive_of, format_of};
 ghost use Rattle.irtext_tests_roots.specs.Apart.{lab_dialects, lab_format, lab_id};
 
-use crate::value::{same, value_of};
+use crate::reading::concrete;
+use crate::registering::register_operation;
+use crate::value::{name_of, same, value_of};
 use irtext_context::base::context::making::Making;
 use irtext_demo::DemoAttr;
 use irtext_tests_common::answers::result_text;
-use irtext_tests_common::building::live;
-use irtext_tests_common::contexts::{Ctx, named};
-use irtext_tests_print::reading::concrete;
-use irtext_tests_print::registering::register_operation;
+use irtext_tests_common::contexts::Ctx;
 use pliron_text::base::{AttributeDict, Context, NewBareOperation, OpId, Operation, Ptr};
 use pliron_text::dialect::DialectName;
 use pliron_text::format::{Directive, OpFormat};
@@ -25,13 +24,13 @@ use std::process::Abort;
 use std::test::Fail;
 
 /// The id of `lab.d`.
-fn id(alloc: Global) -> Result<OpId, Fail>
-    ensures { IfOk result (λ id. id ≡ lab_id) }
+fn id(rt: &impl Abort, alloc: Global) -> OpId
+    ensures { result ≡ lab_id }
 {
-    Ok(OpId {
-        dialect: named(alloc, "lab")?,
-        name: named(alloc, "d")?,
-    })
+    OpId {
+        dialect: name_of(rt, alloc, "lab"),
+        name: name_of(rt, alloc, "d"),
+    }
 }
 
 /// A word.
@@ -42,93 +41,99 @@ fn word(alloc: Global) -> Result<Directive, Fail>
 }
 
 /// A word and a region, allocated anew at each call.
-fn word_and_region(alloc: Global) -> Result<OpFormat, Fail>
-    ensures { IfOk result (λ f. format_of f ≡ lab_format) }
+fn word_and_region(rt: &impl Abort, alloc: Global) -> OpFormat
+    ensures { format_of result ≡ lab_format }
 {
+    let word = value_of(rt, word(alloc), "out of memory");
     let mut directives = Vec::new(alloc);
-    directives.push(word(alloc)?)?;
-    directives.push(Directive::Region(0))?;
-    Ok(OpFormat::Custom(directives))
+    directives.push(word).expect(rt, "out of memory");
+    directives
+        .push(Directive::Region(0))
+        .expect(rt, "out of memory");
+    OpFormat::Custom(directives)
 }
 
 /// Registers `lab.d`, which is isolated, with its dialect.
-fn register(alloc: Global, ctx: &mut Ctx) -> Result<(), Fail>
+fn register(rt: &impl Abort, alloc: Global, ctx: &mut Ctx)
     requires { ctx.old.dialects ≡ [] }
-    ensures { OnOk result (ctx.new.dialects ≡ lab_dialects) }
+    ensures { ctx.new.dialects ≡ lab_dialects }
 {
-    let id = id(alloc)?;
-    let name = DialectName::from(named(alloc, "lab")?);
-    let format = word_and_region(alloc)?;
+    let id = id(rt, alloc);
+    let name = DialectName::from(name_of(rt, alloc, "lab"));
+    let format = word_and_region(rt, alloc);
     let answer: Answer<(), DemoAttr> = register_operation(ctx, &name, id, format, true);
-    match answer {
-        Ok(()) => Ok(()),
-        Err(_) => Err(Fail::from("not registered")),
-    }
+    drop(name);
+    answer.expect(rt, "not registered");
 }
 
 /// Makes `lab.d` with one region.
-fn make(alloc: Global, ctx: &mut Ctx) -> Result<Ptr<Operation>, Fail>
-    ensures { OnOk result (ctx.new.dialects ≡ ctx.old.dialects) }
+fn make(rt: &impl Abort, alloc: Global, ctx: &mut Ctx) -> Ptr<Operation>
+    ensures { ctx.new.dialects ≡ ctx.old.dialects }
 {
-    let id = id(alloc)?;
-    let answer: Answer<Ptr<Operation>, DemoAttr> = Operation::new(ctx, id, 1);
-    match answer {
-        Ok(op) => Ok(op),
-        Err(_) => Err(Fail::from("not made")),
-    }
+    let answer: Answer<Ptr<Operation>, DemoAttr> = Operation::new(ctx, id(rt, alloc), 1);
+    answer.expect(rt, "not made")
 }
 
-/// The text of a result of the law of the two calls: the concrete text of the root in the other context, or why there is none.
+/// Makes `lab.d` whether it is registered or not.
+fn make_unregistered(rt: &impl Abort, alloc: Global, ctx: &mut Ctx) -> Ptr<Operation>
+    ensures { ctx.new.dialects ≡ ctx.old.dialects }
+{
+    let attributes = AttributeDict::new(alloc);
+    ctx.make_operation(id(rt, alloc), attributes, Location::Unknown)
+        .expect(rt, "out of memory")
+}
+
+/// The text of a result of the law of the two calls, which ends here: the concrete text of the root in the other context, or why there is
+/// none.
 fn answered(
+    rt: &impl Abort,
     alloc: Global,
     other: &Ctx,
-    answer: &Result<Ptr<Operation>, NotBack<DemoAttr>>,
-) -> Result<String, Fail> {
-    match answer {
-        Ok(root) => concrete(alloc, other, *root),
-        Err(NotBack::Unprinted(refusal)) => Ok(format!(in alloc; "{refusal:?}")?),
-        Err(NotBack::Unread(fault)) => result_text(alloc, fault),
-    }
+    answer: Result<Ptr<Operation>, NotBack<DemoAttr>>,
+) -> String {
+    let text = match &answer {
+        Ok(root) => value_of(rt, concrete(alloc, other, *root), "no text"),
+        Err(NotBack::Unprinted(refusal)) => {
+            format!(in alloc; "{refusal:?}").expect(rt, "out of memory")
+        }
+        Err(NotBack::Unread(fault)) => value_of(rt, result_text(alloc, fault), "out of memory"),
+    };
+    drop(answer);
+    text
 }
 
 /// The same, after an operation of the one context is printed and parsed.
 fn brought_over(
+    rt: &impl Abort,
     alloc: Global,
     ctx: &mut Ctx,
     op: Ptr<Operation>,
     other: &mut Ctx,
-) -> Result<String, Fail>
+) -> String
     requires { other.old.dialects ≡ ctx.old.dialects }
 {
-    live(ctx, op)?;
+    assert!(rt; ctx.contains_operation(op));
     let layout = State::new(alloc, ());
     let answer = printed_and_read(ctx, op, &layout, other);
-    answered(alloc, other, &answer)
-}
-
-/// Makes `lab.d` whether it is registered or not.
-fn make_unregistered(alloc: Global, ctx: &mut Ctx) -> Result<Ptr<Operation>, Fail>
-    ensures { OnOk result (ctx.new.dialects ≡ ctx.old.dialects) }
-{
-    let id = id(alloc)?;
-    Ok(ctx.make_operation(id, AttributeDict::new(alloc), Location::Unknown)?)
+    drop(layout);
+    answered(rt, alloc, other, answer)
 }
 
 /// The text that is parsed, printed and parsed again: an operation in a block of another.
 const NESTED: &str = "lab.d here { ^a(): lab.d here {} }";
 
-/// The concrete texts of both roots after that text is parsed in the one context, printed, and parsed in the other.
-fn read_again(rt: &impl Abort, alloc: Global, ctx: &mut Ctx, other: &mut Ctx) -> (String, String)
+/// The concrete text of both roots after that text is parsed in the one context, printed, and parsed in the other.
+fn read_again(rt: &impl Abort, alloc: Global, ctx: &mut Ctx, other: &mut Ctx) -> String
     requires { other.old.dialects ≡ ctx.old.dialects }
 {
     let layout = State::new(alloc, ());
-    match read_printed_and_read(NESTED, ctx, &layout, other) {
-        Ok((first, second)) => (
-            value_of(rt, concrete(alloc, ctx, first), "no text"),
-            value_of(rt, concrete(alloc, other, second), "no text"),
-        ),
-        Err(_) => rt.panic("not read again"),
-    }
+    let answer = read_printed_and_read(NESTED, ctx, &layout, other);
+    drop(layout);
+    let (first, second) = answer.ok().expect(rt, "not read again");
+    let first = value_of(rt, concrete(alloc, ctx, first), "no text");
+    let second = value_of(rt, concrete(alloc, other, second), "no text");
+    same(rt, first, second.as_str());
+    second
 }
 
 /// What is brought from one context into another, and whether the dialect is registered with each separately.
@@ -142,57 +147,51 @@ enum Case {
     Unregistered,
 }
 
-/// The result for a case: for the text the concrete texts of both roots, for `lab.d` its text in the other context, or why there is none.
-fn brought(
-    rt: &impl Abort,
-    alloc: Global,
-    ctx: &mut Ctx,
-    other: &mut Ctx,
-    case: Case,
-) -> Result<(String, String), Fail>
+/// The result for a case: for the text the concrete text of both roots, for `lab.d` its text in the other context, or why there is none.
+fn brought(rt: &impl Abort, alloc: Global, ctx: &mut Ctx, other: &mut Ctx, case: Case) -> String
     requires one { ctx.old.dialects ≡ [] }
     requires two { other.old.dialects ≡ [] }
 {
     if matches!(case, Case::Unregistered) {
-        let op = make_unregistered(alloc, ctx)?;
-        return Ok((brought_over(alloc, ctx, op, other)?, String::new(alloc)));
+        let op = make_unregistered(rt, alloc, ctx);
+        return brought_over(rt, alloc, ctx, op, other);
     }
-    register(alloc, ctx)?;
-    register(alloc, other)?;
+    register(rt, alloc, ctx);
+    register(rt, alloc, other);
     if matches!(case, Case::Text) {
-        return Ok(read_again(rt, alloc, ctx, other));
+        return read_again(rt, alloc, ctx, other);
     }
-    let op = make(alloc, ctx)?;
-    Ok((brought_over(alloc, ctx, op, other)?, String::new(alloc)))
+    let op = make(rt, alloc, ctx);
+    brought_over(rt, alloc, ctx, op, other)
 }
 
-/// The same with two contexts that had no dialects before.
-fn apart(rt: &impl Abort, alloc: Global, case: Case) -> (String, String) {
+/// Checks the result for a case, with two contexts that had no dialects before.
+fn check(rt: &impl Abort, alloc: Global, case: Case, wanted: &str) {
     let mut ctx: Ctx = Context::new(alloc);
     let mut other: Ctx = Context::new(alloc);
-    let brought = brought(rt, alloc, &mut ctx, &mut other, case);
-    value_of(rt, brought, "not registered, or no text")
+    let text = brought(rt, alloc, &mut ctx, &mut other, case);
+    drop(ctx);
+    drop(other);
+    same(rt, text, wanted);
 }
 
 #[test]
 fn a_text_is_read_printed_and_read_again(rt: HostRuntime) {
-    let (first, second) = apart(&rt, rt.alloc(), Case::Text);
-    same(&rt, first.as_str(), second.as_str());
-    same(
+    check(
         &rt,
-        first.as_str(),
+        rt.alloc(),
+        Case::Text,
         "lab.d here \n{\n  ^a_block1v1() !0:\n    lab.d here \n    {\n      \n    } !1\n}",
     );
 }
 
 #[test]
 fn a_root_comes_back_where_its_dialect_is_registered_apart(rt: HostRuntime) {
-    let (text, _) = apart(&rt, rt.alloc(), Case::Registered);
-    same(&rt, text.as_str(), "lab.d here \n{\n  \n}");
+    let wanted = "lab.d here \n{\n  \n}";
+    check(&rt, rt.alloc(), Case::Registered, wanted);
 }
 
 #[test]
 fn what_is_not_registered_is_not_brought_over(rt: HostRuntime) {
-    let (text, _) = apart(&rt, rt.alloc(), Case::Unregistered);
-    same(&rt, text.as_str(), "Misfit");
+    check(&rt, rt.alloc(), Case::Unregistered, "Misfit");
 }

@@ -1,9 +1,11 @@
 //! Calls that test what other calls require, the types of values, and the list of all operations in a root, by the names of this layer.
 use crate::checks::{Check, alone};
-use crate::value::{same, value_of};
+use crate::value::{held, id_of, same, to_text, value_of};
 use irtext_demo::{DemoAttr, DemoType};
-use irtext_tests_common::answers::printed;
-use irtext_tests_common::building::{id, types};
+use irtext_graph::graph::Graph;
+use irtext_graph::held::HasGraph;
+use irtext_graph::object::Object;
+use irtext_tests_common::building::types;
 use irtext_tests_common::contexts::Ctx;
 use pliron_text::base::{
     BasicBlock, ContainsParts, Few, NestedOperations, NewBlock, Operation, OperationTypes, Ptr,
@@ -24,7 +26,7 @@ fn tried(
     name: &str,
     operands: &[Value],
 ) -> Answer<Ptr<Operation>> {
-    let id = value_of(rt, id(alloc, ("test", name)), "no identifier");
+    let id = id_of(rt, alloc, ("test", name));
     let types: Few<DemoType> = Few::none();
     Operation::try_new(ctx, id, types, operands, &[], 0)
 }
@@ -40,13 +42,15 @@ fn block(rt: &impl Abort, ctx: &mut Ctx) -> Ptr<BasicBlock> {
     BasicBlock::new(ctx, None, types).expect(rt, "refused")
 }
 
-/// The text of a result: `ok`, or the error.
+/// The text of a result, which ends here: `ok`, or the error.
 fn answered<X: Drop>(rt: &impl Abort, alloc: Global, answer: Answer<X>) -> String {
-    let said: Answer<&str> = match answer {
-        Ok(_) => Ok("ok"),
-        Err(error) => Err(error),
-    };
-    value_of(rt, printed(alloc, &said), "out of memory")
+    match answer {
+        Ok(value) => {
+            drop(value);
+            held(rt, alloc, "ok")
+        }
+        Err(error) => to_text(rt, alloc, error),
+    }
 }
 
 /// What the context contains of a block: as many operations as were put into it, the value that is its argument, that value in a list, and
@@ -64,13 +68,15 @@ fn contained(rt: &impl Abort, alloc: Global, ctx: &mut Ctx) -> String {
     if !ctx.contains_block(holder) {
         rt.panic("no such block");
     }
-    let count = holder.all_operations(ctx).expect(rt, "out of memory").len();
+    let inside = holder.all_operations(ctx).expect(rt, "out of memory");
+    let count = inside.len();
+    drop(inside);
     format!(in alloc; "{count} {defines} {all} {live}").expect(rt, "out of memory")
 }
 
 /// Makes an operation with two results, a pointer and a byte.
 fn make_two(rt: &impl Abort, alloc: Global, ctx: &mut Ctx) -> Ptr<Operation> {
-    let id = value_of(rt, id(alloc, ("test", "make")), "no identifier");
+    let id = id_of(rt, alloc, ("test", "make"));
     let types = value_of(rt, types(alloc, "pb"), "no types");
     Operation::try_new(ctx, id, types, &[], &[], 0).expect(rt, "refused")
 }
@@ -92,17 +98,26 @@ fn has_types(rt: &impl Abort, ctx: &Ctx, maker: Ptr<Operation>, user: Ptr<Operat
     let operands = user.operand_types(ctx).expect(rt, "out of memory");
     let single = *first.get_type(ctx) == DemoType::Pointer;
     let indexed = *maker.get_type(ctx, 0) == DemoType::Pointer;
-    single && indexed && are_types(&results) && are_types(&operands)
+    let are_types = are_types(&results) & are_types(&operands);
+    drop(results);
+    drop(operands);
+    single & indexed & are_types
+}
+
+/// Erases an object that nothing outside of it uses, and returns whether it is one.
+fn erases<O: Drop, B: Drop, T: Drop>(graph: &mut Graph<O, B, T>, object: Object) -> bool {
+    if !graph.contains(object) || !graph.can_erase(object) {
+        return false;
+    }
+    graph.erase(object);
+    true
 }
 
 /// Whether an operation is erased, after which its first result is not in the context any more.
 fn is_erased(ctx: &mut Ctx, op: Ptr<Operation>) -> bool {
     let value = Value::Result(op, 0);
-    if !ctx.contains_value(value) || !ctx.contains_operation(op) || !op.can_erase(ctx) {
-        return false;
-    }
-    op.erase(ctx);
-    !ctx.contains_value(value)
+    let was_there = ctx.contains_value(value);
+    was_there & erases(ctx.graph_mut(), Object::TheOperation(op)) & !ctx.contains_value(value)
 }
 
 /// Whether values have the types with which they were made, and whether an operation is erased whose result is used, and one whose result
@@ -122,7 +137,10 @@ fn inserted(rt: &impl Abort, alloc: Global, ctx: &mut Ctx) -> String {
     let op = nop(rt, alloc, ctx);
     let first = answered(rt, alloc, op.try_insert_at_back(holder, ctx));
     let second = answered(rt, alloc, op.try_insert_at_back(holder, ctx));
-    format!(in alloc; "{first}; {second}").expect(rt, "out of memory")
+    let text = format!(in alloc; "{first}; {second}");
+    drop(first);
+    drop(second);
+    text.expect(rt, "out of memory")
 }
 
 /// What each call says.
@@ -157,7 +175,7 @@ fn said(rt: &impl Abort, alloc: Global, ctx: &mut Ctx, number: usize) -> String 
 /// Checks what each call says.
 pub(crate) fn check(rt: &impl Abort, alloc: Global, ctx: &mut Ctx) {
     for (number, wanted) in SAID.iter().enumerate() {
-        same(rt, said(rt, alloc, ctx, number).as_str(), *wanted);
+        same(rt, said(rt, alloc, ctx, number), *wanted);
     }
 }
 

@@ -1,12 +1,13 @@
 //! The dialects of a context: how they are registered and looked up, and how their names are parsed and printed.
 use crate::checks::{Check, alone};
-use crate::value::{same, to_text, value_of};
+use crate::registering::register;
+use crate::value::{held, id_of, name_of, same, to_text, told, value_of};
 use irtext_demo::{DemoAttr, DemoType};
-use irtext_tests_common::answers::printed;
-use irtext_tests_common::building::id;
-use irtext_tests_common::contexts::{Ctx, named};
-use irtext_tests_print::registering::register;
-use pliron_text::base::{NewBareOperation, OpId, Operation, Ptr};
+use irtext_graph::graph::Graph;
+use irtext_graph::held::HasGraph;
+use irtext_graph::object::Object;
+use irtext_tests_common::contexts::Ctx;
+use pliron_text::base::{NewBareOperation, Operation, Ptr};
 use pliron_text::dialect::{Dialect, DialectName};
 use pliron_text::parsable::{Parsable, parse_from_str};
 use pliron_text::printable::Disp;
@@ -40,17 +41,7 @@ const STEPS: &[&str] = &[
 
 /// The name of the dialect `test`.
 fn test_name(rt: &impl Abort, alloc: Global) -> DialectName {
-    DialectName::from(value_of(rt, named(alloc, "test"), "no identifier"))
-}
-
-/// The id of an operation of the dialect `test`.
-fn id_of(rt: &impl Abort, alloc: Global, name: &str) -> OpId {
-    value_of(rt, id(alloc, ("test", name)), "no identifier")
-}
-
-/// A word as a text.
-fn text(rt: &impl Abort, alloc: Global, word: &str) -> String {
-    String::from_str(alloc, word).expect(rt, "out of memory")
+    DialectName::from(name_of(rt, alloc, "test"))
 }
 
 /// Registers the operation `test.z`, isolated, with the canonical form.
@@ -60,35 +51,36 @@ fn add(rt: &impl Abort, alloc: Global, ctx: &mut Ctx) -> String {
         register(alloc, ctx, ("test", "z"), "-", true),
         "refused",
     );
-    text(rt, alloc, "added")
+    held(rt, alloc, "added")
 }
 
 /// Registers the dialect once more: its name, and whether it has the operation `test.z`.
 fn again(rt: &impl Abort, alloc: Global, ctx: &mut Ctx) -> String {
-    let id = id_of(rt, alloc, "z");
+    let id = id_of(rt, alloc, ("test", "z"));
     let name = test_name(rt, alloc);
     let dialect = Dialect::register(ctx, &name).expect(rt, "refused");
-    format!(in alloc; "{} {}", dialect.name().as_str(), dialect.op(&id).is_some()).expect(
-        rt,
-        "out of memory",
-    )
+    let text = format!(in alloc; "{} {}", dialect.name().as_str(), dialect.op(&id).is_some());
+    drop(id);
+    drop(name);
+    text.expect(rt, "out of memory")
 }
 
 /// The entry of an operation of the dialect `test`, as a text.
 fn known(rt: &impl Abort, alloc: Global, ctx: &Ctx, name: &str) -> String {
-    let id = id_of(rt, alloc, name);
+    let id = id_of(rt, alloc, ("test", name));
     let word = match ctx.op_info(&id) {
         Some(info) => { if info.isolated { "isolated" } else { "open" } }
         None => "unknown",
     };
-    text(rt, alloc, word)
+    drop(id);
+    held(rt, alloc, word)
 }
 
 /// The entry of an operation of the dialect `test`, looked up by the texts of its id: these, and whether its format has a symbol's name.
 fn found(rt: &impl Abort, alloc: Global, ctx: &Ctx, name: &str) -> String {
     let (key, dialect) = ctx.dialect_named("test").expect(rt, "not registered");
     let Some((id, info)) = dialect.op_named("test", name) else {
-        return text(rt, alloc, "unknown");
+        return held(rt, alloc, "unknown");
     };
     let has_header = info.sym_name_key().is_some();
     format!(in alloc; "{} {} {has_header}", key.as_str(), id.name.as_str()).expect(
@@ -101,7 +93,9 @@ fn found(rt: &impl Abort, alloc: Global, ctx: &Ctx, name: &str) -> String {
 fn shown(rt: &impl Abort, alloc: Global, ctx: &Ctx) -> String {
     let name = test_name(rt, alloc);
     let dialect = ctx.dialect(&name).expect(rt, "not registered");
-    format!(in alloc; "{}", dialect.disp(ctx)).expect(rt, "out of memory")
+    let text = format!(in alloc; "{}", dialect.disp(ctx));
+    drop(name);
+    text.expect(rt, "out of memory")
 }
 
 /// The name that a text is parsed as, or the error.
@@ -111,34 +105,36 @@ fn read(rt: &impl Abort, alloc: Global, ctx: &mut Ctx, text: &str) -> String {
         ctx,
         text,
     );
-    value_of(rt, printed(alloc, &answer), "out of memory")
+    told(rt, alloc, answer)
 }
 
 /// The result of making an operation of this name with two regions: how many it has, or the error.
 fn made(rt: &impl Abort, alloc: Global, ctx: &mut Ctx, name: &str) -> String {
-    let id = id_of(rt, alloc, name);
+    let id = id_of(rt, alloc, ("test", name));
     let answer: Answer<Ptr<Operation>, DemoAttr> = Operation::new(ctx, id, 2);
     match answer {
-        Ok(op) => regions(rt, alloc, ctx, op),
+        Ok(op) => to_text(rt, alloc, regions(rt, ctx.graph(), op)),
         Err(error) => to_text(rt, alloc, error),
     }
 }
 
-/// How many regions an operation has, as a text.
-fn regions(rt: &impl Abort, alloc: Global, ctx: &Ctx, op: Ptr<Operation>) -> String {
-    assert!(rt; ctx.contains_operation(op));
-    format!(in alloc; "{}", op.num_regions(ctx)).expect(rt, "out of memory")
+/// How many regions an operation has.
+fn regions<O: Drop, B: Drop, T: Drop>(
+    rt: &impl Abort,
+    graph: &Graph<O, B, T>,
+    op: Ptr<Operation>,
+) -> usize {
+    let op = Object::TheOperation(op);
+    assert!(rt; graph.contains(op));
+    graph.num_children(op)
 }
 
 /// Whether a dialect that was not registered is found.
 fn other(rt: &impl Abort, alloc: Global, ctx: &Ctx) -> String {
-    let name = value_of(rt, named(alloc, "other"), "no identifier");
-    format!(in alloc; "{}", ctx.has_dialect(&name)).expect(rt, "out of memory")
-}
-
-/// How many objects are live, as a text.
-fn live(rt: &impl Abort, alloc: Global, ctx: &Ctx) -> String {
-    format!(in alloc; "{}", ctx.num_live()).expect(rt, "out of memory")
+    let name = name_of(rt, alloc, "other");
+    let has = ctx.has_dialect(&name);
+    drop(name);
+    to_text(rt, alloc, has)
 }
 
 /// The text of a step.
@@ -148,7 +144,7 @@ fn step(rt: &impl Abort, alloc: Global, ctx: &mut Ctx, number: usize) -> String 
         1 | 6 => made(rt, alloc, ctx, "z"),
         2 => add(rt, alloc, ctx),
         4 => made(rt, alloc, ctx, "y"),
-        5 | 7 => live(rt, alloc, ctx),
+        5 | 7 => to_text(rt, alloc, ctx.num_live()),
         8 => again(rt, alloc, ctx),
         10 => known(rt, alloc, ctx, "y"),
         11 => other(rt, alloc, ctx),
@@ -165,7 +161,7 @@ fn step(rt: &impl Abort, alloc: Global, ctx: &mut Ctx, number: usize) -> String 
 /// Checks the text of each step.
 pub(crate) fn check(rt: &impl Abort, alloc: Global, ctx: &mut Ctx) {
     for (number, wanted) in STEPS.iter().enumerate() {
-        same(rt, step(rt, alloc, ctx, number).as_str(), *wanted);
+        same(rt, step(rt, alloc, ctx, number), *wanted);
     }
 }
 

@@ -1,28 +1,23 @@
 //! Graphs with blocks and values that a caller makes, and their printed texts.
-use crate::checks::{Check, alone, counting};
-use crate::value::{same, value_of};
+use crate::checks::{Check, alone};
+use crate::reading::{concrete, whole};
+use crate::registering::register;
+use crate::value::{id_of, same, value_of};
 use irtext_context::base::Item;
 use irtext_tests_common::building::{
-    block_inside, give, id, into_block, module, note, one_name, operation, place, types,
+    block_inside, give, into_block, module, note, one_name, operation, place, types,
 };
 use irtext_tests_common::contexts::Ctx;
-use irtext_tests_print::reading::{concrete, whole};
-use irtext_tests_print::registering::register;
 use pliron_text::base::{BasicBlock, Few, GIVEN_NAMES_KEY, Operation, Ptr, Value};
 use pliron_text::ir::print_root;
 use pliron_text::printable::State;
 use std::alloc::Global;
 use std::process::Abort;
 
-/// Registers a constant (its value, a colon, its type) and an operation that uses one value.
-fn register_both(rt: &impl Abort, alloc: Global, ctx: &mut Ctx) {
-    let constant = register(alloc, ctx, ("test", "constant"), "c:v", false);
-    value_of(rt, constant, "refused");
-    value_of(
-        rt,
-        register(alloc, ctx, ("test", "use"), "0", false),
-        "refused",
-    );
+/// Registers an operation of the dialect `test` with the format of these letters.
+fn add(rt: &impl Abort, alloc: Global, ctx: &mut Ctx, name: &str, letters: &str) {
+    let added = register(alloc, ctx, ("test", name), letters, false);
+    value_of(rt, added, "refused");
 }
 
 /// Makes an operation of the dialect `test`, last in a block.
@@ -35,7 +30,7 @@ fn inner(
     letters: &str,
     operands: &[Value],
 ) -> Ptr<Operation> {
-    let id = value_of(rt, id(alloc, ("test", name)), "no identifier");
+    let id = id_of(rt, alloc, ("test", name));
     let types = value_of(rt, types(alloc, letters), "no types");
     let op = value_of(rt, operation(ctx, id, types, operands, &[], 0), "not made");
     value_of(rt, into_block(ctx, op, block), "not inserted");
@@ -69,21 +64,13 @@ fn remark(rt: &impl Abort, alloc: Global, ctx: &mut Ctx, op: Ptr<Operation>, key
 /// Gives a result, or an argument, the name `x`.
 fn name(rt: &impl Abort, alloc: Global, ctx: &mut Ctx, item: Item) {
     let name = value_of(rt, one_name(alloc, "x"), "no identifier");
-    value_of(
-        rt,
-        give(alloc, ctx, item, GIVEN_NAMES_KEY, name),
-        "not given",
-    );
+    let given = give(alloc, ctx, item, GIVEN_NAMES_KEY, name);
+    value_of(rt, given, "not given");
 }
 
 /// Gives an operation a place.
 fn operation_at(rt: &impl Abort, ctx: &mut Ctx, op: Ptr<Operation>, column: i32) {
     value_of(rt, place(ctx, Item::Operation(op), column), "not placed");
-}
-
-/// The whole text of a root.
-fn text(rt: &impl Abort, alloc: Global, ctx: &Ctx, root: Ptr<Operation>) -> String {
-    value_of(rt, whole(alloc, ctx, root), "no text")
 }
 
 /// The root `builtin.module @m`, at a place.
@@ -93,15 +80,8 @@ fn placed(rt: &impl Abort, alloc: Global, ctx: &mut Ctx) -> Ptr<Operation> {
     root
 }
 
-/// The text of a root with a note, at a place.
-fn noted(rt: &impl Abort, alloc: Global, ctx: &mut Ctx) -> String {
-    let root = placed(rt, alloc, ctx);
-    remark(rt, alloc, ctx, root, "dbg");
-    text(rt, alloc, ctx, root)
-}
-
-/// The text of a root with two operations that have one note.
-fn shared(rt: &impl Abort, alloc: Global, ctx: &mut Ctx) -> String {
+/// A root with two operations that have one note.
+fn shared(rt: &impl Abort, alloc: Global, ctx: &mut Ctx) -> Ptr<Operation> {
     let root = value_of(rt, module(alloc, ctx, "m"), "not made");
     let inside = block_inside(alloc, ctx, root, "", Few::none());
     let inside = value_of(rt, inside, "not made");
@@ -109,11 +89,11 @@ fn shared(rt: &impl Abort, alloc: Global, ctx: &mut Ctx) -> String {
         let op = inner(rt, alloc, ctx, inside, "nop", "", &[]);
         remark(rt, alloc, ctx, op, "dbg");
     }
-    text(rt, alloc, ctx, root)
+    root
 }
 
-/// The text of a root with a block whose argument is used.
-fn used(rt: &impl Abort, alloc: Global, ctx: &mut Ctx) -> String {
+/// A root with a block whose argument is used.
+fn used(rt: &impl Abort, alloc: Global, ctx: &mut Ctx) -> Ptr<Operation> {
     let root = placed(rt, alloc, ctx);
     let inside = block_at(rt, alloc, ctx, root, "b", "i", 21);
     name(rt, alloc, ctx, Item::Block(inside));
@@ -127,7 +107,7 @@ fn used(rt: &impl Abort, alloc: Global, ctx: &mut Ctx) -> String {
         &[Value::Argument(inside, 0)],
     );
     operation_at(rt, ctx, op, 50);
-    text(rt, alloc, ctx, root)
+    root
 }
 
 /// A root with a constant that has no value, and the constant.
@@ -138,19 +118,6 @@ fn valueless(rt: &impl Abort, alloc: Global, ctx: &mut Ctx) -> (Ptr<Operation>, 
     operation_at(rt, ctx, op, 27);
     name(rt, alloc, ctx, Item::Operation(op));
     (root, op)
-}
-
-/// The text of such a root once the constant's value is a note, so that the section has it.
-fn constant(rt: &impl Abort, alloc: Global, ctx: &mut Ctx) -> String {
-    let (root, op) = valueless(rt, alloc, ctx);
-    remark(rt, alloc, ctx, op, "test_value");
-    text(rt, alloc, ctx, root)
-}
-
-/// The reason why such a root is not printed.
-fn misfit(rt: &impl Abort, alloc: Global, ctx: &mut Ctx) -> String {
-    let (root, _constant) = valueless(rt, alloc, ctx);
-    refusal(rt, alloc, ctx, root)
 }
 
 /// A root that a caller makes.
@@ -195,26 +162,46 @@ fn refusal(rt: &impl Abort, alloc: Global, ctx: &Ctx, root: Ptr<Operation>) -> S
     let mut state: State<()> = State::new(alloc, ());
     let mut text = String::new(alloc);
     let answer = print_root(ctx, root, &mut state, &mut text);
+    drop(state);
+    drop(text);
     let refusal = answer.err().expect(rt, "printed");
     format!(in alloc; "{refusal:?}").expect(rt, "out of memory")
 }
 
+/// Makes a root. If it has a constant, that is given a note as its value, unless it has to be without one.
+fn made(rt: &impl Abort, alloc: Global, ctx: &mut Ctx, root: Root) -> Ptr<Operation> {
+    let (op, noted, key) = match root {
+        Root::Shared => return shared(rt, alloc, ctx),
+        Root::Used => return used(rt, alloc, ctx),
+        Root::Misfit => return valueless(rt, alloc, ctx).0,
+        Root::Noted => {
+            let op = placed(rt, alloc, ctx);
+            (op, op, "dbg")
+        }
+        Root::Constant => {
+            let (op, constant) = valueless(rt, alloc, ctx);
+            (op, constant, "test_value")
+        }
+    };
+    remark(rt, alloc, ctx, noted, key);
+    op
+}
+
 /// The printed text of a root, or the reason why it is not printed.
-fn printed(rt: &impl Abort, alloc: Global, ctx: &mut Ctx, root: Root) -> String {
+fn printed(rt: &impl Abort, alloc: Global, ctx: &Ctx, op: Ptr<Operation>, root: Root) -> String {
     match root {
-        Root::Noted => noted(rt, alloc, ctx),
-        Root::Shared => shared(rt, alloc, ctx),
-        Root::Used => used(rt, alloc, ctx),
-        Root::Constant => constant(rt, alloc, ctx),
-        Root::Misfit => misfit(rt, alloc, ctx),
+        Root::Misfit => refusal(rt, alloc, ctx, op),
+        _ => value_of(rt, whole(alloc, ctx, op), "no text"),
     }
 }
 
 /// Checks the text of each root.
 pub(crate) fn check(rt: &impl Abort, alloc: Global, ctx: &mut Ctx) {
-    register_both(rt, alloc, ctx);
+    add(rt, alloc, ctx, "constant", "c:v");
+    add(rt, alloc, ctx, "use", "0");
     for row in ROOTS {
-        same(rt, printed(rt, alloc, ctx, row.0).as_str(), row.1);
+        let op = made(rt, alloc, ctx, row.0);
+        same(rt, printed(rt, alloc, ctx, op, row.0), row.1);
     }
 }
 
@@ -229,18 +216,17 @@ const LAST: &str =
 
 /// Checks the printed text of this root.
 pub(crate) fn check_last(rt: &impl Abort, alloc: Global, ctx: &mut Ctx) {
-    let scope = ("test", "scope");
-    value_of(rt, register(alloc, ctx, scope, "a", false), "refused");
-    let id = value_of(rt, id(alloc, scope), "no identifier");
+    add(rt, alloc, ctx, "scope", "a");
+    let id = id_of(rt, alloc, ("test", "scope"));
     let root = operation(ctx, id, Few::none(), &[], &[], 1);
     let root = value_of(rt, root, "not made");
     block_at(rt, alloc, ctx, root, "a", "", 21);
     block_at(rt, alloc, ctx, root, "b", "", 27);
     let text = value_of(rt, concrete(alloc, ctx, root), "no text");
-    same(rt, text.as_str(), LAST);
+    same(rt, text, LAST);
 }
 
 #[test]
 fn the_last_places_are_printed(rt: HostRuntime) {
-    counting(&rt, rt.alloc(), u32::MAX - 2, Check::LastPlaces);
+    alone(&rt, rt.alloc(), Check::LastPlaces);
 }

@@ -1,17 +1,12 @@
 //! The errors that the macros make from a cause or a text.
 use crate::checks::{Check, alone};
+use crate::parse::errors::{Answer, at, shown};
 use crate::value::{same, to_text};
 use irtext_demo::DemoAttr;
 use irtext_tests_common::contexts::Ctx;
-use pliron_text::location::{Location, Source};
-use pliron_text::parsable::SourcePosition;
-use pliron_text::printable::Disp;
 use pliron_text::result::{Cause, Error, ErrorKind};
 use std::alloc::Global;
 use std::process::Abort;
-
-/// What a call returns here: an error either way.
-type Answer = Result<Error<DemoAttr>, Error<DemoAttr>>;
 
 /// The errors of the macros, with their locations.
 const MADE: &[&str] = &[
@@ -23,14 +18,6 @@ const MADE: &[&str] = &[
     "[<in-memory>: line: 4, column: 2] Compilation error: invalid argument.\nOut of memory",
     "Compilation error: invalid argument.\nalone 3",
 ];
-
-/// A place in memory.
-fn at(line: i32, column: i32) -> Location<DemoAttr> {
-    Location::SrcPos {
-        src: Source::InMemory,
-        pos: SourcePosition { line, column },
-    }
-}
 
 /// The error of a line, as a macro makes it.
 fn made(alloc: Global, number: usize) -> Answer {
@@ -66,25 +53,11 @@ fn of_set(alloc: Global, set: usize, number: usize) -> Answer {
     }
 }
 
-/// The text of a result, with the locations of its error.
-fn shown(rt: &impl Abort, alloc: Global, ctx: &Ctx, answer: &Answer) -> String {
-    format!(in alloc; "{}", answer.disp(ctx)).expect(rt, "out of memory")
-}
-
-/// The text of the error that the macros of a set make for a line.
-fn shown_of_set(rt: &impl Abort, alloc: Global, ctx: &Ctx, set: usize, number: usize) -> String {
-    let answer = of_set(alloc, set, number);
-    shown(rt, alloc, ctx, &answer)
-}
-
 /// Checks the text of the error that the macros of a set make for each line.
 pub(crate) fn check(rt: &impl Abort, alloc: Global, ctx: &Ctx, set: usize) {
     for (number, wanted) in MADE.iter().enumerate() {
-        same(
-            rt,
-            shown_of_set(rt, alloc, ctx, set, number).as_str(),
-            *wanted,
-        );
+        let text = shown(rt, alloc, ctx, of_set(alloc, set, number));
+        same(rt, text, *wanted);
     }
 }
 
@@ -105,7 +78,7 @@ fn displayed(rt: &impl Abort, alloc: Global) -> String {
 fn what_an_error_displays(rt: HostRuntime) {
     same(
         &rt,
-        displayed(&rt, rt.alloc()).as_str(),
+        displayed(&rt, rt.alloc()),
         "Compilation error: invalid input program.\nSome formatted 0",
     );
 }

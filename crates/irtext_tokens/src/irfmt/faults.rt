@@ -156,11 +156,9 @@ fn is_committed<A>(fault: &ParseFault<A>) -> bool
     fault.committed
 }
 
-/// Returns the value in place of an error that is not committed, and a committed error unchanged.
-pub(crate) fn unless_committed<X: Drop, A: Drop>(
-    fault: ParseFault<A>,
-    value: X,
-) -> ParseResult<X, A>
+/// Returns the value in place of an error that is not committed, and a committed error unchanged. A crate that ends an error itself proves
+/// the destructors of all causes once more; one that calls this does not.
+pub fn unless_committed<X: Drop, A: Drop>(fault: ParseFault<A>, value: X) -> ParseResult<X, A>
     ensures { cond fault.committed (result ≡ Err fault) (result ≡ Ok value) }
 {
     if is_committed(&fault) {

@@ -2,7 +2,8 @@ use Rattle.std.proofs.Common.{◌∙◌, sym}
 use Rattle.irtext_parse_nested.specs.Beginning.{ran_out}
 use Rattle.irtext_parse_nested.proofs.BeginRead.{bare_creates}
 use Rattle.irtext_names.proofs.Ordering.{none_left}
-use Rattle.irtext_parse_nested.proofs.Marking.{if_err, if_ok_two, if_ok_handed}
+use Rattle.irtext_names.proofs.Outcomes.{if_err}
+use Rattle.irtext_parse_nested.proofs.Marking.{if_ok_two, if_ok_handed}
 use Rattle.irtext_parse_nested.proofs.beginning.created.Goals as goal
 
 pub returns-clause-creates : goal.returns-clause-creates

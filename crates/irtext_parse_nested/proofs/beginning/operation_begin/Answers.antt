@@ -10,7 +10,7 @@ use Rattle.irtext_parse_nested.specs.Beginning.{NotGatheredAs}
 use Rattle.irtext_parse_nested.specs.Read.{RefusesOperation}
 use Rattle.irtext_parse_nested.proofs.BeginRead.{if_ok_both, on_ok_by}
 use Rattle.irtext_parse_nested.proofs.Depths.{depths_read, depths_on}
-use Rattle.irtext_parse_nested.proofs.Marking.{if_err}
+use Rattle.irtext_names.proofs.Outcomes.{if_err}
 use Rattle.irtext_parse_nested.proofs.OperationBegun.{comes_where, located_here, front_can, front_own, front_begun, front_came, front_begins, front_misses, front_fails, ungathered_commits}
 use Rattle.irtext_parse_nested.proofs.OperationMade.{begun_lasts, begun_new, begun_ties, begun_waits, begun_blanks}
 use Rattle.irtext_parse_nested.proofs.beginning.operation_begin.Goals as goal

@@ -3,10 +3,11 @@ use Rattle.irtext_context.specs.Context.{with_graph}
 use Rattle.irtext_graph.specs.Back.{AllOlder}
 use Rattle.irtext_grammar.specs.Contexts.Held.{whole}
 use Rattle.irtext_parse_nested.specs.Beginning.{ran_out, refused, SaysGather}
-use Rattle.irtext_parse_nested.specs.Gathered.{Gathers, RefusesGathering}
+use Rattle.irtext_names.specs.Gathering.{Gathers, RefusesGathering}
 use Rattle.irtext_names.specs.Uses.{KeepsScopes}
 use Rattle.irtext_parse_nested.proofs.BeginRead.{keeps_used, keeps_created, nothing_used_is_live, refusal_known}
-use Rattle.irtext_parse_nested.proofs.Marking.{if_err, if_ok_two, if_ok_handed}
+use Rattle.irtext_names.proofs.Outcomes.{if_err}
+use Rattle.irtext_parse_nested.proofs.Marking.{if_ok_two, if_ok_handed}
 use Rattle.irtext_parse_nested.proofs.beginning.pieces_created.Goals as goal
 
 -- ---- names were used

@@ -2,10 +2,9 @@ use Rattle.std.proofs.Common.{inl, inr, length, sym, subst, []}
 use Rattle.irtext_base.specs.Faults as causes
 use Rattle.irtext_graph.specs.declared.object.Value.TheVariants.{Argument}
 use Rattle.irtext_grammar.specs.Contexts.Held.{whole}
-use Rattle.irtext_parse_nested.specs.Definitions.{ValuesReady, DefinesRow, FailsRow, IsFaultOf}
+use Rattle.irtext_names.specs.Rows.{ValuesReady, DefinesRow, FailsRow, AreKnown}
+use Rattle.irtext_names.specs.Definitions.{IsFaultOf, numbers_of}
 use Rattle.irtext_names.specs.LosesPlaceholders.{LosesPlaceholders}
-use Rattle.irtext_parse_nested.specs.Ends.{numbers_of}
-use Rattle.irtext_names.specs.Rows.{AreKnown}
 use Rattle.irtext_names.specs.Tied.{ArePending}
 use Rattle.irtext_parse_nested.proofs.Blanks.{loses_sound}
 use Rattle.irtext_parse_nested.proofs.blocks.arguments_defined.Goals as goal

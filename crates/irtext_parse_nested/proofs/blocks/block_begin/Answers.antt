@@ -5,8 +5,10 @@ use Rattle.irtext_scopes.specs.Scopes.{is_open}
 use Rattle.irtext_names.specs.Rows.{AreKnown}
 use Rattle.irtext_parse_pieces.specs.Named.{AreWords}
 use Rattle.irtext_grammar.specs.Promises.Root.{UnlessMemory}
-use Rattle.irtext_parse_nested.specs.Blocks.{entries_in, IsRefusalFault}
-use Rattle.irtext_parse_nested.specs.Ends.{numbers_of, GainsMarks}
+use Rattle.irtext_names.specs.Gathering.{entries_in}
+use Rattle.irtext_parse_nested.specs.Blocks.{IsRefusalFault}
+use Rattle.irtext_names.specs.Definitions.{numbers_of}
+use Rattle.irtext_parse_nested.specs.Ends.{GainsMarks}
 use Rattle.irtext_parse_nested.proofs.BlockOpened.{label_known, arguments_known, opened_tied, opened_ready, opened_inside, opened_there, opened_sound, opened_kept, opened_new, opened_lasts, opened_spares, opened_gains, opened_came, opened_refused, opened_noted, opened_begins}
 use Rattle.irtext_parse_nested.proofs.BlockTurn.{head_unread, keys_refused, keys_commit, of_entries}
 use Rattle.irtext_parse_nested.proofs.Depths.{depths_read, depths_on}

@@ -1,8 +1,8 @@
 use Rattle.std.proofs.Common.{length, sym, subst}
 use Rattle.irtext_names.specs.Rows.{AreKnown}
 use Rattle.irtext_grammar.specs.Contexts.Held.{whole}
-use Rattle.irtext_parse_nested.specs.Blocks.{entries_in}
-use Rattle.irtext_parse_nested.specs.Ends.{numbers_of}
+use Rattle.irtext_names.specs.Gathering.{entries_in}
+use Rattle.irtext_names.specs.Definitions.{numbers_of}
 use Rattle.irtext_parse_nested.proofs.BlockReady.{makes_head}
 use Rattle.irtext_parse_nested.proofs.blocks.head_made.Goals as goal
 

@@ -10,7 +10,8 @@ use Rattle.irtext_parse_nested.specs.Blocks.{same_argument}
 use Rattle.irtext_names.specs.LosesPlaceholders.{LosesPlaceholders}
 use Rattle.irtext_parse_nested.proofs.HeadNamed.{waits_for_none, inside_stays, block_stays, same_sound, kept_twice, mark_stops, label_stops, names_head}
 use Rattle.irtext_names.proofs.Losing.{loses_more}
-use Rattle.irtext_parse_nested.proofs.Marking.{on_ok, always_err, if_err, gains_nothing, gains_mark}
+use Rattle.irtext_names.proofs.Outcomes.{on_ok, if_err}
+use Rattle.irtext_parse_nested.proofs.Marking.{always_err, gains_nothing, gains_mark}
 use Rattle.irtext_parse_nested.proofs.blocks.head_named.Goals as goal
 
 -- ---- an argument is an error

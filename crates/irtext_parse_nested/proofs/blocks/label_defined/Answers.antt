@@ -2,7 +2,7 @@ use Rattle.std.proofs.Common.{inl, inr, sym, subst, []}
 use Rattle.irtext_names.specs.Tied.{ArePending}
 use Rattle.irtext_names.specs.LosesPlaceholders.{LosesPlaceholders}
 use Rattle.irtext_parse_nested.proofs.Blanks.{loses_sound}
-use Rattle.irtext_parse_nested.proofs.Marking.{if_err}
+use Rattle.irtext_names.proofs.Outcomes.{if_err}
 use Rattle.irtext_parse_nested.proofs.blocks.label_defined.Goals as goal
 
 pub returns-clause-committed : goal.returns-clause-committed

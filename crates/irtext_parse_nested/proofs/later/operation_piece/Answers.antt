@@ -5,7 +5,8 @@ use Rattle.irtext_parse_nested.specs.Later.{NotStored, StoresPiece}
 use Rattle.irtext_parse_nested.specs.Ends.{WritesAttributes}
 use Rattle.irtext_parse_nested.proofs.Depths.{depths_read}
 use Rattle.irtext_parse_nested.proofs.LaterRead.{next_missing, next_commits, next_moves, next_whole, next_goes_on, next_unstored, unstored_commits, piece_lasts, piece_spares, piece_keeps, piece_sound}
-use Rattle.irtext_parse_nested.proofs.Marking.{on_ok, on_both, always_ok, if_err}
+use Rattle.irtext_names.proofs.Outcomes.{on_ok, if_err}
+use Rattle.irtext_parse_nested.proofs.Marking.{on_both, always_ok}
 use Rattle.irtext_parse_nested.proofs.later.operation_piece.Goals as goal
 
 -- ---- no piece could be parsed

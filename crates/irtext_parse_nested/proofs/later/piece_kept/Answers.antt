@@ -1,7 +1,7 @@
 use Rattle.std.proofs.Common.{◌∙◌, option_map, sym, ap}
 use Rattle.irtext_grammar.specs.Contexts.Held.{entries_of}
 use Rattle.irtext_grammar.specs.Graphs.Build.{put_all}
-use Rattle.irtext_parse_nested.specs.Gathered.{stored_of}
+use Rattle.irtext_names.specs.Gathering.{stored_of}
 use Rattle.irtext_parse_nested.proofs.Faults.{some_same}
 use Rattle.irtext_parse_nested.proofs.Marking.{on_both}
 use Rattle.irtext_parse_nested.proofs.later.piece_kept.Goals as goal

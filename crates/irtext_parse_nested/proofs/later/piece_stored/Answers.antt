@@ -2,7 +2,8 @@ use Rattle.std.proofs.Common.{◌∙◌, ap}
 use Rattle.irtext_grammar.specs.Contexts.Held.{entries_of}
 use Rattle.irtext_grammar.specs.Graphs.Build.{put_all}
 use Rattle.irtext_parse_nested.proofs.LaterPieces.{given_is}
-use Rattle.irtext_parse_nested.proofs.Marking.{on_ok, always_ok}
+use Rattle.irtext_names.proofs.Outcomes.{on_ok}
+use Rattle.irtext_parse_nested.proofs.Marking.{always_ok}
 use Rattle.irtext_parse_nested.proofs.later.piece_stored.Goals as goal
 
 pub returns-in-Attr : goal.returns-in-Attr

@@ -3,7 +3,8 @@ use Rattle.irtext_grammar.specs.Contexts.Held.{whole}
 use Rattle.irtext_parse_nested.specs.Ends.{GivesNames}
 use Rattle.irtext_names.specs.Located.{IsLocated}
 use Rattle.irtext_parse_nested.proofs.OperationClosed.{close_acts, close_sound, close_lasts, close_spares, close_keeps, close_own}
-use Rattle.irtext_parse_nested.proofs.Marking.{on_ok, always_ok, if_err, on_ok_handed}
+use Rattle.irtext_names.proofs.Outcomes.{on_ok, if_err}
+use Rattle.irtext_parse_nested.proofs.Marking.{always_ok, on_ok_handed}
 use Rattle.irtext_parse_nested.proofs.operation_end.close.Goals as goal
 
 pub returns-clause-closes : goal.returns-clause-closes

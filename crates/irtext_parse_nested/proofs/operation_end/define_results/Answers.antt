@@ -2,11 +2,11 @@ use Rattle.std.proofs.Common.{◌≡◌, ◌<◌, ◌∙◌, inl, inr, length, s
 use Rattle.irtext_base.specs.Faults as causes
 use Rattle.irtext_graph.specs.declared.object.Value.TheVariants.{Result}
 use Rattle.irtext_grammar.specs.Contexts.Held.{whole}
-use Rattle.irtext_parse_nested.specs.Definitions.{ValuesReady, IsFaultOf}
-use Rattle.irtext_names.specs.Rows.{AreKnown}
-use Rattle.irtext_parse_nested.specs.Ends.{numbers_of, no_scope, defined_twice}
+use Rattle.irtext_names.specs.Rows.{ValuesReady, AreKnown}
+use Rattle.irtext_names.specs.Definitions.{IsFaultOf, numbers_of}
+use Rattle.irtext_parse_nested.specs.Ends.{no_scope, defined_twice}
 use Rattle.irtext_names.proofs.Losing.{loses_nothing}
-use Rattle.irtext_parse_nested.proofs.Numbered.{item_there, number_there, known_at}
+use Rattle.irtext_names.proofs.Numbered.{item_there, number_there, known_at}
 use Rattle.irtext_names.proofs.Lists.{older_itself}
 use Rattle.irtext_parse_nested.proofs.operation_end.define_results.Goals as goal
 

@@ -3,7 +3,7 @@ use Rattle.irtext_tokens.specs.Infix.{◌▷◌}
 use Rattle.irtext_tokens.specs.Tokens.{space_at}
 use Rattle.irtext_tokens.proofs.Steps.{alone, starts, spaced, last}
 use Rattle.irtext_grammar.specs.Heads.{mark_if_at}
-use Rattle.irtext_parse_pieces.specs.Marks.{IsMarkIf}
+use Rattle.irtext_grammar.specs.Parsed.{IsMarkIf}
 use Rattle.irtext_parse_pieces.proofs.Meanings.{passed_whole}
 use Rattle.irtext_parse_nested.proofs.operation_end.end_parse.Goals as goal
 

@@ -2,7 +2,7 @@ use Rattle.std.proofs.Common.{◌∙◌, map, option_map, sym, ap}
 use Rattle.irtext_grammar.specs.Contexts.Held.{entries_of}
 use Rattle.irtext_grammar.specs.Graphs.Build.{put_all, read_names}
 use Rattle.irtext_parse_nested.proofs.Faults.{some_same}
-use Rattle.irtext_parse_nested.proofs.Marking.{on_ok}
+use Rattle.irtext_names.proofs.Outcomes.{on_ok}
 use Rattle.irtext_parse_nested.proofs.operation_end.given_kept.Goals as goal
 
 pub returns-clause-writes : goal.returns-clause-writes

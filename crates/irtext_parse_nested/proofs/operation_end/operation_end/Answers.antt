@@ -11,7 +11,8 @@ use Rattle.irtext_names.specs.Located.{IsLocated}
 use Rattle.irtext_parse_nested.specs.Read.{no_results}
 use Rattle.irtext_parse_nested.proofs.Depths.{depths_same}
 use Rattle.irtext_parse_nested.proofs.Ended.{end_read, end_marked, end_unread, end_noted, must_commit}
-use Rattle.irtext_parse_nested.proofs.Marking.{on_both, on_err, always_ok, if_err, gains_nothing}
+use Rattle.irtext_parse_nested.proofs.Marking.{on_both, on_err, always_ok, gains_nothing}
+use Rattle.irtext_names.proofs.Outcomes.{if_err}
 use Rattle.irtext_parse_nested.proofs.operation_end.operation_end.Goals as goal
 
 -- ---- the results are an error

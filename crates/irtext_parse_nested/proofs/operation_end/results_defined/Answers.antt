@@ -2,12 +2,14 @@ use Rattle.std.proofs.Common.{inl, inr, refl, sym, subst, []}
 use Rattle.irtext_graph.specs.declared.object.Object.TheVariants.{TheOperation}
 use Rattle.irtext_graph.specs.declared.object.Value.TheVariants.{Result}
 use Rattle.irtext_grammar.specs.Contexts.Held.{whole}
-use Rattle.irtext_parse_nested.specs.Definitions.{ValuesReady, DefinesRow}
+use Rattle.irtext_names.specs.Rows.{ValuesReady, DefinesRow}
 use Rattle.irtext_names.specs.LosesPlaceholders.{LosesPlaceholders}
-use Rattle.irtext_parse_nested.specs.Ends.{numbers_of, RefusesResults}
+use Rattle.irtext_names.specs.Definitions.{numbers_of}
+use Rattle.irtext_parse_nested.specs.Ends.{RefusesResults}
 use Rattle.irtext_parse_nested.proofs.Ends.{closes_acts, results_fail}
 use Rattle.irtext_names.proofs.Lasting.{loses_lasts, results_ready}
-use Rattle.irtext_parse_nested.proofs.Marking.{on_both, if_err}
+use Rattle.irtext_parse_nested.proofs.Marking.{on_both}
+use Rattle.irtext_names.proofs.Outcomes.{if_err}
 use Rattle.irtext_parse_nested.proofs.Sparing.{loses_spares}
 use Rattle.irtext_parse_nested.proofs.Blanks.{loses_sound}
 use Rattle.irtext_names.specs.Tied.{ArePending}

@@ -7,7 +7,8 @@ use Rattle.irtext_grammar.specs.Promises.Root.{UnlessMemory}
 use Rattle.irtext_tokens.specs.AttrTexts.{attr_at}
 use Rattle.irtext_parse_nested.specs.Leaving.{IsUnresolved}
 use Rattle.irtext_parse_nested.proofs.Leaving.{unclosed, closed, unleft}
-use Rattle.irtext_parse_nested.proofs.Marking.{on_both, if_err}
+use Rattle.irtext_parse_nested.proofs.Marking.{on_both}
+use Rattle.irtext_names.proofs.Outcomes.{if_err}
 use Rattle.irtext_parse_nested.proofs.regions.region_end.Goals as goal
 
 pub returns-in-Err-clause-refused : goal.returns-in-Err-clause-refused

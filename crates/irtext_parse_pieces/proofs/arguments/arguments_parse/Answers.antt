@@ -1,7 +1,7 @@
 use Rattle.irtext_tokens.specs.AttrTexts.{attr_at}
 use Rattle.irtext_grammar.specs.Heads.{argument_at}
 use Rattle.irtext_parse_pieces.proofs.Meanings.{names_more, names_none}
-use Rattle.irtext_parse_pieces.specs.declared.lists.NameKind.TheVariants as kind
+use Rattle.irtext_grammar.specs.declared.parsed.NameKind.TheVariants as kind
 use Rattle.irtext_parse_pieces.proofs.Absences.{missing_followed, no_name_begins, list_unbegun}
 use Rattle.irtext_parse_pieces.proofs.Listings.{list_unread, list_arguments}
 use Rattle.irtext_parse_pieces.proofs.Lenses.{lens_of}

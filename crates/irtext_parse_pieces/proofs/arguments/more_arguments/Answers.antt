@@ -1,7 +1,8 @@
 use Rattle.irtext_tokens.specs.AttrTexts.{attr_at}
 use Rattle.irtext_grammar.specs.Heads.{argument_at}
 use Rattle.irtext_parse_pieces.specs.Arguments.{IsArgument}
-use Rattle.irtext_parse_pieces.specs.Named.{whole, Each}
+use Rattle.irtext_parse_pieces.specs.Named.{whole}
+use Rattle.irtext_grammar.specs.Parsed.{Each}
 use Rattle.irtext_parse_pieces.proofs.Meanings.{names_none, names_more, names_still_represent}
 use Rattle.irtext_parse_pieces.proofs.Listings.{listing_starts, turn_kept, turn_unkept, kept_falls, turn_ends}
 use Rattle.irtext_parse_pieces.proofs.Lenses.{lens_of}

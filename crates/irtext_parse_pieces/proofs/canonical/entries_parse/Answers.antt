@@ -3,9 +3,9 @@ use Rattle.irtext_base.specs.Format as format
 use Rattle.irtext_tokens.specs.AttrTexts.{attr_at}
 use Rattle.irtext_grammar.specs.Grammar.Tree as tree
 use Rattle.irtext_grammar.specs.Heads.{flat, dictionary_by}
-use Rattle.irtext_parse_pieces.specs.declared.pieces.ReadPiece.TheVariants as read
+use Rattle.irtext_grammar.specs.declared.parsed.ReadPiece.TheVariants as read
 use Rattle.irtext_parse_pieces.proofs.CanonicalSteps.{step_read, spaced_mean}
-use Rattle.irtext_parse_pieces.specs.Entries.{AreEntries}
+use Rattle.irtext_grammar.specs.Parsed.{AreEntries}
 use Rattle.irtext_parse_pieces.specs.Named.{whole}
 use Rattle.irtext_parse_pieces.proofs.Lenses.{lens_of}
 use Rattle.irtext_parse_pieces.proofs.canonical.entries_parse.Goals as goal

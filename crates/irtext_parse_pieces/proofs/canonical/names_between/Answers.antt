@@ -2,8 +2,9 @@ use Rattle.irtext_base.specs.Faults.{characters}
 use Rattle.irtext_tokens.specs.ListOutcomes.{separated_at}
 use Rattle.irtext_tokens.specs.AttrTexts.{attr_at}
 use Rattle.irtext_grammar.specs.Heads.{flat}
-use Rattle.irtext_parse_pieces.specs.Kinds.{named_at, names_directive, names_tree, read_names}
-use Rattle.irtext_parse_pieces.specs.Named.{Represents, Each}
+use Rattle.irtext_parse_pieces.specs.Kinds.{named_at, names_directive, names_tree}
+use Rattle.irtext_grammar.specs.Forms.{read_names}
+use Rattle.irtext_grammar.specs.Parsed.{Represents, Each}
 use Rattle.irtext_parse_pieces.proofs.CanonicalSteps.{unopened, unfilled, ended}
 use Rattle.irtext_parse_pieces.proofs.KindSteps.{names_step, names_represent}
 use Rattle.irtext_parse_pieces.proofs.Lenses.{lens_of}

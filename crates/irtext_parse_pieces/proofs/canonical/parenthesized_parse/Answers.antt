@@ -3,8 +3,8 @@ use Rattle.irtext_tokens.specs.AttrTexts.{attr_at}
 use Rattle.irtext_tokens.specs.ListOutcomes.{separated_at}
 use Rattle.irtext_grammar.specs.Grammar.Tree as tree
 use Rattle.irtext_grammar.specs.Heads.{types}
-use Rattle.irtext_parse_pieces.specs.declared.pieces.ReadPiece.TheVariants as read
-use Rattle.irtext_parse_pieces.specs.Named.{Each}
+use Rattle.irtext_grammar.specs.declared.parsed.ReadPiece.TheVariants as read
+use Rattle.irtext_grammar.specs.Parsed.{Each}
 use Rattle.irtext_parse_pieces.proofs.CanonicalSteps.{unopened, unfilled, ended}
 use Rattle.irtext_parse_pieces.proofs.PieceSteps.{each_same}
 use Rattle.irtext_parse_pieces.proofs.Lenses.{lens_of}

@@ -1,6 +1,6 @@
 use Rattle.irtext_tokens.specs.AttrTexts.{attr_at}
 use Rattle.irtext_grammar.specs.Heads.{entry_by}
-use Rattle.irtext_parse_pieces.specs.declared.lists.NameKind.TheVariants as kind
+use Rattle.irtext_grammar.specs.declared.parsed.NameKind.TheVariants as kind
 use Rattle.irtext_parse_pieces.proofs.Absences.{list_unbegun}
 use Rattle.irtext_parse_pieces.proofs.Listings.{list_unread}
 use Rattle.irtext_parse_pieces.proofs.EntrySteps.{list_entries}

@@ -1,7 +1,7 @@
 use Rattle.std.proofs.Common.{[], ◌∷◌, ◌++◌, ◌<◌, length, ap, sym, subst, ◌∙◌, Ok, Err}
 use Rattle.irtext_tokens.specs.AttrTexts.{attr_at}
 use Rattle.irtext_grammar.specs.Heads.{entry_by}
-use Rattle.irtext_parse_pieces.specs.Entries.{IsEntry, AreEntries}
+use Rattle.irtext_grammar.specs.Parsed.{IsEntry, AreEntries}
 use Rattle.irtext_parse_pieces.specs.Named.{whole}
 use Rattle.irtext_parse_pieces.proofs.Meanings.{insisted_mean, must_refuse}
 use Rattle.irtext_parse_pieces.proofs.Listings.{Listing, listing_first, listing_starts, item_falls, listing_ran_out, turn_refused, turn_keeps, turn_ran_out, turn_ends}

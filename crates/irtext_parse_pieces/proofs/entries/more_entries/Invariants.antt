@@ -2,7 +2,7 @@ use Rattle.std.proofs.Common.{◌≡◌, ℕ, false, [], ◌∷◌, length}
 use Rattle.irtext_grammar.specs.Grammar.Tree.{Name, Attribute}
 use Rattle.irtext_tokens.specs.AttrTexts.{attr_at}
 use Rattle.irtext_grammar.specs.Heads.{entry_by}
-use Rattle.irtext_parse_pieces.specs.Entries.{IsEntry}
+use Rattle.irtext_grammar.specs.Parsed.{IsEntry}
 use Rattle.irtext_parse_pieces.specs.Named.{whole}
 use Rattle.irtext_parse_pieces.proofs.Listings.{Listing}
 use Rattle.irtext_parse_pieces.proofs.Lenses.{lens_of}

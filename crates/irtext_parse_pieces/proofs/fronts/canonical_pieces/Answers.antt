@@ -1,5 +1,6 @@
 use Rattle.irtext_tokens.specs.AttrTexts.{attr_at}
-use Rattle.irtext_parse_pieces.specs.Canonical.{canonical_front, pieces_of}
+use Rattle.irtext_parse_pieces.specs.Canonical.{canonical_front}
+use Rattle.irtext_grammar.specs.Forms.{pieces_of}
 use Rattle.irtext_parse_pieces.proofs.CanonicalSteps.{steps_failed, steps_seen}
 use Rattle.irtext_parse_pieces.proofs.Lenses.{lens_of}
 use Rattle.irtext_parse_pieces.proofs.fronts.canonical_pieces.Goals as goal

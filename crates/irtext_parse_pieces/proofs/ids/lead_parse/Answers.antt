@@ -4,7 +4,7 @@ use Rattle.irtext_base.specs.Answers.{Outcome, mapped, followed}
 use Rattle.irtext_tokens.specs.Tokens.{space_at}
 use Rattle.irtext_grammar.specs.Grammar.Tree.{Name}
 use Rattle.irtext_grammar.specs.Heads.{lead_at}
-use Rattle.irtext_parse_pieces.specs.Named.{Represents, Each}
+use Rattle.irtext_grammar.specs.Parsed.{Represents, Each}
 use Rattle.irtext_parse_pieces.specs.Results.{results_if_at}
 use Rattle.irtext_parse_pieces.proofs.Meanings.{must_refuse, passed_whole}
 use Rattle.irtext_tokens.proofs.Steps.{starts, spaced, more, refuses, last_spaced}

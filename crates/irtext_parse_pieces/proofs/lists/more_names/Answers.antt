@@ -1,5 +1,6 @@
 use Rattle.irtext_parse_pieces.specs.Kinds.{named_at}
-use Rattle.irtext_parse_pieces.specs.Named.{whole, Represents, Each}
+use Rattle.irtext_parse_pieces.specs.Named.{whole}
+use Rattle.irtext_grammar.specs.Parsed.{Represents, Each}
 use Rattle.irtext_parse_pieces.proofs.Meanings.{names_none, names_more, names_still_represent}
 use Rattle.irtext_parse_pieces.proofs.Listings.{listing_starts, turn_kept, turn_unkept, kept_falls, turn_ends}
 use Rattle.irtext_parse_pieces.proofs.Lenses.{lens_of}

@@ -1,6 +1,6 @@
 use Rattle.std.proofs.Common.{refl}
 use Rattle.irtext_grammar.specs.Grammar.Tree as tree
-use Rattle.irtext_parse_pieces.specs.declared.pieces.ReadPiece.TheVariants as read
+use Rattle.irtext_grammar.specs.declared.parsed.ReadPiece.TheVariants as read
 use Rattle.irtext_parse_pieces.specs.Kinds.{names_tree}
 use Rattle.irtext_parse_pieces.proofs.PieceSteps.{no_tree, piece_there, piece_refused}
 use Rattle.irtext_parse_pieces.proofs.Lenses.{lens_of}

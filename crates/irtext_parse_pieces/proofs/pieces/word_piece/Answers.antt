@@ -1,7 +1,7 @@
 use Rattle.std.proofs.Common.{refl}
 use Rattle.irtext_base.specs.Faults.{characters}
 use Rattle.irtext_grammar.specs.Grammar.Tree as tree
-use Rattle.irtext_parse_pieces.specs.declared.pieces.ReadPiece.TheVariants as read
+use Rattle.irtext_grammar.specs.declared.parsed.ReadPiece.TheVariants as read
 use Rattle.irtext_parse_pieces.proofs.PieceSteps.{no_tree, plain_there, piece_refused}
 use Rattle.irtext_parse_pieces.proofs.Lenses.{lens_of}
 use Rattle.irtext_parse_pieces.proofs.pieces.word_piece.Goals as goal

@@ -1,6 +1,7 @@
 use Rattle.irtext_tokens.proofs.Exits.{propagated}
 use Rattle.irtext_grammar.specs.Heads.{name_at}
-use Rattle.irtext_parse_pieces.specs.Named.{whole, Represents, Each}
+use Rattle.irtext_parse_pieces.specs.Named.{whole}
+use Rattle.irtext_grammar.specs.Parsed.{Represents, Each}
 use Rattle.irtext_parse_pieces.proofs.Meanings.{names_none, names_more, read_mean, names_still_represent}
 use Rattle.irtext_parse_pieces.proofs.Listings.{listing_starts, turn_falls, turn_more, turn_keeps, turn_ends}
 use Rattle.irtext_parse_pieces.proofs.Looks.{passed_here, next_unlooked}

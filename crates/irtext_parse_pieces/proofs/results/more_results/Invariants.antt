@@ -1,7 +1,8 @@
 use Rattle.std.proofs.Common.{◌≡◌, ℕ, false, [], ◌∷◌, length}
 use Rattle.irtext_grammar.specs.Grammar.Tree.{Name}
 use Rattle.irtext_grammar.specs.Heads.{name_at}
-use Rattle.irtext_parse_pieces.specs.Named.{whole, Represents, NamesRead}
+use Rattle.irtext_parse_pieces.specs.Named.{whole, NamesRead}
+use Rattle.irtext_grammar.specs.Parsed.{Represents}
 use Rattle.irtext_parse_pieces.proofs.Listings.{Listing}
 use Rattle.irtext_parse_pieces.proofs.Lenses.{lens_of}
 use Rattle.irtext_parse_pieces.proofs.results.more_results.Given as goal

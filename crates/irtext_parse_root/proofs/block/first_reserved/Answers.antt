@@ -1,5 +1,5 @@
 use Rattle.std.proofs.Common.{◌∙◌, sym, arith}
-use Rattle.irtext_parse_nested.proofs.Numbered.{item_there}
+use Rattle.irtext_names.proofs.Numbered.{item_there}
 use Rattle.irtext_parse_root.proofs.BlockHeads.{passes_entry, stops_entry, none_left}
 use Rattle.irtext_parse_root.proofs.block.first_reserved.Goals as goal
 

@@ -2,7 +2,7 @@ use Rattle.std.proofs.Common.{inl, inr, arith}
 use Rattle.irtext_grammar.specs.Contexts.Held.{whole}
 use Rattle.irtext_grammar.specs.Promises.Section.{indices_of}
 use Rattle.irtext_parse_state.specs.States.{marks_of}
-use Rattle.irtext_parse_nested.proofs.Numbered.{item_there}
+use Rattle.irtext_names.proofs.Numbered.{item_there}
 use Rattle.irtext_parse_root.proofs.BlockHeads.{key_outside, argument_outside, mark_outside, label_outside, named_within, argument_within}
 use Rattle.irtext_parse_root.proofs.block.header_fault.Goals as goal
 

@@ -1,7 +1,7 @@
 use Rattle.std.proofs.Common.{false, refl, Err, []}
 use Rattle.irtext_tokens.proofs.Exits.{propagated}
 use Rattle.irtext_tokens.proofs.Steps.{Lens, lens}
-use Rattle.irtext_parse_pieces.specs.Named.{Represents}
+use Rattle.irtext_grammar.specs.Parsed.{Represents}
 use Rattle.irtext_parse_pieces.proofs.Meanings.{may_miss, insisted_mean}
 use Rattle.irtext_parse_pieces.proofs.NameSteps.{nobody, target_after, target_refused}
 use Rattle.irtext_parse_root.proofs.names.block_opd_parse.Given as given

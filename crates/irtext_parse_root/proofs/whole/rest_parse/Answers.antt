@@ -11,7 +11,8 @@ use Rattle.irtext_grammar.proofs.Readers.Answered.{answered, not_answered}
 use Rattle.irtext_grammar.proofs.Readers.EntryIndices.{demands}
 use Rattle.irtext_grammar.proofs.Readers.NewPaths.{adds_kept}
 use Rattle.irtext_grammar.proofs.Fine.{fine_section}
-use Rattle.irtext_parse_nested.proofs.Marking.{if_err, on_err, always_err}
+use Rattle.irtext_names.proofs.Outcomes.{if_err}
+use Rattle.irtext_parse_nested.proofs.Marking.{on_err, always_err}
 use Rattle.irtext_parse_pieces.proofs.Meanings.{takes_whole}
 use Rattle.irtext_parse_section.specs.Said.{rules_of}
 use Rattle.irtext_parse_section.proofs.SectionSteps.{either_way, ran_out_refusal, ran_out_there, given_kept}

@@ -5,7 +5,8 @@ use Rattle.irtext_parse_section.specs.OnlyPaths.{may_follow}
 use Rattle.irtext_parse_section.proofs.OnlyPaths.{only_none, only_more}
 use Rattle.irtext_parse_section.specs.Entries.{noted}
 use Rattle.irtext_parse_section.specs.Said.{rules_of}
-use Rattle.irtext_parse_section.proofs.LoopSteps.{unless_err, all_entries, entries_refused, entries_ran_out, entries_shorter, entries_more, ran_out_so_far}
+use Rattle.irtext_parse_locations.proofs.ApplySteps.{unless_err}
+use Rattle.irtext_parse_section.proofs.LoopSteps.{all_entries, entries_refused, entries_ran_out, entries_shorter, entries_more, ran_out_so_far}
 use Rattle.irtext_parse_section.proofs.entries.more_parse.Goals as goal
 
 pub loop-s-init : goal.loop-s-init

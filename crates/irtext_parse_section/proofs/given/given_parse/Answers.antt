@@ -13,7 +13,8 @@ use Rattle.irtext_grammar.specs.Promises.Section.{given_over}
 use Rattle.irtext_parse_pieces.proofs.EntrySteps.{first_refused}
 use Rattle.irtext_parse_pieces.proofs.Meanings.{must_refuse, must_whole}
 use Rattle.irtext_grammar.specs.Entries.{pairs_at}
-use Rattle.irtext_parse_section.specs.Said.{rule_for, ArePairs}
+use Rattle.irtext_parse_locations.specs.Rules.{rule_for}
+use Rattle.irtext_parse_section.specs.Said.{ArePairs}
 use Rattle.irtext_parse_section.proofs.given.given_parse.Goals as goal
 
 -- what follows the location

@@ -10,11 +10,12 @@ use Rattle.irtext_tokens.proofs.Steps.{alone, first, spaced, more, refuses, refu
 use Rattle.irtext_grammar.specs.Grammar.Section.{Item}
 use Rattle.irtext_grammar.specs.Grammar.Tree.{Name}
 use Rattle.irtext_grammar.specs.Names.Acts.{Rule}
-use Rattle.irtext_parse_pieces.specs.Named.{Each}
+use Rattle.irtext_grammar.specs.Parsed.{Each}
 use Rattle.irtext_parse_pieces.proofs.EntrySteps.{first_refused}
 use Rattle.irtext_parse_pieces.proofs.Meanings.{must_refuse, passed_whole}
 use Rattle.irtext_grammar.specs.Entries.{pairs_at}
-use Rattle.irtext_parse_section.specs.Said.{rule_for, IsPair}
+use Rattle.irtext_parse_locations.specs.Rules.{rule_for}
+use Rattle.irtext_parse_section.specs.Said.{IsPair}
 use Rattle.irtext_parse_section.proofs.PairSteps.{kept_at}
 use Rattle.irtext_parse_section.proofs.pairs.bracketed_parse.Goals as goal
 

@@ -1,4 +1,4 @@
-use Rattle.irtext_parse_section.specs.Said.{rule_for}
+use Rattle.irtext_parse_locations.specs.Rules.{rule_for}
 use Rattle.irtext_parse_section.proofs.PairSteps.{may_keep}
 use Rattle.irtext_parse_section.proofs.pairs.kept_parse.Goals as goal
 

@@ -3,7 +3,7 @@ use Rattle.irtext_tokens.proofs.Steps.{alone}
 use Rattle.irtext_tokens.specs.AttrTexts.{attr_at}
 use Rattle.irtext_parse_pieces.proofs.Meanings.{must_refuse}
 use Rattle.irtext_parse_pieces.proofs.Listings.{list_bad, list_none}
-use Rattle.irtext_parse_section.specs.Said.{rule_for}
+use Rattle.irtext_parse_locations.specs.Rules.{rule_for}
 use Rattle.irtext_parse_section.proofs.PairSteps.{kept_at, list_pairs}
 use Rattle.irtext_parse_section.proofs.pairs.list_parse.Goals as goal
 

@@ -2,11 +2,13 @@ use Rattle.std.proofs.Common.{[], ◌∷◌, ◌++◌, ap, sym, ◌∙◌, subst
 use Rattle.irtext_tokens.proofs.Exits.{propagated}
 use Rattle.irtext_tokens.proofs.Steps.{alone}
 use Rattle.irtext_tokens.specs.AttrTexts.{attr_at}
-use Rattle.irtext_parse_pieces.specs.Named.{whole, Each, MustMean}
+use Rattle.irtext_parse_pieces.specs.Named.{whole, MustMean}
+use Rattle.irtext_grammar.specs.Parsed.{Each}
 use Rattle.irtext_parse_pieces.proofs.Meanings.{insisted_mean, must_refuse}
 use Rattle.irtext_parse_pieces.proofs.Listings.{Listing, listing_first, listing_all, listing_refused, listing_more, listing_whole, item_falls, listing_ran_out}
 use Rattle.irtext_grammar.specs.Readers.Streams.{itself, replaced}
-use Rattle.irtext_parse_section.specs.Said.{rule_for, IsPair}
+use Rattle.irtext_parse_locations.specs.Rules.{rule_for}
+use Rattle.irtext_parse_section.specs.Said.{IsPair}
 use Rattle.irtext_parse_section.proofs.PairSteps.{kept_at}
 use Rattle.irtext_parse_section.proofs.pairs.more_pairs.Goals as goal
 

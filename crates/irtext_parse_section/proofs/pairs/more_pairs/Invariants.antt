@@ -5,7 +5,8 @@ use Rattle.irtext_grammar.specs.Grammar.Section.{Item}
 use Rattle.irtext_grammar.specs.Grammar.Tree.{Name}
 use Rattle.irtext_parse_pieces.specs.Named.{whole}
 use Rattle.irtext_parse_pieces.proofs.Listings.{Listing}
-use Rattle.irtext_parse_section.specs.Said.{rule_for, IsPair}
+use Rattle.irtext_parse_locations.specs.Rules.{rule_for}
+use Rattle.irtext_parse_section.specs.Said.{IsPair}
 use Rattle.irtext_parse_section.proofs.PairSteps.{kept_at}
 use Rattle.irtext_parse_section.proofs.pairs.more_pairs.Given as goal
 

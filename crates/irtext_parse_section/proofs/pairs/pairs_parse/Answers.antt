@@ -1,6 +1,6 @@
 use Rattle.std.proofs.Common.{sym, ◌∙◌}
 use Rattle.irtext_tokens.specs.AttrTexts.{attr_at}
-use Rattle.irtext_parse_section.specs.Said.{rule_for}
+use Rattle.irtext_parse_locations.specs.Rules.{rule_for}
 use Rattle.irtext_parse_section.proofs.PlainEntries.{no_pairs_come}
 use Rattle.irtext_parse_section.proofs.pairs.pairs_parse.Goals as goal
 

@@ -10,12 +10,13 @@ use Rattle.irtext_parse_state.specs.States.{marks_of}
 use Rattle.irtext_grammar.specs.Promises.Section.{indices_of}
 use Rattle.irtext_grammar.specs.Readers.Streams.{itself, replaced}
 use Rattle.irtext_grammar.proofs.Readers.Answered.{answered}
-use Rattle.irtext_parse_section.specs.Checked.{items_wrong}
+use Rattle.irtext_parse_locations.specs.Checked.{items_wrong}
 use Rattle.irtext_parse_section.specs.Said.{rules_of}
-use Rattle.irtext_parse_pieces.specs.Named.{whole, Each, MustMean}
+use Rattle.irtext_parse_pieces.specs.Named.{whole, MustMean}
+use Rattle.irtext_grammar.specs.Parsed.{Each}
 use Rattle.irtext_grammar.specs.Entries.{wrong_references, section_at}
 use Rattle.irtext_parse_section.specs.Entries.{AreEntriesOver, items_of, once_of}
-use Rattle.irtext_parse_section.specs.declared.said.Entries.{Entries}
+use Rattle.irtext_parse_locations.specs.declared.said.Entries.{Entries}
 use Rattle.irtext_parse_section.proofs.References.{IsWrong, references_same, references_near, section_unread, section_right, section_wrong}
 use Rattle.irtext_parse_section.proofs.section.section_checked.Goals as goal
 

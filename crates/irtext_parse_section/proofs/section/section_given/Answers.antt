@@ -1,7 +1,7 @@
 use Rattle.std.proofs.Common.{◌∙◌, sym, subst}
 use Rattle.irtext_base.specs.Answers.{RunsOutHere}
 use Rattle.irtext_grammar.specs.Readers.Streams.{itself, replaced}
-use Rattle.irtext_parse_section.proofs.LoopSteps.{unless_err, where_err}
+use Rattle.irtext_parse_locations.proofs.ApplySteps.{unless_err, where_err}
 use Rattle.irtext_parse_section.proofs.section.section_given.Goals as goal
 
 pub returns-then-is_err-clause-ran_out : goal.returns-then-is_err-clause-ran_out

@@ -1,5 +1,5 @@
 use Rattle.std.proofs.Common.{subst, sym}
-use Rattle.irtext_parse_section.specs.Applied.{ItemsAreNewer}
+use Rattle.irtext_parse_locations.specs.Applied.{ItemsAreNewer}
 use Rattle.irtext_parse_section.specs.Entries.{items_of}
 use Rattle.irtext_parse_section.proofs.whole.all_given.Goals as goal
 

@@ -1,5 +1,5 @@
 use Rattle.std.proofs.Common.{◌∙◌, ap, subst}
-use Rattle.irtext_parse_section.specs.Checked.{Checks, items_wrong}
+use Rattle.irtext_parse_locations.specs.Checked.{Checks, items_wrong}
 use Rattle.irtext_parse_section.proofs.whole.entries_checked.Goals as goal
 
 pub returns-in-All : goal.returns-in-All

@@ -1,8 +1,8 @@
 use Rattle.std.proofs.Common.{refl, sym, ◌∙◌, subst, arith}
 use Rattle.std.specs.Vec.{vec_len}
-use Rattle.irtext_parse_section.specs.Checked.{Checks}
-use Rattle.irtext_parse_section.proofs.AllOrNone.{none_left}
-use Rattle.irtext_parse_section.proofs.ApplySteps.{no_length}
+use Rattle.irtext_parse_locations.specs.Checked.{Checks}
+use Rattle.irtext_parse_locations.proofs.AllOrNone.{none_left}
+use Rattle.irtext_parse_locations.proofs.ApplySteps.{no_length}
 use Rattle.irtext_parse_section.proofs.OnlyEntry.{only_right, only_wrong}
 use Rattle.irtext_parse_section.proofs.whole.only_checked.Goals as goal
 

@@ -1,7 +1,7 @@
 use Rattle.std.proofs.Common.{[], ◌∷◌, sym, ◌∙◌, arith}
 use Rattle.std.specs.Vec.{vec_len}
-use Rattle.irtext_parse_section.proofs.AllOrNone.{none_left, gives_kept, gives_closed}
-use Rattle.irtext_parse_section.proofs.ApplySteps.{no_length}
+use Rattle.irtext_parse_locations.proofs.AllOrNone.{none_left, gives_kept, gives_closed}
+use Rattle.irtext_parse_locations.proofs.ApplySteps.{no_length}
 use Rattle.irtext_parse_section.proofs.OnlyEntry.{only_gives}
 use Rattle.irtext_parse_section.proofs.whole.only_given.Goals as goal
 

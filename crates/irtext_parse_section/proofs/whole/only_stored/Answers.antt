@@ -1,5 +1,5 @@
 use Rattle.std.proofs.Common.{sym, subst}
-use Rattle.irtext_parse_section.specs.Applied.{ItemsAreNewer}
+use Rattle.irtext_parse_locations.specs.Applied.{ItemsAreNewer}
 use Rattle.irtext_parse_section.proofs.OnlyEntry.{gives_one, gives_same}
 use Rattle.irtext_parse_section.proofs.whole.only_stored.Goals as goal
 

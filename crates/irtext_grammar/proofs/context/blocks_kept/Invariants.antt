@@ -1,7 +1,0 @@
-use Rattle.std.proofs.Common.{ℕ, ◌<◌}
-use Rattle.irtext_grammar.specs.ContextParts.{KeepsBlockAt}
-use Rattle.irtext_grammar.proofs.context.blocks_kept.Given as goal
-
--- it is known of all places before
-abbrev pub invariant-loop-place : goal.invariant-loop-place
-invariant-loop-place g l = (i : ℕ) → i < l.place → KeepsBlockAt l.ctx i

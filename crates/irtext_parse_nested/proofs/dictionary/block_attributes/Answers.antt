@@ -1,8 +1,0 @@
-use Rattle.std.proofs.Common.{map}
-use Rattle.irtext_parse_nested.specs.Blocks.{entries_in}
-use Rattle.irtext_parse_nested.specs.Gathered.{entry_read}
-use Rattle.irtext_parse_nested.proofs.BlockEntries.{names_after}
-use Rattle.irtext_parse_nested.proofs.dictionary.block_attributes.Goals as goal
-
-pub returns-in-Ok-clause-stored : goal.returns-in-Ok-clause-stored
-returns-in-Ok-clause-stored g c = names_after c.args.names.now.names c.args.arguments.now c.new-attributes.result c.dictionary_stored.new.attributes c.names_stored.new.attributes (map entry_read (entries_in c.args.entries)) c.new-attributes.ensures c.in_default.ensures.stored c.in-Ok.ensures

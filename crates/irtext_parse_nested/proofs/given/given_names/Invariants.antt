@@ -1,6 +1,0 @@
-use Rattle.std.proofs.Common.{◌≡◌, map, slice_get, take}
-use Rattle.irtext_parse_nested.specs.Ends.{numbers_of}
-use Rattle.irtext_parse_nested.proofs.given.given_names.Given as goal
-
-abbrev pub invariant-loop-index : goal.invariant-loop-index
-invariant-loop-index l = l.given.items ≡ map (slice_get l.names.names) (take l.index (numbers_of l.read))

@@ -1,6 +1,0 @@
-use Rattle.irtext_parse_section.specs.Applied.{all_stored}
-use Rattle.irtext_parse_section.proofs.AllOrNone.{stored_into}
-use Rattle.irtext_parse_section.proofs.together.operation_next.Goals as goal
-
-pub returns : goal.returns
-returns g c = stored_into (all_stored c.args.once.now.entries c.args.pairs.items) _ c.attributes.result.now c.in_ok-next.next c.pairs_stored.new.attributes c.attributes.ensures c.in_ok-next.ensures c.in_ok-pairs_stored.ensures

@@ -1,2 +1,0 @@
-//! The tests, a file for each subject.
-pub(crate) mod outside;

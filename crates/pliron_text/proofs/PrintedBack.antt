@@ -1,0 +1,95 @@
+-- The promises of the two calls, put together.
+use Rattle.std.proofs.Common.{◌≡◌, ◌∙◌, ℕ, Bool, true, refl, sym, ap, subst, arith, List, [], length, Some, None}
+use Rattle.std.proofs.lemmas.Str.{chars_from_encodes, length-le-encodes}
+use Rattle.std.specs.Str.{chars}
+use Rattle.irtext_base.specs.Answers.{Outcome}
+use Rattle.irtext_base.specs.Locations.{AttrView}
+use Rattle.irtext_base.specs.Own.{Texts, texts_of, Lawful, Unreserved, unplaced}
+use Rattle.irtext_base.specs.Text.{Text}
+use Rattle.irtext_base.specs.declared.parsable.fault.ParseFault.{ParseFault}
+use Rattle.irtext_context.specs.Context.{ContextView}
+use Rattle.irtext_graph.specs.declared.arena.Ptr.{Ptr}
+use Rattle.irtext_graph.specs.declared.object.Operation.{Operation}
+use Rattle.irtext_grammar.specs.Contexts.Formats.{format_of, isolated}
+use Rattle.irtext_grammar.specs.Contexts.Held.{whole}
+use Rattle.irtext_grammar.specs.Contexts.Nested.{printing_over}
+use Rattle.irtext_grammar.specs.Grammar.Marked.{AllShown, reads_root}
+use Rattle.irtext_grammar.specs.Graphs.Build.{build}
+use Rattle.irtext_grammar.specs.Graphs.Graph.{Graph, Limit, Printing, written}
+use Rattle.irtext_grammar.specs.Graphs.Regained.{Named}
+use Rattle.irtext_grammar.specs.Names.Acts.{failures_of}
+use Rattle.irtext_grammar.specs.Spelling.Section.{text}
+use Rattle.irtext_grammar.specs.Promises.Root.{location_of}
+use Rattle.irtext_grammar.specs.Promises.Supported.{supported, location_verdict}
+use Rattle.irtext_names.specs.Held.{held_root}
+use Rattle.irtext_names.specs.Promises.{BuildsRoot, IsFirst, RefusesRoot}
+use Rattle.irtext_tokens.specs.AttrTexts.{attr_at}
+use Rattle.irtext_grammar.specs.Back.{ClosedRoot, IsTextOf, ReadsAs}
+use Rattle.irtext_grammar.proofs.Limited.{limited_refused}
+use Rattle.irtext_grammar.proofs.TextBack.{held_back, held_whole, readable}
+use Rattle.irtext_parse_state.specs.declared.parsable.state.StateStream.{StateStream}
+use Rattle.pliron_text.specs.PrintedRoot.{PrintedRoot, GivesBackRoot, GivesBackWhole}
+
+module _ {T A : Type 0} (types : Texts T) (reading : Text → Outcome A) (text_of : A → Text) (types_law : Lawful T types) (owns_law : Lawful A (texts_of reading text_of)) (unreserved : Unreserved A (texts_of reading text_of))
+    (outlined once : A → Bool) (eq : A → A → Bool) (sound : (a b : A) → eq a b ≡ true → a ≡ b) (reflexive : (a : A) → eq a a ≡ true)
+    (ctx : ContextView T A) (p : Ptr Operation) (g : Graph T A) (width n : ℕ) (bytes : List ℕ) where
+  abbrev owns : Texts A
+  owns = texts_of reading text_of
+
+  abbrev attr : Text → Outcome (AttrView A)
+  attr = attr_at reading
+
+  abbrev C : Printing T A
+  C = printing_over ctx outlined once eq
+
+  module _ (limit : Limit) (printed : PrintedRoot types owns attr C ctx p g width n limit bytes) where
+    -- its characters are those of the text
+    is_text : IsTextOf types owns attr C (isolated ctx.dialects) g width n limit (chars bytes)
+    is_text =
+        let t = text (unplaced types owns C.format_of) C g n width limit in
+        let is = chars_from_encodes t bytes printed.utf8 (sym printed.printed) in
+        let same = ap (λ (z : Text). length z) is in
+        let size = ap (λ (z : List ℕ). length z) printed.printed in
+        let low = length-le-encodes t in
+        let few = printed.few in
+        record { kept = printed.kept; fits = printed.fits; is = sym is; few = omega (arith, few, same, size, low) }
+
+    module _ {U : Type 0} (old : StateStream T A U) (follows_on : old.stream.rest ≡ chars bytes) (same_dialects : old.state.ctx.now.dialects ≡ ctx.dialects) where
+      -- what was parsed from it
+      read_as : (q : Ptr Operation) (new : StateStream T A U) → BuildsRoot types owns attr q old new
+          → ReadsAs types owns attr C (isolated ctx.dialects) (location_of new.state.ctx.now.paths old.state.src (whole old.stream)) (chars bytes) new.stream.rest (held_root new.state.ctx.now q)
+      read_as q new b =
+          let first = location_of {A = A} new.state.ctx.now.paths old.state.src (whole old.stream) in
+          record {
+            tree = b.tree;
+            entries = b.entries;
+            reads = subst (λ t. reads_root (supported ctx.dialects types owns) (location_verdict attr) b.tree b.entries t new.stream.rest) follows_on
+                (subst (λ d. reads_root (supported d types owns) (location_verdict attr) b.tree b.entries old.stream.rest new.stream.rest) same_dialects b.reads);
+            resolves = subst (λ d. failures_of (isolated d) b.tree b.entries ≡ []) same_dialects b.resolves;
+            builds = b.builds ∙ ap (λ d. Some (build (isolated d) first b.entries b.tree)) same_dialects;
+          }
+
+      -- nothing is parsed from it if a region was left out
+      pub none_read : (AllShown (written C limit g) → ⊥) → (q : Ptr Operation) (new : StateStream T A U) → BuildsRoot types owns attr q old new → ⊥
+      none_read left q new b =
+          let r = read_as q new b in
+          limited_refused types owns types_law owns_law unreserved attr C (isolated ctx.dialects) g width n limit (chars bytes) new.stream.rest r.tree r.entries is_text left r.reads
+
+  module _ (printed : PrintedRoot types owns attr C ctx p g width n None bytes) (closed : ClosedRoot C (isolated ctx.dialects) g)
+      {U : Type 0} (old : StateStream T A U) (follows_on : old.stream.rest ≡ chars bytes) (same_dialects : old.state.ctx.now.dialects ≡ ctx.dialects) where
+    pub gives_back_root : (q : Ptr Operation) (new : StateStream T A U) → BuildsRoot types owns attr q old new → GivesBackRoot types owns attr C ctx.dialects g q new
+    gives_back_root q new b =
+        held_back types reading text_of types_law owns_law unreserved C sound reflexive (isolated ctx.dialects) (location_of new.state.ctx.now.paths old.state.src (whole old.stream)) (λ p. refl) g width n (chars bytes) (is_text None printed) closed
+        new.stream.rest (held_root new.state.ctx.now q) (read_as None printed old follows_on same_dialects q new b)
+
+    pub gives_back_whole : Named C g → (q : Ptr Operation) (new : StateStream T A U) → BuildsRoot types owns attr q old new → GivesBackWhole types owns attr C ctx.dialects g q new
+    gives_back_whole named q new b =
+        held_whole types reading text_of types_law owns_law unreserved C sound reflexive (isolated ctx.dialects) (location_of new.state.ctx.now.paths old.state.src (whole old.stream)) (λ p. refl) g width n (chars bytes) (is_text None printed) closed
+        named new.stream.rest (held_root new.state.ctx.now q) (read_as None printed old follows_on same_dialects q new b)
+
+    pub not_refused : (types_at : Text → Outcome T) (fault : ParseFault A) → RefusesRoot types owns types_at attr old.state.ctx.now.dialects old.stream fault → ⊥
+    not_refused types_at fault there =
+        let f = subst (λ d. RefusesRoot types owns types_at attr d old.stream fault) same_dialects there in
+        let r = readable types reading text_of types_law owns_law unreserved C sound reflexive (isolated ctx.dialects) (location_of ctx.paths old.state.src (whole old.stream)) (λ p. refl) g width n (chars bytes) (is_text None printed) closed in
+        let here = subst (λ t. reads_root (supported ctx.dialects types owns) (location_verdict attr) r.0 r.1 t r.2) (sym follows_on) r.3 in
+        subst (λ z. IsFirst (whole old.stream) z fault) r.4 (f.first r.0 r.1 r.2 here)
