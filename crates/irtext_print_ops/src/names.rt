@@ -11,8 +11,8 @@ ghost use Rattle.irtext_grammar.specs.UniqueNames.{given_name};
 use irtext_base::base::Identifier;
 use irtext_base::text::{AttrText, IrText};
 use irtext_context::base::{BasicBlock, BlockAccess, Context, Ptr, Value};
-use irtext_print::name::given_name;
 use irtext_graph::held::HasGraph;
+use irtext_print::name::given_name;
 use irtext_print::printable::numbers::{fmt_led_number, fmt_number};
 use std::fmt;
 
