@@ -1,18 +1,26 @@
-//! Making operations whose operands and successors need not be known to be in the context.
+//! Making operations and blocks: with what is known to be in the context, and operations whose operands and successors need not be known
+//! to be in it.
 ghost use Rattle.std.specs.Prelude.{IsSome, IfOk, IfErr, OnOk};
 ghost use Rattle.irtext_context.specs.Context.{operation};
 ghost use Rattle.irtext_context.specs.Made.{AreLiveBlocks, MakesRegistered, MakesWithRegions};
 ghost use Rattle.irtext_checked.specs.Checked.{RefusesNew};
 ghost use Rattle.irtext_checked.specs.Types.{AreContainedValues};
 
+pub mod bare;
+pub mod block;
+pub mod operation;
+
 use crate::contains::ContainsParts;
 use crate::unfit;
+pub use bare::NewBareOperation;
+pub use block::NewBlock;
 use irtext_base::base::OpId;
 use irtext_base::result;
 use irtext_base::text::{AttrText, IrText};
-use irtext_context::base::{BasicBlock, Context, NewOperation, Operation, Ptr};
+use irtext_context::base::{BasicBlock, Context, Operation, Ptr};
 use irtext_few::Few;
 use irtext_graph::object::Value;
+pub use operation::NewOperation;
 
 /// Makes operations: `Operation::try_new`.
 pub trait TryNewOperation {

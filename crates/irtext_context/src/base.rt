@@ -8,9 +8,9 @@ pub mod operation;
 pub(crate) mod types;
 
 pub use attributes::{AttributeDict, is_outlined};
-pub use block::{BlockAccess, BlockData, NewBlock};
+pub use block::{BlockAccess, BlockData};
 pub use context::Context;
 pub use irtext_graph::arena::Ptr;
 pub use irtext_graph::object::{BasicBlock, Operation, Region, Value};
 pub use item::Item;
-pub use operation::{NewBareOperation, NewOperation, OperationAccess, OperationData};
+pub use operation::{OperationAccess, OperationData};

@@ -12,10 +12,8 @@ use irtext_base::parsable::SourcePosition;
 use irtext_base::result::Result as Answer;
 use irtext_checked::access::{TryAccess, TryBlockAccess};
 use irtext_checked::insert::TryInsert;
-use irtext_checked::make::TryNewOperation;
-use irtext_context::base::{
-    BasicBlock, BlockAccess, Item, NewBlock, Operation, OperationAccess, Ptr, Value,
-};
+use irtext_checked::make::{NewBlock, TryNewOperation};
+use irtext_context::base::{BasicBlock, BlockAccess, Item, Operation, OperationAccess, Ptr, Value};
 use irtext_context::dialect::{Dialect, DialectName};
 use irtext_demo::{Characters, DemoAttr, DemoType, IntegerType, Signedness, Width};
 use irtext_few::Few;

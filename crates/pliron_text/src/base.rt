@@ -4,11 +4,10 @@ pub use irtext_base::base::{AttrObj, GIVEN_NAMES_KEY, Identifier, OpId, Refusal,
 pub use irtext_checked::access::{TryAccess, TryBlockAccess};
 pub use irtext_checked::contains::ContainsParts;
 pub use irtext_checked::insert::TryInsert;
-pub use irtext_checked::make::TryNewOperation;
+pub use irtext_checked::make::{NewBareOperation, NewBlock, NewOperation, TryNewOperation};
 pub use irtext_checked::types::{OperationTypes, ValueType};
 pub use irtext_context::base::{
-    AttributeDict, BasicBlock, BlockAccess, Context, NewBareOperation, NewBlock, NewOperation,
-    Operation, OperationAccess, Ptr, Region,
+    AttributeDict, BasicBlock, BlockAccess, Context, Operation, OperationAccess, Ptr, Region,
 };
 pub use irtext_few::Few;
 pub use irtext_graph::object::{Site, Value};

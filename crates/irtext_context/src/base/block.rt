@@ -7,13 +7,10 @@ ghost use Rattle.irtext_graph.specs.Parts.{block_at};
 ghost use Rattle.irtext_graph.specs.Store.{before};
 ghost use Rattle.irtext_context.specs.Context.{block, with_label, with_block_attribute, with_block_attributes, with_block_loc, with_changed_block, EditsBlock, KeepsOlder};
 
-mod make;
-
 use crate::base::{AttributeDict, BasicBlock, Context, Ptr};
 use irtext_base::base::{AttrObj, Identifier, Refusal};
 use irtext_base::location::Location;
 use irtext_base::text::{AttrText, IrText};
-pub use make::NewBlock;
 use std::alloc::Global;
 
 /// A block's label, if it has one, its attributes and its location.

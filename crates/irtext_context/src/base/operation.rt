@@ -8,16 +8,11 @@ ghost use Rattle.irtext_graph.specs.Store.{before};
 ghost use Rattle.irtext_context.specs.Context.{operation, with_attribute, with_attributes, with_changed_operation, with_loc, AddsRegion, EditsOperation, KeepsOlder};
 ghost use Rattle.irtext_context.specs.AttributeLends.{LendsHeld};
 
-mod bare;
-mod make;
-
 use crate::base::context::making::Making;
 use crate::base::{AttributeDict, Context, Operation, Ptr, Region};
-pub use bare::NewBareOperation;
 use irtext_base::base::{AttrObj, Identifier, OpId, Refusal};
 use irtext_base::location::Location;
 use irtext_base::text::{AttrText, IrText};
-pub use make::{NewOperation, add_regions};
 use std::alloc::AllocError;
 
 /// An operation's id, attributes and location. Its operands, successors, results and regions are kept by the graph.

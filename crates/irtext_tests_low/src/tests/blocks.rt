@@ -6,10 +6,9 @@ use crate::tests::made::has_type;
 use irtext_base::base::{AttrObj, GIVEN_NAMES_KEY, SYM_NAME_KEY};
 use irtext_base::location::Source;
 use irtext_base::result::Result as Answer;
+use irtext_checked::make::NewBlock;
 use irtext_context::base::context::making::Making;
-use irtext_context::base::{
-    BasicBlock, BlockAccess, Item, NewBlock, Operation, OperationAccess, Ptr,
-};
+use irtext_context::base::{BasicBlock, BlockAccess, Item, Operation, OperationAccess, Ptr};
 use irtext_context::location::erase_locations;
 use irtext_demo::{DemoAttr, DemoType};
 use irtext_few::Few;

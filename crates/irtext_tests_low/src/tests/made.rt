@@ -3,9 +3,8 @@ use crate::checks::{Check, alone, counting};
 use crate::must::{is_allowed, must, same, told};
 use crate::tests::unique::make_block;
 use irtext_base::result::Result as Answer;
-use irtext_context::base::{
-    BasicBlock, NewOperation, Operation, OperationAccess, Ptr, Region, Value,
-};
+use irtext_checked::make::NewOperation;
+use irtext_context::base::{BasicBlock, Operation, OperationAccess, Ptr, Region, Value};
 use irtext_demo::dialects::register_demo;
 use irtext_demo::{DemoAttr, DemoType, IntegerType, Signedness, Width};
 use irtext_few::Few;

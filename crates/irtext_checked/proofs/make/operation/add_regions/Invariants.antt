@@ -4,7 +4,7 @@ use Rattle.irtext_graph.specs.Store.{before}
 use Rattle.irtext_graph.specs.declared.object.Object.TheVariants.{TheOperation}
 use Rattle.irtext_context.specs.Context.{KeepsOlder}
 use Rattle.irtext_context.specs.Made.{AddsRegions}
-use Rattle.irtext_context.proofs.base.operation.make.add_regions.Given as goal
+use Rattle.irtext_checked.proofs.make.operation.add_regions.Given as goal
 
 abbrev pub invariant-loop-region : goal.invariant-loop-region
 invariant-loop-region g l = record {

@@ -4,14 +4,14 @@ ghost use Rattle.irtext_base.specs.declared.location.Location.{Unknown};
 ghost use Rattle.irtext_context.specs.Context.{KeepsOlder, MakesBlock};
 ghost use Rattle.irtext_context.specs.Made.{bare_block};
 
-use crate::base::context::making::Making;
-use crate::base::{AttributeDict, BasicBlock, Context, Ptr};
-use crate::dialect::invalid;
+use crate::invalid;
 use irtext_base::base::Identifier;
 use irtext_base::location::Location;
 use irtext_base::result;
 use irtext_base::result::{Cause, ErrorKind};
 use irtext_base::text::{AttrText, IrText};
+use irtext_context::base::context::making::Making;
+use irtext_context::base::{AttributeDict, BasicBlock, Context, Ptr};
 use irtext_few::Few;
 use std::alloc::AllocError;
 

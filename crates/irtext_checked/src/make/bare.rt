@@ -3,12 +3,12 @@ ghost use Rattle.std.specs.Prelude.{◌≡◌, ◌⊎◌, [], IsSome, IfOk, IfEr
 ghost use Rattle.irtext_context.specs.DialectTable.{registered};
 ghost use Rattle.irtext_context.specs.Made.{IsUnregistered, MakesRegistered, MakesWithRegions};
 
-use crate::base::operation::NewOperation;
-use crate::base::{Context, Operation, Ptr};
+use crate::make::NewOperation;
 use irtext_base::base::OpId;
 use irtext_base::result;
 use irtext_base::result::Cause;
 use irtext_base::text::{AttrText, IrText};
+use irtext_context::base::{Context, Operation, Ptr};
 use irtext_few::Few;
 
 /// Makes operations without results, operands and successors.

@@ -7,16 +7,14 @@ ghost use Rattle.irtext_context.specs.Context.{KeepsOlder, MakesOperation};
 ghost use Rattle.irtext_context.specs.DialectTable.{registered};
 ghost use Rattle.irtext_context.specs.Made.{bare, AddsRegions, AreLiveBlocks, IsUnregistered, MakesRegistered, MakesWithRegions, AreDefinedValues};
 
-use crate::base::context::making::Making;
-use crate::base::operation::OperationData;
-use crate::base::types::known_types;
-use crate::base::{AttributeDict, BasicBlock, Context, Operation, Ptr, Value};
-use crate::dialect::invalid;
+use crate::invalid;
 use irtext_base::base::OpId;
 use irtext_base::location::Location;
 use irtext_base::result;
 use irtext_base::result::Cause;
 use irtext_base::text::{AttrText, IrText};
+use irtext_context::base::context::making::Making;
+use irtext_context::base::{AttributeDict, BasicBlock, Context, Operation, Ptr, Value};
 use irtext_few::Few;
 use std::alloc::AllocError;
 

@@ -1,7 +1,7 @@
 use Rattle.std.proofs.Common.{◌≡◌, subst, arith}
 use Rattle.irtext_context.specs.Made.{AddsRegions}
 use Rattle.irtext_context.proofs.Made.{still_live, kept_more, adds_last}
-use Rattle.irtext_context.proofs.base.operation.make.add_regions.Goals as goal
+use Rattle.irtext_checked.proofs.make.operation.add_regions.Goals as goal
 
 pub add_region-requires : goal.add_region-requires
 add_region-requires g c = c.loop-region.invariant.alive
