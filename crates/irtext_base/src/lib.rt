@@ -4,9 +4,7 @@
 
 pub mod base;
 pub mod format;
-pub mod laws;
 pub mod location;
 pub mod parsable;
-pub mod printable;
 pub mod result;
 pub mod text;

@@ -124,7 +124,6 @@ pub enum Cause<A> {
 }
 
 /// An error: its kind, its cause, and the location that it is about.
-#[derive(Drop)]
 #[cycle(cause)]
 pub struct Error<A> {
     /// What kind of error it is.
@@ -133,6 +132,31 @@ pub struct Error<A> {
     pub err: Cause<A>,
     /// The location that the error is about, or `Unknown`.
     pub loc: Location<A>,
+}
+
+impl<A: Drop> Error<A> {
+    /// Returns its cause.
+    pub fn into_cause(self) -> Cause<A>
+        ensures { result ≡ self.err }
+    {
+        let Error {
+            kind: _,
+            err,
+            loc: _loc,
+        } = self;
+        err
+    }
+}
+
+impl<A: Drop> Drop for Error<A> {
+    #[cycle(cause)]
+    fn drop(self) {
+        let Error {
+            kind: _,
+            err: _err,
+            loc: _loc,
+        } = self;
+    }
 }
 
 /// The result of a call that can fail.

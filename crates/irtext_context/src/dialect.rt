@@ -166,10 +166,18 @@ pub struct OpInfo {
 }
 
 /// A dialect: its operations by their ids. Every id has this dialect's name, and every format was accepted by `check_format`.
-#[derive(Drop)]
 pub struct Dialect {
     name: DialectName,
     ops: IndexMap<OpId, OpInfo>,
+}
+
+impl Drop for Dialect {
+    fn drop(self) {
+        let Dialect {
+            name: _name,
+            ops: _ops,
+        } = self;
+    }
 }
 
 impl Model for Dialect {

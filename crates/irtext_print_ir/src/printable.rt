@@ -6,13 +6,13 @@ ghost use Rattle.std.specs.declared.string.String.{String};
 ghost use Rattle.std.specs.declared.alloc.Global.{Global};
 ghost use Rattle.irtext_context.specs.declared.base.context.Context.{Context};
 
-pub use irtext_base::printable::ListSeparator;
 use irtext_base::text::{AttrText, IrText};
 use irtext_context::base::Context;
 pub use irtext_print::printable::{
     IndentGuard, Refusal, RegionDepthGuard, RegionPrintDepthLimit, State, fmt_indented_newline,
     fmt_newline, guards, refusal, state,
 };
+pub use irtext_tokens::irfmt::separator::ListSeparator;
 use std::fmt;
 
 mod attributes;

@@ -24,13 +24,22 @@ pub enum EnterFault {
 }
 
 /// The names of a parse and what they refer to: names of values V, and labels of blocks B. A name is given by its number.
-#[derive(Drop)]
 pub struct NameTracker<V, B> {
     names: Interner,
     values: Scopes<V>,
     labels: Scopes<B>,
     ghost values_known: { are_known (length names) values ≡ true },
     ghost labels_known: { are_known (length names) labels ≡ true },
+}
+
+impl<V: Drop, B: Drop> Drop for NameTracker<V, B> {
+    fn drop(self) {
+        let NameTracker {
+            names: _names,
+            values: _values,
+            labels: _labels,
+        } = self;
+    }
 }
 
 // returns the value of an entry, whether it is a definition or a placeholder

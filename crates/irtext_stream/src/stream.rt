@@ -14,7 +14,6 @@ use std::alloc::{AllocError, Global};
 use std::marker::Model;
 
 /// A stream of the characters of a text, which it owns; and whether it was marked as failed.
-#[derive(Drop)]
 pub struct TextStream {
     alloc: Global,
     text: String,
@@ -22,6 +21,18 @@ pub struct TextStream {
     // in bytes
     offset: usize,
     failed: bool,
+}
+
+impl Drop for TextStream {
+    fn drop(self) {
+        let TextStream {
+            alloc: _,
+            text: _text,
+            index: _index,
+            offset: _,
+            failed: _,
+        } = self;
+    }
 }
 
 impl Model for TextStream {

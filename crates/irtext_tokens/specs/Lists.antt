@@ -9,8 +9,8 @@ use Rattle.irtext_base.specs.Stream.{StreamView, first_of, advanced, after_taken
 use Rattle.irtext_base.specs.Faults.{Failed, EmptyItem, BadSeparator, Unexpected, Word}
 use Rattle.irtext_base.specs.Answers.{RunsOutHere, Commits, Passes}
 use Rattle.irtext_base.specs.declared.parsable.fault.ParseFault.{ParseFault}
-use Rattle.irtext_base.specs.declared.printable.ListSeparator.{ListSeparator}
-use Rattle.irtext_base.specs.declared.printable.ListSeparator.TheVariants as separator
+use Rattle.irtext_tokens.specs.declared.irfmt.separator.ListSeparator.{ListSeparator}
+use Rattle.irtext_tokens.specs.declared.irfmt.separator.ListSeparator.TheVariants as separator
 
 -- the white space at the beginning of a text
 abbrev pub spaces : Text → Text

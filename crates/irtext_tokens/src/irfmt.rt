@@ -3,3 +3,4 @@
 pub mod demanded;
 pub mod faults;
 pub mod parsers;
+pub mod separator;

@@ -2,3 +2,4 @@
 //! proved from the definitions alone.
 
 pub mod quoted;
+pub mod values;

@@ -25,9 +25,14 @@ use std::rc::Rc;
 
 /// A name: an ASCII letter or `_`, then ASCII letters, ASCII digits and `_`. A clone shares the text and allocates nothing. It fails only
 /// if the counter of those that share the text is full.
-#[derive(Drop)]
 pub struct Identifier {
     text: Rc<Hinted>,
+}
+
+impl Drop for Identifier {
+    fn drop(self) {
+        let Identifier { text: _text } = self;
+    }
 }
 
 /// The text of an identifier, and a hint of where a table may have it.

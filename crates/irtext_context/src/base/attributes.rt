@@ -30,11 +30,20 @@ pub(crate) struct Given<A> {
 }
 
 /// A dictionary: attributes under keys, in the order in which the keys were inserted. No key comes twice.
-#[derive(Drop)]
 pub struct AttributeDict<A> {
     given: Option<Given<A>>,
     others: Others<A>,
     alloc: Global,
+}
+
+impl<A: Drop> Drop for AttributeDict<A> {
+    fn drop(self) {
+        let AttributeDict {
+            given: _given,
+            others: _others,
+            alloc: _,
+        } = self;
+    }
 }
 
 impl<A> Model for AttributeDict<A> {

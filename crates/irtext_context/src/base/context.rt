@@ -24,12 +24,22 @@ use std::marker::Model;
 ///
 /// A placeholder is an operation without data. It represents an operation or a value that is referred to before it is defined; no text
 /// refers to the placeholder itself.
-#[derive(Drop)]
 pub struct Context<T, A> {
     pub(crate) graph: Graph<Option<OperationData<A>>, BlockData<A>, Option<T>>,
     paths: Paths,
     pub(crate) dialects: IndexMap<DialectName, Dialect>,
     alloc: Global,
+}
+
+impl<T: Drop, A: Drop> Drop for Context<T, A> {
+    fn drop(self) {
+        let Context {
+            graph: _graph,
+            paths: _paths,
+            dialects: _dialects,
+            alloc: _,
+        } = self;
+    }
 }
 
 impl<T, A> Model for Context<T, A> {

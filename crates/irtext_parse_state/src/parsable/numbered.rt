@@ -10,12 +10,20 @@ use std::alloc::{AllocError, Global};
 use std::marker::Model;
 
 /// Items by their indices, in the order in which they were recorded. No index occurs twice.
-#[derive(Drop)]
 pub struct Numbered<X> {
     // the item at a position has that position as its index
     dense: Vec<X>,
     // all of these were recorded after the items in `dense`
     others: IndexMap<usize, X>,
+}
+
+impl<X: Drop> Drop for Numbered<X> {
+    fn drop(self) {
+        let Numbered {
+            dense: _dense,
+            others: _others,
+        } = self;
+    }
 }
 
 impl<X> Model for Numbered<X> {

@@ -16,11 +16,9 @@ use std::alloc::{AllocError, Global};
 fn cause_of<A: Drop>(alloc: Global, fault: ParseFault<A>) -> Cause<A>
     ensures { IsCauseOf fault result }
 {
-    match Box::new(alloc, fault.cause) {
-        Ok(cause) => Cause::Parse {
-            at: fault.pos,
-            cause,
-        },
+    let at = fault.pos;
+    match Box::new(alloc, fault.into_cause()) {
+        Ok(cause) => Cause::Parse { at, cause },
         Err(_) => Cause::Memory,
     }
 }

@@ -4,7 +4,7 @@ use Rattle.std.specs.List.{FoldsTo}
 use Rattle.std.specs.Iterator.{Drains}
 use Rattle.std.specs.declared.string.String.{String}
 use Rattle.std.specs.declared.alloc.Global.{Global}
-use Rattle.irtext_base.specs.declared.printable.ListSeparator.{ListSeparator}
+use Rattle.irtext_tokens.specs.declared.irfmt.separator.ListSeparator.{ListSeparator}
 use Rattle.irtext_print_ir.specs.Printers.Separator.{separator_text}
 use Rattle.irtext_print.specs.Printers.Shown.{Shown}
 use Rattle.irtext_print.specs.Printers.Appended.{Writes}

@@ -1,8 +1,8 @@
 -- For callers: what separates the items of a list, and the texts of plain values.
 use Rattle.std.specs.Prelude.{ℕ, Bool, true, false, List, [], ◌∷◌, ◌++◌, codes}
 use Rattle.std.specs.Char.{encode_utf8}
-use Rattle.irtext_base.specs.declared.printable.ListSeparator.{ListSeparator}
-use Rattle.irtext_base.specs.declared.printable.ListSeparator.TheVariants as separators
+use Rattle.irtext_tokens.specs.declared.irfmt.separator.ListSeparator.{ListSeparator}
+use Rattle.irtext_tokens.specs.declared.irfmt.separator.ListSeparator.TheVariants as separators
 use Rattle.irtext_print.specs.Printers.Printing.{indent_of}
 use Rattle.irtext_print.specs.Printers.Shown.{Shown}
 use Rattle.irtext_grammar.specs.Spelling.Spell.{newline}

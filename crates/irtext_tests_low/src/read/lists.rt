@@ -1,11 +1,11 @@
 //! Lists of items, with and without separators.
 use crate::must::{must, same};
 use irtext_base::parsable::{CharStream, ParseResult, TextStream};
-use irtext_base::printable::ListSeparator;
 use irtext_tests_common::answers::listed;
 use irtext_tokens::irfmt::parsers::{
     delimited_list_parser, int_parse, list_parser, list_with_sep_parser, zero_or_more_parser,
 };
+use irtext_tokens::irfmt::separator::ListSeparator;
 use std::alloc::Global;
 use std::process::Abort;
 

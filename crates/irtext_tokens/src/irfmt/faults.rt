@@ -132,7 +132,7 @@ pub fn commit_unexpected<S: CharStream, A>(stream: &mut S, expected: Expected) -
 pub fn commit<S: CharStream, A>(stream: &mut S, fault: ParseFault<A>) -> ParseFault<A>
     ensures { Demands S.view S.at fault stream.old result stream.new }
 {
-    fail_at(stream, fault.pos, fault.cause)
+    fail_at(stream, fault.pos, fault.into_cause())
 }
 
 /// Returns the same result, with an error committed. Marks the stream as failed if it is an error.

@@ -32,9 +32,10 @@ fn place_of<A>(location: &Location<A>) -> SourcePosition
 fn fault_from<A: Drop>(error: Error<A>) -> ParseFault<A>
     ensures { result ≡ fault_from error }
 {
+    let pos = place_of(&error.loc);
     ParseFault {
-        pos: place_of(&error.loc),
-        cause: error.err,
+        pos,
+        cause: error.into_cause(),
         committed: true,
     }
 }

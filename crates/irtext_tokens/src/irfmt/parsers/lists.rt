@@ -10,8 +10,8 @@ use crate::irfmt::faults::{
     unless_committed,
 };
 use crate::irfmt::parsers::class::{Class, skip_white_space};
+use crate::irfmt::separator::ListSeparator;
 use irtext_base::parsable::{CharStream, ParseFault, ParseResult, Place};
-use irtext_base::printable::ListSeparator;
 use irtext_base::result::{Cause, Expected};
 
 /// Whether no character was consumed since an earlier position.

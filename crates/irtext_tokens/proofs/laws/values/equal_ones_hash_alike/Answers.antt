@@ -1,7 +1,7 @@
 use Rattle.irtext_base.specs.contracts.base.attributes.AttrObjHash.TheImpl.Laws as of_attr
 use Rattle.irtext_base.specs.Locations.{location_view}
 use Rattle.irtext_base.specs.SameLocations.{view_fed}
-use Rattle.irtext_base.proofs.laws.equal_ones_hash_alike.Goals as goal
+use Rattle.irtext_tokens.proofs.laws.values.equal_ones_hash_alike.Goals as goal
 
 pub returns-clause-attributes : goal.returns-clause-attributes
 returns-clause-attributes g c = λ x y e.

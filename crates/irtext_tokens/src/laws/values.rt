@@ -1,4 +1,4 @@
-//! Laws of the definitions. Each function does nothing: its contract is what is proved.
+//! Laws of attributes, locations and the notation of formats. Each function does nothing: its contract is what is proved.
 ghost use Rattle.std.specs.Prelude.{◌≡◌, ◌↔◌, ℕ, true, List, [], IsTrue, length};
 ghost use Rattle.irtext_base.specs.Format.{Format};
 ghost use Rattle.irtext_base.specs.Locations.{LocationView, attr_view, location_view};
@@ -10,9 +10,9 @@ ghost use Rattle.irtext_base.specs.declared.location.Location.{Location};
 ghost use Rattle.irtext_base.specs.declared.location.Source.{Source};
 ghost use Rattle.irtext_stream.specs.NotationPieces.{means};
 
-use crate::base::AttrObj;
-use crate::location::{Location, Source};
-use crate::text::AttrText;
+use irtext_base::base::AttrObj;
+use irtext_base::location::{Location, Source};
+use irtext_base::text::AttrText;
 use std::hash::Hash;
 
 /// Two attributes are equal exactly if `attr_view` gives the same for both, and two locations exactly if `location_view` does.

@@ -8,8 +8,8 @@ use Rattle.irtext_base.specs.declared.base.attributes.AttrObj.{AttrObj}
 use Rattle.irtext_base.specs.declared.base.attributes.AttrObj.TheVariants as attr
 use Rattle.irtext_base.specs.Locations.{attr_view, location_view, given_names, ident, own}
 use Rattle.irtext_base.proofs.Equality.{never, same_inside, options_decide, view_decides}
-use Rattle.irtext_base.proofs.laws.equal_where_alike.Given as given
-use Rattle.irtext_base.proofs.laws.equal_where_alike.Goals as goal
+use Rattle.irtext_tokens.proofs.laws.values.equal_where_alike.Given as given
+use Rattle.irtext_tokens.proofs.laws.values.equal_where_alike.Goals as goal
 
 module _ (g : given.Over) (decides : (a b : g.row.A.Denot) → Decides (g.A.PartialEq.eq a b) (a ≡ b)) where
   abbrev same_attr : AttrObj g.row.A.Denot → AttrObj g.row.A.Denot → Bool
