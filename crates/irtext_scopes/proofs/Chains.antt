@@ -1,12 +1,13 @@
 -- Heads and links agree with the bindings: one more binding, the last one taken away, one rebound.
 use Rattle.std.proofs.Common.{◌≡◌, ℕ, zero, suc, ◌<◌, ◌≤◌, Bool, true, false, cond, List, [], ◌∷◌, ◌++◌, reverse, length, take, drop, set, length-set, length-append, Option, Some, None, nat_eq, nat_le, nat_lt, ltb-true, ltb-false, refl, sym, ap, ◌∙◌, subst, arith, eq-eqb, eqb-true, leb-true, le-leb, ⊎_elim}
+use Rattle.std.proofs.lemmas.List.{reverse-append, length-take-le, take_all, drop_all}
 use Rattle.std.specs.List.{slice_get}
 use Rattle.std.specs.Option.{option_or, option_map}
 use Rattle.irtext_scopes.specs.declared.scopes.Binding.{Binding}
 use Rattle.irtext_scopes.specs.Scopes.{find, innermost, in_innermost, mentioned, resolved}
 use Rattle.irtext_scopes.specs.Bindings.{entries_of, scopes_from, scopes_at, newest, head_at, first, from_mark, place_in, falls, are_apart, are_maps, rebound, Chained, IsSound}
 use Rattle.irtext_scopes.proofs.Lists.{get_within, get_or_there, get_snoc, take_snoc, take_whole, drop_snoc, get_last, get_front, set_there}
-use Rattle.irtext_scopes.proofs.Maps.{innermost_apart, mentioned_maps, resolved_maps}
+use Rattle.irtext_scopes.proofs.Maps.{innermost_apart, maps_tail, mentioned_maps, resolved_maps}
 use Rattle.irtext_scopes.proofs.Newest.{newest_there, innermost_at, find_absent, find_hidden, find_there, rebound_scopes}
 
 -- ---- marks
@@ -88,7 +89,47 @@ module _ {V : Type 0} where
   last_in_range heads bs b c =
       in_range heads b.name (length bs) (c.heads_lead b.name ∙ (newest_snoc b.name bs b ∙ ap (λ d. cond d (Some (length bs)) (newest b.name bs)) (eq-eqb b.name b.name refl)))
 
+  -- ---- heads that are longer
+  pub longer_sound : (heads heads' : List (Option ℕ)) (marks : List ℕ) (bs : List (Binding V)) → ((n : ℕ) → head_at heads' n ≡ head_at heads n) → IsSound heads bs marks → IsSound heads' bs marks
+  longer_sound heads heads' marks bs same s = record {
+    chained = record { heads_lead = λ n. same n ∙ s.chained.heads_lead n; links_lead = s.chained.links_lead };
+    marks_fall = s.marks_fall;
+    maps = s.maps;
+  }
+
   -- ---- a scope begins, and ends
+  pub begun_scopes : (marks : List ℕ) (bs : List (Binding V)) → scopes_at (marks ++ length bs ∷ []) bs ≡ [] ∷ scopes_at marks bs
+  begun_scopes marks bs =
+      ap (λ ms. scopes_from ms bs) (reverse-append marks (length bs ∷ []))
+      ∙ (λ i. entries_of (drop_all (length bs) bs (omega arith) i) ∷ scopes_from (reverse marks) (take_all (length bs) bs (omega arith) i))
+
+  pub begun_sound : (heads : List (Option ℕ)) (marks : List ℕ) (bs : List (Binding V)) → IsSound heads bs marks → IsSound heads bs (marks ++ length bs ∷ [])
+  begun_sound heads marks bs s = record {
+    chained = s.chained;
+    marks_fall =
+        ap (falls (length bs)) (reverse-append marks (length bs ∷ []))
+        ∙ (ap (λ c. cond c (falls (length bs) (reverse marks)) false) (le-leb (length bs) (length bs) (omega arith)) ∙ s.marks_fall);
+    maps = ap are_maps (begun_scopes marks bs) ∙ s.maps;
+  }
+
+  -- the scope that begins at the last mark, and those around it
+  pub ended_scopes : (old marks : List ℕ) (m : ℕ) (bs : List (Binding V)) → old ≡ marks ++ m ∷ [] → scopes_at old bs ≡ entries_of (drop m bs) ∷ scopes_at marks (take m bs)
+  ended_scopes old marks m bs e = ap (λ ms. scopes_from ms bs) (ap reverse e ∙ reverse-append marks (m ∷ []))
+
+  last_falls : (heads : List (Option ℕ)) (old marks : List ℕ) (m : ℕ) (bs : List (Binding V)) → IsSound heads bs old → old ≡ marks ++ m ∷ [] → (m ≤ length bs) × (falls m (reverse marks) ≡ true)
+  last_falls heads old marks m bs s e = fall_first (length bs) m (reverse marks) (sym (ap (falls (length bs)) (ap reverse e ∙ reverse-append marks (m ∷ []))) ∙ s.marks_fall)
+
+  pub last_within : (heads : List (Option ℕ)) (old marks : List ℕ) (m : ℕ) (bs : List (Binding V)) → IsSound heads bs old → old ≡ marks ++ m ∷ [] → m ≤ length bs
+  last_within heads old marks m bs s e = (last_falls heads old marks m bs s e).0
+
+  pub ended_sound : (heads heads' : List (Option ℕ)) (old marks : List ℕ) (m : ℕ) (bs cs : List (Binding V)) → IsSound heads bs old → old ≡ marks ++ m ∷ [] → cs ≡ take m bs → Chained heads' cs → IsSound heads' cs marks
+  ended_sound heads heads' old marks m bs cs s e k c =
+      let f = last_falls heads old marks m bs s e in
+      record {
+        chained = c;
+        marks_fall = ap (λ (z : List (Binding V)). falls (length z) (reverse marks)) k ∙ (ap (λ n. falls n (reverse marks)) (length-take-le m bs f.0) ∙ f.1);
+        maps = ap (λ z. are_maps (scopes_at marks z)) k ∙ maps_tail (entries_of (drop m bs)) (scopes_at marks (take m bs)) (sym (ap are_maps (ended_scopes old marks m bs e)) ∙ s.maps);
+      }
 
   pub closed_scopes : (marks : List ℕ) (bs : List (Binding V)) → first (reverse marks) ≡ None → scopes_at marks bs ≡ []
   closed_scopes marks bs e = go (reverse marks) e

@@ -3,7 +3,7 @@ use Rattle.std.proofs.Common.{◌≡◌, ℕ, Bool, true, false, cond, List, [],
 use Rattle.std.specs.Option.{option_or}
 use Rattle.irtext_scopes.specs.declared.scopes.Entry.{Entry}
 use Rattle.irtext_scopes.specs.declared.scopes.Entry.TheVariants.{Defined}
-use Rattle.irtext_scopes.specs.Scopes.{Scope, find, innermost, in_innermost, mentioned, resolved}
+use Rattle.irtext_scopes.specs.Scopes.{Scope, find, innermost, in_innermost, mentioned, resolved, defined, defined_from}
 use Rattle.irtext_scopes.specs.Bindings.{are_apart, are_maps}
 
 module _ {V : Type 0} where
@@ -39,7 +39,7 @@ module _ {V : Type 0} where
       go true d k = d
       go false d k = cc
 
-  maps_tail : (s : Scope V) (ss : List (Scope V)) → are_maps (s ∷ ss) ≡ true → are_maps ss ≡ true
+  pub maps_tail : (s : Scope V) (ss : List (Scope V)) → are_maps (s ∷ ss) ≡ true → are_maps ss ≡ true
   maps_tail s ss h = go (are_apart s) h
     where
       go : (c : Bool) → cond c (are_maps ss) false ≡ true → are_maps ss ≡ true
@@ -114,3 +114,12 @@ module _ {V : Type 0} where
   pub in_innermost_unknown : (n : ℕ) (v : V) (ss : List (Scope V)) → None ≡ find n (innermost ss) → ss ≡ in_innermost (resolved n v) ss
   in_innermost_unknown n v [] e = refl
   in_innermost_unknown n v (s ∷ ss) e = ap (λ z. z ∷ ss) (sym (resolved_unknown n v s (sym e)))
+
+  -- a definition of a name that the innermost scope lacks, and of one that it has
+  pub defines_new : (n : ℕ) (v : V) (ss : List (Scope V)) → None ≡ find n (innermost ss) → in_innermost (mentioned n (Defined v)) ss ≡ in_innermost (defined n v) ss
+  defines_new n v [] e = refl
+  defines_new n v (s ∷ ss) e = ap (λ o. defined_from n v s o ∷ ss) e
+
+  pub defines_known : (n : ℕ) (v : V) (x : Entry V) (ss : List (Scope V)) → Some x ≡ find n (innermost ss) → in_innermost (resolved n v) ss ≡ in_innermost (defined n v) ss
+  defines_known n v x [] e = refl
+  defines_known n v x (s ∷ ss) e = ap (λ o. defined_from n v s o ∷ ss) e

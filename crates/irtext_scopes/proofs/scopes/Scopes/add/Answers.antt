@@ -1,17 +1,29 @@
-use Rattle.std.proofs.Common.{◌≡◌, ◌++◌, ◌∷◌, [], length, None, Some, cond, nat_eq, rules, sym, ◌∙◌, ap, subst}
+use Rattle.std.proofs.Common.{◌≡◌, ◌++◌, ◌∷◌, [], length, None, Some, cond, nat_eq, sym, ◌∙◌, ap, subst}
 use Rattle.irtext_scopes.specs.declared.scopes.Binding.{Binding}
 use Rattle.irtext_scopes.specs.Scopes.{find, innermost, in_innermost, mentioned}
 use Rattle.irtext_scopes.specs.Bindings.{head_at, scopes_at, IsSound}
-use Rattle.irtext_scopes.proofs.Chains.{added_sound, added_scopes}
+use Rattle.irtext_scopes.proofs.Chains.{longer_sound, added_sound, added_scopes}
 use Rattle.irtext_scopes.proofs.scopes.Scopes.add.Goals as goal
+
+pub invariant_of-self : goal.invariant_of-self
+invariant_of-self g c = let t = c.self.inside in longer_sound t.heads.items c.grow.new.heads.items t.marks t.bindings.items c.grow.ensures.same c.self.invariant
+
+pub invariant_of-self-in_err-push : goal.invariant_of-self-in_err-push
+invariant_of-self-in_err-push g c =
+    let t = c.self.inside in
+    subst (λ z. IsSound c.grow.new.heads.items z t.marks) (sym c.in_err-push.ensures.items)
+    (longer_sound t.heads.items c.grow.new.heads.items t.marks t.bindings.items c.grow.ensures.same c.self.invariant)
+
+pub set_head-requires : goal.set_head-requires
+set_head-requires g c = c.in_ok-grow.ensures.ok
 
 pub invariant_of-self-2 : goal.invariant_of-self-2
 invariant_of-self-2 g c =
     let t = c.self.inside in
     let b : Binding g.row.V.Denot = record { name = c.args.name; entry = c.args.entry; hidden = c.head_of-hidden.result } in
-    let e : c.push.new.self.items ≡ t.bindings.items ++ b ∷ [] = search rules in
-    let n : c.len-place.result ≡ length t.bindings.items = search rules in
-    let hid : b.hidden ≡ head_at t.heads.items b.name = cc (c.head_of-hidden.ensures, c.deref.ensures.value) in
+    let e : c.push.new.self.items ≡ t.bindings.items ++ b ∷ [] = c.in_ok-push.ensures.items in
+    let n : c.len-place.result ≡ length t.bindings.items = c.len-place.ensures ∙ t.bindings.ok.0 in
+    let hid : b.hidden ≡ head_at t.heads.items b.name = c.head_of-hidden.ensures ∙ ap (λ h. head_at h c.args.name) c.deref.ensures.value in
     let none : find b.name (innermost (scopes_at t.marks t.bindings.items)) ≡ None = ap (λ s. find c.args.name (innermost s)) c.self.view_is ∙ c.requires.unknown in
     subst (λ z. IsSound c.set_head.new.heads.items z t.marks) (sym e)
     (added_sound t.heads.items c.set_head.new.heads.items t.marks t.bindings.items b c.self.invariant hid
@@ -21,5 +33,5 @@ pub returns-clause-ok : goal.returns-clause-ok
 returns-clause-ok g c =
     let t = c.self.inside in
     let b : Binding g.row.V.Denot = record { name = c.args.name; entry = c.args.entry; hidden = c.head_of-hidden.result } in
-    let e : c.push.new.self.items ≡ t.bindings.items ++ b ∷ [] = search rules in
+    let e : c.push.new.self.items ≡ t.bindings.items ++ b ∷ [] = c.in_ok-push.ensures.items in
     ap (scopes_at t.marks) e ∙ (added_scopes t.heads.items t.marks t.bindings.items b c.self.invariant ∙ ap (in_innermost (mentioned b.name b.entry)) c.self.view_is)
