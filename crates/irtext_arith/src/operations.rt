@@ -1,14 +1,13 @@
 //! The operations of the dialect `arith`, with their formats.
-ghost use Rattle.std.specs.Prelude.{◌≡◌, IfOk, IfErr, IsTrue, OnOk, codes};
-ghost use Rattle.irtext_base.specs.FormatViews.{directive_of, directives_of, format_of};
-ghost use Rattle.irtext_base.specs.Format as format;
-ghost use Rattle.irtext_base.specs.Format.{attribute, word};
-ghost use Rattle.irtext_base.specs.Text.{is_identifier};
+ghost use Rattle.std.specs.Prelude.{◌≡◌, [], IfOk, IfErr, OnOk};
+ghost use Rattle.std.specs.Str.{chars};
+ghost use Rattle.irtext_stream.specs.NotationPieces.{means};
+ghost use Rattle.irtext_base.specs.FormatViews.{format_of};
+ghost use Rattle.irtext_base.specs.Notation.{notation_at};
 ghost use Rattle.irtext_base.specs.declared.location.Location.{Unknown};
 ghost use Rattle.irtext_arith.specs.Operations.{arith_op, arith_operations, with_one, with_all};
 
-use irtext_base::base::Identifier;
-use irtext_base::format::{Directive, OpFormat};
+use irtext_base::format::OpFormat;
 use irtext_base::result::{ErrorKind, Result as Answer};
 use irtext_base::text::{AttrText, IrText};
 use irtext_context::base::Context;
@@ -43,71 +42,26 @@ fn row(op: ArithOp) -> (&'static str, bool)
     }
 }
 
-/// Returns the literal `:`.
-fn colon(alloc: Global) -> Result<Directive, AllocError>
-    ensures { IfOk result (λ d. directive_of d ≡ word (codes ":")) }
+/// Returns the notation of the operation's format.
+fn notation(op: ArithOp) -> &'static str
+    ensures { notation_at (chars result.now) ≡ means (arith_op op).format [] }
 {
-    Ok(Directive::Literal(String::from_str(alloc, ":")?))
-}
-
-/// Returns the literal `,`.
-fn comma(alloc: Global) -> Result<Directive, AllocError>
-    ensures { IfOk result (λ d. directive_of d ≡ word (codes ",")) }
-{
-    Ok(Directive::Literal(String::from_str(alloc, ",")?))
-}
-
-/// Returns the directive of the attribute under this key.
-fn attr(alloc: Global, key: &str) -> Result<Directive, AllocError>
-    requires { IsTrue (is_identifier key.now) }
-    ensures { IfOk result (λ d. directive_of d ≡ attribute key.now) }
-{
-    Ok(Directive::Attr(Identifier::from_word(alloc, key)?))
-}
-
-/// Returns the format of these directives.
-fn custom<const N: usize>(alloc: Global, directives: [Directive; N]) -> Result<OpFormat, AllocError>
-    ensures { IfOk result (λ f. format_of f ≡ format.custom (directives_of directives.entry)) }
-{
-    Ok(OpFormat::Custom(Vec::from_array(alloc, directives)?))
+    match op {
+        ArithOp::Constant => "$arith_value `:` type($0)",
+        ArithOp::Add => "$0 `,` $1 `:` type($0)",
+        ArithOp::Compare => "$arith_predicate $0 `,` $1 `:` type($0)",
+        ArithOp::Func => "@name {0}",
+        ArithOp::Return => "operands",
+    }
 }
 
 /// Returns the operation's format, newly allocated.
 fn op_format(alloc: Global, op: ArithOp) -> Result<OpFormat, AllocError>
     ensures { IfOk result (λ f. format_of f ≡ (arith_op op).format) }
 {
-    match op {
-        ArithOp::Constant => custom(
-            alloc,
-            [
-                attr(alloc, "arith_value")?,
-                colon(alloc)?,
-                Directive::ResultType(0),
-            ],
-        ),
-        ArithOp::Add => custom(
-            alloc,
-            [
-                Directive::Operand(0),
-                comma(alloc)?,
-                Directive::Operand(1),
-                colon(alloc)?,
-                Directive::ResultType(0),
-            ],
-        ),
-        ArithOp::Compare => custom(
-            alloc,
-            [
-                attr(alloc, "arith_predicate")?,
-                Directive::Operand(0),
-                comma(alloc)?,
-                Directive::Operand(1),
-                colon(alloc)?,
-                Directive::ResultType(0),
-            ],
-        ),
-        ArithOp::Func => custom(alloc, [Directive::SymbolHeader, Directive::Region(0)]),
-        ArithOp::Return => custom(alloc, [Directive::Operands]),
+    match OpFormat::parse(alloc, notation(op)) {
+        Ok(format) => Ok(format),
+        Err(_) => Err(AllocError),
     }
 }
 
