@@ -1,6 +1,6 @@
 -- The slot at an index, as it is read: whether an object is in it, and whether it can be used again.
-use Rattle.std.proofs.Common.{◌⊎◌, inl, inr, set, ◌≡◌, ◌≢◌, ◌<◌, ◌≤◌, ◌∙◌, ℕ, zero, suc, refl, sym, ap, subst, arith, Bool, true, false, nat_lt, Option, Some, None, IsSome, List, [], ◌∷◌, length, slice_get, get_or, option_map, cond}
-use Rattle.std.proofs.lemmas.Bool.{false≢true}
+use Rattle.std.proofs.Common.{◌⊎◌, inl, inr, set, ◌≡◌, ◌≢◌, ◌<◌, ◌≤◌, ◌+◌, ◌∙◌, ℕ, zero, suc, refl, sym, ap, subst, arith, Bool, true, false, nat_lt, Option, Some, None, IsSome, List, [], ◌∷◌, length, slice_get, get_or, option_map, unwrap_or, cond}
+use Rattle.std.proofs.lemmas.Bool.{false≢true, lt-ltb}
 use Rattle.std.proofs.lemmas.Option.{slice_get_read}
 use borrow.Author.Tests.{ltb-true}
 use Rattle.irtext_graph.specs.declared.arena.Arena.{Arena}
@@ -8,7 +8,7 @@ use Rattle.irtext_graph.specs.declared.arena.Entry.{Entry}
 use Rattle.irtext_graph.specs.declared.arena.Ptr.{Ptr}
 use Rattle.irtext_graph.specs.declared.arena.Slot.{Slot}
 use Rattle.irtext_graph.specs.declared.arena.Slot.TheVariants.{Vacant, Full}
-use Rattle.irtext_graph.specs.Arena.{get, found, drawn, generation_at, is_usable, free_place, Updates}
+use Rattle.irtext_graph.specs.Arena.{get, found, drawn, generation_at, is_usable, free_place, Updates, Inserts}
 use Rattle.irtext_graph.proofs.Arenas.{found_here, found_elsewhere, held_found, in_slot, within}
 use Rattle.irtext_graph.proofs.Pointers.{equal_or_not, ptr_same, slice_get-set_same, slice_get-set_other}
 
@@ -63,6 +63,39 @@ module _ {X : Type 0} where
 
     pub none_to_use : slice_get a.slots.items a.free ≡ None → free_place a ≡ None
     none_to_use k = ap (λ s. cond (is_usable s) (Some a.free) None) k
+
+  -- an object was stored in the slot that was freed last
+  module _ {K : Type 0} (a b : Arena X) (p : Ptr K) (g n : ℕ) (x : Entry X) (was : slice_get a.slots.items p.index ≡ Some (Vacant g n)) (first : p.index ≡ a.free) (low : g < 4294967294) (next : p.generation ≡ g + 1) (items : b.slots.items ≡ set a.slots.items p.index (Full (g + 1) x)) where
+    full_again : slice_get b.slots.items p.index ≡ Some (Full (g + 1) x)
+    full_again = ap (λ xs. slice_get xs p.index) items ∙ slice_get-set_same a.slots.items p.index (Full (g + 1) x) (Vacant g n) was
+
+    as_before : (i : ℕ) → i ≢ p.index → slice_get b.slots.items i ≡ slice_get a.slots.items i
+    as_before i ne = ap (λ xs. slice_get xs i) items ∙ slice_get-set_other a.slots.items p.index i (Full (g + 1) x) ne
+
+    free_here : free_place a ≡ Some p.index
+    free_here =
+        ap (λ i. cond (is_usable (slice_get a.slots.items i)) (Some i) None) (sym first)
+        ∙ ap (λ s. cond (is_usable s) (Some p.index) None) was ∙ ap (λ t. cond t (Some p.index) None) (lt-ltb g 4294967294 low)
+
+    pub inserted_again : Inserts a b p x
+    inserted_again = record {
+      place = sym (ap (λ o. unwrap_or o (length a.slots.items)) free_here);
+      next = next ∙ sym (ap (λ s. drawn s + 1) was);
+      drawn_here = ap drawn full_again ∙ sym next;
+      drawn_elsewhere = λ i ne. ap drawn (as_before i ne);
+      updates = record {
+        changed = ap (λ s. found s p.generation) full_again ∙ ap (λ h. found (Some (Full h x)) p.generation) (sym next) ∙ found_here p.generation x;
+        others = λ q ne. other q ne (equal_or_not q.index p.index);
+      };
+      none_free = λ none. let e = sym free_here ∙ none in absurd (cc);
+    }
+      where
+        other : (q : Ptr K) → q ≢ p → (q.index ≡ p.index) ⊎ (q.index ≢ p.index) → get b q ≡ get a q
+        other q ne (inr m) = ap (λ s. found s q.generation) (as_before q.index m)
+        other q ne (inl e) =
+            ap (λ j. found (slice_get b.slots.items j) q.generation) e ∙ ap (λ s. found s q.generation) full_again
+            ∙ found_elsewhere (g + 1) q.generation x (λ h. ne (ptr_same q p e (sym (next ∙ h))))
+            ∙ sym (ap (λ j. found (slice_get a.slots.items j) q.generation) e ∙ ap (λ s. found s q.generation) was)
 
   -- a live object's slot is vacant now
   module _ {K : Type 0} (a b : Arena X) (p : Ptr K) (f : ℕ) (o : Entry X) (was : get a p ≡ Some o) (items : b.slots.items ≡ set a.slots.items p.index (Vacant p.generation f)) where

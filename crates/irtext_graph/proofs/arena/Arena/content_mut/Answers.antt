@@ -1,9 +1,23 @@
-use Rattle.std.proofs.Common.{◌≡◌, ◌∙◌, sym, ap, refl, Some, slice_get, length, IsSome, option_map, subst}
+use Rattle.std.proofs.Common.{◌≡◌, ◌∙◌, sym, ap, refl, Some, slice_get, length, IsSome, option_map, subst, arith}
 use Rattle.std.proofs.lemmas.Option.{slice_get_read}
 use Rattle.irtext_graph.specs.Arena.{held, content, found}
 use Rattle.irtext_graph.specs.Lending.{with_content_of}
 use Rattle.irtext_graph.proofs.Arenas.{within, held_found}
 use Rattle.irtext_graph.proofs.arena.Arena.content_mut.Goals as goal
+
+pub index_mut-requires : goal.index_mut-requires
+index_mut-requires g c =
+    let s = c.args.self.now.slots in
+    let low = within s.items c.args.p.index c.args.p.generation c.requires in
+    omega (arith, low, s.ok.0)
+
+pub content_mut-requires : goal.content_mut-requires
+content_mut-requires g c =
+    let a = c.args.self.now in
+    let e : slice_get a.slots.items c.args.p.index ≡ Some c.index_mut.result.now =
+    slice_get_read a.slots.items (length a.slots.items) c.args.p.index c.index_mut.result.now refl (within a.slots.items c.args.p.index c.args.p.generation c.requires) c.index_mut.ensures.value in
+    let live : IsSome (content c.index_mut.result.now c.args.p.generation) = subst (λ s. IsSome (found s c.args.p.generation)) e c.requires in
+    subst (λ o. IsSome o) (held_found c.index_mut.result.now c.args.p.generation live) live
 
 pub returns : goal.returns
 returns g c =
