@@ -31,19 +31,18 @@ impl From<io::Error> for Fault {
     }
 }
 
+/// The cause of an error, or that of the fault that it holds.
+pub(crate) fn cause_of(error: &Error<DemoAttr>) -> &Cause<DemoAttr> {
+    match &error.err {
+        Cause::Parse { at: _, cause } => cause,
+        cause => cause,
+    }
+}
+
 impl Fault {
     /// Returns the fault for an error: `Memory` if its cause is out of memory, in parsing or for its text; otherwise `Wrong`.
-    pub(crate) fn of(error: &Error<DemoAttr>) -> Fault {
-        match &error.err {
-            Cause::Memory => Fault::Memory,
-            Cause::Parse { at: _, cause } => Fault::of_reading(cause),
-            _ => Fault::Wrong,
-        }
-    }
-
-    /// Returns the fault for the cause of a parse error.
-    fn of_reading(cause: &Cause<DemoAttr>) -> Fault {
-        match cause {
+    fn of(error: &Error<DemoAttr>) -> Fault {
+        match cause_of(error) {
             Cause::Memory => Fault::Memory,
             _ => Fault::Wrong,
         }

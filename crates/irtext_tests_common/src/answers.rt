@@ -135,7 +135,7 @@ pub fn named(alloc: Global, text: &str) -> Result<Identifier, Fail>
 }
 
 /// The value of a call that has to succeed. A failed one fails for this reason, and its error ends here.
-pub(crate) fn accepted<X, A: Drop>(answer: Answer<X, A>, why: &str) -> Result<X, Fail>
+pub fn accepted<X, A: Drop>(answer: Answer<X, A>, why: &str) -> Result<X, Fail>
     ensures { IfOk result (λ x. answer ≡ Ok x) }
 {
     match answer {

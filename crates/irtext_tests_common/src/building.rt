@@ -42,9 +42,15 @@ pub fn id(alloc: Global, words: (&str, &str)) -> Result<OpId, Fail> {
     }
 }
 
-fn add(ctx: &mut Ctx, dialect: &DialectName, id: OpId, format: OpFormat) -> Answer<(), DemoAttr> {
+fn add(
+    ctx: &mut Ctx,
+    dialect: &DialectName,
+    id: OpId,
+    format: OpFormat,
+    isolated: bool,
+) -> Answer<(), DemoAttr> {
     match Dialect::register(ctx, dialect) {
-        Ok(dialect) => dialect.add_op(id, format, false),
+        Ok(dialect) => dialect.add_op(id, format, isolated),
         Err(error) => failed((id, format), error),
     }
 }
@@ -55,9 +61,10 @@ pub fn register(
     ctx: &mut Ctx,
     words: (&str, &str),
     letters: &str,
+    isolated: bool,
 ) -> Result<(), Fail> {
     let dialect = DialectName::from(named(alloc, words.0)?);
-    let done = register_with(alloc, ctx, &dialect, words, letters);
+    let done = register_with(alloc, ctx, &dialect, words, letters, isolated);
     drop(dialect);
     done
 }
@@ -69,10 +76,11 @@ fn register_with(
     dialect: &DialectName,
     words: (&str, &str),
     letters: &str,
+    isolated: bool,
 ) -> Result<(), Fail> {
     let id = id(alloc, words)?;
     match format_or_canonical(alloc, letters) {
-        Ok(format) => accepted(add(ctx, dialect, id, format), "refused"),
+        Ok(format) => accepted(add(ctx, dialect, id, format, isolated), "refused"),
         Err(fail) => failed(id, fail),
     }
 }

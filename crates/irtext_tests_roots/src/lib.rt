@@ -1,6 +1,6 @@
 //! Tests of parsed roots, and of what `pliron_text` re-exports: graphs that a caller makes, contexts that were filled separately, names
 //! outside of regions, dialects, checked calls, errors and macros; of what is `Parsable`, and of the texts of errors and of their causes;
-//! and the examples of the pages. The library parses and prints roots, and registers operations, for `irtext_harness` too.
+//! and the examples of the pages.
 #![tactic(auto)]
 
 #[cfg(test)]
@@ -11,9 +11,11 @@ mod dialects_page;
 mod layer;
 #[cfg(test)]
 mod parse;
-pub mod reading;
+#[cfg(test)]
+mod reading;
 #[cfg(test)]
 mod readme;
-pub mod registering;
+#[cfg(test)]
+mod registering;
 #[cfg(test)]
 mod value;

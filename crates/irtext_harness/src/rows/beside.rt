@@ -1,12 +1,13 @@
 //! Texts that are parsed in a context with a live root, which has to be unchanged.
 use crate::fault::written;
-use crate::roots::{Ctx, register, root, whole};
+use crate::roots::{Ctx, has_text, root, whole};
 use crate::rows::places::num_parts;
 use crate::rows::row::Row;
 use crate::rows::said::require;
 use crate::rows::streams::{Asked, on_stream};
 use irtext_graph::held::HasGraph;
 use irtext_graph::object::Object;
+use irtext_tests_common::building::register;
 use pliron_text::base::{Operation, Ptr};
 use std::alloc::Global;
 use std::fmt::Write;
@@ -15,19 +16,6 @@ use std::test::Fail;
 /// A module with a function that returns a constant, which is parsed before any other text.
 const LIVE_ROOT: &str =
     "builtin.module @bar \n{\n  ^block1v1():\n    builtin.func @foo: builtin.function <()->(builtin.integer si64)> \n    {\n      ^entry_block2v1() !0:\n        c0_v0 = test.constant builtin.integer <0: si64>: builtin.integer si64 !1;\n        test.return c0_v0\n    }\n}\n\noutlined_attributes:\n!0 = [builtin_block_label = builtin.identifier entry]\n!1 = [builtin_given_names = builtin.given_names [c0]]\n";
-
-/// Whether the text of a root is what it was before.
-pub(crate) fn is_unchanged(
-    alloc: Global,
-    ctx: &Ctx,
-    live_root: Ptr<Operation>,
-    before: &str,
-) -> Result<bool, Fail> {
-    let text = whole(alloc, ctx, live_root)?;
-    let is_same = text.as_str() == before;
-    drop(text);
-    Ok(is_same)
-}
 
 /// Says the result for a text beside a root, whose text is `before` and must not change. If the text is rejected, no object and no mark may
 /// be added.
@@ -42,7 +30,7 @@ fn compared(
 ) -> Result<(), Fail> {
     let live = ctx.num_live();
     let marks = on_stream(alloc, ctx, text, asked, said)?;
-    let is_same = is_unchanged(alloc, ctx, live_root, before)?;
+    let is_same = has_text(alloc, ctx, live_root, before)?;
     require(is_same, "what stood has changed")?;
     let is_left = marks || ctx.num_live() != live;
     require(said.as_str() == "read" || !is_left, "something was left")
@@ -56,7 +44,7 @@ pub(crate) fn beside(
     asked: Asked<'_>,
     said: &mut String,
 ) -> Result<(), Fail> {
-    let live_root = root(ctx, LIVE_ROOT).ok_or("refused")?;
+    let live_root = root(ctx, LIVE_ROOT)?;
     let before = whole(alloc, ctx, live_root)?;
     let done = compared(alloc, ctx, live_root, before.as_str(), text, asked, said);
     drop(before);
@@ -88,7 +76,7 @@ fn compared_region(
     let live = ctx.num_live();
     let marks = on_stream(alloc, ctx, text, Asked::Region(op), said)?;
     let is_last = said.as_str() == "last";
-    let is_kept = is_last || (ctx.num_live() == live && is_unchanged(alloc, ctx, op, before)?);
+    let is_kept = is_last || (ctx.num_live() == live && has_text(alloc, ctx, op, before)?);
     require(is_kept, "something was left")?;
     let count = num_parts(ctx.graph(), Object::TheOperation(op))?;
     written(write!(said, ", {marks}, {count}"))
@@ -101,7 +89,7 @@ pub(crate) fn region(
     row: &Row,
     said: &mut String,
 ) -> Result<(), Fail> {
-    let op = root(ctx, row.text(0)).ok_or("refused")?;
+    let op = root(ctx, row.text(0))?;
     let before = whole(alloc, ctx, op)?;
     let done = compared_region(alloc, ctx, op, before.as_str(), row.text(1), said);
     drop(before);

@@ -1,22 +1,10 @@
 //! Counters that are nearly full: a text that would exceed one fails with out of memory, and leaves no objects.
-use crate::fault::written;
-use crate::roots::{Ctx, push_concrete, read_root, whole};
-use crate::rows::beside::is_unchanged;
+use crate::roots::{Ctx, Refusal, has_text, push_concrete, root_unless_said, whole};
 use crate::rows::said::require;
-use irtext_demo::DemoAttr;
 use pliron_text::base::{Operation, Ptr};
-use pliron_text::result::{Cause, Error};
 use std::alloc::Global;
 use std::fmt::Write;
 use std::test::Fail;
-
-/// Says an error: its cause, or that of the fault that it holds.
-fn refused(error: &Error<DemoAttr>, said: &mut String) -> Result<(), Fail> {
-    match &error.err {
-        Cause::Parse { at: _, cause } => written(write!(said, "{cause}")),
-        cause => written(write!(said, "{cause}")),
-    }
-}
 
 /// A live root, and its text.
 type Root = (Ptr<Operation>, String);
@@ -33,33 +21,17 @@ fn added(
     push_concrete(ctx, op, said)
 }
 
-/// Says the result for a text. A root that is parsed is added to the live ones.
-fn parsed(
-    alloc: Global,
-    ctx: &mut Ctx,
-    parsed_roots: &mut Vec<Root>,
-    text: &str,
-    said: &mut String,
-) -> Result<(), Fail> {
-    let answer = read_root(ctx, text);
-    let done = match &answer {
-        Ok(op) => added(alloc, ctx, parsed_roots, *op, said),
-        Err(error) => refused(error, said),
-    };
-    drop(answer);
-    done
-}
-
 /// Fails if a live root has another text than before.
 fn are_as_they_were(alloc: Global, ctx: &Ctx, parsed_roots: &[Root]) -> Result<(), Fail> {
     for root in parsed_roots {
-        let is_same = is_unchanged(alloc, ctx, root.0, root.1.as_str())?;
+        let is_same = has_text(alloc, ctx, root.0, root.1.as_str())?;
         require(is_same, "what stood has changed")?;
     }
     Ok(())
 }
 
-/// Says the result for a text, and then the number of live objects. Every live root has to have the same text as before.
+/// Says the result for a text, and then the number of live objects. A root that is parsed is added to the live ones; each of these has to
+/// have the same text as before.
 fn answered(
     alloc: Global,
     ctx: &mut Ctx,
@@ -67,7 +39,9 @@ fn answered(
     text: &str,
     said: &mut String,
 ) -> Result<(), Fail> {
-    parsed(alloc, ctx, parsed_roots, text, said)?;
+    if let Some(op) = root_unless_said(ctx, text, Refusal::Cause, said)? {
+        added(alloc, ctx, parsed_roots, op, said)?;
+    }
     write!(said, ", {}", ctx.num_live())?;
     are_as_they_were(alloc, ctx, parsed_roots.as_slice())
 }

@@ -1,20 +1,16 @@
 //! Operations that are parsed and printed in a format of their own, which is given by its letters.
-use crate::fault::written;
-use crate::roots;
-use crate::roots::{Ctx, push_concrete, push_whole, read_root, register};
+use crate::roots::{Ctx, Refusal, has_text, push_concrete, push_whole, root, root_unless_said};
 use crate::rows::modes::Trial;
 use crate::rows::row::Row;
 use crate::rows::said::require;
-use irtext_demo::DemoAttr;
+use irtext_tests_common::building::register;
 use pliron_text::base::{Operation, Ptr};
-use pliron_text::result::Error;
 use std::alloc::Global;
-use std::fmt::Write;
 use std::test::Fail;
 
 /// Says the printed text of the root that a text is parsed as.
 pub(crate) fn printed(ctx: &mut Ctx, text: &str, said: &mut String) -> Result<(), Fail> {
-    let root = roots::root(ctx, text).ok_or("refused")?;
+    let root = root(ctx, text)?;
     push_whole(ctx, root, said)
 }
 
@@ -61,9 +57,8 @@ pub(crate) fn in_a_root(alloc: Global, row: &Row) -> Result<String, Fail> {
 
 /// Fails if a text is not parsed as a root of the same text.
 fn check_printed(alloc: Global, ctx: &mut Ctx, text: &str) -> Result<(), Fail> {
-    let printed = roots::printed(alloc, ctx, text)?;
-    let is_same = printed.as_str() == text;
-    drop(printed);
+    let root = root(ctx, text)?;
+    let is_same = has_text(alloc, ctx, root, text)?;
     require(is_same, "other text")
 }
 
@@ -80,11 +75,6 @@ fn comes_back(
     push_concrete(ctx, op, said)
 }
 
-/// Says an error.
-fn refused(error: &Error<DemoAttr>, said: &mut String) -> Result<(), Fail> {
-    written(write!(said, "{error}"))
-}
-
 /// Says the concrete text of the root that a text is parsed as, or the error, once `lab.d`, which is isolated, is registered with the format
 /// of the letters that come first. The context is empty before.
 pub(crate) fn as_a_root(
@@ -94,11 +84,8 @@ pub(crate) fn as_a_root(
     said: &mut String,
 ) -> Result<(), Fail> {
     register(alloc, ctx, ("lab", "d"), row.text(0), true)?;
-    let answer = read_root(ctx, row.text(1));
-    let done = match &answer {
-        Ok(op) => comes_back(alloc, ctx, *op, said),
-        Err(error) => refused(error, said),
-    };
-    drop(answer);
-    done
+    match root_unless_said(ctx, row.text(1), Refusal::Text, said)? {
+        Some(op) => comes_back(alloc, ctx, op, said),
+        None => Ok(()),
+    }
 }

@@ -2,7 +2,7 @@
 use crate::roots::{Ctx, register_dialects};
 use crate::rows::beside::{beside, beside_formatted, region};
 use crate::rows::broken::Break;
-use crate::rows::following::{after, same_mark, second, second_text, whole_text};
+use crate::rows::following::following;
 use crate::rows::row::{Group, Row};
 use crate::rows::said::{if_said, require};
 use crate::rows::streams::Asked;
@@ -91,11 +91,14 @@ fn in_demo(
         "beside_format" => beside_formatted(alloc, ctx, row, said),
         "block" => beside(alloc, ctx, text, Asked::Block, said),
         "region" => region(alloc, ctx, row, said),
-        "second" => second(alloc, ctx, text, said),
-        "second_text" => second_text(alloc, ctx, text, said),
-        "same_mark" => same_mark(alloc, ctx, text, said),
-        "whole" => whole_text(alloc, ctx, text, group.number(0), said),
-        "after" => after(alloc, ctx, row, said),
+        "second" => following(alloc, ctx, text, Asked::SecondLocation, said),
+        "second_text" => following(alloc, ctx, text, Asked::SecondText, said),
+        "same_mark" => following(alloc, ctx, text, Asked::SameMark, said),
+        "whole" => following(alloc, ctx, text, Asked::Whole(group.number(0)), said),
+        "after" => {
+            let asked = Asked::After(row.text(1), row.text(2));
+            following(alloc, ctx, text, asked, said)
+        }
         "operand" => of_operand(ctx, row, said),
         "successor" => of_successor(ctx, row, said),
         _ => printing::say(alloc, ctx, group, row, said),

@@ -1,11 +1,11 @@
 //! The texts of a root that was parsed: whole, concrete, with another layout, without locations, for debugging, and of its parts.
 use crate::fault::written;
-use crate::roots::{Ctx, push_concrete, push_whole, read_root, whole};
+use crate::roots::{Ctx, Refusal, has_text, push_concrete, push_whole, root_unless_said};
 use crate::rows::places::operation_at;
 use crate::rows::row::{Group, Row};
 use crate::rows::said::{push_words, require};
 use irtext_context::base::Item;
-use irtext_demo::{DemoAttr, DemoType};
+use irtext_demo::DemoType;
 use irtext_graph::held::HasGraph;
 use irtext_tests_common::building::{erase, live};
 use pliron_text::base::{Operation, OperationAccess, Ptr};
@@ -14,7 +14,6 @@ use pliron_text::irfmt::printers::op::{region, symb_op_header, typed_symb_op_hea
 use pliron_text::location::{Location, Source, erase_locations};
 use pliron_text::parsable::SourcePosition;
 use pliron_text::printable::{Disp, Printable, RegionPrintDepthLimit, State};
-use pliron_text::result::Error;
 use std::alloc::Global;
 use std::fmt::Write;
 use std::test::Fail;
@@ -93,9 +92,7 @@ fn in_file(ctx: &mut Ctx, op: Ptr<Operation>, path: &str, said: &mut String) -> 
 fn kept(alloc: Global, ctx: &mut Ctx, op: Ptr<Operation>, said: &mut String) -> Result<(), Fail> {
     push_whole(ctx, op, said)?;
     keeps_parts(ctx);
-    let text = whole(alloc, ctx, op)?;
-    let is_same = text.as_str() == said.as_str();
-    drop(text);
+    let is_same = has_text(alloc, ctx, op, said.as_str())?;
     require(is_same, "it is printed otherwise")
 }
 
@@ -215,11 +212,6 @@ fn changed(
     }
 }
 
-/// Says an error, and the number of objects after it.
-fn refused(ctx: &Ctx, error: &Error<DemoAttr>, said: &mut String) -> Result<(), Fail> {
-    written(write!(said, "{}{}", error.disp(ctx), ctx.num_live()))
-}
-
 /// Says the text of the root that a text is parsed as, or the error.
 pub(crate) fn say(
     alloc: Global,
@@ -228,11 +220,8 @@ pub(crate) fn say(
     row: &Row,
     said: &mut String,
 ) -> Result<(), Fail> {
-    let answer = read_root(ctx, row.text(0));
-    let done = match &answer {
-        Ok(op) => changed(alloc, ctx, *op, group, row, said),
-        Err(error) => refused(ctx, error, said),
-    };
-    drop(answer);
-    done
+    match root_unless_said(ctx, row.text(0), Refusal::Located, said)? {
+        Some(op) => changed(alloc, ctx, op, group, row, said),
+        None => Ok(()),
+    }
 }

@@ -4,13 +4,14 @@ ghost use Rattle.irtext_context.specs.Context.{operation};
 
 use crate::failed::{is_parsed, refuses_another};
 use crate::fault::written;
-use crate::roots::{Ctx, Stream, alone, push_location};
+use crate::roots::{Ctx, Stream, push_location, push_whole};
 use crate::rows::places::place_of;
 use crate::rows::said::{push_answer, push_fault, push_words, require};
 use irtext_demo::{DemoAttr, DemoType};
 use irtext_graph::held::HasGraph;
+use irtext_tests_common::building::live;
 use pliron_text::base::{BasicBlock, Operation, Ptr, Region};
-use pliron_text::ir::OperationText;
+use pliron_text::ir::{OperationParserConfig, OperationText};
 use pliron_text::irfmt::parsers;
 use pliron_text::location::{Location, Source};
 use pliron_text::parsable::{
@@ -32,6 +33,10 @@ pub(crate) enum Asked<'t> {
     Region(Ptr<Operation>),
     /// So many whole texts.
     Whole(u64),
+    /// Two roots, and the location of the second.
+    SecondLocation,
+    /// Two roots, and the whole text of the second.
+    SecondText,
     /// Two operations, without looking for a section.
     SameMark,
     /// An operation without its section, and then these two whole texts, each on a stream of its own.
@@ -126,6 +131,26 @@ fn whole(s: &mut Stream<'_>, times: u64, said: &mut String) -> Result<(), Fail> 
     push_answer(answer, "root", said)
 }
 
+/// Says the location of the second of two roots, or its whole text.
+fn second(s: &mut Stream<'_>, asked: Asked<'_>, said: &mut String) -> Result<(), Fail> {
+    let first = Operation::top_level_parse(s).ok().ok_or("refused")?;
+    let second = Operation::top_level_parse(s).ok().ok_or("refused")?;
+    let ctx = &mut *s.state.ctx;
+    live(ctx, first)?;
+    match asked {
+        Asked::SecondText => push_whole(ctx, second, said),
+        _ => push_location(ctx, second, said),
+    }
+}
+
+/// Parses an operation without looking for its section.
+fn alone(s: &mut Stream<'_>) -> ParseResult<Ptr<Operation>, DemoAttr> {
+    let alone = OperationParserConfig {
+        look_for_outlined_attrs: false,
+    };
+    <Operation as Parsable<DemoType, DemoAttr, ()>>::parse(s, alone)
+}
+
 /// Whether a location is a place of a text.
 fn is_place(location: Location<DemoAttr>) -> bool {
     let is_place = matches!(&location, Location::SrcPos { .. });
@@ -208,6 +233,7 @@ fn say(alloc: Global, s: &mut Stream<'_>, asked: Asked<'_>, said: &mut String) -
         Asked::Block => block(s, said),
         Asked::Region(op) => region(s, op, said),
         Asked::Whole(times) => whole(s, times, said),
+        Asked::SecondLocation | Asked::SecondText => second(s, asked, said),
         Asked::SameMark => same_mark(s, said),
         Asked::After(text, next) => both_after(alloc, s, text, next, said),
     }

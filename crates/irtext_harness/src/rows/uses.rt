@@ -40,7 +40,7 @@ fn used(ctx: &Ctx, value: Value, said: &mut String) -> Result<(), Fail> {
 /// Says the name and the number of uses of the value that an operand is. The texts of the row are a root, the path and the index of the
 /// operand, and the path and the index of the value.
 pub(crate) fn of_operand(ctx: &mut Ctx, row: &Row, said: &mut String) -> Result<(), Fail> {
-    let root = root(ctx, row.text(0)).ok_or("refused")?;
+    let root = root(ctx, row.text(0))?;
     let value = value_of(ctx.graph(), root, row)?;
     used(ctx, value, said)
 }
@@ -64,7 +64,7 @@ fn num_taken<O: Drop, B: Drop, T: Drop>(
 /// Says the number of uses of the block that a successor is. The texts of the row are a root, the path and the index of the successor, and
 /// the path of the block.
 pub(crate) fn of_successor(ctx: &mut Ctx, row: &Row, said: &mut String) -> Result<(), Fail> {
-    let root = root(ctx, row.text(0)).ok_or("refused")?;
+    let root = root(ctx, row.text(0))?;
     let uses = num_taken(ctx.graph(), root, row)?;
     written(write!(said, "{uses}"))
 }

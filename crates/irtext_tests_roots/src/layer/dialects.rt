@@ -1,11 +1,11 @@
 //! The dialects of a context: how they are registered and looked up, and how their names are parsed and printed.
 use crate::checks::{Check, alone};
-use crate::registering::register;
 use crate::value::{held, id_of, name_of, same, to_text, told, value_of};
 use irtext_demo::{DemoAttr, DemoType};
 use irtext_graph::graph::Graph;
 use irtext_graph::held::HasGraph;
 use irtext_graph::object::Object;
+use irtext_tests_common::building::register;
 use irtext_tests_common::contexts::Ctx;
 use pliron_text::base::{NewBareOperation, Operation, Ptr};
 use pliron_text::dialect::{Dialect, DialectName};

@@ -1,11 +1,10 @@
 //! Graphs with blocks and values that a caller makes, and their printed texts.
 use crate::checks::{Check, alone};
 use crate::reading::{concrete, whole};
-use crate::registering::register;
 use crate::value::{id_of, same, value_of};
 use irtext_context::base::Item;
 use irtext_tests_common::building::{
-    block_inside, give, into_block, module, note, one_name, operation, place, types,
+    block_inside, give, into_block, module, note, one_name, operation, place, register, types,
 };
 use irtext_tests_common::contexts::Ctx;
 use pliron_text::base::{BasicBlock, Few, GIVEN_NAMES_KEY, Operation, Ptr, Value};

@@ -102,7 +102,7 @@ fn made(
 
 /// Makes the operation of a row that is registered.
 fn registered(rt: &impl Abort, alloc: Global, ctx: &mut Ctx, row: &Row) -> Ptr<Operation> {
-    must(rt, register(alloc, ctx, ID, row.0));
+    must(rt, register(alloc, ctx, ID, row.0, false));
     let arguments = must(rt, types(alloc, "pp"));
     let first = must(rt, block(alloc, ctx, "", arguments));
     let second = must(rt, block(alloc, ctx, "", Few::none()));

@@ -60,7 +60,7 @@ const FORMATS: &[(&str, &str)] = &[
 /// Registers these operations.
 fn register_all(rt: &impl Abort, alloc: Global, ctx: &mut Ctx) {
     for (name, letters) in FORMATS {
-        must(rt, register(alloc, ctx, ("test", name), letters));
+        must(rt, register(alloc, ctx, ("test", name), letters, false));
     }
 }
 

@@ -218,7 +218,10 @@ fn make(rt: &impl Abort, alloc: Global, ctx: &mut Ctx, made: &mut Made, step: St
 /// Makes the step if it changes an object.
 fn change(rt: &impl Abort, alloc: Global, ctx: &mut Ctx, made: &Made, step: Step) {
     match step {
-        Step::Register(name, letters) => must(rt, register(alloc, ctx, ("lab", name), letters)),
+        Step::Register(name, letters) => must(
+            rt,
+            register(alloc, ctx, ("lab", name), letters, false),
+        ),
         Step::Placeholder(block) => placeholder(rt, ctx, block_of(rt, made, block)),
         Step::Give(part, letter) => give_letter(rt, alloc, ctx, item_of(rt, made, part), letter),
         Step::Place(part) => must(rt, place(ctx, item_of(rt, made, part), 1)),

@@ -79,7 +79,7 @@ fn said(
 /// Makes the operation of a row, without regions.
 fn made(rt: &impl Abort, alloc: Global, ctx: &mut Ctx, row: &Row) -> Ptr<Operation> {
     if row.0 != "?" {
-        must(rt, register(alloc, ctx, ID, row.0));
+        must(rt, register(alloc, ctx, ID, row.0, false));
     }
     let op = bare(rt, alloc, ctx);
     for letter in row.2.chars() {
