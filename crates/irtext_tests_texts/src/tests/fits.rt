@@ -4,7 +4,7 @@ use crate::must::{must, same};
 use crate::nested::misfits::{ID, bare};
 use crate::nested::steps::give_under;
 use irtext_base::base::SYM_NAME_KEY;
-use irtext_context::base::operation::add_regions;
+use irtext_checked::make::operation::add_regions;
 use irtext_context::base::{Item, Operation, Ptr};
 use irtext_print_ops::fits::check_fits;
 use irtext_tests_common::building::register;
