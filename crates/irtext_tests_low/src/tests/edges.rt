@@ -1,9 +1,10 @@
-//! Attributes that are set on an operation, and `Refusal`s as errors.
+//! Attributes that are set on an operation, `Refusal`s as errors, and the causes of errors and faults.
 use crate::checks::{Check, alone};
 use crate::must::{error_told, must, same, told};
 use crate::tests::locations::make;
 use irtext_base::base::{AttrObj, GIVEN_NAMES_KEY, Refusal, SYM_NAME_KEY};
-use irtext_base::result::{Error, Result as Answer};
+use irtext_base::parsable::{ParseFault, SourcePosition};
+use irtext_base::result::{Cause, Error, Result as Answer};
 use irtext_context::base::{Operation, OperationAccess, Ptr};
 use irtext_demo::DemoAttr;
 use irtext_tests_common::contexts::{Ctx, named};
@@ -55,4 +56,18 @@ fn attributes_are_set_and_refused(rt: HostRuntime) {
         error_told(&rt, rt.alloc(), error),
         "Compilation error: invalid argument.\nOut of memory",
     );
+}
+
+#[test]
+fn errors_and_faults_have_causes(rt: HostRuntime) {
+    let error: Error<DemoAttr> = Error::from(AllocError);
+    let cause = error.into_cause();
+    assert!(&rt; matches!(&cause, Cause::Memory));
+    let fault: ParseFault<DemoAttr> = ParseFault {
+        pos: SourcePosition::default(),
+        cause: Cause::EmptyItem,
+        committed: true,
+    };
+    let cause = fault.into_cause();
+    assert!(&rt; matches!(&cause, Cause::EmptyItem));
 }
