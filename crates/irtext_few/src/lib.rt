@@ -23,9 +23,14 @@ pub enum Items<X> {
 }
 
 /// A list of which up to two elements need no allocation.
-#[derive(Drop)]
 pub struct Few<X> {
     items: Items<X>,
+}
+
+impl<X: Drop> Drop for Few<X> {
+    fn drop(self) {
+        let Few { items: _items } = self;
+    }
 }
 
 impl<X> Model for Few<X> {
@@ -156,7 +161,8 @@ impl<X> Few<X> {
     pub fn into_items(self) -> Items<X>
         ensures { items_of result ≡ self }
     {
-        self.items
+        let Few { items } = self;
+        items
     }
 }
 

@@ -16,9 +16,14 @@ pub enum OneOrMany<X> {
 }
 
 /// A list of which one element needs no allocation.
-#[derive(Drop)]
 pub struct Lone<X> {
     items: OneOrMany<X>,
+}
+
+impl<X: Drop> Drop for Lone<X> {
+    fn drop(self) {
+        let Lone { items: _items } = self;
+    }
 }
 
 impl<X> Model for Lone<X> {
