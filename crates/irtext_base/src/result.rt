@@ -151,11 +151,7 @@ impl<A: Drop> Error<A> {
 impl<A: Drop> Drop for Error<A> {
     #[cycle(cause)]
     fn drop(self) {
-        let Error {
-            kind: _,
-            err: _err,
-            loc: _loc,
-        } = self;
+        let _cause = self.into_cause();
     }
 }
 

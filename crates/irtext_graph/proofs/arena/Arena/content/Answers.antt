@@ -4,10 +4,7 @@ use Rattle.irtext_graph.proofs.Arenas.{within}
 use Rattle.irtext_graph.proofs.arena.Arena.content.Goals as goal
 
 pub index-requires : goal.index-requires
-index-requires g c =
-    let s = c.args.self.now.slots in
-    let low = within s.items c.args.p.index c.args.p.generation c.requires in
-    omega (arith, low, s.ok.0)
+index-requires g c = omega (arith, within c.args.self.now.slots.items c.args.p.index c.args.p.generation c.requires, c.args.self.now.slots.ok.0)
 
 pub unreachable-requires : goal.unreachable-requires
 unreachable-requires g c = not_vacant c.args.self.now c.args.p c.index.result.now _ _ c.requires c.index.ensures c.in-Vacant.is

@@ -6,10 +6,7 @@ use Rattle.irtext_graph.proofs.Arenas.{within, held_found}
 use Rattle.irtext_graph.proofs.arena.Arena.content_mut.Goals as goal
 
 pub index_mut-requires : goal.index_mut-requires
-index_mut-requires g c =
-    let s = c.args.self.now.slots in
-    let low = within s.items c.args.p.index c.args.p.generation c.requires in
-    omega (arith, low, s.ok.0)
+index_mut-requires g c = omega (arith, within c.args.self.now.slots.items c.args.p.index c.args.p.generation c.requires, c.args.self.now.slots.ok.0)
 
 pub content_mut-requires : goal.content_mut-requires
 content_mut-requires g c =
