@@ -230,8 +230,7 @@ impl<O: Drop, B: Drop, T: Drop> Graph<O, B, T> {
         self.objects.index_in(k, c)
     }
 
-    /// Removes an object from its parent, if it has one. Its children stay with it. It allocates nothing. Its time grows with the number
-    /// of children after it.
+    /// Removes an object, with its children, from its parent, if it has one. It allocates nothing. Its time grows with the siblings after it.
     pub fn unlink(&mut self, c: Object)
         requires { IsLive self.old c }
         ensures unlinks { Unlinks self.old self.new c }

@@ -205,6 +205,7 @@ impl<O: Drop, B: Drop, T: Drop> Objects<O, B, T> {
     }
 
     /// Returns the child of an object at an index.
+    #[tactic(auto, using(crate::proofs::Relisted::operation_within, crate::proofs::Relisted::block_within, crate::proofs::Relisted::region_within))]
     pub(crate) fn child_at(&self, o: Object, i: usize) -> Object
         requires lives { Lives self.now o }
         requires within { i < length (kids self.now o) }
@@ -218,6 +219,7 @@ impl<O: Drop, B: Drop, T: Drop> Objects<O, B, T> {
     }
 
     /// Removes the child at an index from an object.
+    #[tactic(auto, using(crate::proofs::Relisted::operation_within, crate::proofs::Relisted::block_within, crate::proofs::Relisted::region_within))]
     pub(crate) fn remove_child(&mut self, k: Object, i: usize)
         requires live { Lives self.old k }
         requires within { i < length (kids self.old k) }

@@ -1,7 +1,6 @@
 use Rattle.std.proofs.Common.{◌∙◌, ap, option_map}
 use Rattle.std.proofs.lemmas.Option.{slice_get-map}
 use Rattle.irtext_graph.specs.declared.object.Object.TheVariants.{TheOperation, TheBlock, TheRegion}
-use Rattle.irtext_graph.proofs.Relisted.{operation_within, block_within, region_within}
 use Rattle.irtext_graph.proofs.objects.Objects.child_at.Goals as goal
 
 pub returns-in-TheOperation : goal.returns-in-TheOperation
@@ -12,12 +11,3 @@ returns-in-TheBlock g c = rw c.in-TheBlock.is (slice_get-map TheOperation _ c.ar
 
 pub returns-in-TheRegion : goal.returns-in-TheRegion
 returns-in-TheRegion g c = rw c.in-TheRegion.is (slice_get-map TheBlock _ c.args.i ∙ ap (option_map TheBlock) c.child_at-in-TheRegion.ensures)
-
-pub child_at-requires-clause-within : goal.child_at-requires-clause-within
-child_at-requires-clause-within g c = operation_within c.args.self.now c.args.o c.args.i c.requires.within c.in-TheOperation.p c.in-TheOperation.is
-
-pub child_at-requires-in-TheBlock-clause-within : goal.child_at-requires-in-TheBlock-clause-within
-child_at-requires-in-TheBlock-clause-within g c = block_within c.args.self.now c.args.o c.args.i c.requires.within c.in-TheBlock.p c.in-TheBlock.is
-
-pub child_at-requires-in-TheRegion-clause-within : goal.child_at-requires-in-TheRegion-clause-within
-child_at-requires-in-TheRegion-clause-within g c = region_within c.args.self.now c.args.o c.args.i c.requires.within c.in-TheRegion.p c.in-TheRegion.is
