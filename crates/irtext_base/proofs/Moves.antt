@@ -4,7 +4,8 @@ use Rattle.std.proofs.Math.Seq.{take-append_seam}
 use Rattle.std.specs.Prelude.{slice_get}
 use Rattle.std.specs.Str.{bytes_eq}
 use Rattle.irtext_base.specs.Locations.{LocationsOf, LocationView, LocationViews, src_pos, fused, named, call_site, unknown, location, no_location, location_view, row_sourced}
-use Rattle.irtext_base.specs.Paths.{KeepsPaths, Written, path_of, path_index, with_path, found_or_last, is_known, are_known, row_known, written_with}
+use Rattle.irtext_interner.specs.Interned.{found_or_last}
+use Rattle.irtext_base.specs.Paths.{KeepsPaths, Written, path_of, path_index, with_path, is_known, are_known, row_known, written_with}
 use Rattle.irtext_base.specs.Walks.{taken, row_taken, made, joined, Reached, moving}
 use Rattle.irtext_base.specs.Moves.{path_kept, all_kept, row_kept, all_under, row_under, is_free, KeepsMore}
 use Rattle.irtext_base.specs.declared.location.Location.{Location}

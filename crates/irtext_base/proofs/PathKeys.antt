@@ -1,58 +1,19 @@
 -- A path that a context begins to keep is under its key, and what was printed of a location before is printed of it after.
-use Rattle.std.proofs.Common.{◌≡◌, ◌∙◌, ap, ap₂, refl, sym, ℕ, zero, suc, ◌+◌, ◌<◌, Bool, true, false, not, cond, nat_lt, Option, Some, None, List, [], ◌∷◌, ◌++◌, length, position, arith, true≢false}
+use Rattle.std.proofs.Common.{◌≡◌, ap, ap₂, refl, sym, ℕ, zero, suc, ◌<◌, Bool, true, nat_lt, Option, Some, None, List, [], ◌∷◌, length, arith}
 use Rattle.std.proofs.lemmas.Bool.Decides.{nat_tests}
 use Rattle.std.proofs.lemmas.Option.{slice_get_within, none-some}
-use Rattle.std.proofs.lemmas.Slice.Eq.{bytes_eq-Decides}
 use Rattle.std.specs.Prelude.{slice_get, ◌&&◌}
-use Rattle.std.specs.List.{position_or_len}
-use Rattle.std.specs.Str.{bytes_eq}
+use Rattle.irtext_interner.proofs.Numbers.{named as interned_named, stays}
 use Rattle.irtext_base.specs.Locations.{LocationView, LocationViews, src_pos, fused, named, call_site, unknown, no_location, location, row_sourced}
-use Rattle.irtext_base.specs.Paths.{KeepsPaths, path_index, with_path, index_or_next, found_or_last, path_of, is_known, are_known, row_known, written_with}
+use Rattle.irtext_base.specs.Paths.{KeepsPaths, path_index, with_path, path_of, is_known, are_known, row_known, written_with}
 use Rattle.irtext_base.specs.declared.location.PathKey.{PathKey}
 use Rattle.irtext_base.specs.declared.location.Source.{Source}
 use Rattle.irtext_base.specs.declared.location.Source.TheVariants.{File, InMemory}
 use Rattle.irtext_base.proofs.Characters.{and_left, and_right}
 
--- a test passes where it is found to
-found_at : {X : Type 0} (p : X → Bool) (xs : List X) → nat_lt (position_or_len p xs) (length xs) ≡ true → (x : X) × (slice_get xs (position_or_len p xs) ≡ Some x) × (p x ≡ true)
-found_at p [] h = absurd (true≢false (sym h))
-found_at {X} p (x ∷ xs) h = by (p x) refl (found_at p xs) h
-  where
-    onward : (n : ℕ) → slice_get (x ∷ xs) (1 + n) ≡ slice_get xs n
-    onward n = let e : 1 + n ≡ suc n = omega arith in ap (slice_get (x ∷ xs)) e
-
-    less : (n m : ℕ) → nat_lt (1 + n) (suc m) ≡ true → nat_lt n m ≡ true
-    less n m h = grind (arith, nat_tests)
-
-    by : (b : Bool) → p x ≡ b → (nat_lt (position_or_len p xs) (length xs) ≡ true → (y : X) × (slice_get xs (position_or_len p xs) ≡ Some y) × (p y ≡ true))
-        → nat_lt (cond (not b) (1 + position_or_len p xs) 0) (suc (length xs)) ≡ true → (y : X) × (slice_get (x ∷ xs) (cond (not b) (1 + position_or_len p xs) 0) ≡ Some y) × (p y ≡ true)
-    by true e rest h = (x, refl, e)
-    by false e rest h = let r = rest (less (position_or_len p xs) (length xs) h) in (r.0, onward (position_or_len p xs) ∙ r.1, r.2)
-
--- the elements of a list keep their indices when another is appended
-pub appended_get : {X : Type 0} (xs ys : List X) (i : ℕ) (x : X) → slice_get xs i ≡ Some x → slice_get (xs ++ ys) i ≡ Some x
-appended_get [] ys i x h = absurd (none-some x h)
-appended_get (y ∷ xs) ys zero x h = h
-appended_get (y ∷ xs) ys (suc i) x h = appended_get xs ys i x h
-
--- the last of a list
-last_get : {X : Type 0} (xs : List X) (y : X) → slice_get (xs ++ y ∷ []) (length xs) ≡ Some y
-last_get [] y = refl
-last_get (x ∷ xs) y = last_get xs y
-
--- a kept path is under its key
-pub path_is_kept : (paths : List (List ℕ)) (path : List ℕ) → slice_get (with_path paths path) (path_index paths path) ≡ Some path
-path_is_kept paths path = by (nat_lt (position_or_len (bytes_eq path) paths) (length paths)) refl
-  where
-    by : (b : Bool) → nat_lt (position_or_len (bytes_eq path) paths) (length paths) ≡ b
-        → slice_get (found_or_last (cond b (Some (position_or_len (bytes_eq path) paths)) None) paths path) (index_or_next (cond b (Some (position_or_len (bytes_eq path) paths)) None) paths) ≡ Some path
-    by true e = let r = found_at (bytes_eq path) paths e in
-        let same : path ≡ r.0 = (bytes_eq-Decides path r.0).0 r.2 in r.1 ∙ ap Some (sym same)
-    by false e = last_get paths path
-
 -- the key that a path is given names it
 pub path_found : (old new : List (List ℕ)) (path : List ℕ) (key : PathKey) → key.index ≡ path_index old path → new ≡ with_path old path → path_of new (File key) ≡ Some path
-path_found old new path key e f = rw (e, f) (path_is_kept old path)
+path_found old new path key e f = rw (e, f) (interned_named old path)
 
 pub path_known : (old new : List (List ℕ)) (path : List ℕ) (key : PathKey) → key.index ≡ path_index old path → new ≡ with_path old path → is_known (length new) (File key) ≡ true
 path_known old new path key e f = less key.index (length new) (slice_get_within new key.index path (path_found old new path key e f))
@@ -62,11 +23,7 @@ path_known old new path key e f = less key.index (length new) (slice_get_within 
 
 -- all paths stay under their keys when one more is kept
 pub paths_stay : (paths : List (List ℕ)) (path : List ℕ) → KeepsPaths paths (with_path paths path)
-paths_stay paths path = by (position (bytes_eq path) paths)
-  where
-    by : (o : Option ℕ) → KeepsPaths paths (found_or_last o paths path)
-    by (Some i) = λ i p h. h
-    by None = λ i p h. appended_get paths (path ∷ []) i p h
+paths_stay = stays
 
 -- an index without an element is past the end of the list
 pub within : (xs : List (List ℕ)) (i : ℕ) → slice_get xs i ≡ None → nat_lt i (length xs) ≡ true → ⊥

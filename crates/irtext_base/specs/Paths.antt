@@ -1,38 +1,23 @@
 -- The file paths that a context keeps, each in bytes, and the locations whose files are among them.
-use Rattle.std.specs.Prelude.{◌≡◌, ◌≤◌, ◌^◌, ◌⊎◌, ℕ, Bool, true, false, ◌&&◌, nat_lt, Option, Some, None, List, [], ◌∷◌, ◌++◌, length, position, slice_get, map, string_bytes, String}
-use Rattle.std.specs.HashSet.{HashSet}
-use Rattle.std.specs.declared.alloc.Global.{Global}
+use Rattle.std.specs.Prelude.{◌≡◌, ◌≤◌, ◌^◌, ◌⊎◌, ℕ, Bool, true, false, ◌&&◌, nat_lt, Option, Some, None, List, length, slice_get}
 use Rattle.std.specs.List.{list_any}
 use Rattle.std.specs.Str.{bytes_eq}
+use Rattle.irtext_interner.specs.Interned.{number_of, with_text, KeepsTexts}
 use Rattle.irtext_base.specs.declared.location.Source.{Source}
 use Rattle.irtext_base.specs.declared.location.Source.TheVariants.{File, InMemory}
 use Rattle.irtext_base.specs.Locations.{LocationOf, LocationView, sourced, src_pos, fused, named, call_site, unknown, LocationViews, no_location, location}
 
--- the paths of a set, each in bytes
-abbrev pub path_texts : {S : Type 0} → HashSet (String Global) S → List (List ℕ)
-path_texts paths = map string_bytes paths.keys
-
 -- each path keeps its key
 abbrev pub KeepsPaths : List (List ℕ) → List (List ℕ) → Type 0
-KeepsPaths old new = (i : ℕ) (path : List ℕ) → slice_get old i ≡ Some path → slice_get new i ≡ Some path
-
--- the index of a path that was found, or else the next index
-abbrev pub index_or_next : Option ℕ → List (List ℕ) → ℕ
-index_or_next (Some i) paths = i
-index_or_next None paths = length paths
-
--- the paths, with one more at the end if it was not found
-abbrev pub found_or_last : Option ℕ → List (List ℕ) → List ℕ → List (List ℕ)
-found_or_last (Some i) paths path = paths
-found_or_last None paths path = paths ++ path ∷ []
+KeepsPaths = KeepsTexts
 
 -- the index that a path has or gets
 abbrev pub path_index : List (List ℕ) → List ℕ → ℕ
-path_index paths path = index_or_next (position (bytes_eq path) paths) paths
+path_index = number_of
 
 -- the paths with one more, at the end if it is new
 abbrev pub with_path : List (List ℕ) → List ℕ → List (List ℕ)
-with_path paths path = found_or_last (position (bytes_eq path) paths) paths path
+with_path = with_text
 
 -- keeping the path may fail: it is not kept yet, or its index needs more than 32 bits
 abbrev pub MayBeRefused : List (List ℕ) → List ℕ → Type 0

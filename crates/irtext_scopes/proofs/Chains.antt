@@ -6,7 +6,7 @@ use Rattle.std.specs.Option.{option_or, option_map}
 use Rattle.irtext_scopes.specs.declared.scopes.Binding.{Binding}
 use Rattle.irtext_scopes.specs.Scopes.{find, innermost, in_innermost, mentioned, resolved}
 use Rattle.irtext_scopes.specs.Bindings.{entries_of, scopes_from, scopes_at, newest, head_at, first, from_mark, place_in, falls, are_apart, are_maps, rebound, Chained, IsSound}
-use Rattle.irtext_scopes.proofs.Lists.{get_within, get_or_there, get_snoc, take_snoc, take_whole, drop_snoc, get_last, get_front, set_there}
+use Rattle.irtext_interner.proofs.Lists.{get_within, get_or_there, get_snoc, take_snoc, take_whole, drop_snoc, get_last, get_front, set_there}
 use Rattle.irtext_scopes.proofs.Maps.{innermost_apart, maps_tail, mentioned_maps, resolved_maps}
 use Rattle.irtext_scopes.proofs.Newest.{newest_there, innermost_at, find_absent, find_hidden, find_there, rebound_scopes}
 

@@ -1,6 +1,3 @@
-pub mod Lists
-pub mod Kept
-pub mod Numbers
 pub mod Maps
 pub mod Newest
 pub mod Chains

@@ -7,7 +7,7 @@ use Rattle.irtext_scopes.specs.declared.scopes.Entry.TheVariants.{Defined}
 use Rattle.irtext_scopes.specs.declared.scopes.Binding.{Binding}
 use Rattle.irtext_scopes.specs.Scopes.{find, innermost, in_innermost, resolved}
 use Rattle.irtext_scopes.specs.Bindings.{entries_of, scopes_from, newest, first, are_apart, rebound}
-use Rattle.irtext_scopes.proofs.Lists.{get_or_there}
+use Rattle.irtext_interner.proofs.Lists.{get_or_there}
 use Rattle.irtext_scopes.proofs.Maps.{not_again, apart_tail, resolved_unknown}
 
 module _ {V : Type 0} where

@@ -2,4 +2,3 @@ pub mod Names
 pub mod Scopes
 pub mod Bindings
 pub mod Tracker
-pub mod Texts

@@ -2,7 +2,5 @@
 #![tactic(auto)]
 
 mod marks;
-pub mod names;
 pub mod scopes;
-mod text;
 pub mod tracker;

@@ -10,8 +10,8 @@ ghost use Rattle.irtext_scopes.specs.Names.{number_of, with_name, KeepsNames, Ar
 ghost use Rattle.irtext_scopes.specs.Scopes.{innermost, outer, in_innermost, is_open, find, mentioned, defined, is_defined, placeholder_of, value_of};
 ghost use Rattle.irtext_scopes.specs.Tracker.{EntersRegion, left, unresolved, are_known};
 
-use crate::names::Interner;
 use crate::scopes::{DefineFault, Entry, Scopes};
+use irtext_interner::Interner;
 use std::alloc::{AllocError, Global};
 
 /// Why a region can't be entered.
@@ -115,7 +115,7 @@ impl<V: Copy, B: Copy> NameTracker<V, B> {
     pub fn keeps_names(&self)
         ensures { AreDistinct self.now.names }
     {
-        self.names.keeps_names();
+        self.names.keeps_texts();
     }
 
     /// Returns how many names there are. Their numbers are those below.

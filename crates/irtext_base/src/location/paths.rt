@@ -1,32 +1,28 @@
 //! File paths, each kept once under a key, and the trait of what has such paths.
-ghost use Rattle.std.specs.Prelude.{◌≡◌, ◌≤◌, ◌<◌, ◌^◌, ◌++◌, ◌∷◌, ℕ, List, [], Some, false, is_some, IfOk, OnOk, OnErr, length, position, slice_get, take};
+ghost use Rattle.std.specs.Prelude.{◌≡◌, ◌≤◌, ◌<◌, ◌^◌, ℕ, List, [], Some, IfOk, OnOk, OnErr, length, slice_get, take};
 ghost use Rattle.std.specs.Borrow.{sem};
-ghost use Rattle.std.specs.List.{list_any};
-ghost use Rattle.std.specs.Str.{bytes_eq};
-ghost use Rattle.irtext_base.specs.Paths.{path_texts, path_index, with_path, MayBeRefused};
+ghost use Rattle.irtext_base.specs.Paths.{path_index, with_path, MayBeRefused};
 
 use crate::location::PathKey;
-use indexmap::IndexSet;
+use irtext_interner::Interner;
 use std::alloc::{AllocError, Global};
 use std::marker::Model;
 
 /// A set of file paths. Each is kept once, with its index as its key.
 #[derive(Drop)]
 pub struct Paths {
-    texts: IndexSet<String>,
-    alloc: Global,
+    texts: Interner,
 }
 
 impl Model for Paths {
     ghost use Rattle.std.specs.Prelude.{ℕ, List};
     ghost use Rattle.std.specs.Coded.{coded_list, coded_ℕ};
-    ghost use Rattle.irtext_base.specs.Paths.{path_texts};
 
     ghost Value = { List (List ℕ) };
 
     ghost coded = { coded_list (coded_list coded_ℕ) };
 
-    ghost view = { λ p. path_texts p.texts };
+    ghost view = { λ p. p.texts };
 }
 
 /// A holder of file paths, as a context is; `A` is the type of the caller's attributes. Calls that need nothing else of a context are
@@ -65,67 +61,19 @@ fn as_index(index: usize) -> Result<u32, AllocError>
     Ok(index as u32)
 }
 
-fn find(paths: &IndexSet<String>, path: &str) -> Option<usize>
-    ensures index { result ≡ position (bytes_eq path.now) (path_texts paths.now) }
-    ensures found { is_some result ≡ list_any (bytes_eq path.now) (path_texts paths.now) }
-{
-    paths.get_index_of(path)
-}
-
-fn put_last(paths: &mut IndexSet<String>, alloc: Global, path: &str) -> Result<(), AllocError>
-    requires { list_any (bytes_eq path.now) (path_texts paths.old) ≡ false }
-    ensures ok { OnOk result (path_texts paths.new ≡ path_texts paths.old ++ path.now ∷ []) }
-    ensures err { OnErr result (path_texts paths.new ≡ path_texts paths.old) }
-{
-    let text = String::from_str(alloc, path)?;
-    paths.insert(text)?;
-    Ok(())
-}
-
-fn keep(paths: &mut IndexSet<String>, alloc: Global, path: &str) -> Result<u32, AllocError>
-    ensures index { IfOk result (λ i. i ≡ path_index (path_texts paths.old) path.now) }
-    ensures kept { OnOk result (path_texts paths.new ≡ with_path (path_texts paths.old) path.now) }
-    ensures err { OnErr result (path_texts paths.new ≡ path_texts paths.old) }
-    ensures known { OnErr result (MayBeRefused (path_texts paths.old) path.now) }
-{
-    if let Some(index) = find(paths, path) {
-        return as_index(index);
-    }
-    let index = as_index(paths.len())?;
-    put_last(paths, alloc, path)?;
-    Ok(index)
-}
-
-fn truncate(paths: &mut IndexSet<String>, count: usize)
-    ensures { path_texts paths.new ≡ take count (path_texts paths.old) }
-{
-    paths.truncate(count);
-}
-
-fn path_at(paths: &IndexSet<String>, index: usize) -> &str
-    requires { index < length (path_texts paths.now) }
-    ensures { slice_get (path_texts paths.now) index ≡ Some result.now }
-{
-    match paths.get_index(index) {
-        Some(path) => path.as_str(),
-        None => unreachable!(),
-    }
-}
-
 impl Paths {
     /// Returns an empty set. It allocates nothing yet.
     pub fn new(alloc: Global) -> Paths
         ensures { result ≡ [] }
     {
         Paths {
-            texts: IndexSet::new(alloc),
-            alloc,
+            texts: Interner::new(alloc),
         }
     }
 
     /// Returns the allocator of the paths.
     pub fn allocator(&self) -> Global {
-        self.alloc
+        self.texts.allocator()
     }
 
     /// Returns the key of a path, which is kept from then on. A path that is kept already has the key that it had, and needs no allocation.
@@ -136,9 +84,15 @@ impl Paths {
         ensures err { OnErr result (self.new ≡ self.old) }
         ensures known { OnErr result (MayBeRefused self.old path.now) }
     {
-        let alloc = self.alloc;
-        let index = keep(&mut self.texts, alloc, path)?;
-        Ok(PathKey { index })
+        let count = self.texts.len();
+        let number = self.texts.intern(path)?;
+        match as_index(number) {
+            Ok(index) => Ok(PathKey { index }),
+            Err(refused) => {
+                self.texts.truncate(count);
+                Err(refused)
+            }
+        }
     }
 
     /// Returns the number of paths.
@@ -152,7 +106,7 @@ impl Paths {
     pub(crate) fn truncate(&mut self, count: usize)
         ensures { self.new ≡ take count self.old }
     {
-        truncate(&mut self.texts, count);
+        self.texts.truncate(count);
     }
 
     /// Returns the path under a key of these paths.
@@ -160,6 +114,6 @@ impl Paths {
         requires { key.index < length self.now }
         ensures { slice_get self.now key.index ≡ Some result.now }
     {
-        path_at(&self.texts, key.index as usize)
+        self.texts.text(key.index as usize)
     }
 }

@@ -1,7 +1,7 @@
 use Rattle.std.proofs.Common.{◌≡◌, Some, None, rules, sym, ap, ◌∙◌}
 use Rattle.irtext_scopes.specs.Scopes.{find, innermost}
 use Rattle.irtext_scopes.specs.Bindings.{place_in}
-use Rattle.irtext_scopes.proofs.Lists.{get_or_there, get_within}
+use Rattle.irtext_interner.proofs.Lists.{get_or_there, get_within}
 use Rattle.irtext_scopes.proofs.Chains.{place_resolves}
 use Rattle.irtext_scopes.proofs.scopes.Scopes.find.Goals as goal
 

@@ -1,7 +1,7 @@
 use Rattle.std.proofs.Common.{◌≡◌, Some, None, sym, ap, ◌∙◌}
 use Rattle.irtext_scopes.specs.Scopes.{find, innermost, in_innermost, resolved}
 use Rattle.irtext_scopes.specs.Bindings.{place_in, scopes_at}
-use Rattle.irtext_scopes.proofs.Lists.{get_within}
+use Rattle.irtext_interner.proofs.Lists.{get_within}
 use Rattle.irtext_scopes.proofs.Maps.{in_innermost_unknown}
 use Rattle.irtext_scopes.proofs.Chains.{place_resolves, resolved_scopes, resolved_sound}
 use Rattle.irtext_scopes.proofs.scopes.Scopes.resolve.Goals as goal

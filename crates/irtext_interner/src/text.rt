@@ -1,4 +1,4 @@
-//! The texts of names. A short one is stored in place, without an allocation.
+//! Texts of which a short one is stored in place, without an allocation.
 ghost use Rattle.std.specs.Prelude.{◌≡◌, IfOk, nat_eq};
 ghost use Rattle.std.specs.Cmp.{on_equiv, on_per, partial_equiv_from_equiv};
 ghost use Rattle.std.specs.Cmp.Lexicographic.{pointwise, bytes_decides, nat_list_eq_equiv};
@@ -20,15 +20,15 @@ enum Kept {
     Long(String),
 }
 
-/// The text of a name.
+/// A text.
 #[derive(Drop)]
-pub(crate) struct NameText {
+pub(crate) struct ShortText {
     kept: Kept,
 }
 
-impl Model for NameText {
+impl Model for ShortText {
     ghost use Rattle.std.specs.Prelude.{ℕ, List};
-    ghost use Rattle.irtext_scopes.specs.Texts.{kept_bytes};
+    ghost use Rattle.irtext_interner.specs.Texts.{kept_bytes};
 
     ghost Value = { List ℕ };
 
@@ -36,7 +36,7 @@ impl Model for NameText {
 }
 
 impl Kept {
-    ghost use Rattle.irtext_scopes.specs.Texts.{kept_bytes};
+    ghost use Rattle.irtext_interner.specs.Texts.{kept_bytes};
 
     /// Copies a text. Only a text of more than 24 bytes is allocated. Fails only if that allocation fails.
     fn of(alloc: Global, text: &str) -> Result<Kept, AllocError>
@@ -59,13 +59,13 @@ impl Kept {
     }
 }
 
-impl NameText {
+impl ShortText {
     /// Copies a text. Only a text of more than 24 bytes is allocated. Fails only if that allocation fails.
-    pub(crate) fn of(alloc: Global, text: &str) -> Result<NameText, AllocError>
+    pub(crate) fn of(alloc: Global, text: &str) -> Result<ShortText, AllocError>
         ensures { IfOk result (λ t. t ≡ text.now) }
     {
         let kept = Kept::of(alloc, text)?;
-        Ok(NameText { kept })
+        Ok(ShortText { kept })
     }
 
     /// Returns the text.
@@ -76,7 +76,7 @@ impl NameText {
     }
 }
 
-impl PartialEq for NameText {
+impl PartialEq for ShortText {
     ghost eq = { λ x y. pointwise nat_eq x y };
 
     ghost laws = { on_per (λ s. s) (partial_equiv_from_equiv nat_list_eq_equiv) };
@@ -86,11 +86,11 @@ impl PartialEq for NameText {
     }
 }
 
-impl Eq for NameText {
+impl Eq for ShortText {
     ghost laws = { on_equiv (λ s. s) nat_list_eq_equiv };
 }
 
-impl Hash for NameText {
+impl Hash for ShortText {
     ghost hash_input = { λ s. fed.str s };
 
     ghost respects_eq = { Prim.search (hashing, rules) };
@@ -100,14 +100,14 @@ impl Hash for NameText {
     }
 }
 
-impl Equivalent<NameText> for &str {
+impl Equivalent<ShortText> for &str {
     ghost equivalent = { λ q k. bytes_eq q.now k };
 
     ghost respects_hash = { λ q k h. ap fed.str ((bytes_decides q.now k).0 h) };
 
     ghost respects_eq = { λ q x y. nat_list_eq_equiv.congr q.now x y };
 
-    fn equivalent(&self, key: &NameText) -> bool {
+    fn equivalent(&self, key: &ShortText) -> bool {
         *self == key.as_str()
     }
 }

@@ -1,7 +1,7 @@
--- How the text of a name is stored.
+-- How a text is stored.
 use Rattle.std.specs.Prelude.{ℕ, List, string_bytes}
-use Rattle.irtext_scopes.specs.declared.text.Kept.{Kept}
-use Rattle.irtext_scopes.specs.declared.text.Kept.TheVariants.{Short, Long}
+use Rattle.irtext_interner.specs.declared.text.Kept.{Kept}
+use Rattle.irtext_interner.specs.declared.text.Kept.TheVariants.{Short, Long}
 
 -- the bytes of a text, whether it is stored in place or in a string
 abbrev pub kept_bytes : Kept → List ℕ

@@ -1,9 +1,0 @@
--- A text that is kept last.
-use Rattle.std.proofs.Common.{◌≡◌, refl, ℕ, false, List, [], ◌∷◌, ◌++◌}
-use Rattle.std.specs.List.{list_any}
-use Rattle.std.specs.Str.{bytes_eq}
-use Rattle.indexmap.specs.IndexSet.{insert_key}
-
--- a text that none of the names has is put last
-pub put_last : (names : List (List ℕ)) (text : List ℕ) → list_any (bytes_eq text) names ≡ false → insert_key bytes_eq names text ≡ names ++ text ∷ []
-put_last names text none = rw none refl
