@@ -7,20 +7,12 @@ ghost use Rattle.irtext_few.specs.Growing.{listed, HasPlace};
 use std::alloc::{AllocError, Global};
 
 /// A list. If `first` is `None`, the first element of the vector is the first of the list.
+#[derive(Drop)]
 pub struct Growing<X> {
     /// The first element, if it is stored in place.
     pub first: Option<X>,
     /// The elements after it.
     pub more: Vec<X>,
-}
-
-impl<X: Drop> Drop for Growing<X> {
-    fn drop(self) {
-        let Growing {
-            first: _first,
-            more: _more,
-        } = self;
-    }
 }
 
 impl<X: Copy> Growing<X> {
