@@ -191,7 +191,7 @@ impl Model for Dialect {
 }
 
 /// An error of kind invalid argument without a location.
-pub(crate) fn invalid<A>(cause: Cause<A>) -> Error<A>
+pub fn invalid<A>(cause: Cause<A>) -> Error<A>
     ensures { result ≡ record { kind = ErrorKind.InvalidArgument; err = cause; loc = Unknown } }
 {
     Error {

@@ -1,18 +1,18 @@
 //! Dictionaries, which hold attributes under keys.
-ghost use Rattle.std.specs.Prelude.{◌≡◌, ◌≢◌, ◌<◌, [], false, Some, IfErr, OnOk, OnErr, option_copied, length, slice_get};
-ghost use Rattle.std.specs.Map.{lookup};
+ghost use Rattle.std.specs.Prelude.{◌≡◌, ◌≢◌, ◌<◌, [], true, false, not, Some, IfErr, OnOk, OnErr, option_copied, length, slice_get};
+ghost use Rattle.std.specs.List.{list_all};
+ghost use Rattle.std.specs.Map.{lookup, keys_of};
 ghost use Rattle.std.specs.Map.Iter.{deref_pair};
 ghost use Rattle.std.specs.Option.{option_map};
 ghost use Rattle.std.specs.Str.{bytes_eq};
 ghost use Rattle.std.specs.Iterator.{YieldsFirstBy, item_count};
 ghost use Rattle.indexmap.specs.IndexMap.{insert_entry, shift_remove_entry};
-ghost use Rattle.irtext_base.specs.Format.{given_names_key};
+ghost use Rattle.irtext_base.specs.Format.{given_names_key, distinct};
 ghost use Rattle.irtext_context.specs.Dictionary.{are_given_names, placed, moved_up, is_reserved_for, RefusesEntry};
 ghost use Rattle.irtext_context.specs.Entries.{entries_left};
 ghost use Rattle.irtext_base.specs.declared.base.attributes.Refusal.TheVariants.{Memory};
 
 mod copy;
-mod kept;
 mod others;
 
 pub use copy::is_outlined;
@@ -33,7 +33,6 @@ pub(crate) struct Given<A> {
 pub struct AttributeDict<A> {
     given: Option<Given<A>>,
     others: Others<A>,
-    alloc: Global,
 }
 
 impl<A: Drop> Drop for AttributeDict<A> {
@@ -41,7 +40,6 @@ impl<A: Drop> Drop for AttributeDict<A> {
         let AttributeDict {
             given: _given,
             others: _others,
-            alloc: _,
         } = self;
     }
 }
@@ -100,7 +98,6 @@ fn put_given<A: Drop>(given: &mut Option<Given<A>>, at: usize, key: Identifier, 
 
 fn put_other<A: Drop>(
     others: &mut Others<A>,
-    alloc: Global,
     key: Identifier,
     attr: AttrObj<A>,
 ) -> Result<(), Refusal>
@@ -108,7 +105,7 @@ fn put_other<A: Drop>(
     ensures err { OnErr result (others.new ≡ others.old) }
     ensures memory { IfErr result (λ e. e ≡ Memory) }
 {
-    match others.put(alloc, key, attr) {
+    match others.put(key, attr) {
         Ok(()) => Ok(()),
         Err(_) => Err(Refusal::Memory),
     }
@@ -143,7 +140,6 @@ impl<A: Drop> AttributeDict<A> {
         AttributeDict {
             given: None,
             others: Others::new(alloc),
-            alloc,
         }
     }
 
@@ -181,7 +177,7 @@ impl<A: Drop> AttributeDict<A> {
         ensures refused { IfErr result (RefusesEntry key attr) }
     {
         if !is_reserved(&key) {
-            return put_other(&mut self.others, self.alloc, key, attr);
+            return put_other(&mut self.others, key, attr);
         }
         if !are_given_names(&attr) {
             return Err(Refusal::ReservedKey(key));
@@ -236,6 +232,15 @@ impl<A: Drop> AttributeDict<A> {
         ensures { entries_left result ≡ self.now }
     {
         Iter { dict: self, at: 0 }
+    }
+
+    /// No key comes twice in a dictionary, and under the key `builtin_given_names` there is only an `AttrObj::GivenNames`. The call does
+    /// nothing: its contract says this of the dictionary.
+    pub fn keeps_keys(&self)
+        ensures differ { distinct bytes_eq (keys_of self.now) ≡ true }
+        ensures reserved { list_all (λ e. not (is_reserved_for e.0 e.1)) self.now ≡ true }
+    {
+        self.others.keeps_keys();
     }
 }
 

@@ -14,20 +14,11 @@ use irtext_base::text::{AttrText, IrText};
 use std::alloc::Global;
 
 /// A block's label, if it has one, its attributes and its location.
+#[derive(Drop)]
 pub struct BlockData<A> {
     pub(crate) label: Option<Identifier>,
     pub(crate) attributes: AttributeDict<A>,
     pub(crate) loc: Location<A>,
-}
-
-impl<A: Drop> Drop for BlockData<A> {
-    fn drop(self) {
-        let BlockData {
-            label: _label,
-            attributes: _attributes,
-            loc: _loc,
-        } = self;
-    }
 }
 
 impl<A: Drop> BlockData<A> {

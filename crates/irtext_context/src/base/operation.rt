@@ -16,20 +16,11 @@ use irtext_base::text::{AttrText, IrText};
 use std::alloc::AllocError;
 
 /// An operation's id, attributes and location. Its operands, successors, results and regions are kept by the graph.
+#[derive(Drop)]
 pub struct OperationData<A> {
     pub(crate) id: OpId,
     pub(crate) attributes: AttributeDict<A>,
     pub(crate) loc: Location<A>,
-}
-
-impl<A: Drop> Drop for OperationData<A> {
-    fn drop(self) {
-        let OperationData {
-            id: _id,
-            attributes: _attributes,
-            loc: _loc,
-        } = self;
-    }
 }
 
 /// The data of an operation that is no placeholder.

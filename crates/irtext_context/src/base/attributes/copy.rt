@@ -30,16 +30,16 @@ impl<A: AttrText<A>> AttributeDict<A> {
         ensures { IfOk result (λ copy. copy ≡ without_outlined A.outlined self.now) }
     {
         self.keeps_keys();
-        let mut others = Others::new(self.alloc);
+        let alloc = self.others.allocator();
+        let mut others = Others::new(alloc);
         for (key, attr) in self.iter() {
             if !is_outlined(attr) {
-                others.put(self.alloc, key.clone()?, attr.try_clone(self.alloc)?)?;
+                others.put(key.clone()?, attr.try_clone(alloc)?)?;
             }
         }
         Ok(AttributeDict {
             given: None,
             others,
-            alloc: self.alloc,
         })
     }
 }

@@ -30,6 +30,7 @@ enum Stored<A> {
 #[derive(Drop)]
 pub(crate) struct Others<A> {
     stored: Stored<A>,
+    alloc: Global,
 }
 
 impl<A> Model for Others<A> {
@@ -198,21 +199,22 @@ impl<A: Drop> Others<A> {
     {
         Others {
             stored: Stored::Few(Vec::new(alloc)),
+            alloc,
         }
+    }
+
+    /// The allocator of the entries.
+    pub(crate) fn allocator(&self) -> Global {
+        self.alloc
     }
 
     /// Puts an attribute under a key: in place of the one that is there, or else as the last entry. When out of memory, it fails and the
     /// entries are unchanged.
-    pub(crate) fn put(
-        &mut self,
-        alloc: Global,
-        key: Identifier,
-        attr: AttrObj<A>,
-    ) -> Result<(), AllocError>
+    pub(crate) fn put(&mut self, key: Identifier, attr: AttrObj<A>) -> Result<(), AllocError>
         ensures ok { OnOk result (self.new ≡ insert_entry bytes_eq self.old key attr) }
         ensures err { OnErr result (self.new ≡ self.old) }
     {
-        put(&mut self.stored, alloc, key, attr)
+        put(&mut self.stored, self.alloc, key, attr)
     }
 
     /// Returns the attribute under the key with this text, or `None` if there is none.
