@@ -27,10 +27,6 @@ module _ {A : Type 0} where
   take_whole [] b = refl
   take_whole (k ∷ bs) b = ap (λ z. k ∷ z) (take_whole bs b)
 
-  pub take_length : (bs : List A) → take (length bs) bs ≡ bs
-  take_length [] = refl
-  take_length (k ∷ bs) = ap (λ z. k ∷ z) (take_length bs)
-
   pub get_before : (count : ℕ) (bs : List A) (i : ℕ) (x : A) → slice_get (take count bs) i ≡ Some x → slice_get bs i ≡ Some x
   get_before zero bs i x e = cc
   get_before (suc count) [] i x e = cc

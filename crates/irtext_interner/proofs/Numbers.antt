@@ -8,7 +8,7 @@ use Rattle.std.specs.Prelude.{IfOk, OnOk, OnErr}
 use Rattle.std.specs.List.{slice_get, position_or_len}
 use Rattle.std.specs.Str.{bytes_eq}
 use Rattle.irtext_interner.specs.Interned.{number_or_next, found_or_last, number_of, with_text, KeepsTexts, AreDistinct}
-use Rattle.irtext_interner.proofs.Lists.{get_within, get_or_there, get_snoc, get_last, get_front, get_before, take_whole, take_length}
+use Rattle.irtext_interner.proofs.Lists.{get_within, get_or_there, get_snoc, get_last, get_front, get_before}
 
 -- a text that is not found is not in the list
 absent : (texts : List (List ℕ)) (text : List ℕ) (i : ℕ) → position (bytes_eq text) texts ≡ None → slice_get texts i ≡ Some text → ⊥
@@ -70,11 +70,3 @@ module _ {E : Type 0} (old new : List (List ℕ)) (text : List ℕ) where
 -- the first of some distinct texts are distinct
 pub distinct_first : (count : ℕ) (texts : List (List ℕ)) → AreDistinct texts → AreDistinct (take count texts)
 distinct_first count texts d = λ i j text at_i at_j. d i j text (get_before count texts i text at_i) (get_before count texts j text at_j)
-
--- the texts that were kept before one more are the first
-pub first_ones : (texts : List (List ℕ)) (text : List ℕ) → take (length texts) (with_text texts text) ≡ texts
-first_ones texts text = by (position (bytes_eq text) texts)
-  where
-    by : (o : Option ℕ) → take (length texts) (found_or_last o texts text) ≡ texts
-    by (Some i) = take_length texts
-    by None = take_whole texts text
