@@ -1,15 +1,8 @@
 -- How many children there are, and lists of objects.
-use Rattle.std.proofs.Common.{◌≡◌, ◌<◌, ◌≤◌, ℕ, zero, suc, refl, sym, ap, arith, List, [], ◌∷◌, ◌++◌, length, slice_get, map, IsSome, set, get_or, sum_by}
+use Rattle.std.proofs.Common.{◌≡◌, ◌<◌, ◌≤◌, ℕ, zero, suc, sym, ap, arith, List, [], ◌∷◌, length, slice_get, IsSome, set, get_or, sum_by}
 use Rattle.std.proofs.lemmas.List.Sums.{sum_by-set}
 use Rattle.irtext_graph.specs.declared.arena.Slot.{Slot}
 use Rattle.irtext_graph.specs.Arena.{found}
-
-pub map-last : {A B : Type 0} (f : A → B) (xs ys : List A) (a : A) → xs ≡ ys ++ a ∷ [] → map f xs ≡ map f ys ++ f a ∷ []
-map-last f xs ys a e = rw e (go ys)
-  where
-    go : (ys : List _) → map f (ys ++ a ∷ []) ≡ map f ys ++ f a ∷ []
-    go [] = refl
-    go (y ∷ ys) = ap (λ r. f y ∷ r) (go ys)
 
 pub entry-low : {X : Type 0} (xs : List (Slot X)) (p g : ℕ) → IsSome (found (slice_get xs p) g) → p < length xs
 entry-low [] p g h = absurd (cc)
