@@ -1,6 +1,6 @@
 -- Lists that are gathered item by item.
-use Rattle.std.proofs.Common.{◌≡◌, ◌<◌, ◌≤◌, ◌+◌, ◌++◌, ◌∷◌, ◌∙◌, ◌⊎◌, ℕ, zero, suc, refl, sym, ap, subst, inl, inr, arith, List, [], Some, Result, Ok, Err, IfOk, map, length, slice_get, take}
-use Rattle.std.proofs.lemmas.List.{length-append, map-append, map-id, take_all}
+use Rattle.std.proofs.Common.{◌≡◌, ◌<◌, ◌≤◌, ◌+◌, ◌++◌, ◌∷◌, ◌∙◌, ◌⊎◌, ℕ, zero, suc, refl, sym, ap, subst, inl, inr, arith, List, [], Some, Result, Ok, Err, IfOk, map, length, slice_get}
+use Rattle.std.proofs.lemmas.List.{length-append, map-id}
 use Rattle.std.proofs.lemmas.Option.{slice_get_within}
 use Rattle.std.proofs.Math.Nat.{eq-or-lt_of_le}
 use Rattle.irtext_graph_queries.specs.Lists.{each, AreEach}
@@ -32,31 +32,7 @@ module _ {X : Type 0} where
       go (inl last) before = subst (λ k. slice_get (each f n ++ f n ∷ []) k ≡ Some (f k)) (sym last) (subst (λ k. slice_get (each f n ++ f n ∷ []) k ≡ Some (f n)) (length_each f n) (at_last (each f n) (f n)))
       go (inr earlier) before = at_earlier (each f n) (f n) i (let all = length_each f n in omega (arith, all, earlier)) ∙ before earlier
 
-  -- one more item of a list, after the first ones
-  take_next : (xs : List X) (i : ℕ) (x : X) → slice_get xs i ≡ Some x → take (i + 1) xs ≡ take i xs ++ x ∷ []
-  take_next xs i x at = subst (λ n. take n xs ≡ take i xs ++ x ∷ []) (let next : suc i ≡ i + 1 = omega arith in next) (go xs i at)
-    where
-      go : (xs : List X) (i : ℕ) → slice_get xs i ≡ Some x → take (suc i) xs ≡ take i xs ++ x ∷ []
-      go [] i at = absurd (cc)
-      go (y ∷ ys) zero at = let same : y ≡ x = cc in ap (λ z. z ∷ []) same
-      go (y ∷ ys) (suc i) at = ap (λ zs. y ∷ zs) (go ys i at)
-
-  -- the item of a list at the next index was pushed onto the items before it
-  pub one_more : (xs all new : List X) (i : ℕ) (x : X) → slice_get xs i ≡ Some x → all ≡ take i xs → new ≡ all ++ x ∷ [] → new ≡ take (i + 1) xs
-  one_more xs all new i x at before pushed = pushed ∙ ap (λ zs. zs ++ x ∷ []) before ∙ sym (take_next xs i x at)
-
-  -- all items of the list were pushed
-  pub all_gathered : (xs all : List X) (i count : ℕ) → count ≡ length xs → all ≡ take i xs → count ≤ i → all ≡ xs
-  all_gathered xs all i count counted gathered end = gathered ∙ take_all i xs (omega (arith, counted, end))
-
 module _ {X Y : Type 0} (see : X → Y) where
-  -- one_more and all_gathered for the images of the items
-  pub one_more_seen : (ys : List Y) (all new : List X) (i : ℕ) (x : X) → slice_get ys i ≡ Some (see x) → map see all ≡ take i ys → new ≡ all ++ x ∷ [] → map see new ≡ take (i + 1) ys
-  one_more_seen ys all new i x at before pushed = one_more ys (map see all) (map see new) i (see x) at before (ap (map see) pushed ∙ map-append see all (x ∷ []))
-
-  pub all_gathered_seen : (ys : List Y) (all : List X) (i count : ℕ) → count ≡ length ys → map see all ≡ take i ys → count ≤ i → map see all ≡ ys
-  all_gathered_seen ys all i count counted gathered end = all_gathered ys (map see all) i count counted gathered end
-
   -- the images of the items are a list, if the image of each is at its index in the list
   all_seen : (xs : List X) (ys : List Y) → length xs ≡ length ys → ((i : ℕ) (x : X) → slice_get xs i ≡ Some x → slice_get ys i ≡ Some (see x)) → map see xs ≡ ys
   all_seen [] [] e same = refl
@@ -101,13 +77,18 @@ module _ {X : Type 0} (At : ℕ → X → Type 0) where
   pub counted_each : (all : List X) (i n : ℕ) → i ≤ n → n ≤ i → AreEach At i all → AreEach At n all
   counted_each all i n within end before = subst (λ k. AreEach At k all) (omega (arith, within, end)) before
 
--- what a call returned is a list, if the relation says so of each element
+-- the images of what a call returned are a list, if the relation says so of each element
+pub same_seen : {V E X Y : Type 0} (see : X → Y) (items : V → List X) {At : ℕ → X → Type 0} {n : ℕ} (r : Result V E) (ys : List Y) → n ≡ length ys
+    → ((i : ℕ) (x : X) → i < n → At i x → slice_get ys i ≡ Some (see x)) → IfOk r (λ v. AreEach At n (items v)) → IfOk r (λ v. map see (items v) ≡ ys)
+same_seen see items (Err e) ys count at met = met
+same_seen see items (Ok v) ys count at met =
+    all_seen see (items v) ys (met.counted ∙ count) (λ i x here. at i x (rw (← met.counted) (slice_get_within (items v) i x here)) (met.met i x here))
+
+-- the same of what it returned
 pub same_each : {V E X : Type 0} (items : V → List X) {At : ℕ → X → Type 0} {n : ℕ} (r : Result V E) (ys : List X) → n ≡ length ys
     → ((i : ℕ) (x : X) → i < n → At i x → slice_get ys i ≡ Some x) → IfOk r (λ v. AreEach At n (items v)) → IfOk r (λ v. items v ≡ ys)
 same_each items (Err e) ys count at met = met
-same_each items (Ok v) ys count at met =
-    sym (map-id (items v))
-    ∙ all_seen (λ x. x) (items v) ys (met.counted ∙ count) (λ i x here. at i x (rw (← met.counted) (slice_get_within (items v) i x here)) (met.met i x here))
+same_each {V} {E} items (Ok v) ys count at met = sym (map-id (items v)) ∙ same_seen {E = E} (λ x. x) items (Ok v) ys count at met
 
 -- what a call returned is the images of the numbers below a count, if the relation says so of each element
 pub made_each : {V E X : Type 0} (items : V → List X) {At : ℕ → X → Type 0} {n : ℕ} (r : Result V E) (f : ℕ → X) (count : ℕ) → n ≡ count
