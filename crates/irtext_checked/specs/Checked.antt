@@ -1,11 +1,12 @@
 -- Why a call that tests its arguments fails.
-use Rattle.std.specs.Prelude.{◌≡◌, ◌≤◌, ℕ, List, length, Option, IsSome, IsTrue}
+use Rattle.std.specs.Prelude.{◌≡◌, ◌≤◌, ◌⊎◌, ℕ, List, length, Option, IsSome, IsTrue}
 use Rattle.irtext_base.specs.declared.base.identifier.OpId.{OpId}
 use Rattle.irtext_base.specs.Text.{Text}
 use Rattle.irtext_base.specs.declared.base.attributes.AttrObj.{AttrObj}
 use Rattle.irtext_base.specs.declared.result.Cause.{Cause, Memory, ReservedKey, Text as IsText}
 use Rattle.irtext_context.specs.Dictionary.{is_reserved_for}
 use Rattle.irtext_context.specs.Context.{ContextView}
+use Rattle.irtext_context.specs.DialectTable.{registered}
 use Rattle.irtext_context.specs.Made.{AreLiveBlocks, IsUnregistered}
 use Rattle.irtext_checked.specs.Types.{AreContainedValues}
 use Rattle.irtext_graph.specs.Graph.{GraphView, CanInsert, IsLive}
@@ -30,6 +31,10 @@ RefusesAttribute object key attr (ReservedKey refused) = IsSome object × (refus
 RefusesAttribute object key attr _ = ⊥
 
 module _ {T A : Type 0} where
+  -- why an operation whose parts are in the context is not made: it is registered and an allocation failed, or it is not registered
+  abbrev pub RefusesRegistered : ContextView T A → OpId → Cause A → Type 0
+  RefusesRegistered c id cause = (IsSome (registered c.dialects id) × (cause ≡ Memory)) ⊎ IsUnregistered c.dialects id cause
+
   -- why an operation is not made: it would use what is not in the context, else it is not registered; or an allocation failed
   abbrev pub RefusesNew : ContextView T A → OpId → List Value → List (Ptr BasicBlock) → Cause A → Type 0
   RefusesNew c id operands successors (IsText text) = AreContainedValues c operands × AreLiveBlocks c successors → ⊥

@@ -10,6 +10,7 @@ use irtext_base::result;
 use irtext_base::result::{Cause, ErrorKind};
 use irtext_base::text::{AttrText, IrText};
 use irtext_context::base::{Context, Ptr};
+use irtext_context::dialect::invalid;
 use irtext_graph::graph::Graph;
 use irtext_graph::held::{HasGraph, Holds, Kind};
 use irtext_graph::object::Object;
@@ -71,7 +72,7 @@ fn insert<O: Drop, B: Drop, T: Drop, A>(
     }
     match graph.insert_at_back(holder, item) {
         Ok(()) => Ok(()),
-        Err(_) => Err(crate::invalid(Cause::Memory)),
+        Err(_) => Err(invalid(Cause::Memory)),
     }
 }
 

@@ -15,20 +15,9 @@ pub mod make;
 mod parts;
 pub mod types;
 
-use irtext_base::location::Location;
 use irtext_base::result::{Cause, Error, ErrorKind};
+use irtext_context::dialect::invalid;
 use std::alloc::Global;
-
-/// An error of kind invalid argument without a location.
-fn invalid<A>(cause: Cause<A>) -> Error<A>
-    ensures { result ≡ record { kind = ErrorKind.InvalidArgument; err = cause; loc = Unknown } }
-{
-    Error {
-        kind: ErrorKind::InvalidArgument,
-        err: cause,
-        loc: Location::Unknown,
-    }
-}
 
 /// An error with this text as its cause, or out of memory if there is no memory for the text.
 fn unfit<A>(alloc: Global, text: &str) -> Error<A>

@@ -1,9 +1,9 @@
 -- Lists that are gathered item by item.
-use Rattle.std.proofs.Common.{◌≡◌, ◌<◌, ◌≤◌, ◌+◌, ◌++◌, ◌∷◌, ◌∙◌, ◌⊎◌, ℕ, zero, suc, refl, sym, ap, subst, inl, inr, arith, List, [], Some, map, length, slice_get, take}
-use Rattle.std.proofs.lemmas.List.{length-append, map-append, take_all}
+use Rattle.std.proofs.Common.{◌≡◌, ◌<◌, ◌≤◌, ◌+◌, ◌++◌, ◌∷◌, ◌∙◌, ◌⊎◌, ℕ, zero, suc, refl, sym, ap, subst, inl, inr, arith, List, [], Some, Result, Ok, Err, IfOk, map, length, slice_get}
+use Rattle.std.proofs.lemmas.List.{length-append, map-id}
 use Rattle.std.proofs.lemmas.Option.{slice_get_within}
 use Rattle.std.proofs.Math.Nat.{eq-or-lt_of_le}
-use Rattle.irtext_graph_queries.specs.Lists.{each}
+use Rattle.irtext_graph_queries.specs.Lists.{each, AreEach}
 
 module _ {X : Type 0} where
   -- the item that was pushed is the last
@@ -17,14 +17,14 @@ module _ {X : Type 0} where
   at_earlier (z ∷ xs) x zero less = refl
   at_earlier (z ∷ xs) x (suc i) less = at_earlier xs x i (omega (arith, less))
 
-  length_each : (f : ℕ → X) (n : ℕ) → length (each f n) ≡ n
+  pub length_each : (f : ℕ → X) (n : ℕ) → length (each f n) ≡ n
   length_each f zero = refl
   length_each f (suc n) =
       let longer = length-append (each f n) (f n ∷ []) in
       let before = length_each f n in
       omega (arith, longer, before)
 
-  at_each : (f : ℕ → X) (n i : ℕ) → i < n → slice_get (each f n) i ≡ Some (f i)
+  pub at_each : (f : ℕ → X) (n i : ℕ) → i < n → slice_get (each f n) i ≡ Some (f i)
   at_each f zero i less = absurd (omega (arith, less))
   at_each f (suc n) i less = go (eq-or-lt_of_le (omega (arith, less))) (at_each f n i)
     where
@@ -32,38 +32,7 @@ module _ {X : Type 0} where
       go (inl last) before = subst (λ k. slice_get (each f n ++ f n ∷ []) k ≡ Some (f k)) (sym last) (subst (λ k. slice_get (each f n ++ f n ∷ []) k ≡ Some (f n)) (length_each f n) (at_last (each f n) (f n)))
       go (inr earlier) before = at_earlier (each f n) (f n) i (let all = length_each f n in omega (arith, all, earlier)) ∙ before earlier
 
-  -- one more item of a list, after the first ones
-  take_next : (xs : List X) (i : ℕ) (x : X) → slice_get xs i ≡ Some x → take (i + 1) xs ≡ take i xs ++ x ∷ []
-  take_next xs i x at = subst (λ n. take n xs ≡ take i xs ++ x ∷ []) (let next : suc i ≡ i + 1 = omega arith in next) (go xs i at)
-    where
-      go : (xs : List X) (i : ℕ) → slice_get xs i ≡ Some x → take (suc i) xs ≡ take i xs ++ x ∷ []
-      go [] i at = absurd (cc)
-      go (y ∷ ys) zero at = let same : y ≡ x = cc in ap (λ z. z ∷ []) same
-      go (y ∷ ys) (suc i) at = ap (λ zs. y ∷ zs) (go ys i at)
-
-  -- the item of a list at the next index was pushed onto the items before it
-  pub one_more : (xs all new : List X) (i : ℕ) (x : X) → slice_get xs i ≡ Some x → all ≡ take i xs → new ≡ all ++ x ∷ [] → new ≡ take (i + 1) xs
-  one_more xs all new i x at before pushed = pushed ∙ ap (λ zs. zs ++ x ∷ []) before ∙ sym (take_next xs i x at)
-
-  -- all items of the list were pushed
-  pub all_gathered : (xs all : List X) (i count : ℕ) → count ≡ length xs → all ≡ take i xs → count ≤ i → all ≡ xs
-  all_gathered xs all i count counted gathered end = gathered ∙ take_all i xs (omega (arith, counted, end))
-
-  -- one_more and all_gathered for the images of the numbers below n
-  pub one_more_each : (f : ℕ → X) (n : ℕ) (all new : List X) (i count : ℕ) → count ≡ n → i < count → all ≡ take i (each f n) → new ≡ all ++ f i ∷ [] → new ≡ take (i + 1) (each f n)
-  one_more_each f n all new i count counted less before pushed = one_more (each f n) all new i (f i) (at_each f n i (omega (arith, counted, less))) before pushed
-
-  pub all_gathered_each : (f : ℕ → X) (n : ℕ) (all : List X) (i count : ℕ) → count ≡ n → all ≡ take i (each f n) → count ≤ i → all ≡ each f n
-  all_gathered_each f n all i count counted gathered end = all_gathered (each f n) all i count (counted ∙ sym (length_each f n)) gathered end
-
 module _ {X Y : Type 0} (see : X → Y) where
-  -- one_more and all_gathered for the images of the items
-  pub one_more_seen : (ys : List Y) (all new : List X) (i : ℕ) (x : X) → slice_get ys i ≡ Some (see x) → map see all ≡ take i ys → new ≡ all ++ x ∷ [] → map see new ≡ take (i + 1) ys
-  one_more_seen ys all new i x at before pushed = one_more ys (map see all) (map see new) i (see x) at before (ap (map see) pushed ∙ map-append see all (x ∷ []))
-
-  pub all_gathered_seen : (ys : List Y) (all : List X) (i count : ℕ) → count ≡ length ys → map see all ≡ take i ys → count ≤ i → map see all ≡ ys
-  all_gathered_seen ys all i count counted gathered end = all_gathered ys (map see all) i count counted gathered end
-
   -- the images of the items are a list, if the image of each is at its index in the list
   all_seen : (xs : List X) (ys : List Y) → length xs ≡ length ys → ((i : ℕ) (x : X) → slice_get xs i ≡ Some x → slice_get ys i ≡ Some (see x)) → map see xs ≡ ys
   all_seen [] [] e same = refl
@@ -81,3 +50,48 @@ seen_each see f ys at = all_seen see (each f (length ys)) ys (length_each f (len
     let here : Some x ≡ Some (f i) = sym e ∙ at_each f (length ys) i less in
     let same : f i ≡ x = cc in
     at i less ∙ ap (λ z. Some (see z)) same)
+
+-- an element of a list with one more is one of the list, or the last
+at_either : {X : Type 0} (xs : List X) (x : X) (i : ℕ) (y : X) → slice_get (xs ++ x ∷ []) i ≡ Some y → (slice_get xs i ≡ Some y) ⊎ ((i ≡ length xs) × (x ≡ y))
+at_either [] x zero y e = inr (refl, cc)
+at_either [] x (suc i) y e = absurd (cc)
+at_either (z ∷ xs) x zero y e = inl e
+at_either (z ∷ xs) x (suc i) y e = elim (at_either xs x i y e) [ inl earlier ↦ inl earlier | inr last ↦ inr (ap suc last.0, last.1) ]
+
+module _ {X : Type 0} (At : ℕ → X → Type 0) where
+  -- no element was listed yet
+  pub none_each : (xs : List X) → xs ≡ [] → AreEach At 0 xs
+  none_each xs e = rw e (record { counted = refl; met = λ i x at. absurd (cc) })
+
+  -- one more element was listed
+  pub next_each : (all new : List X) (i : ℕ) (x : X) → At i x → AreEach At i all → new ≡ all ++ x ∷ [] → AreEach At (i + 1) new
+  next_each all new i x here before pushed = rw pushed (record {
+    counted = let longer = length-append all (x ∷ []) in let c = before.counted in omega (arith, longer, c);
+    met = λ j y at. elim (at_either all x j y at) [
+      | inl earlier ↦ before.met j y earlier
+      | inr last ↦ subst (λ z. At j z) last.1 (subst (λ k. At k x) (sym (last.0 ∙ before.counted)) here)
+    ];
+  })
+
+  -- all elements were listed
+  pub counted_each : (all : List X) (i n : ℕ) → i ≤ n → n ≤ i → AreEach At i all → AreEach At n all
+  counted_each all i n within end before = subst (λ k. AreEach At k all) (omega (arith, within, end)) before
+
+-- the images of what a call returned are a list, if the relation says so of each element
+pub same_seen : {V E X Y : Type 0} (see : X → Y) (items : V → List X) {At : ℕ → X → Type 0} {n : ℕ} (r : Result V E) (ys : List Y) → n ≡ length ys
+    → ((i : ℕ) (x : X) → i < n → At i x → slice_get ys i ≡ Some (see x)) → IfOk r (λ v. AreEach At n (items v)) → IfOk r (λ v. map see (items v) ≡ ys)
+same_seen see items (Err e) ys count at met = met
+same_seen see items (Ok v) ys count at met =
+    all_seen see (items v) ys (met.counted ∙ count) (λ i x here. at i x (rw (← met.counted) (slice_get_within (items v) i x here)) (met.met i x here))
+
+-- the same of what it returned
+pub same_each : {V E X : Type 0} (items : V → List X) {At : ℕ → X → Type 0} {n : ℕ} (r : Result V E) (ys : List X) → n ≡ length ys
+    → ((i : ℕ) (x : X) → i < n → At i x → slice_get ys i ≡ Some x) → IfOk r (λ v. AreEach At n (items v)) → IfOk r (λ v. items v ≡ ys)
+same_each items (Err e) ys count at met = met
+same_each {V} {E} items (Ok v) ys count at met = sym (map-id (items v)) ∙ same_seen {E = E} (λ x. x) items (Ok v) ys count at met
+
+-- what a call returned is the images of the numbers below a count, if the relation says so of each element
+pub made_each : {V E X : Type 0} (items : V → List X) {At : ℕ → X → Type 0} {n : ℕ} (r : Result V E) (f : ℕ → X) (count : ℕ) → n ≡ count
+    → ((i : ℕ) (x : X) → At i x → f i ≡ x) → IfOk r (λ v. AreEach At n (items v)) → IfOk r (λ v. items v ≡ each f count)
+made_each items r f count counted at =
+    same_each items r (each f count) (counted ∙ sym (length_each f count)) (λ i x less here. at_each f count i (omega (arith, counted, less)) ∙ ap Some (at i x here))

@@ -1,5 +1,5 @@
 -- What the calls that list parts of objects return.
-use Rattle.std.specs.Prelude.{◌≡◌, ◌++◌, ◌∷◌, ℕ, zero, suc, List, [], Option, Some, None}
+use Rattle.std.specs.Prelude.{◌≡◌, ◌++◌, ◌∷◌, ℕ, zero, suc, List, [], length, slice_get, Option, Some, None}
 use Rattle.irtext_graph.specs.declared.arena.Ptr.{Ptr}
 use Rattle.irtext_graph.specs.declared.object.BasicBlock.{BasicBlock}
 use Rattle.irtext_graph.specs.declared.object.Defined.TheVariants.{OfBlock}
@@ -13,6 +13,11 @@ use Rattle.irtext_graph.specs.Used.{IsUse, user}
 abbrev pub each : {X : Type 0} → (ℕ → X) → ℕ → List X
 each f zero = []
 each f (suc n) = each f n ++ f n ∷ []
+
+-- the list has n elements, and each is at its index what the relation says
+pub record AreEach {X : Type 0} (At : ℕ → X → Type 0) (n : ℕ) (xs : List X) : Type 0 where
+  pub counted : length xs ≡ n
+  pub met : (i : ℕ) (x : X) → slice_get xs i ≡ Some x → At i x
 
 -- the list with the element, if there is one, in front
 abbrev pub put_first : {X : Type 0} → Option X → List X → List X

@@ -10,6 +10,7 @@ ghost use Rattle.irtext_graph.specs.Parts.{arguments, operations_in, IsDefinedVa
 ghost use Rattle.irtext_graph.specs.Used.{IsUse};
 ghost use Rattle.irtext_graph_queries.specs.Lists.{each, ArePreds};
 
+use crate::listed::listed;
 use crate::value::UseSite;
 use irtext_graph::arena::Ptr;
 use irtext_graph::held::HasGraph;
@@ -76,12 +77,9 @@ impl BlockParts for Ptr<BasicBlock> {
     }
 
     fn arguments<C: HasGraph>(self, ctx: &C) -> Result<Vec<Value>, AllocError> {
+        let alloc = ctx.graph().allocator();
         let count = self.get_num_arguments(ctx);
-        let mut all = Vec::with_capacity(ctx.graph().allocator(), count)?;
-        for i in 0..count {
-            all.push(Value::Argument(self, i))?;
-        }
-        Ok(all)
+        listed(alloc, ctx, self, count, |_, at, i| Value::Argument(at, i))
     }
 
     fn has_pred<C: HasGraph>(self, ctx: &C) -> bool {
@@ -104,11 +102,8 @@ impl BlockParts for Ptr<BasicBlock> {
     }
 
     fn operations<C: HasGraph>(self, ctx: &C) -> Result<Vec<Ptr<Operation>>, AllocError> {
+        let alloc = ctx.graph().allocator();
         let count = self.num_operations(ctx);
-        let mut all = Vec::with_capacity(ctx.graph().allocator(), count)?;
-        for i in 0..count {
-            all.push(self.get_operation(ctx, i))?;
-        }
-        Ok(all)
+        listed(alloc, self, ctx, count, Ptr::get_operation)
     }
 }

@@ -3,6 +3,7 @@
 #![tactic(auto)]
 
 pub mod block;
+mod listed;
 pub mod nested;
 pub mod operation;
 pub mod region;

@@ -11,7 +11,9 @@ ghost use Rattle.irtext_graph.specs.Used.{IsUse};
 ghost use Rattle.irtext_graph_queries.specs.Lists.{each};
 ghost use Rattle.irtext_graph_queries.specs.ResultUses.{IsUseOf};
 
+use crate::listed::listed;
 use irtext_graph::arena::Ptr;
+use irtext_graph::graph::Graph;
 use irtext_graph::held::HasGraph;
 use irtext_graph::object::{BasicBlock, Defined, Operation, Region, Site, Value};
 use std::alloc::AllocError;
@@ -118,12 +120,9 @@ impl OperationParts for Ptr<Operation> {
     }
 
     fn operands<C: HasGraph>(self, ctx: &C) -> Result<Vec<Value>, AllocError> {
-        let count = self.get_num_operands(ctx);
-        let mut all = Vec::with_capacity(ctx.graph().allocator(), count)?;
-        for i in 0..count {
-            all.push(self.get_operand(ctx, i))?;
-        }
-        Ok(all)
+        let graph = ctx.graph();
+        let count = graph.num_operands(self);
+        listed(graph.allocator(), graph, self, count, Graph::get_operand)
     }
 
     fn get_num_successors<C: HasGraph>(self, ctx: &C) -> usize {
@@ -135,12 +134,9 @@ impl OperationParts for Ptr<Operation> {
     }
 
     fn successors<C: HasGraph>(self, ctx: &C) -> Result<Vec<Ptr<BasicBlock>>, AllocError> {
-        let count = self.get_num_successors(ctx);
-        let mut all = Vec::with_capacity(ctx.graph().allocator(), count)?;
-        for i in 0..count {
-            all.push(self.get_successor(ctx, i))?;
-        }
-        Ok(all)
+        let graph = ctx.graph();
+        let count = graph.num_successors(self);
+        listed(graph.allocator(), graph, self, count, Graph::get_successor)
     }
 
     fn get_num_results<C: HasGraph>(self, ctx: &C) -> usize {
@@ -152,12 +148,9 @@ impl OperationParts for Ptr<Operation> {
     }
 
     fn results<C: HasGraph>(self, ctx: &C) -> Result<Vec<Value>, AllocError> {
+        let alloc = ctx.graph().allocator();
         let count = self.get_num_results(ctx);
-        let mut all = Vec::with_capacity(ctx.graph().allocator(), count)?;
-        for i in 0..count {
-            all.push(Value::Result(self, i))?;
-        }
-        Ok(all)
+        listed(alloc, ctx, self, count, |_, op, i| Value::Result(op, i))
     }
 
     fn has_use<C: HasGraph>(self, ctx: &C) -> bool {
@@ -193,11 +186,8 @@ impl OperationParts for Ptr<Operation> {
     }
 
     fn regions<C: HasGraph>(self, ctx: &C) -> Result<Vec<Ptr<Region>>, AllocError> {
+        let alloc = ctx.graph().allocator();
         let count = self.num_regions(ctx);
-        let mut all = Vec::with_capacity(ctx.graph().allocator(), count)?;
-        for i in 0..count {
-            all.push(self.get_region(ctx, i))?;
-        }
-        Ok(all)
+        listed(alloc, self, ctx, count, Ptr::get_region)
     }
 }

@@ -4,6 +4,7 @@ ghost use Rattle.irtext_graph.specs.declared.object.Object.TheVariants.{TheRegio
 ghost use Rattle.irtext_graph.specs.Graph.{IsLive};
 ghost use Rattle.irtext_graph.specs.Parts.{blocks};
 
+use crate::listed::listed;
 use irtext_graph::arena::Ptr;
 use irtext_graph::held::HasGraph;
 use irtext_graph::object::{BasicBlock, Region};
@@ -32,12 +33,9 @@ impl RegionParts for Ptr<Region> {
     ghost pointer = { λ p. p };
 
     fn blocks<C: HasGraph>(self, ctx: &C) -> Result<Vec<Ptr<BasicBlock>>, AllocError> {
+        let alloc = ctx.graph().allocator();
         let count = self.num_blocks(ctx);
-        let mut all = Vec::with_capacity(ctx.graph().allocator(), count)?;
-        for i in 0..count {
-            all.push(self.get_block(ctx, i))?;
-        }
-        Ok(all)
+        listed(alloc, self, ctx, count, Ptr::get_block)
     }
 
     fn get_entry_block<C: HasGraph>(self, ctx: &C) -> Option<Ptr<BasicBlock>> {

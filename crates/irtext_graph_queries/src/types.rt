@@ -5,8 +5,9 @@ ghost use Rattle.irtext_graph.specs.declared.object.Object.TheVariants.{TheOpera
 ghost use Rattle.irtext_graph.specs.Graph.{IsLive};
 ghost use Rattle.irtext_graph.specs.Parts.{operands, results, value_at};
 
-use crate::operation::OperationParts;
+use crate::listed::listed;
 use irtext_graph::arena::Ptr;
+use irtext_graph::graph::Graph;
 use irtext_graph::held::HasGraph;
 use irtext_graph::object::{Operation, Value};
 use std::alloc::AllocError;
@@ -35,23 +36,28 @@ pub trait GraphTypes: Sized {
 }
 
 /// Returns the type of the result of an operation at an index.
-fn type_of_result<C: HasGraph>(ctx: &C, op: Ptr<Operation>, index: usize) -> &C::T
-    requires { index < length (results (C.graph ctx.now) op) }
-    ensures { option_map (λ v. v.of_type) (slice_get (results (C.graph ctx.now) op) index) ≡
-        Some result.now }
+fn type_of_result<O: Drop, B: Drop, T: Drop>(
+    graph: &Graph<O, B, T>,
+    op: Ptr<Operation>,
+    index: usize,
+) -> &T
+    requires { index < length (results graph.now op) }
+    ensures { option_map (λ v. v.of_type) (slice_get (results graph.now op) index) ≡ Some result.now }
 {
-    ctx.graph().type_of(Value::Result(op, index))
+    graph.type_of(Value::Result(op, index))
 }
 
 /// Returns the type of the operand of an operation at an index.
-fn type_of_operand<C: HasGraph>(ctx: &C, op: Ptr<Operation>, index: usize) -> &C::T
-    requires alive { IsLive (C.graph ctx.now) (TheOperation op) }
-    requires within { index < length (operands (C.graph ctx.now) op) }
-    ensures { slice_get (map (λ v. option_map (λ t. t.of_type) (value_at (C.graph ctx.now) v))
-        (operands (C.graph ctx.now) op)) index
+fn type_of_operand<O: Drop, B: Drop, T: Drop>(
+    graph: &Graph<O, B, T>,
+    op: Ptr<Operation>,
+    index: usize,
+) -> &T
+    requires alive { IsLive graph.now (TheOperation op) }
+    requires within { index < length (operands graph.now op) }
+    ensures { slice_get (map (λ v. option_map (λ t. t.of_type) (value_at graph.now v)) (operands graph.now op)) index
         ≡ Some (Some result.now) }
 {
-    let graph = ctx.graph();
     graph.keeps_nesting();
     graph.type_of(graph.get_operand(op, index))
 }
@@ -60,20 +66,14 @@ impl GraphTypes for Ptr<Operation> {
     ghost pointer = { λ p. p };
 
     fn result_types<C: HasGraph>(self, ctx: &C) -> Result<Vec<&C::T>, AllocError> {
-        let count = self.get_num_results(ctx);
-        let mut all = Vec::with_capacity(ctx.graph().allocator(), count)?;
-        for i in 0..count {
-            all.push(type_of_result(ctx, self, i))?;
-        }
-        Ok(all)
+        let graph = ctx.graph();
+        let count = graph.num_results(self);
+        listed(graph.allocator(), graph, self, count, type_of_result)
     }
 
     fn operand_types<C: HasGraph>(self, ctx: &C) -> Result<Vec<&C::T>, AllocError> {
-        let count = self.get_num_operands(ctx);
-        let mut all = Vec::with_capacity(ctx.graph().allocator(), count)?;
-        for i in 0..count {
-            all.push(type_of_operand(ctx, self, i))?;
-        }
-        Ok(all)
+        let graph = ctx.graph();
+        let count = graph.num_operands(self);
+        listed(graph.allocator(), graph, self, count, type_of_operand)
     }
 }

@@ -1,12 +1,11 @@
 //! Making registered operations without results, operands and successors.
-ghost use Rattle.std.specs.Prelude.{◌≡◌, ◌⊎◌, [], IsSome, IfOk, IfErr};
-ghost use Rattle.irtext_context.specs.DialectTable.{registered};
-ghost use Rattle.irtext_context.specs.Made.{IsUnregistered, MakesRegistered, MakesWithRegions};
+ghost use Rattle.std.specs.Prelude.{[], IfOk, IfErr};
+ghost use Rattle.irtext_context.specs.Made.{MakesRegistered, MakesWithRegions};
+ghost use Rattle.irtext_checked.specs.Checked.{RefusesRegistered};
 
 use crate::make::NewOperation;
 use irtext_base::base::OpId;
 use irtext_base::result;
-use irtext_base::result::Cause;
 use irtext_base::text::{AttrText, IrText};
 use irtext_context::base::{Context, Operation, Ptr};
 use irtext_few::Few;
@@ -24,17 +23,10 @@ pub trait NewBareOperation {
     ) -> result::Result<Ptr<Operation>, A>
         ensures made { IfOk result (λ op. MakesWithRegions num_regions ctx.old ctx.new op id [] [] []) }
         ensures registered { MakesRegistered id result ctx.old ctx.new }
-        ensures refused { IfErr result (λ e. (IsSome (registered ctx.old.dialects id)
-            × (e.err ≡ Cause.Memory)) ⊎
-            IsUnregistered ctx.old.dialects id e.err) };
-}
-
-impl NewBareOperation for Operation {
-    fn new<T: IrText<A>, A: AttrText<A>>(
-        ctx: &mut Context<T, A>,
-        id: OpId,
-        num_regions: usize,
-    ) -> result::Result<Ptr<Operation>, A> {
+        ensures refused { IfErr result (λ e. RefusesRegistered ctx.old id e.err) }
+    {
         <Operation as NewOperation>::new(ctx, id, Few::none(), &[], &[], num_regions)
     }
 }
+
+impl NewBareOperation for Operation {}

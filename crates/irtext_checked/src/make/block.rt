@@ -4,7 +4,6 @@ ghost use Rattle.irtext_base.specs.declared.location.Location.{Unknown};
 ghost use Rattle.irtext_context.specs.Context.{KeepsOlder, MakesBlock};
 ghost use Rattle.irtext_context.specs.Made.{bare_block};
 
-use crate::invalid;
 use irtext_base::base::Identifier;
 use irtext_base::location::Location;
 use irtext_base::result;
@@ -12,6 +11,7 @@ use irtext_base::result::{Cause, ErrorKind};
 use irtext_base::text::{AttrText, IrText};
 use irtext_context::base::context::making::Making;
 use irtext_context::base::{AttributeDict, BasicBlock, Context, Ptr};
+use irtext_context::dialect::invalid;
 use irtext_few::Few;
 use std::alloc::AllocError;
 
@@ -29,15 +29,8 @@ pub trait NewBlock {
         ensures err { OnErr result (ctx.new ≡ ctx.old) }
         ensures refused { IfErr result (λ e. e.err ≡ Cause.Memory) }
         ensures kind { IfErr result (λ e. (e.kind ≡ ErrorKind.InvalidArgument) × (e.loc ≡ Unknown)) }
-        ensures kept { (mark : ℕ) → mark ≤ ctx.old.graph.made → KeepsOlder mark ctx.old ctx.new };
-}
-
-impl NewBlock for BasicBlock {
-    fn new<T: IrText<A>, A: AttrText<A>>(
-        ctx: &mut Context<T, A>,
-        label: Option<Identifier>,
-        arg_types: Few<T>,
-    ) -> result::Result<Ptr<BasicBlock>, A> {
+        ensures kept { (mark : ℕ) → mark ≤ ctx.old.graph.made → KeepsOlder mark ctx.old ctx.new }
+    {
         let attributes = AttributeDict::new(ctx.allocator());
         match ctx.make_block(label, attributes, Location::Unknown, arg_types) {
             Ok(p) => Ok(p),
@@ -45,3 +38,5 @@ impl NewBlock for BasicBlock {
         }
     }
 }
+
+impl NewBlock for BasicBlock {}

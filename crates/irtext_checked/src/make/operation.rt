@@ -1,13 +1,15 @@
-//! Making registered operations.
-ghost use Rattle.std.specs.Prelude.{◌≡◌, ◌≤◌, ◌⊎◌, ℕ, None, IsSome, IfOk, IfErr, OnOk};
+//! Making registered operations, with what is known to be in the context, or after a test whether it is.
+ghost use Rattle.std.specs.Prelude.{◌≡◌, ◌≤◌, ℕ, None, IsSome, IfOk, IfErr, OnOk};
 ghost use Rattle.irtext_graph.specs.Graph.{IsLive};
 ghost use Rattle.irtext_graph.specs.Store.{before};
 ghost use Rattle.irtext_graph.specs.declared.object.Object.TheVariants.{TheOperation};
-ghost use Rattle.irtext_context.specs.Context.{KeepsOlder, MakesOperation};
-ghost use Rattle.irtext_context.specs.DialectTable.{registered};
-ghost use Rattle.irtext_context.specs.Made.{bare, AddsRegions, AreLiveBlocks, IsUnregistered, MakesRegistered, MakesWithRegions, AreDefinedValues};
+ghost use Rattle.irtext_context.specs.Context.{operation, KeepsOlder};
+ghost use Rattle.irtext_context.specs.Made.{AddsRegions, AreLiveBlocks, MakesRegistered, MakesWithRegions, AreDefinedValues};
+ghost use Rattle.irtext_checked.specs.Checked.{RefusesNew, RefusesRegistered};
+ghost use Rattle.irtext_checked.specs.Types.{AreContainedValues};
 
-use crate::invalid;
+use crate::contains::ContainsParts;
+use crate::unfit;
 use irtext_base::base::OpId;
 use irtext_base::location::Location;
 use irtext_base::result;
@@ -15,6 +17,7 @@ use irtext_base::result::Cause;
 use irtext_base::text::{AttrText, IrText};
 use irtext_context::base::context::making::Making;
 use irtext_context::base::{AttributeDict, BasicBlock, Context, Operation, Ptr, Value};
+use irtext_context::dialect::invalid;
 use irtext_few::Few;
 use std::alloc::AllocError;
 
@@ -84,20 +87,8 @@ pub trait NewOperation {
         ensures made { IfOk result (λ op. MakesWithRegions num_regions ctx.old ctx.new op id result_types
             operands.now successors.now) }
         ensures registered { MakesRegistered id result ctx.old ctx.new }
-        ensures refused { IfErr result (λ e. (IsSome (registered ctx.old.dialects id)
-            × (e.err ≡ Cause.Memory)) ⊎
-            IsUnregistered ctx.old.dialects id e.err) };
-}
-
-impl NewOperation for Operation {
-    fn new<T: IrText<A>, A: AttrText<A>>(
-        ctx: &mut Context<T, A>,
-        id: OpId,
-        result_types: Few<T>,
-        operands: &[Value],
-        successors: &[Ptr<BasicBlock>],
-        num_regions: usize,
-    ) -> result::Result<Ptr<Operation>, A> {
+        ensures refused { IfErr result (λ e. RefusesRegistered ctx.old id e.err) }
+    {
         let id = match ctx.known_id(id) {
             Ok(id) => id,
             Err(cause) => return Err(invalid(cause)),
@@ -112,3 +103,38 @@ impl NewOperation for Operation {
         }
     }
 }
+
+impl NewOperation for Operation {}
+
+/// Makes operations: `Operation::try_new`.
+pub trait TryNewOperation {
+    /// Makes an operation without a parent, as `Operation::new` of `NewOperation` does: with results of these types, these operands and
+    /// successors, and `num_regions` empty regions. It is live afterwards. Fails with `Text` if an operand or a successor is not in the
+    /// context, else with `UnregisteredDialect` or `UnregisteredOp` if the operation is not registered. Fails with `Memory` if an
+    /// allocation fails, also that of the text. The error is of kind invalid argument and has no location, and all objects are unchanged.
+    fn try_new<T: IrText<A>, A: AttrText<A>>(
+        ctx: &mut Context<T, A>,
+        id: OpId,
+        result_types: Few<T>,
+        operands: &[Value],
+        successors: &[Ptr<BasicBlock>],
+        num_regions: usize,
+    ) -> result::Result<Ptr<Operation>, A>
+        ensures made { IfOk result (λ op. MakesWithRegions num_regions ctx.old ctx.new op id result_types
+            operands.now successors.now) }
+        ensures live { IfOk result (λ op. IsSome (operation ctx.new op)) }
+        ensures used { OnOk result (AreContainedValues ctx.old operands.now × AreLiveBlocks ctx.old successors.now) }
+        ensures registered { MakesRegistered id result ctx.old ctx.new }
+        ensures refused { IfErr result (λ e. RefusesNew ctx.old id operands.now successors.now e.err) }
+    {
+        if !ctx.contains_values(operands) || !ctx.contains_blocks(successors) {
+            return Err(unfit(
+                ctx.allocator(),
+                "an operand or a successor is not in the context",
+            ));
+        }
+        <Operation as NewOperation>::new(ctx, id, result_types, operands, successors, num_regions)
+    }
+}
+
+impl TryNewOperation for Operation {}

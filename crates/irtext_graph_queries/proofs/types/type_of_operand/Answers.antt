@@ -11,7 +11,7 @@ type_of-requires g c = c.keeps_nesting.ensures.uses (AtOperand c.args.op c.args.
 
 pub returns : goal.returns
 returns g c =
-    let v = c.graph-graph.result.now in
-    rw (← c.graph-graph.ensures) (slice_get-map (λ x. option_map (λ t. t.of_type) (value_at v x)) (operands v c.args.op) c.args.index
+    let v = c.args.graph.now in
+    slice_get-map (λ x. option_map (λ t. t.of_type) (value_at v x)) (operands v c.args.op) c.args.index
     ∙ ap (option_map (λ x. option_map (λ t. t.of_type) (value_at v x))) c.get_operand.ensures
-    ∙ ap Some c.type_of.ensures)
+    ∙ ap Some c.type_of.ensures

@@ -2,7 +2,7 @@ use Rattle.std.proofs.Common.{arith, refl, rules, subst}
 use Rattle.irtext_context.proofs.Contexts.{same-keeps}
 use Rattle.irtext_context.proofs.Kept.{kept_trans, kept_closed, rolled_back}
 use Rattle.irtext_context.specs.Made.{MakesWithRegions}
-use Rattle.irtext_checked.proofs.make.operation.OperationNewOperation.new.Goals as goal
+use Rattle.irtext_checked.proofs.make.operation.NewOperation.new.Goals as goal
 
 pub returns-in-Err-clause-registered : goal.returns-in-Err-clause-registered
 returns-in-Err-clause-registered g c = record {

@@ -1,8 +1,0 @@
-use Rattle.std.proofs.Common.{◌≡◌, take}
-use Rattle.irtext_graph.specs.Parts.{successors}
-use Rattle.irtext_graph_queries.proofs.operation.PtrOperationOperationParts.successors.Given as goal
-
-abbrev pub invariant-loop-i : goal.invariant-loop-i
-invariant-loop-i g l = record {
-  listed : l.all.items ≡ take l.i (successors (g.C.HasGraph.graph l.ctx) l.self);
-}
