@@ -1,7 +1,7 @@
 -- What a context contains it still contains if each object of it is unchanged, and if more is complete.
 use Rattle.std.proofs.Common.{◌≡◌, ◌∙◌, ℕ, List, [], ◌∷◌, Option, Some, None, IsSome, refl, sym, subst, inl, inr}
 use Rattle.irtext_base.specs.declared.location.Location.{Location}
-use Rattle.irtext_context.specs.Context.{ContextView, block, region}
+use Rattle.irtext_context.specs.Context.{ContextView, RegionView, operation, block, region}
 use Rattle.irtext_graph.specs.declared.arena.Ptr.{Ptr}
 use Rattle.irtext_graph.specs.declared.object.Operation.{Operation}
 use Rattle.irtext_graph.specs.declared.object.BasicBlock.{BasicBlock}
@@ -26,33 +26,63 @@ there_still old new (TheRegion r) e h = subst IsSome (sym e) h
 pub uses_kept : {T A : Type 0} (old new : ContextView T A) (p : Ptr Operation) (own : OwnSoFar T A) → UsesAsMany old.graph new.graph p → HasUses old p own → HasUses new p own
 uses_kept old new p own m h = record { operands_are = m.as_many_operands ∙ h.operands_are; successors_are = m.as_many_successors ∙ h.successors_are }
 
-module _ {T A : Type 0} (IsLocation : Object → ℕ → Location A → Type 0) (old new : ContextView T A) (whole more : List Object)
-    (wider : (o : Object) → Among o whole → Among o more) (same : (o : Object) → Among o whole → IsAsItWas old new o) where
+-- All that is whole is whole in another context, too, where each operation and each block of it is seen as it was, with as many uses, and each
+-- region with the blocks that it had.
+pub record SeesWhole {T A : Type 0} (old new : ContextView T A) (whole more : List Object) : Type 0 where
+  pub wider : (o : Object) → Among o whole → Among o more
+  pub regions : (r : Ptr Region) → Among (TheRegion r) whole → (view : RegionView) → region old r ≡ Some view → (now : RegionView) × (region new r ≡ Some now) × (now.blocks ≡ view.blocks)
+  pub blocks : (b : Ptr BasicBlock) → Among (TheBlock b) whole → block new b ≡ block old b
+  pub operations : (p : Ptr Operation) → Among (TheOperation p) whole → operation new p ≡ operation old p
+  pub uses : (p : Ptr Operation) (own : OwnSoFar T A) → Among (TheOperation p) whole → HasUses old p own → HasUses new p own
+
+module _ {T A : Type 0} (IsLocation : Object → ℕ → Location A → Type 0) (old new : ContextView T A) (whole more : List Object) (sees : SeesWhole old new whole more) where
   mutual
     -- regions that are whole
-    pub regions_kept : (ps : List (Ptr Region)) (rs : Regions (Op ℕ T A) (Head ℕ T A) (Brace ℕ)) → RegionsHold IsLocation old whole ps rs → RegionsHold IsLocation new more ps rs
-    regions_kept [] no_regions h = tt
-    regions_kept [] (forest.region brace bs rs) h = absurd h
-    regions_kept (p ∷ ps) no_regions h = absurd h
-    regions_kept (p ∷ ps) (forest.region brace bs rs) (i, (view, e, hold), h) =
-        (wider (TheRegion p) i, (view, same (TheRegion p) i ∙ e, blocks_kept view.blocks bs hold), regions_kept ps rs h)
+    pub regions_seen : (ps : List (Ptr Region)) (rs : Regions (Op ℕ T A) (Head ℕ T A) (Brace ℕ)) → RegionsHold IsLocation old whole ps rs → RegionsHold IsLocation new more ps rs
+    regions_seen [] no_regions h = tt
+    regions_seen [] (forest.region brace bs rs) h = absurd h
+    regions_seen (p ∷ ps) no_regions h = absurd h
+    regions_seen (p ∷ ps) (forest.region brace bs rs) (i, (view, e, hold), h) =
+        let now = sees.regions p i view e in
+        (sees.wider (TheRegion p) i, (now.0, now.1, subst (λ z. BlocksHold IsLocation new more z bs) (sym now.2) (blocks_seen view.blocks bs hold)), regions_seen ps rs h)
 
     -- blocks
-    pub blocks_kept : (ps : List (Ptr BasicBlock)) (bs : Blocks (Op ℕ T A) (Head ℕ T A) (Brace ℕ)) → BlocksHold IsLocation old whole ps bs → BlocksHold IsLocation new more ps bs
-    blocks_kept [] no_blocks h = tt
-    blocks_kept [] (forest.block head os bs) h = absurd h
-    blocks_kept (p ∷ ps) no_blocks h = absurd h
-    blocks_kept (p ∷ ps) (forest.block head os bs) (i, (view, e, has, hold), h) =
-        (wider (TheBlock p) i, (view, (same (TheBlock p) i).0 ∙ e, has, operations_kept view.operations os hold), blocks_kept ps bs h)
+    pub blocks_seen : (ps : List (Ptr BasicBlock)) (bs : Blocks (Op ℕ T A) (Head ℕ T A) (Brace ℕ)) → BlocksHold IsLocation old whole ps bs → BlocksHold IsLocation new more ps bs
+    blocks_seen [] no_blocks h = tt
+    blocks_seen [] (forest.block head os bs) h = absurd h
+    blocks_seen (p ∷ ps) no_blocks h = absurd h
+    blocks_seen (p ∷ ps) (forest.block head os bs) (i, (view, e, has, hold), h) =
+        (sees.wider (TheBlock p) i, (view, sees.blocks p i ∙ e, has, operations_seen view.operations os hold), blocks_seen ps bs h)
 
     -- and operations stay held
-    pub operations_kept : (ps : List (Ptr Operation)) (os : Operations (Op ℕ T A) (Head ℕ T A) (Brace ℕ)) → OperationsHold IsLocation old whole ps os → OperationsHold IsLocation new more ps os
-    operations_kept [] no_operations h = tt
-    operations_kept [] (forest.operation o rs os) h = absurd h
-    operations_kept (p ∷ ps) no_operations h = absurd h
-    operations_kept (p ∷ ps) (forest.operation o rs os) (i, (view, e, has, uses, hold), h) =
-        let k = same (TheOperation p) i in
-        (wider (TheOperation p) i, (view, k.0 ∙ e, has, uses_kept old new p (own_of o) k.1 uses, regions_kept view.regions rs hold), operations_kept ps os h)
+    pub operations_seen : (ps : List (Ptr Operation)) (os : Operations (Op ℕ T A) (Head ℕ T A) (Brace ℕ)) → OperationsHold IsLocation old whole ps os → OperationsHold IsLocation new more ps os
+    operations_seen [] no_operations h = tt
+    operations_seen [] (forest.operation o rs os) h = absurd h
+    operations_seen (p ∷ ps) no_operations h = absurd h
+    operations_seen (p ∷ ps) (forest.operation o rs os) (i, (view, e, has, uses, hold), h) =
+        (sees.wider (TheOperation p) i, (view, sees.operations p i ∙ e, has, sees.uses p (own_of o) i uses, regions_seen view.regions rs hold), operations_seen ps os h)
+
+module _ {T A : Type 0} (IsLocation : Object → ℕ → Location A → Type 0) (old new : ContextView T A) (whole more : List Object)
+    (wider : (o : Object) → Among o whole → Among o more) (same : (o : Object) → Among o whole → IsAsItWas old new o) where
+  -- unchanged objects are seen as they were
+  kept_whole : SeesWhole old new whole more
+  kept_whole = record {
+    wider = wider;
+    regions = λ r i view e. (view, same (TheRegion r) i ∙ e, refl);
+    blocks = λ b i. (same (TheBlock b) i).0;
+    operations = λ p i. (same (TheOperation p) i).0;
+    uses = λ p own i. uses_kept old new p own (same (TheOperation p) i).1;
+  }
+
+  -- so regions, blocks and operations that are whole stay held
+  pub regions_kept : (ps : List (Ptr Region)) (rs : Regions (Op ℕ T A) (Head ℕ T A) (Brace ℕ)) → RegionsHold IsLocation old whole ps rs → RegionsHold IsLocation new more ps rs
+  regions_kept = regions_seen IsLocation old new whole more kept_whole
+
+  pub blocks_kept : (ps : List (Ptr BasicBlock)) (bs : Blocks (Op ℕ T A) (Head ℕ T A) (Brace ℕ)) → BlocksHold IsLocation old whole ps bs → BlocksHold IsLocation new more ps bs
+  blocks_kept = blocks_seen IsLocation old new whole more kept_whole
+
+  pub operations_kept : (ps : List (Ptr Operation)) (os : Operations (Op ℕ T A) (Head ℕ T A) (Brace ℕ)) → OperationsHold IsLocation old whole ps os → OperationsHold IsLocation new more ps os
+  operations_kept = operations_seen IsLocation old new whole more kept_whole
 
   -- the tree stays held
   pub tree_kept : (root : Option (Ptr Operation)) (t : Option (Tree ℕ T A)) → TreeHolds IsLocation old whole root t → TreeHolds IsLocation new more root t

@@ -171,8 +171,8 @@ module _ {T A : Type 0} (types : Texts T) (reading : Text → Outcome A) (writte
 
     -- if the list stops at a pair, the key of that pair is the first failure
     list_stops : (ps : List (Name ℕ × Item ℕ A)) (text : Text) (o : Outcome (List (Name ℕ × Item ℕ A))) → Stop 44 pairs_of ps text o → StopsAt text o (wrong_pairs rule ps)
-    list_stops ps text o k = stop_fails pairs_of ps text o k (record { cause = ReservedKey k.first.0.text; at = Some k.first.0.place }) (wrong_pairs rule k.following) (wrong_pairs rule ps)
-        (ap (wrong_pairs rule) k.whole ∙ first_wrong rule k.before k.following k.first k.fine k.refused) (ap Some k.read.1.0) refl
+    list_stops ps text o k = stop_fails pairs_of ps text o k (record { cause = ReservedKey k.at.item.0.text; at = Some k.at.item.0.place }) (wrong_pairs rule k.following) (wrong_pairs rule ps)
+        (ap (wrong_pairs rule) k.whole ∙ first_wrong rule k.before k.following k.at.item k.fine k.at.wrong) (ap Some k.at.read.1.0) refl
 
     -- pairs that the grammar parses are accepted, up to the first key whose attribute is not allowed
     pub pairs_found : (text : Text) (ps : List (Name ℕ × Item ℕ A)) (rest : Text) → bracketed l loc ps text rest → ReadOrStops text (pairs_at attr rule text) ps rest (wrong_pairs rule ps)

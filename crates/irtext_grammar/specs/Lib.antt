@@ -27,12 +27,3 @@ pub mod Uses
 pub mod Parsed
 pub mod Found
 pub mod Forms
-pub use Rattle.irtext_base.specs.Answers
-pub use Rattle.irtext_base.specs.Causes
-pub use Rattle.irtext_base.specs.Faults
-pub use Rattle.irtext_base.specs.Format
-pub use Rattle.irtext_base.specs.Own
-pub use Rattle.irtext_base.specs.Places
-pub use Rattle.irtext_base.specs.Reading
-pub use Rattle.irtext_base.specs.Stream
-pub use Rattle.irtext_base.specs.Text

@@ -1,7 +1,8 @@
 -- Between functions: which items were created while nested text was parsed, each with its place in the text, and that nothing else was
 -- created: all that is new since the start is complete or open, and what is complete has its parent there. An item is here an operation
 -- or a block.
-use Rattle.std.specs.Prelude.{◌≡◌, ◌⊎◌, ℕ, List, [], Option, Some, None, option_map}
+use Rattle.std.specs.Prelude.{◌≡◌, ◌⊎◌, ℕ, List, [], Option, Some, option_map}
+use Rattle.std.specs.Option.{unwrap_or}
 use Rattle.irtext_base.specs.declared.location.Location.{Location}
 use Rattle.irtext_context.specs.Context.{ContextView, BlockView, RegionView, operation, block, region, regions_in}
 use Rattle.irtext_graph.specs.declared.arena.Ptr.{Ptr}
@@ -23,14 +24,12 @@ noted items IsLocation o place loc = Among (place, o) items × IsLocation place 
 
 -- the blocks of a region; none if it is not live
 abbrev pub blocks_in : Option RegionView → List (Ptr BasicBlock)
-blocks_in None = []
-blocks_in (Some view) = view.blocks
+blocks_in o = unwrap_or (option_map (λ view. view.blocks) o) []
 
 module _ {T A : Type 0} where
   -- the operations of a block; none if it is not live
   abbrev pub operations_in : Option (BlockView T A) → List (Ptr Operation)
-  operations_in None = []
-  operations_in (Some view) = view.operations
+  operations_in o = unwrap_or (option_map (λ view. view.operations) o) []
 
   -- the second object is a child of the first
   abbrev pub HasChild : ContextView T A → Object → Object → Type 0

@@ -250,30 +250,26 @@ module _ {T A : Type 0} (L : ℕ → Location A → Type 0) (c : ContextView T A
   mutual
     regions_are : (n : ℕ) (ps : List (Ptr Region)) (rs : Regions (Op ℕ T A) (Head ℕ T A) (Brace ℕ)) → FitRegions n rs → RegionsHold I c whole ps rs → RegionsAre L c items (regions_by c.graph (inside_of n) ps) rs
     regions_are n [] no_regions f k = tt
-    regions_are n [] (forest.region brace bs rs) f k = absurd k
-    regions_are n (r ∷ ps) no_regions f k = absurd k
     regions_are n (r ∷ ps) (forest.region brace bs rs) f (i, (view, is, hold), k) =
         let e = blocks_seen c r view is in (
           record { view = view; is = is; inner = e ∙ sym (block_list n (blocks c.graph r)) },
           blocks_are n (blocks c.graph r) bs f.0 (subst (λ z. BlocksHold I c whole z bs) e hold),
           regions_are n ps rs f.1 k,
         )
+    regions_are n _ _ f k = absurd k
 
     blocks_are : (n : ℕ) (ps : List (Ptr BasicBlock)) (bs : Blocks (Op ℕ T A) (Head ℕ T A) (Brace ℕ)) → FitBlocks n bs → BlocksHold I c whole ps bs → BlocksAre L c items (blocks_by c.graph (inside_of n) ps) bs
     blocks_are n [] no_blocks f k = tt
-    blocks_are n [] (forest.block head os bs) f k = absurd k
-    blocks_are n (b ∷ ps) no_blocks f k = absurd k
     blocks_are n (b ∷ ps) (forest.block head os bs) f (i, (view, is, has, hold), k) =
         let e = operations_seen c b view is in (
           record { view = view; is = is; has = head_at view b head has; item = has.location.0; inner = e ∙ sym (operation_list n (operations_in c.graph b)) },
           operations_are n (operations_in c.graph b) os f.0 (subst (λ z. OperationsHold I c whole z os) e hold),
           blocks_are n ps bs f.1 k,
         )
+    blocks_are n _ _ f k = absurd k
 
     operations_are : (n : ℕ) (ps : List (Ptr Operation)) (os : Operations (Op ℕ T A) (Head ℕ T A) (Brace ℕ)) → FitOperations n os → OperationsHold I c whole ps os → OperationsAre L c items (operations_by c.graph (inside_of n) ps) os
     operations_are n [] no_operations f k = tt
-    operations_are n [] (forest.operation o rs os) f k = absurd k
-    operations_are n (q ∷ ps) no_operations f k = absurd k
     operations_are zero (q ∷ ps) (forest.operation o rs os) f k = absurd f
     operations_are (suc n) (q ∷ ps) (forest.operation o rs os) f (i, (view, is, has, uses, hold), k) =
         let e = regions_seen c q view is in (
@@ -281,6 +277,7 @@ module _ {T A : Type 0} (L : ℕ → Location A → Type 0) (c : ContextView T A
           regions_are n (regions c.graph q) rs f.0 (subst (λ z. RegionsHold I c whole z rs) e hold),
           operations_are (suc n) ps os f.1 k,
         )
+    operations_are n _ _ f k = absurd k
 
   -- the forest under a pointer that holds a tree is that of the tree
   pub root_is : ((n m : ℕ) (o : Object) → Among (n, o) items → Among (m, o) items → n ≡ m) → (p : Ptr Operation) (t : Tree ℕ T A) → Names path t → OperationsHold I c whole (p ∷ []) (forest.operation t.own t.regions no_operations)

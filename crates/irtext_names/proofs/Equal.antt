@@ -135,8 +135,6 @@ module _ {T A : Type 0} (c : ContextView T A) (first : ℕ → Written A) (es : 
     pub regions_same : (v : List Fact) (p : Path) (j : ℕ) (iso : Bool) (ps : PtrRegions) (rs : Regions (Op ℕ T A) (Head ℕ T A) (Brace ℕ)) → RegionsHave c first es ps rs → ((o : Object) (q : Path) → Among (o, q) (placed_regions p j ps) → Among (o, q) all)
         → AllRegions OpLinked (λ b. ⊤) (λ r. ⊤) (built_regions isolated first es v p j iso rs) → Keeps (region_links p j (built_regions isolated first es v p j iso rs)) → held_regions c all ps ≡ built_regions isolated first es v p j iso rs
     regions_same v p j iso no_regions no_regions h there linked keeps = refl
-    regions_same v p j iso no_regions (forest.region brace bs rs) h there linked keeps = absurd h
-    regions_same v p j iso (forest.region r qs ps) no_regions h there linked keeps = absurd h
     regions_same v p j iso (forest.region r qs ps) (forest.region brace bs rs) (k, h) there linked keeps =
         let inside = facts same_text (blocks_script isolated (j ∷ p) 0 bs) in
         let now = built_blocks isolated first es (cond iso inside.values v) inside.labels (j ∷ p) 0 bs in
@@ -144,12 +142,11 @@ module _ {T A : Type 0} (c : ContextView T A) (first : ℕ → Written A) (es : 
         ap₂ (λ x y. forest.region tt x y)
         (blocks_same (cond iso inside.values v) inside.labels (j ∷ p) 0 qs bs k (λ o q a. there o q (inr (among_left (o, q) (placed_blocks (j ∷ p) 0 qs) (placed_regions p (suc j) ps) a))) linked.1 (keeps_left (block_links (j ∷ p) 0 now) (region_links p (suc j) next) keeps))
         (regions_same v p (suc j) iso ps rs h (λ o q a. there o q (inr (among_right (o, q) (placed_blocks (j ∷ p) 0 qs) (placed_regions p (suc j) ps) a))) linked.2 (keeps_right (block_links (j ∷ p) 0 now) (region_links p (suc j) next) keeps))
+    regions_same v p j iso _ _ h there linked keeps = absurd h
 
     blocks_same : (v l : List Fact) (p : Path) (j : ℕ) (ps : PtrBlocks) (bs : Blocks (Op ℕ T A) (Head ℕ T A) (Brace ℕ)) → BlocksHave c first es ps bs → ((o : Object) (q : Path) → Among (o, q) (placed_blocks p j ps) → Among (o, q) all)
         → AllBlocks OpLinked (λ b. ⊤) (λ r. ⊤) (built_blocks isolated first es v l p j bs) → Keeps (block_links p j (built_blocks isolated first es v l p j bs)) → held_blocks c all ps ≡ built_blocks isolated first es v l p j bs
     blocks_same v l p j no_blocks no_blocks h there linked keeps = refl
-    blocks_same v l p j no_blocks (forest.block head os bs) h there linked keeps = absurd h
-    blocks_same v l p j (forest.block b qs ps) no_blocks h there linked keeps = absurd h
     blocks_same v l p j (forest.block b qs ps) (forest.block head os bs) (at, k, h) there linked keeps =
         let now = built_operations isolated first es v l (j ∷ p) 0 os in
         let next = built_blocks isolated first es v l p (suc j) bs in
@@ -157,12 +154,11 @@ module _ {T A : Type 0} (c : ContextView T A) (first : ℕ → Written A) (es : 
         let others = blocks_same v l p (suc j) ps bs h (λ o q a. there o q (inr (among_right (o, q) (placed_operations (j ∷ p) 0 qs) (placed_blocks p (suc j) ps) a))) linked.2 (keeps_right (operation_links (j ∷ p) 0 now) (block_links p (suc j) next) keeps) in
         ap (λ z. elim z [ Some view ↦ forest.block (held_head c all view) (held_operations c all qs) (held_blocks c all ps) | None ↦ held_blocks c all ps ]) at.is
         ∙ (λ i. forest.block (head_same b head at i) (inner i) (others i))
+    blocks_same v l p j _ _ h there linked keeps = absurd h
 
     operations_same : (v l : List Fact) (p : Path) (j : ℕ) (ps : PtrOperations) (os : Operations (Op ℕ T A) (Head ℕ T A) (Brace ℕ)) → OperationsHave c first es ps os → ((o : Object) (q : Path) → Among (o, q) (placed_operations p j ps) → Among (o, q) all)
         → AllOperations OpLinked (λ b. ⊤) (λ r. ⊤) (built_operations isolated first es v l p j os) → Keeps (operation_links p j (built_operations isolated first es v l p j os)) → held_operations c all ps ≡ built_operations isolated first es v l p j os
     operations_same v l p j no_operations no_operations h there linked keeps = refl
-    operations_same v l p j no_operations (forest.operation o rs os) h there linked keeps = absurd h
-    operations_same v l p j (forest.operation q qs ps) no_operations h there linked keeps = absurd h
     operations_same v l p j (forest.operation q qs ps) (forest.operation o rs os) (at, k, h) there linked keeps =
         let own = built_op isolated first es v l o in
         let inside = built_regions isolated first es v (j ∷ p) 0 (isolated o.id) rs in
@@ -174,6 +170,7 @@ module _ {T A : Type 0} (c : ContextView T A) (first : ℕ → Written A) (es : 
         (keeps_right (op_links (j ∷ p) own ++ region_links (j ∷ p) 0 inside) (operation_links p (suc j) next) keeps) in
         ap (λ z. elim z [ Some view ↦ forest.operation (held_op c all q view) (held_regions c all qs) (held_operations c all ps) | None ↦ held_operations c all ps ]) at.is
         ∙ (λ i. forest.operation (first_own i) (inner i) (others i))
+    operations_same v l p j _ _ h there linked keeps = absurd h
 
 module _ {T A : Type 0} (c : ContextView T A) (first : ℕ → Written A) (es : List (Entry ℕ A (Written A))) (isolated : Id → Bool) (ps : Root (Ptr Operation) (Ptr BasicBlock) (Ptr Region)) (t : Tree ℕ T A) (has : RootHas c first es ps t) where
   abbrev under : List (Object × Path)

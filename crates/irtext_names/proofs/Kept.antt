@@ -11,10 +11,7 @@ use Rattle.irtext_base.specs.declared.location.Location.{Location}
 use Rattle.irtext_context.specs.Context.{ContextView}
 use Rattle.irtext_context.specs.Dialects.{Table}
 use Rattle.irtext_graph.specs.declared.arena.Ptr.{Ptr}
-use Rattle.irtext_graph.specs.declared.object.BasicBlock.{BasicBlock}
 use Rattle.irtext_graph.specs.declared.object.Operation.{Operation}
-use Rattle.irtext_graph.specs.declared.object.Value.{Value}
-use Rattle.irtext_graph.specs.Graph.{GraphView}
 use Rattle.irtext_tokens.specs.AttrTexts.{attr_at}
 use Rattle.irtext_grammar.specs.Contexts.Formats.{format_of, isolated, IsAccepted}
 use Rattle.irtext_grammar.specs.Contexts.Held.{location_over}
@@ -34,7 +31,6 @@ use Rattle.irtext_grammar.proofs.Grammar.PartsOfFormats.{Formed, each_accepted, 
 use Rattle.irtext_grammar.proofs.Grammar.WholeTree as trees
 use Rattle.irtext_grammar.proofs.Names.InScripts.{WholeOperations}
 use Rattle.irtext_grammar.proofs.Names.TreeClaims.{root_entryless}
-use Rattle.irtext_scopes.specs.declared.tracker.NameTracker.{NameTracker}
 use Rattle.irtext_grammar.proofs.Joins.Answers.{Splits}
 use Rattle.irtext_grammar.specs.Exact.{NeedsWord}
 use Rattle.irtext_grammar.specs.Naming.{naming, Names}
@@ -46,7 +42,7 @@ use Rattle.irtext_grammar.proofs.Naming.Shorter.{Shortens}
 use Rattle.irtext_grammar.specs.Building.{Building, building, nothing_open, finished}
 use Rattle.irtext_grammar.proofs.Built.{tree_finished}
 use Rattle.irtext_grammar.proofs.Whole.{whole_read}
-use Rattle.irtext_names.specs.Linked.{Known, NamesAgree}
+use Rattle.irtext_names.specs.Linked.{NamesAgree}
 use Rattle.irtext_names.proofs.Linked.Passes.{ran_through}
 use Rattle.irtext_names.specs.Held.{held_root, placed_under}
 use Rattle.irtext_names.specs.Leaves.{MachineFrom, LeavesTree, LeavesClosed}
@@ -73,18 +69,6 @@ finished_same x y e = let f = ap (λ (b : Building _ _). b.tree) e in some_same 
 pub accepts : (o : Option Format) (f : Format) → IfSome o Accepted → o ≡ Some f → Accepted f
 accepts None f h e = absurd (cc)
 accepts (Some g) f h e = let same : g ≡ f = cc in subst Accepted same h
-
--- names and graph that agree with a state of the machine agree with the state that has other marks, too
-other_marks : {O B T : Type 0} (names : NameTracker Value (Ptr BasicBlock)) (g : GraphView (Option O) B T) (known : Known) (st : history.State) (marks : List ℕ) → NamesAgree names g known [] (record st { marks = marks }) → NamesAgree names g known [] st
-other_marks names g known st marks s = record {
-  distinct = s.distinct;
-  tied = s.tied;
-  value_links = s.value_links;
-  label_links = s.label_links;
-  values_made = s.values_made;
-  blocks_made = s.blocks_made;
-  bound = s.bound;
-}
 
 module _ {T A : Type 0} (types_at : Text → Outcome T) (types_written : T → Text) (reading : Text → Outcome A) (written : A → Text) (dialects : List (Text × Table)) (types_split : Splits types_at) (splits : Splits reading) (words : NeedsWord reading)
     (short_types : Shortens (texts_of types_at types_written)) (short_owns : Shortens (texts_of reading written)) (accepted : (id : Id) → IsAccepted dialects id)
@@ -130,7 +114,7 @@ module _ {T A : Type 0} (types_at : Text → Outcome T) (types_written : T → T
   stopped = (ran_through script alone.0 alone.1).1
 
   agreed : NamesAgree following.names new.graph following.known [] alone.0
-  agreed = other_marks following.names new.graph following.known alone.0 (earlier ++ alone.0.marks) (subst (λ z. NamesAgree following.names new.graph following.known [] z) alone.2 following.agreed)
+  agreed = subst (λ z. NamesAgree following.names new.graph following.known [] z) alone.2 following.agreed
 
   -- it resolves
   pub tree_resolves : failures_of {X = Written A} (isolated dialects) leaves.tree [] ≡ []

@@ -109,18 +109,22 @@ module _ {O B T : Type 0} where
     abbrev pub AreMade : (V → Defined) → List (Place × V) → List (Scope V) → GraphView (Option O) B T → Type 0
     AreMade of made scopes g = (p : Place) (v : V) → Among (p, v) made → IsDefined g (of v) × IsNoPlaceholder scopes v
 
-  -- the names, the graph and the uses in hand agree with the state of the machine: no name has two numbers, each open scope has the names
-  -- of the facts so far, what they define is live, each use refers to what its name refers to, and each use that is bound for good refers
-  -- to its definition
-  pub record NamesAgree (names : NameTracker Value (Ptr BasicBlock)) (g : GraphView (Option O) B T) (known : Known) (held : List (User × Defined))
-      (st : State) : Type 0 where
+  -- the names, the graph and the uses in hand agree with these facts of values and of labels: no name has two numbers, each open scope has
+  -- the names of its facts so far, what they define is live, each use refers to what its name refers to, and each use that is bound for
+  -- good refers to its definition
+  pub record FactsAgree (names : NameTracker Value (Ptr BasicBlock)) (g : GraphView (Option O) B T) (known : Known) (held : List (User × Defined))
+      (values labels : List (List Fact)) (for_good : List (User × Place)) : Type 0 where
     pub distinct : AreDistinct names.names
     pub tied : MatchesGraph names.values names.labels g
-    pub value_links : AreLinked names.names OfValue known.values known.sites held g st.values names.values
-    pub label_links : AreLinked names.names OfBlock known.blocks known.sites held g st.labels names.labels
+    pub value_links : AreLinked names.names OfValue known.values known.sites held g values names.values
+    pub label_links : AreLinked names.names OfBlock known.blocks known.sites held g labels names.labels
     pub values_made : AreMade OfValue known.values names.values g
     pub blocks_made : AreMade OfBlock known.blocks names.labels g
-    pub bound : (u : User) (p : Place) → Among (u, p) st.bound → (d : Defined) × Became known p d × Holds known.sites held g u d
+    pub bound : (u : User) (p : Place) → Among (u, p) for_good → (d : Defined) × Became known p d × Holds known.sites held g u d
+
+  -- they agree with the state of the machine, whatever its marks and entries are
+  abbrev pub NamesAgree : NameTracker Value (Ptr BasicBlock) → GraphView (Option O) B T → Known → List (User × Defined) → State → Type 0
+  NamesAgree names g known held st = FactsAgree names g known held st.values st.labels st.bound
 
   -- if the old names and graph agree with a state of the machine, the act takes it to a state that the new ones agree with, with a use of
   -- d more in hand

@@ -192,13 +192,9 @@ fn make_of<T: IrText<A>, A: AttrText<A>>(
     ensures err { OnErr result (ctx.new ≡ ctx.old) }
     ensures kept { (m : ℕ) → m ≤ ctx.old.graph.made → KeepsOlder m ctx.old ctx.new }
 {
-    let Parts {
-        operands,
-        successors,
-        types,
-    } = parts;
-    let results = types.len();
-    match ctx.make_operation_with(id, attributes, loc, types, &operands, &successors) {
+    let results = parts.types.len();
+    let (operands, successors) = (parts.operands, parts.successors);
+    match ctx.make_operation_with(id, attributes, loc, parts.types, &operands, &successors) {
         Ok(op) => {
             ended((operands, successors));
             Ok((op, results))

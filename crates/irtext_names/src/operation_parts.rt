@@ -24,7 +24,7 @@ use irtext_base::parsable::Place;
 use irtext_context::base::AttributeDict;
 use irtext_context::base::block::BlockData;
 use irtext_few::Few;
-use irtext_grammar::found::{CustomPieces, Form, Pieces};
+use irtext_grammar::found::{Form, Pieces};
 use irtext_grammar::parsed::{CanonicalPieces, Key, ReadEntry, ReadName, ReadPiece, Symbol};
 use std::alloc::Global;
 
@@ -36,6 +36,13 @@ pub enum NotGathered {
     ReservedKey(Key),
     /// No scope of the name's kind is open.
     NoActiveScope(ReadName),
+}
+
+/// Where the key of a symbol's name is taken from: it is shared if one is given, and allocated otherwise.
+#[derive(Clone, Copy)]
+struct SymbolKey<'a> {
+    alloc: Global,
+    given: &'a Option<Identifier>,
 }
 
 /// Returns the error for an entry whose key is at this position.
@@ -170,16 +177,15 @@ fn dictionary_gathered<T: Drop, A: Drop>(
 
 /// Stores a symbol's name.
 fn header_gathered<T: Drop, A: Drop>(
-    alloc: Global,
     gathered: &mut Gathered<T, A>,
-    key: &Option<Identifier>,
+    key: &SymbolKey<'_>,
     symbol: Symbol,
 ) -> Result<(), NotGathered>
-    requires { IfSome key.now (λ k. k ≡ sym_name_key) }
+    requires { IfSome key.now.given.now (λ k. k ≡ sym_name_key) }
     ensures gathers { OnOk result (GathersAlone (read.Header symbol ∷ []) gathered.old gathered.new) }
     ensures refused { IfErr result (RefusesAlone {T = T} {A = A} (read.Header symbol ∷ [])) }
 {
-    let Ok(key) = symbol_key(alloc, key) else {
+    let Ok(key) = symbol_key(key.alloc, key.given) else {
         return Err(NotGathered::Memory);
     };
     kept(&mut gathered.attributes, key, AttrObj::Ident(symbol.name))
@@ -210,17 +216,16 @@ fn types_gathered<T: Drop, A: Drop>(gathered: &mut Gathered<T, A>, listed: Few<T
 
 /// Uses the names of a piece, and stores what it gives the operation.
 fn piece_gathered<T: Drop, A: Drop>(
-    alloc: Global,
     names: &mut Names,
     graph: &mut Objects<T, A>,
     gathered: &mut Gathered<T, A>,
-    key: &Option<Identifier>,
+    key: &SymbolKey<'_>,
     piece: ReadPiece<T, A>,
 ) -> Result<(), NotGathered>
     requires can { CanGather names.old gathered.old.operands.list.items gathered.old.successors.list.items
         (piece ∷ []) }
     requires tied { MatchesGraph names.old.values names.old.labels graph.old }
-    requires key { IfSome key.now (λ k. k ≡ sym_name_key) }
+    requires key { IfSome key.now.given.now (λ k. k ≡ sym_name_key) }
     ensures gathers { OnOk result (Gathers (piece ∷ []) names.old graph.old gathered.old names.new graph.new
         gathered.new) }
     ensures refused { IfErr result (RefusesGathering (piece ∷ []) names.old graph.old) }
@@ -247,39 +252,12 @@ fn piece_gathered<T: Drop, A: Drop>(
         ReadPiece::Attr(key, attr) => attr_gathered(gathered, key, attr),
         ReadPiece::Dictionary(entries) => dictionary_gathered(gathered, entries),
         ReadPiece::ResultType(index, of_type) => type_gathered(gathered, index, of_type),
-        ReadPiece::Header(symbol) => header_gathered(alloc, gathered, key, symbol),
+        ReadPiece::Header(symbol) => header_gathered(gathered, key, symbol),
         ReadPiece::Types(listed) => {
             types_gathered(gathered, listed);
             Ok(())
         }
     }
-}
-
-/// The same as `gather`, for the pieces of a custom format.
-fn custom_gathered<T: Drop, A: Drop>(
-    alloc: Global,
-    names: &mut Names,
-    graph: &mut Objects<T, A>,
-    gathered: &mut Gathered<T, A>,
-    key: &Option<Identifier>,
-    pieces: CustomPieces<T, A>,
-) -> Result<(), NotGathered>
-    requires can { CanGather names.old gathered.old.operands.list.items
-        gathered.old.successors.list.items pieces }
-    requires tied { MatchesGraph names.old.values names.old.labels graph.old }
-    requires key { IfSome key.now (λ k. k ≡ sym_name_key) }
-    ensures gathers { OnOk result (Gathers pieces names.old graph.old gathered.old names.new graph.new
-        gathered.new) }
-    ensures refused { IfErr result (RefusesGathering pieces names.old graph.old) }
-    ensures steady { KeepsScopes names.old names.new graph.old graph.new }
-{
-    for found in pieces.into_found() {
-        let (_, piece) = found;
-        if let Err(refusal) = piece_gathered(alloc, names, graph, gathered, key, piece) {
-            return Err(refusal);
-        }
-    }
-    Ok(())
 }
 
 /// The same as `gather`, for the pieces of the canonical form.
@@ -341,8 +319,16 @@ pub fn gather<T: Drop, A: Drop>(
     ensures refused { IfErr result (RefusesGathering pieces names.old graph.old) }
     ensures steady { KeepsScopes names.old names.new graph.old graph.new }
 {
-    match pieces.into_form() {
-        Form::Canonical(pieces) => canonical_gathered(names, graph, gathered, pieces),
-        Form::Custom(pieces) => custom_gathered(alloc, names, graph, gathered, key, pieces),
+    let custom = match pieces.into_form() {
+        Form::Canonical(pieces) => return canonical_gathered(names, graph, gathered, pieces),
+        Form::Custom(custom) => custom,
+    };
+    let key = SymbolKey { alloc, given: key };
+    for found in custom.into_found() {
+        let (_, piece) = found;
+        if let Err(refusal) = piece_gathered(names, graph, gathered, &key, piece) {
+            return Err(refusal);
+        }
     }
+    Ok(())
 }

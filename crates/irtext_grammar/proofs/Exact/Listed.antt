@@ -94,7 +94,7 @@ module _ {X : Type 0} {item : Reader X} {reading : X → Reading} {none : Text �
 
       back : (text : Text) (xs : List X) (rest : Text) → ListFound separator items [] xs text rest (separated_at separator item text) → (taken : Text) × (separated_at separator item text ≡ Read xs taken rest)
       back text xs rest (all_fine f taken e) = (taken, e ∙ ap (λ z. Read z taken rest) (map-id xs))
-      back text xs rest (one_stops k) = absurd (true≢false k.refused)
+      back text xs rest (one_stops k) = absurd (true≢false k.at.wrong)
 
   -- after a list that follows white space no white space is left, whatever follows
   pub loosened : (xs : List X) (next : Reading) (text rest : Text) → white (listed xs ▸ next) text rest → white (listed xs ▹ next) text rest

@@ -5,7 +5,6 @@ use Rattle.std.proofs.lemmas.List.{map-id}
 use Rattle.std.specs.Prelude.{flat_map}
 use Rattle.std.specs.List.{list_all}
 use Rattle.irtext_base.specs.Text.{Text}
-use Rattle.irtext_base.specs.Reading.{literal}
 use Rattle.irtext_base.specs.Faults.{Fault, ReservedKey}
 use Rattle.irtext_base.specs.Format as format
 use Rattle.irtext_base.specs.Format.{Id, Format}
@@ -176,8 +175,8 @@ module _ {T A : Type 0} (types_at : Text → Outcome T) (types_written : T → T
 
   -- if the list stops at an entry, its key is the first failure
   list_stops : (es : List (Name ℕ × Attribute A)) (text : Text) (o : Outcome (List (Name ℕ × Attribute A))) → Stop 44 entries_of es text o → StopsAt text o (fails_outside (map (key_act may_hold) es))
-  list_stops es text o k = stop_fails entries_of es text o k (record { cause = script.ReservedKey k.first.0.text; at = Some k.first.0.place }) (fails_outside (map (key_act may_hold) k.following)) (fails_outside (map (key_act may_hold) es))
-      (ap (λ es. fails_outside (map (key_act may_hold) es)) k.whole ∙ first_wrong k.before k.following k.first k.fine k.refused) (ap Some k.read.1.0) refl
+  list_stops es text o k = stop_fails entries_of es text o k (record { cause = script.ReservedKey k.at.item.0.text; at = Some k.at.item.0.place }) (fails_outside (map (key_act may_hold) k.following)) (fails_outside (map (key_act may_hold) es))
+      (ap (λ es. fails_outside (map (key_act may_hold) es)) k.whole ∙ first_wrong k.before k.following k.at.item k.fine k.at.wrong) (ap Some k.at.read.1.0) refl
 
   -- a dictionary that the grammar parses is accepted, up to the first key under which its attribute is not allowed
   dictionary_found : (text : Text) (es : List (Name ℕ × Attribute A)) (rest : Text) → reads.dictionary l es text rest → ReadOrStops text (dictionary_by attr false text) es rest (fails_outside (map (key_act may_hold) es))

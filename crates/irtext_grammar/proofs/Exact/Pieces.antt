@@ -7,7 +7,6 @@ use Rattle.irtext_base.specs.Faults.{Fault}
 use Rattle.irtext_base.specs.Format as format
 use Rattle.irtext_base.specs.Format.{Id, Format, Directive}
 use Rattle.irtext_base.specs.Answers.{Outcome, Read, Missing, mapped}
-use Rattle.irtext_base.specs.Locations.{AttrView}
 use Rattle.irtext_base.specs.Own.{Language, language, texts_of}
 use Rattle.irtext_tokens.specs.Infix.{Reader, ◌⇒◌}
 use Rattle.irtext_tokens.specs.AttrTexts.{attr_at}
@@ -70,10 +69,6 @@ module _ {T A : Type 0} (types_at : Text → Outcome T) (types_written : T → T
   abbrev l : Language ℕ T A
   l = language (texts_of types_at types_written) (texts_of reading written) formats
 
-  -- the parser of attributes
-  abbrev attr : Text → Outcome (AttrView A)
-  attr = attr_at reading
-
   -- what a step parses, if its value determines the piece
   by_step : {X : Type 0} {f : Reader X} {r : X → Reading} → Exact f r → (step : Step) (see : X → Piece ℕ T A) → ((x : X) → IsOfStep step (see x))
       → ((x : X) (text rest : Text) → reads.piece l (see x) text rest ↔ r x text rest) → ((p : Piece ℕ T A) → IsOfStep step p → (x : X) × (see x ≡ p)) → Exact (f ⇒ see) (step_piece l step)
@@ -94,7 +89,7 @@ module _ {T A : Type 0} (types_at : Text → Outcome T) (types_written : T → T
 
   -- A piece that a step parses, and no other, is what the grammar parses as a piece of that step; where a marker may be in place of an
   -- attribute, each attribute begins as a word does.
-  pub exact_piece : (step : Step) → (Marks step → NeedsWord reading) → Exact (piece_at types_at attr true step) (step_piece l step)
+  pub exact_piece : (step : Step) → (Marks step → NeedsWord reading) → Exact (piece_at types_at (attr_at reading) true step) (step_piece l step)
   exact_piece (flat (format.word s)) h = by_step (exact_word s) (flat (format.word s)) (λ _. tree.word s) (λ x. refl) (λ x text rest. (λ r. r, λ r. r)) (is_made (format.word s))
   exact_piece (flat (format.operand i)) h =
       by_step (exact_used (texts_of types_at types_written) (texts_of reading written) formats) (flat (format.operand i)) (tree.operand i) (λ x. refl) (λ x text rest. (λ r. r, λ r. r)) (is_made (format.operand i))
@@ -121,9 +116,9 @@ module _ {T A : Type 0} (types_at : Text → Outcome T) (types_written : T → T
   exact_piece all h = by_none all _ (λ p i. i)
 
   -- What a step parses, the grammar parses as a piece of that step, however attributes begin.
-  pub piece_read : (step : Step) (text : Text) (p : Piece ℕ T A) (taken rest : Text) → piece_at types_at attr true step text ≡ Read p taken rest → step_piece l step p text rest × (taken ++ rest ≡ text)
+  pub piece_read : (step : Step) (text : Text) (p : Piece ℕ T A) (taken rest : Text) → piece_at types_at (attr_at reading) true step text ≡ Read p taken rest → step_piece l step p text rest × (taken ++ rest ≡ text)
   piece_read (flat (format.attribute k)) text p taken rest e =
-      let m = mapped_read (tree.attribute k) (outlined_or_at attr text) p taken rest e in
+      let m = mapped_read (tree.attribute k) (outlined_or_at (attr_at reading) text) p taken rest e in
       let r = outlined_read (texts_of types_at types_written) reading written formats splits k text m.0 taken rest m.1 in
       (subst (λ p. step_piece l (flat (format.attribute k)) p text rest) m.2 (refl, r.0), r.1)
   piece_read step text p taken rest e = (exact_piece step (λ i. absurd i)).read text p taken rest e

@@ -86,7 +86,7 @@ names-reads all text rest h = go (list_found 44 given all text rest h)
   where
     go : ListFound 44 given [] all text rest (names_at text) → (taken : Text) × (names_at text ≡ Read all taken rest)
     go (all_fine f taken e) = (taken, e ∙ ap (λ z. Read z taken rest) (map-id all))
-    go (one_stops k) = absurd (true≢false k.refused)
+    go (one_stops k) = absurd (true≢false k.at.wrong)
 
 -- no white space is left after names
 separated_tight : (names : List (Option Text)) (text rest : Text) → separated 44 reads.no_given_name (map reads.given_name names) (after_space text) rest → after_space rest ≡ rest

@@ -18,14 +18,14 @@ use Rattle.irtext_grammar.specs.Entries.{fault_for}
 use Rattle.irtext_grammar.proofs.Stops.{stops_first, stops_second}
 
 -- if a list stops at an item, and that item's failure is the first of all, the list stops at the first failure
-pub stop_fails : {X : Type 0} (i : Items X X) (xs : List X) (text : Text) (o : Outcome (List X)) (k : Stop 44 i xs text o) (first : Failure Text ℕ) (others fs : List (Failure Text ℕ)) → fs ≡ first ∷ others → first.at ≡ Some (length k.stop)
-    → i.wrong k.first ≡ fault_for first.cause → StopsAt text o fs
+pub stop_fails : {X : Type 0} (i : Items X X) (xs : List X) (text : Text) (o : Outcome (List X)) (k : Stop 44 i xs text o) (first : Failure Text ℕ) (others fs : List (Failure Text ℕ)) → fs ≡ first ∷ others → first.at ≡ Some (length k.at.text)
+    → i.wrong k.at.item ≡ fault_for first.cause → StopsAt text o fs
 stop_fails i xs text o k first others fs is at wrong = record {
   first = first;
   others = others;
   is = is;
   upto = k.upto;
-  stop = k.stop;
+  stop = k.at.text;
   splits = k.splits;
   at = at;
   bad = k.is ∙ ap (λ f. Bad f k.upto) wrong;

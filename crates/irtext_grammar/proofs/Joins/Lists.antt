@@ -193,20 +193,24 @@ module _ {X Y : Type 0} (sep : ℕ) (i : Items X Y) where
   list_tight (x ∷ items) text rest h = more_tight items h.0 rest h.2
 
   -- ---- what is to be parsed
+  -- an item that is not allowed, and the text that it begins
+  pub record Refused : Type 0 where
+    pub item : X
+    pub text : Text
+    pub left : Text
+    pub wrong : i.allowed item ≡ false
+    pub read : i.reading item text left
+
   -- the first item that is not allowed, where the parser stops
   pub record Stop (items : List X) (text : Text) (o : Outcome (List Y)) : Type 0 where
+    pub at : Refused
     pub before : List X
-    pub first : X
     pub following : List X
-    pub whole : items ≡ before ++ (first ∷ following)
+    pub whole : items ≡ before ++ (at.item ∷ following)
     pub fine : list_all i.allowed before ≡ true
-    pub refused : i.allowed first ≡ false
     pub upto : Text
-    pub stop : Text
-    pub left : Text
-    pub splits : upto ++ stop ≡ text
-    pub read : i.reading first stop left
-    pub is : o ≡ Bad (i.wrong first) upto
+    pub splits : upto ++ at.text ≡ text
+    pub is : o ≡ Bad (i.wrong at.item) upto
 
   -- the items after those found are parsed, if all are allowed
   pub data ListFound (found : List Y) (items : List X) (text rest : Text) (o : Outcome (List Y)) : Type 0 where
@@ -214,21 +218,17 @@ module _ {X Y : Type 0} (sep : ℕ) (i : Items X Y) where
     one_stops : Stop items text o → ListFound found items text rest o
 
   -- a stop with other items before it, and more characters
-  stop_after : {items : List X} (whole : List X) (before : List X) (front mid text : Text) (o p : Outcome (List Y)) (k : Stop items mid p) → whole ≡ before ++ (k.first ∷ k.following) → list_all i.allowed before ≡ true → front ++ mid ≡ text
+  stop_after : {items : List X} (whole : List X) (before : List X) (front mid text : Text) (o p : Outcome (List Y)) (k : Stop items mid p) → whole ≡ before ++ (k.at.item ∷ k.following) → list_all i.allowed before ≡ true → front ++ mid ≡ text
       → ((cause : Fault) (upto : Text) → p ≡ Bad cause upto → o ≡ Bad cause (front ++ upto)) → Stop whole text o
   stop_after whole before front mid text o p k w a s f = record {
+    at = k.at;
     before = before;
-    first = k.first;
     following = k.following;
     whole = w;
     fine = a;
-    refused = k.refused;
     upto = front ++ k.upto;
-    stop = k.stop;
-    left = k.left;
-    splits = append_assoc front k.upto k.stop ∙ (ap (λ t. front ++ t) k.splits ∙ s);
-    read = k.read;
-    is = f (i.wrong k.first) k.upto k.is;
+    splits = append_assoc front k.upto k.at.text ∙ (ap (λ t. front ++ t) k.splits ∙ s);
+    is = f (i.wrong k.at.item) k.upto k.is;
   }
 
   -- the same stop, where what stops so is bad in the same way
@@ -237,7 +237,7 @@ module _ {X Y : Type 0} (sep : ℕ) (i : Items X Y) where
 
   -- the first item is not allowed
   stops_first : (x : X) (items : List X) (text left : Text) (o : Outcome (List Y)) → i.reading x text left → i.allowed x ≡ false → o ≡ Bad (i.wrong x) [] → Stop (x ∷ items) text o
-  stops_first x items text left o r f e = record { before = []; first = x; following = items; whole = refl; fine = refl; refused = f; upto = []; stop = text; left = left; splits = refl; read = r; is = e }
+  stops_first x items text left o r f e = record { at = record { item = x; text = text; left = left; wrong = f; read = r }; before = []; following = items; whole = refl; fine = refl; upto = []; splits = refl; is = e }
 
   -- one more item before
   later : (x : X) (found : List Y) (items : List X) (front mid text rest : Text) (o p : Outcome (List Y)) → i.allowed x ≡ true → front ++ mid ≡ text → o ≡ prefixed front p

@@ -1,16 +1,15 @@
 -- What the grammar parses as a tree is parsed outside of each region too, up to the first failure among the parts of its operation before
 -- the first region.
-use Rattle.std.proofs.Common.{◌≡◌, ◌∙◌, inl, inr, ℕ, ◌-◌, true, false, List, [], ◌∷◌, ◌++◌, map, length, length-append, Some, refl, sym, ap, subst, arith, append_assoc}
+use Rattle.std.proofs.Common.{◌≡◌, ◌∙◌, inl, inr, ℕ, true, false, List, [], ◌∷◌, ◌++◌, map, length, length-append, Some, refl, sym, ap, subst, arith, append_assoc}
 use Rattle.std.specs.Prelude.{⊤}
 use Rattle.std.specs.Char.{is_whitespace}
 use Rattle.irtext_base.specs.Text.{Text, front, after_space}
 use Rattle.irtext_base.specs.Reading.{Reading}
-use Rattle.irtext_base.specs.Format.{Id}
-use Rattle.irtext_base.specs.Answers.{Outcome, Read, Bad}
-use Rattle.irtext_base.specs.Own.{Language, language, texts_of}
+use Rattle.irtext_base.specs.Answers.{Outcome, Read}
+use Rattle.irtext_base.specs.Own.{texts_of}
 use Rattle.irtext_base.proofs.Along.{front_after}
 use Rattle.irtext_context.specs.Dialects.{Table}
-use Rattle.irtext_tokens.specs.Infix.{Reader, ◌▷◌}
+use Rattle.irtext_tokens.specs.Infix.{◌▷◌}
 use Rattle.irtext_tokens.specs.AttrTexts.{attr_at}
 use Rattle.irtext_tokens.specs.Tokens.{space_at}
 use Rattle.irtext_grammar.specs.Contexts.Formats.{format_of, isolated}
@@ -22,7 +21,7 @@ use Rattle.irtext_grammar.specs.Names.Scopes.{no_scope, fact_of, ◌⊳◌}
 use Rattle.irtext_grammar.specs.Names.Script.{Path, does_all}
 use Rattle.irtext_grammar.specs.Names.TextScopes.{Act, Failure, Script, act_failures, failures}
 use Rattle.irtext_grammar.proofs.Joins.Answers.{Splits, followed-read}
-use Rattle.irtext_grammar.specs.Agrees.{StopsAt, ReadOrStops}
+use Rattle.irtext_grammar.specs.Agrees.{ReadOrStops}
 use Rattle.irtext_grammar.specs.Entries.{fault_for}
 use Rattle.irtext_grammar.specs.Exact.{NeedsWord, IsOfStep}
 use Rattle.irtext_grammar.specs.Heads.{Step, flat, types, one, all, steps_of, front_steps, region_steps, piece_at, led_at}

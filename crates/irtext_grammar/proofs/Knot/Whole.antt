@@ -4,7 +4,7 @@ use Rattle.std.proofs.Common.{◌≡◌, ℕ, Bool, true, List, length, ap, arit
 use Rattle.irtext_base.specs.Text.{Text}
 use Rattle.irtext_base.specs.Faults.{Fault}
 use Rattle.irtext_base.specs.Format.{Id}
-use Rattle.irtext_base.specs.Answers.{Outcome, Read}
+use Rattle.irtext_base.specs.Answers.{Outcome}
 use Rattle.irtext_base.specs.Own.{Language, language, texts_of}
 use Rattle.irtext_context.specs.Dialects.{Table}
 use Rattle.irtext_tokens.specs.Infix.{Reader}

@@ -1,12 +1,9 @@
 use Rattle.std.proofs.Common.{rules, sym, subst}
-use Rattle.irtext_context.specs.Context.{with_graph}
 use Rattle.irtext_graph.specs.declared.object.Object.TheVariants.{TheBlock, TheRegion}
-use Rattle.irtext_graph.specs.Graph as graphs
-use Rattle.irtext_graph.specs.Graph.{Appends, CanInsert, IsLive, IsNew, children, parent}
+use Rattle.irtext_graph.specs.Graph.{Appends, CanInsert, IsLive, children, parent}
 use Rattle.irtext_graph.specs.Nested.{Nested}
 use Rattle.irtext_names.proofs.Apart.{apart_of}
-use Rattle.irtext_names.proofs.Appending.{keeps_with}
-use Rattle.irtext_names.proofs.BlockKept.{kept_placed}
+use Rattle.irtext_names.proofs.BlockKept.{kept_appended}
 use Rattle.irtext_names.proofs.placing.place_block.Goals as goal
 
 pub insert_at_back-requires-clause-holder : goal.insert_at_back-requires-clause-holder
@@ -33,15 +30,7 @@ returns-in-Ok-insert_at_back-clause-places g c =
     }
 
 pub returns-in-Err-insert_at_back-clause-kept : goal.returns-in-Err-insert_at_back-clause-kept
-returns-in-Err-insert_at_back-clause-kept g c = λ m le n.
-    let mid = c.make_block.new.self in
-    let new = c.insert_at_back.new.self in
-    kept_placed c.args.ctx.now mid (with_graph mid new) c.args.region c.in-Ok.block _ _ c.in-Ok.ensures.made m le n (c.make_block.ensures.kept m le)
-    (λ r b. keeps_with mid new m (subst (λ k. IsNew m k (TheRegion c.args.region) → IsNew m k (TheBlock c.in-Ok.block) → graphs.KeepsOlder m k new) c.graph_mut-graph.ensures.value (c.insert_at_back.ensures.kept m) r b))
+returns-in-Err-insert_at_back-clause-kept g c = kept_appended c.args.region c.in-Ok.block c.in-Ok.ensures.made c.graph_mut-graph.ensures.value c.make_block.ensures.kept c.insert_at_back.ensures.kept
 
 pub returns-in-Ok-insert_at_back-clause-kept : goal.returns-in-Ok-insert_at_back-clause-kept
-returns-in-Ok-insert_at_back-clause-kept g c = λ m le n.
-    let mid = c.make_block.new.self in
-    let new = c.insert_at_back.new.self in
-    kept_placed c.args.ctx.now mid (with_graph mid new) c.args.region c.in-Ok.block _ _ c.in-Ok.ensures.made m le n (c.make_block.ensures.kept m le)
-    (λ r b. keeps_with mid new m (subst (λ k. IsNew m k (TheRegion c.args.region) → IsNew m k (TheBlock c.in-Ok.block) → graphs.KeepsOlder m k new) c.graph_mut-graph.ensures.value (c.insert_at_back.ensures.kept m) r b))
+returns-in-Ok-insert_at_back-clause-kept g c = kept_appended c.args.region c.in-Ok.block c.in-Ok.ensures.made c.graph_mut-graph.ensures.value c.make_block.ensures.kept c.insert_at_back.ensures.kept

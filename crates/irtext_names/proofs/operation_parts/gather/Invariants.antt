@@ -3,7 +3,7 @@ use Rattle.irtext_grammar.specs.Found.{with_words}
 use Rattle.irtext_names.specs.declared.operation_parts.NotGathered.{NotGathered}
 use Rattle.irtext_names.specs.Uses.{KeepsScopes}
 use Rattle.irtext_names.specs.Gathering.{CanGather, Gathers, RefusesGathering}
-use Rattle.irtext_names.proofs.operation_parts.custom_gathered.Given as goal
+use Rattle.irtext_names.proofs.operation_parts.gather.Given as goal
 
 -- this many words follow the last piece
 abbrev pub invariant-loop-found : goal.invariant-loop-found
