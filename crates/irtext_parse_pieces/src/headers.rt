@@ -7,7 +7,7 @@ ghost use Rattle.irtext_grammar.specs.Parsed.{IsMarkIf};
 ghost use Rattle.irtext_parse_pieces.specs.Named.{MustMean, NamesRead, whole};
 
 use crate::arguments::arguments_parse;
-use crate::beside::{beside, failed};
+use crate::beside::{beside, closed_by, failed};
 use crate::entries::dictionary_if_parse;
 use crate::keys::Keys;
 use crate::lists::ended;
@@ -61,10 +61,8 @@ fn mark_end_parse<S: CharStream, A>(stream: &mut S) -> ParseResult<Option<ReadMa
         Err(fault) => return Err(fault),
     };
     skip_white_space(stream);
-    match text_demanded(stream, ":") {
-        Ok(()) => Ok(mark),
-        Err(fault) => Err(fault),
-    }
+    let answer = text_demanded(stream, ":");
+    closed_by(mark, answer)
 }
 
 /// Parses what a block's header has after its arguments: `)`, a dictionary if `[` comes next, a mark if `!` comes next, and `:`. Every
