@@ -1,7 +1,7 @@
 //! Parsing of the headers of blocks.
 ghost use Rattle.std.specs.Prelude.{◌≡◌, false};
 ghost use Rattle.irtext_tokens.specs.AttrTexts.{attr_at};
-ghost use Rattle.irtext_parse_pieces.specs.Entries.{MustDictionaryIf};
+ghost use Rattle.irtext_parse_pieces.specs.Entries.{SpacedDictionaryIf};
 ghost use Rattle.irtext_parse_pieces.specs.Headers.{mark_end_at, MustHead, MustHeadEnd};
 ghost use Rattle.irtext_grammar.specs.Parsed.{IsMarkIf};
 ghost use Rattle.irtext_parse_pieces.specs.Named.{MustMean, NamesRead, whole};
@@ -34,14 +34,15 @@ pub struct BlockHead<T, A> {
 /// What a block's header has after its arguments: the entries of its dictionary if it has one, and its mark if it has one.
 type HeadEnd<A> = (Option<Vec<ReadEntry<A>>>, Option<ReadMark>);
 
-/// Parses a dictionary as `dictionary_if_parse` does, and keeps no key.
+/// Parses white space, and a dictionary as `dictionary_if_parse` does, and keeps no key.
 #[inline(always)]
 fn dictionary_alone<S: OwnStream, A: AttrText<A>>(
     stream: &mut S,
 ) -> ParseResult<Option<Vec<ReadEntry<A>>>, A>
-    ensures { MustDictionaryIf S.CharStream.view S.CharStream.at (attr_at A.IrText.reading) stream.old result
-        stream.new }
+    ensures { SpacedDictionaryIf S.CharStream.view S.CharStream.at (attr_at A.IrText.reading) stream.old
+        result stream.new }
 {
+    skip_white_space(stream);
     let mut keys = Keys::none(stream.allocator());
     let entries = dictionary_if_parse(stream, &mut keys);
     ended(keys);
@@ -75,7 +76,6 @@ fn head_end_parse<S: OwnStream, A: AttrText<A>>(stream: &mut S) -> ParseResult<H
     if let Err(fault) = text_demanded(stream, ")") {
         return Err(fault);
     }
-    skip_white_space(stream);
     let attributes = match dictionary_alone(stream) {
         Ok(attributes) => attributes,
         Err(fault) => return Err(fault),
