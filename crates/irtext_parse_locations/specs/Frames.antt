@@ -1,5 +1,5 @@
 -- Between functions: the parser of locations, which is one loop with a stack of the open locations.
-use Rattle.std.specs.Prelude.{ℕ, Bool, true, Option, Result, Ok, Err, List, [], ◌∷◌, codes, length, map, string_bytes}
+use Rattle.std.specs.Prelude.{ℕ, Bool, true, Option, Some, Result, Ok, Err, List, [], ◌∷◌, codes, length, map, string_bytes}
 use Rattle.irtext_base.specs.Text.{Text, begins}
 use Rattle.irtext_base.specs.Reading.{the}
 use Rattle.irtext_base.specs.Stream.{StreamView, first_of}
@@ -135,6 +135,10 @@ module _ {S A : Type 0} where
   row_opening_at metadata = either (begins begins_location) (nothing (inside (for_row metadata no_location))) (row_end_at metadata no_location)
 
 module _ {A : Type 0} (attr : Reader (AttrView A)) where
+  -- an attribute in `<` and `>`
+  abbrev pub metadata_in : Reader (Option (AttrView A))
+  metadata_in = word (codes "<") ▷ space_at ▷ attr ▶ λ a. space_at ▷ word (codes ">") ⇒ λ _. Some a
+
   -- a fused location up to its first location
   abbrev pub fused_opening_at : {S : Type 0} → Reader (ProgressOf S A)
   fused_opening_at = word (codes "fused") ▷ space_at ▷ metadata_at attr ▶ λ metadata. word (codes "[") ▷ space_at ▷ row_opening_at metadata

@@ -10,7 +10,7 @@ ghost use Rattle.irtext_tokens.specs.MustRead.{MustRead};
 ghost use Rattle.irtext_grammar.specs.Contexts.Held.{location_over};
 ghost use Rattle.irtext_grammar.specs.Readers.NewPaths.{AddsPaths, MayReadOver, known_location, PushesRow};
 ghost use Rattle.irtext_grammar.specs.Readers.Streams.{itself, replaced};
-ghost use Rattle.irtext_parse_locations.specs.Frames.{OpensLocation, fused_opening_at, to_its_end};
+ghost use Rattle.irtext_parse_locations.specs.Frames.{OpensLocation, fused_opening_at, metadata_in, to_its_end};
 ghost use Rattle.irtext_parse_locations.specs.Frames.{call_site_head_at, ReadsProgress, ReadsAfter};
 ghost use Rattle.irtext_parse_locations.specs.Frames.{row_end_at};
 ghost use Rattle.irtext_parse_locations.specs.Sourced.{Keeps, ReadsWithin, ReadsNested};
@@ -58,6 +58,19 @@ fn attr_demanded<A: AttrText<A>>(stream: &mut TextStream) -> ParseResult<AttrObj
     committed(stream, answer)
 }
 
+/// Parses an attribute in `<` and `>`.
+fn metadata_there<A: AttrText<A>>(stream: &mut TextStream) -> ParseResult<Option<AttrObj<A>>, A>
+    ensures { MustRead itself replaced attr_view_in (metadata_in (attr_at A.IrText.reading)) stream.old result
+        stream.new }
+{
+    text_demanded(stream, "<")?;
+    skip_white_space(stream);
+    let attr = attr_demanded(stream)?;
+    skip_white_space(stream);
+    text_demanded(stream, ">")?;
+    Ok(Some(attr))
+}
+
 /// Parses an attribute in `<` and `>` if `<` comes next; otherwise returns `None`.
 fn metadata_demanded<A: AttrText<A>>(stream: &mut TextStream) -> ParseResult<Option<AttrObj<A>>, A>
     ensures { MustRead itself replaced attr_view_in (metadata_at (attr_at A.IrText.reading)) stream.old result
@@ -69,12 +82,7 @@ fn metadata_demanded<A: AttrText<A>>(stream: &mut TextStream) -> ParseResult<Opt
     if !next_is(stream, '<') {
         return Ok(None);
     }
-    text_demanded(stream, "<")?;
-    skip_white_space(stream);
-    let attr = attr_demanded(stream)?;
-    skip_white_space(stream);
-    text_demanded(stream, ">")?;
-    Ok(Some(attr))
+    metadata_there(stream)
 }
 
 /// Parses a name, and what comes before the location that it names.
