@@ -1,11 +1,11 @@
 -- For callers: the texts of integer types.
-use Rattle.std.specs.Prelude.{ℕ, Bool, not, cond, Option, Some, None, ◌++◌, codes, decimal}
+use Rattle.std.specs.Prelude.{◌≡◌, ℕ, Bool, not, cond, Option, Some, None, MatchOption, ◌++◌, codes, decimal}
 use Rattle.std.specs.Char.{is_ascii_digit}
 use Rattle.irtext_base.specs.Text.{Text, begins, front, after}
 use Rattle.irtext_base.specs.Reading.{the}
-use Rattle.irtext_base.specs.Stream.{first_of}
+use Rattle.irtext_base.specs.Stream.{StreamView, first_of}
 use Rattle.irtext_base.specs.Faults.{AType, ADigit, Unexpected}
-use Rattle.irtext_base.specs.Answers.{Outcome, Missing}
+use Rattle.irtext_base.specs.Answers.{Outcome, Missing, Gives, unless_failed}
 use Rattle.irtext_tokens.specs.Tokens.{word, value_of}
 use Rattle.irtext_tokens.specs.Integers.{ranged}
 use Rattle.irtext_tokens.specs.Infix.{either, ◌▶◌, ◌⇒◌}
@@ -60,3 +60,7 @@ integer_type_ends rest = not (begins is_ascii_digit rest)
 -- as a part of other texts
 abbrev pub integer_type : Shape IntegerType
 integer_type = record { reading = integer_type_at; written = integer_type_text; ends = integer_type_ends; test = test.ghosts.eq }
+
+-- what is parsed so comes next, and was consumed; or it does not come next, and the stream is unchanged
+abbrev pub TakesIfThere : {X : Type 0} → (Text → Outcome X) → StreamView → Option X → StreamView → Type 0
+TakesIfThere outcome old result new = MatchOption result (new ≡ old) (λ x. Gives (λ s. s) (λ s v. v) (unless_failed old.failed (outcome old.rest)) old x new)

@@ -1,9 +1,9 @@
 //! The integer types and their parser: a sign, and a width in decimal digits.
-ghost use Rattle.std.specs.Prelude.{◌≡◌, ◌++◌, OnOk, Some, MatchBool, MatchOption, codes, decimal, string_bytes};
+ghost use Rattle.std.specs.Prelude.{◌≡◌, ◌++◌, OnOk, Some, MatchBool, codes, decimal, string_bytes};
 ghost use Rattle.irtext_base.specs.Faults.{characters};
 ghost use Rattle.irtext_tokens.specs.Tokens.{word};
 ghost use Rattle.irtext_base.specs.Answers.{Answers, Gives, unless_failed};
-ghost use Rattle.irtext_demo.specs.IntegerTypes.{integer_type_text, signedness_text, signedness_at, width_if, width_at, integer_type_at};
+ghost use Rattle.irtext_demo.specs.IntegerTypes.{integer_type_text, signedness_text, signedness_at, width_if, width_at, integer_type_at, TakesIfThere};
 
 use crate::width::Width;
 use irtext_base::parsable::{CharStream, ParseResult, TextStream};
@@ -120,9 +120,7 @@ fn text_there(stream: &mut TextStream, text: &str) -> bool
 /// Consumes a sign if one comes next, and returns it. Otherwise the stream is unchanged.
 #[inline(always)]
 fn sign_there(stream: &mut TextStream) -> Option<Signedness>
-    ensures { MatchOption result (stream.new ≡ stream.old)
-        (λ k. Gives (λ s. s) (λ s v. v) (unless_failed stream.old.failed (signedness_at stream.old.rest))
-        stream.old k stream.new) }
+    ensures { TakesIfThere signedness_at stream.old result stream.new }
 {
     if next_is(stream, 's') {
         if text_there(stream, "si") {
@@ -147,9 +145,7 @@ fn sign_there(stream: &mut TextStream) -> Option<Signedness>
 /// Consumes a width if one comes next, and returns it. Otherwise the stream is unchanged.
 #[inline(always)]
 fn width_there(stream: &mut TextStream) -> Option<Width>
-    ensures { MatchOption result (stream.new ≡ stream.old)
-        (λ w. Gives (λ s. s) (λ s v. v) (unless_failed stream.old.failed (width_at stream.old.rest))
-        stream.old w stream.new) }
+    ensures { TakesIfThere width_at stream.old result stream.new }
 {
     if stream.has_failed() {
         return None;
@@ -169,9 +165,7 @@ fn width_there(stream: &mut TextStream) -> Option<Width>
 /// Consumes an integer type if one comes next, and returns it. Otherwise the stream is unchanged.
 #[inline(always)]
 fn integer_type_there(stream: &mut TextStream) -> Option<IntegerType>
-    ensures { MatchOption result (stream.new ≡ stream.old)
-        (λ t. Gives (λ s. s) (λ s v. v) (unless_failed stream.old.failed (integer_type_at stream.old.rest))
-        stream.old t stream.new) }
+    ensures { TakesIfThere integer_type_at stream.old result stream.new }
 {
     let place = stream.position();
     let Some(kind) = sign_there(stream) else {

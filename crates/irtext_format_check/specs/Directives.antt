@@ -1,8 +1,8 @@
 -- The conditions on a list of directives, in the order in which the code checks them.
-use Rattle.std.specs.Prelude.{ℕ, Bool, true, false, not, ◌&&◌, ◌||◌, ◌==◌, nat_lt, List, [], ◌∷◌, Option, Some, None}
+use Rattle.std.specs.Prelude.{ℕ, Bool, true, false, cond, not, ◌&&◌, ◌||◌, ◌==◌, nat_lt, List, [], ◌∷◌, Option, Some, None}
 use Rattle.std.specs.List.{list_all, filter_map}
 use Rattle.irtext_base.specs.Format as format
-use Rattle.irtext_base.specs.Format.{Format, Directive, has, is_operands, is_successors, is_regions, is_dictionary, is_header, is_any_region, keys, continuings, followers, disjoint, distinct, same_text, given_names_key}
+use Rattle.irtext_base.specs.Format.{Format, Directive, has, is_operands, is_successors, is_regions, is_dictionary, is_header, is_any_region, keys, continuings, followers, disjoint, distinct, same_text, given_names_key, c1, c2, c3, c4, c5, c6, c7, c8}
 use Rattle.irtext_base.specs.Text.{Text}
 use Rattle.irtext_base.specs.declared.format.FormatFault.{FormatFault}
 use Rattle.irtext_base.specs.declared.format.FormatFault.TheVariants as condition
@@ -23,6 +23,22 @@ condition_number condition.RegionOrder = 5
 condition_number condition.AttributeKeys = 6
 condition_number condition.NameAfterRegion = 7
 condition_number condition.AmbiguousList = 8
+
+-- the directives meet a condition
+abbrev pub meets : FormatFault → List Directive → Bool
+meets condition.LiteralNotPrintable = c1
+meets condition.OperandIndices = c2
+meets condition.SuccessorIndices = c3
+meets condition.ResultTypeIndices = c4
+meets condition.RegionOrder = c5
+meets condition.AttributeKeys = c6
+meets condition.NameAfterRegion = c7
+meets condition.AmbiguousList = c8
+
+-- the number of the first of these conditions that the directives fail, or 0 if they fail none
+abbrev pub first_of : List FormatFault → List Directive → ℕ
+first_of [] ds = 0
+first_of (c ∷ cs) ds = cond (meets c ds) (first_of cs ds) (condition_number c)
 
 -- the index that a directive names among the parts of one kind
 abbrev pub place_of : Part → Directive → Option ℕ

@@ -1,5 +1,5 @@
 -- Between functions: the parser of locations, which is one loop with a stack of the open locations.
-use Rattle.std.specs.Prelude.{ℕ, Bool, true, Option, Result, List, [], ◌∷◌, codes, length, map, string_bytes}
+use Rattle.std.specs.Prelude.{ℕ, Bool, true, Option, Some, Result, Ok, Err, List, [], ◌∷◌, codes, length, map, string_bytes}
 use Rattle.irtext_base.specs.Text.{Text, begins}
 use Rattle.irtext_base.specs.Reading.{the}
 use Rattle.irtext_base.specs.Stream.{StreamView, first_of}
@@ -11,14 +11,16 @@ use Rattle.irtext_base.specs.Paths.{Written, path_of, are_known, row_known}
 use Rattle.irtext_base.specs.declared.location.Location.{Location}
 use Rattle.irtext_base.specs.declared.location.Source.{Source}
 use Rattle.irtext_base.specs.declared.parsable.fault.ParseFault.{ParseFault}
+use Rattle.irtext_context.specs.Context.{ContextView}
 use Rattle.irtext_tokens.specs.AttrTexts.{attr_at}
 use Rattle.irtext_tokens.specs.Infix.{Reader, nothing, either, ◌▷◌, ◌▶◌, ◌⇒◌}
 use Rattle.irtext_tokens.specs.MustRead.{MustRead}
 use Rattle.irtext_tokens.specs.Tokens.{word}
 use Rattle.irtext_grammar.specs.Readers.Locations.{WrittenRow, begins_source, begins_location, name_at, place_at, metadata_at, after_location, location_at, more_within}
-use Rattle.irtext_grammar.specs.Readers.NewPaths.{MustReadOver, joined_rows}
+use Rattle.irtext_grammar.specs.Readers.NewPaths.{joined_rows}
 use Rattle.irtext_grammar.specs.Readers.Positions.{space_at, spaced_at}
 use Rattle.irtext_grammar.specs.Readers.Streams.{itself, replaced}
+use Rattle.irtext_parse_locations.specs.Sourced.{KeepsWhatIsRead}
 use Rattle.irtext_parse_locations.specs.declared.location.frame.Frame.{Frame}
 use Rattle.irtext_parse_locations.specs.declared.location.frame.Frame.TheVariants as frame
 use Rattle.irtext_parse_locations.specs.declared.location.frame.Progress.{Progress}
@@ -133,6 +135,10 @@ module _ {S A : Type 0} where
   row_opening_at metadata = either (begins begins_location) (nothing (inside (for_row metadata no_location))) (row_end_at metadata no_location)
 
 module _ {A : Type 0} (attr : Reader (AttrView A)) where
+  -- an attribute in `<` and `>`
+  abbrev pub metadata_in : Reader (Option (AttrView A))
+  metadata_in = word (codes "<") ▷ space_at ▷ attr ▶ λ a. space_at ▷ word (codes ">") ⇒ λ _. Some a
+
   -- a fused location up to its first location
   abbrev pub fused_opening_at : {S : Type 0} → Reader (ProgressOf S A)
   fused_opening_at = word (codes "fused") ▷ space_at ▷ metadata_at attr ▶ λ metadata. word (codes "[") ▷ space_at ▷ row_opening_at metadata
@@ -183,6 +189,11 @@ module _ {A : Type 0} where
   abbrev pub ReadsAfter : Frame A → Location A → StreamView → Result (Progress A) (ParseFault A) → StreamView → Type 0
   ReadsAfter f l = ReadsProgress (after_at (frame_view f) (location_view l))
 
-  -- a location is parsed up to the first location inside of it, with these paths
-  abbrev pub ReadsOpening : (Text → Outcome A) → List (List ℕ) → StreamView → Result (Progress A) (ParseFault A) → StreamView → Type 0
-  ReadsOpening reading = MustReadOver known_progress progress_over (opening_at (attr_at reading))
+  -- a location that was made is parsed to its end
+  abbrev pub to_its_end : Result (Location A) (ParseFault A) → Result (Progress A) (ParseFault A)
+  to_its_end (Ok l) = Ok (progress.Whole l)
+  to_its_end (Err fault) = Err fault
+
+  -- a location is parsed up to the first location inside of it, and of the context only its paths were added
+  abbrev pub OpensLocation : {T : Type 0} → (Text → Outcome A) → ContextView T A → StreamView → ContextView T A → Result (Progress A) (ParseFault A) → StreamView → Type 0
+  OpensLocation reading = KeepsWhatIsRead known_progress progress_over progress_kept (opening_at (attr_at reading))

@@ -218,13 +218,7 @@ fn step_taken<T: IrText<A>, A: AttrText<A>>(
 fn step_undone<T: IrText<A>, A: AttrText<A>>(ctx: &mut Context<T, A>, step: Step<A>)
     ensures { PutsBack step.item step.before ctx.old ctx.new }
 {
-    let Step {
-        item,
-        before,
-        location,
-        label,
-    } = step;
-    drop((location, label));
+    let Step { item, before, .. } = step;
     let Some(before) = before else {
         return;
     };

@@ -23,7 +23,7 @@ use Rattle.irtext_grammar.specs.Contexts.Held.{attribute_of}
 use Rattle.irtext_grammar.specs.Grammar.Tree.{Name, Attribute}
 use Rattle.irtext_grammar.specs.Spelling.AttrText.{attr_tree}
 use Rattle.irtext_grammar.specs.Heads.{name_of, name_at, entry_by, dictionary_by, dictionary_at}
-use Rattle.irtext_parse_pieces.specs.Beside.{closed}
+use Rattle.irtext_parse_pieces.specs.Beside.{closed, present}
 use Rattle.irtext_grammar.specs.declared.parsed.Key.{Key}
 use Rattle.irtext_grammar.specs.Parsed.{IsKey, IsEntry, AreEntries, Optional}
 use Rattle.irtext_parse_pieces.specs.Entries.{MustEntries, EntriesAfter, dictionary_if}
@@ -90,7 +90,7 @@ module _ {S A : Type 0} (l : Lens S) where
     no_dictionary {old = old} f b h = record { meant = λ _. None; means = h; read = record { answers = rw (f, b) (refl, takes_none l.view l.at l.view_at l.at_at l.at_view old) } }
 
     -- one was parsed
-    pub dictionary_there : {text : Text} {old new : S} {entries : Vec (Key × AttrObj A) Global} → begins (the 91) (l.view old).rest ≡ true → MustMean {A = A} l.view l.at (AreEntries text) (dictionary_at attr) old (Ok entries) new
+    dictionary_there : {text : Text} {old new : S} {entries : Vec (Key × AttrObj A) Global} → begins (the 91) (l.view old).rest ≡ true → MustMean {A = A} l.view l.at (AreEntries text) (dictionary_at attr) old (Ok entries) new
         → MustMean {A = A} l.view l.at (Optional (AreEntries text)) (dictionary_if attr) old (Ok (Some entries)) new
     dictionary_there {old = old} {new = new} {entries = es} b h = record {
       meant = λ _. Some (h.meant es);
@@ -99,9 +99,15 @@ module _ {S A : Type 0} (l : Lens S) where
     }
 
     -- it is an error
-    pub dictionary_refused : {Means : Vec (Key × AttrObj A) Global → List (Name ℕ × Attribute A) → Type 0} {Other : Option (Vec (Key × AttrObj A) Global) → Option (List (Name ℕ × Attribute A)) → Type 0} {old new : S} {fault : ParseFault A} → begins (the 91) (l.view old).rest ≡ true → MustMean l.view l.at Means (dictionary_at attr) old (Err fault) new → MustMean l.view l.at Other (dictionary_if attr) old (Err fault) new
+    dictionary_refused : {Means : Vec (Key × AttrObj A) Global → List (Name ℕ × Attribute A) → Type 0} {Other : Option (Vec (Key × AttrObj A) Global) → Option (List (Name ℕ × Attribute A)) → Type 0} {old new : S} {fault : ParseFault A} → begins (the 91) (l.view old).rest ≡ true → MustMean l.view l.at Means (dictionary_at attr) old (Err fault) new → MustMean l.view l.at Other (dictionary_if attr) old (Err fault) new
     dictionary_refused {old = old} {new = new} {fault = fault} b h =
         record { meant = λ _. None; means = tt; read = record { answers = rw b (refuses_mapped_demanded l.view l.at l.view_at l.at_at Some (l.view old).failed (dictionary_at attr (l.view old).rest) old new fault h.read.answers) } }
+
+    -- one or the other
+    pub dictionary_read : {text : Text} {old new : S} → begins (the 91) (l.view old).rest ≡ true → (r : Result (Vec (Key × AttrObj A) Global) (ParseFault A)) {q : Result (Option (Vec (Key × AttrObj A) Global)) (ParseFault A)} → q ≡ present r → MustMean {A = A} l.view l.at (AreEntries text) (dictionary_at attr) old r new
+        → MustMean {A = A} l.view l.at (Optional (AreEntries text)) (dictionary_if attr) old q new
+    dictionary_read b (Ok es) e h = rw e (dictionary_there b h)
+    dictionary_read b (Err fault) e h = rw e (dictionary_refused b h)
 
 -- what follows the entries
 abbrev after_entries : {A : Type 0} → List (Name ℕ × Attribute A) → Text → Outcome (List (Name ℕ × Attribute A))

@@ -2,22 +2,21 @@
 use Rattle.std.proofs.Common.{◌≡◌, ℕ, Bool, true, false, Ok, Err, List, [], ◌∷◌, ◌++◌, refl, sym, ◌∙◌, ap, subst, inl}
 use Rattle.std.specs.Char.{is_whitespace}
 use Rattle.irtext_base.specs.Text.{Text, front, after}
-use Rattle.irtext_base.specs.Answers.{Outcome, Read, Missing, Bad, Takes, RunsOutHere, Answers, followed, prefixed, unless_failed}
+use Rattle.irtext_base.specs.Answers.{Outcome, Read, Missing, Bad, Takes, RunsOutHere, followed, prefixed}
 use Rattle.irtext_base.specs.Locations.{AttrView}
 use Rattle.irtext_base.specs.declared.parsable.fault.ParseFault.{ParseFault}
 use Rattle.irtext_scopes.specs.Names.{KeepsNames}
-use Rattle.irtext_stream.specs.Stream.{Comes}
 use Rattle.irtext_tokens.specs.Tokens.{space_at, text_at}
 use Rattle.irtext_tokens.specs.Infix.{Reader, ◌⇒◌}
 use Rattle.irtext_tokens.specs.MustRead.{MustRead}
-use Rattle.irtext_tokens.proofs.Spelling.{prefixed-prefixed, whole_gives}
+use Rattle.irtext_tokens.proofs.Spelling.{prefixed-prefixed}
 use Rattle.irtext_tokens.proofs.Steps.{Lens, Passed, starts, first, more, refuses, spaced, turned, ends}
 use Rattle.irtext_grammar.specs.Grammar.Tree as tree
 use Rattle.irtext_grammar.specs.Grammar.Tree.{Piece, Part}
 use Rattle.irtext_grammar.specs.Heads.{Step, front_steps, piece_at}
 use Rattle.irtext_grammar.specs.Resume.{is_flat, front_at}
 use Rattle.irtext_grammar.proofs.Resume.Front.{in_front}
-use Rattle.irtext_base.proofs.Compose.{runs_out_after, answers_demanded}
+use Rattle.irtext_base.proofs.Compose.{runs_out_after}
 use Rattle.irtext_grammar.specs.declared.parsed.ReadPiece.{ReadPiece}
 use Rattle.irtext_grammar.specs.declared.parsed.ReadPiece.TheVariants as read
 use Rattle.irtext_grammar.specs.Parsed.{IsPart, IsPiece, Represents, Each}
@@ -58,14 +57,6 @@ module _ {S T A : Type 0} (l : Lens S) (found more : List (ReadPiece T A)) where
   pub word_found : (w : Text) {names : List Text} {old new : S} → more ≡ found ++ (read.Word ∷ []) → MustRead {A = A} l.view l.at (λ (u : Unit {0}). u) (text_at w) old (Ok tt) new
       → MustFind l.view l.at names (text_at w ⇒ λ _. tree.word w) found more old (Ok tt) new
   word_found w e h = plain_there l (λ _. tree.word w) tt h (read.Word, e, (w, refl))
-
-  -- the text was consumed as a whole
-  pub text_taken : (w : Text) {old new : S} → (l.view old).failed ≡ false → Comes w (l.view old) (λ v. new ≡ l.at old v)
-      → MustRead {A = A} l.view l.at (λ (u : Unit {0}). u) (text_at w) old (Ok tt) new
-  text_taken w {old = old} {new = new} fine h =
-      let outcome = unless_failed (l.view old).failed (text_at w (l.view old).rest) in
-      let k : Answers l.view l.at {A = A} (λ (u : Unit {0}). u) outcome old (Ok tt) new = rw fine (whole_gives l.view l.at l.view_at l.at_view l.at_at w h.0 old new h.1 h.2) in
-      record { answers = answers_demanded l.view l.at l.view_at l.at_at {A = A} (λ u. u) outcome old new new (Ok tt) (Ok tt) k (refl, refl) }
 
   -- it is an error
   pub word_missed : (w : Text) {names : List Text} {old new : S} {fault : ParseFault A} → MustRead {A = A} l.view l.at (λ (u : Unit {0}). u) (text_at w) old (Err fault) new

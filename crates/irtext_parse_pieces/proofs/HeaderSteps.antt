@@ -20,7 +20,7 @@ use Rattle.irtext_grammar.specs.Heads.{label_at, argument_at, mark_if_at, head_a
 use Rattle.irtext_grammar.specs.declared.parsed.Key.{Key}
 use Rattle.irtext_grammar.specs.declared.parsed.ReadMark.{ReadMark}
 use Rattle.irtext_grammar.specs.declared.parsed.ReadName.{ReadName}
-use Rattle.irtext_parse_pieces.specs.Beside.{paired}
+use Rattle.irtext_parse_pieces.specs.Beside.{closed, paired}
 use Rattle.irtext_parse_pieces.specs.Arguments.{IsArgument, MustArguments}
 use Rattle.irtext_grammar.specs.Parsed.{AreEntries, IsMarkIf, Each, Optional}
 use Rattle.irtext_parse_pieces.specs.Entries.{MustDictionaryIf, dictionary_if}
@@ -58,16 +58,21 @@ module _ {S A : Type 0} (l : Lens S) where
       colon_next : Passed l mark_end_at (λ u. mapped (λ _. read2.meant mark) (text_at (codes ":") u)) old s3
       colon_next = spaced l (λ _ u. mapped (λ _. read2.meant mark) (text_at (codes ":") u)) (more l marked (mark_next l fine space1) read2.read) space3
 
-      pub no_colon : {fault : ParseFault A} {new : S} → MustRead {Y = Unit {0}} l.view l.at (λ u. u) (text_at (codes ":")) s3 (Err fault) new → IsEnd old (Err fault) new
+      no_colon : {fault : ParseFault A} {new : S} → MustRead {Y = Unit {0}} l.view l.at (λ u. u) (text_at (codes ":")) s3 (Err fault) new → IsEnd old (Err fault) new
       no_colon h = must_refuse l (refuses_seen l {sees = λ _. None} (λ _. read2.meant mark) colon_next h)
 
       -- all of it was parsed
-      pub mark_read : {s4 : S} → MustRead {A = A} {Y = Unit {0}} l.view l.at (λ u. u) (text_at (codes ":")) s3 (Ok tt) s4 → IsEnd old (Ok mark) s4
+      mark_read : {s4 : S} → MustRead {A = A} {Y = Unit {0}} l.view l.at (λ u. u) (text_at (codes ":")) s3 (Ok tt) s4 → IsEnd old (Ok mark) s4
       mark_read h = record {
         meant = λ _. read2.meant mark;
         means = subst (λ t. IsMarkIf t mark (read2.meant mark)) (passed_whole l (mark_next l fine space1)) read2.means;
         read = last_seen l (λ _. read2.meant mark) (λ _. read2.meant mark) mark refl colon_next h;
       }
+
+      -- one or the other
+      pub colon_closed : (w : Result (Unit {0}) (ParseFault A)) {r : Result (Option ReadMark) (ParseFault A)} {new : S} → r ≡ closed mark w → MustRead {A = A} {Y = Unit {0}} l.view l.at (λ u. u) (text_at (codes ":")) s3 w new → IsEnd old r new
+      colon_closed (Ok u) e h = rw e (mark_read h)
+      colon_closed (Err fault) e h = rw e (no_colon h)
 
   module _ (attr : Text → Outcome (AttrView A)) where
     -- what follows the dictionary

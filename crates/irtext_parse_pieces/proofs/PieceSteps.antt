@@ -1,5 +1,5 @@
 -- Steps of the parsers of pieces.
-use Rattle.std.proofs.Common.{◌≡◌, ℕ, true, false, Result, Ok, Err, Some, None, IfOk, List, [], ◌∷◌, length, refl, ap, subst, ◌∙◌, inr}
+use Rattle.std.proofs.Common.{◌≡◌, ℕ, true, false, Result, Ok, Err, Option, Some, None, IfOk, List, [], ◌∷◌, length, refl, ap, subst, ◌∙◌, inr}
 use Rattle.std.specs.Char.{is_whitespace}
 use Rattle.irtext_base.specs.Text.{Text, front, after}
 use Rattle.irtext_base.specs.Answers.{Outcome, Read, Missing, Bad, Takes, Gives, RunsOutHere, Commits, mapped, demanded, unless_failed}
@@ -22,6 +22,7 @@ use Rattle.irtext_grammar.specs.Readers.Directives.{attribute_at}
 use Rattle.irtext_grammar.specs.Readers.Marker.{marker, starts_with}
 use Rattle.irtext_grammar.specs.Heads.{outlined_or_at}
 use Rattle.irtext_grammar.proofs.Readers.MarkerSteps.{starts_whole, starts_not}
+use Rattle.irtext_parse_pieces.specs.Beside.{closed, present}
 use Rattle.irtext_parse_pieces.specs.Pieces.{MustTypes, TypesAfter}
 use Rattle.irtext_grammar.specs.Parsed.{seen_attribute, Each}
 use Rattle.irtext_parse_pieces.specs.Named.{MayMean, MustMean}
@@ -75,6 +76,11 @@ module _ {S A : Type 0} (l : Lens S) where
   pub plain_there : {X Y V W : Type 0} {Other : W → V → Type 0} {see : Y → X} {f : Text → Outcome X} (k : X → V) (w : W) {old new : S} {y : Y} → MustRead {A = A} l.view l.at see f old (Ok y) new → Other w (k (see y)) → MustMean {A = A} l.view l.at Other (λ t. mapped k (f t)) old (Ok w) new
   plain_there {see = see} k w {y = y} h m = record { meant = λ _. k (see y); means = m; read = seen_alone l {A = A} (λ _. k (see y)) k w refl h }
 
+  -- a piece with the text that was parsed, or the error
+  pub piece_closed : {U V W : Type 0} {Other : W → V → Type 0} {f : Text → Outcome U} (k : U → V) → V → (w : W) {old new : S} (r : Result U (ParseFault A)) {q : Result W (ParseFault A)} → q ≡ closed w r → MustRead {A = A} l.view l.at (λ u. u) f old r new → ((u : U) → Other w (k u)) → MustMean l.view l.at Other (λ t. mapped k (f t)) old q new
+  piece_closed k v w (Ok u) e h m = rw e (plain_there k w h (m u))
+  piece_closed k v w (Err fault) e h m = rw e (piece_refused l k v h)
+
   -- out of memory after what was parsed
   pub piece_ran_out : {X Y V W : Type 0} {Other : W → V → Type 0} {see : Y → X} {f : Text → Outcome X} (k : X → V) → V → {old mid new : S} {y : Y} {fault : ParseFault A} → MustRead {A = A} l.view l.at see f old (Ok y) mid → RunsOutHere l.view l.at mid fault new → MustMean l.view l.at Other (λ t. mapped k (f t)) old (Err fault) new
   piece_ran_out {W = W} {f = f} k v {old = old} h s =
@@ -98,13 +104,18 @@ module _ {S A : Type 0} (l : Lens S) where
         record { answers = rw b (seen_alone l {A = A} seen_attribute (λ _. None) None refl g).answers }
 
     -- the marker does not follow, and an attribute was parsed
-    pub not_outlined : {old mid new : S} {a : AttrObj A} → BeginsOtherwise marker (l.view old).rest × (mid ≡ old) → MustRead {A = A} l.view l.at attribute_of (attribute_at attr) mid (Ok a) new → MustRead {A = A} l.view l.at seen_attribute (outlined_or_at attr) old (Ok (Some a)) new
-    not_outlined {old = old} {mid = mid} {new = new} {a = a} h m =
+    outlined_there : {old mid new : S} {a : AttrObj A} → BeginsOtherwise marker (l.view old).rest × (mid ≡ old) → MustRead {A = A} l.view l.at attribute_of (attribute_at attr) mid (Ok a) new → MustRead {A = A} l.view l.at seen_attribute (outlined_or_at attr) old (Ok (Some a)) new
+    outlined_there {old = old} {mid = mid} {new = new} {a = a} h m =
         let here : MustRead {A = A} l.view l.at attribute_of (attribute_at attr) old (Ok a) new = subst (λ s. MustRead {A = A} l.view l.at attribute_of (attribute_at attr) s (Ok a) new) h.1 m in
         record { answers = rw (starts_not marker (l.view old).rest h.0) (seen_alone l {A = A} seen_attribute Some (Some a) refl here).answers }
 
     -- nor does an attribute
-    pub not_outlined_refused : {old mid new : S} {fault : ParseFault A} → BeginsOtherwise marker (l.view old).rest × (mid ≡ old) → MustRead l.view l.at attribute_of (attribute_at attr) mid (Err fault) new → MustRead l.view l.at seen_attribute (outlined_or_at attr) old (Err fault) new
-    not_outlined_refused {old = old} {mid = mid} {new = new} {fault = fault} h m =
+    outlined_refused : {old mid new : S} {fault : ParseFault A} → BeginsOtherwise marker (l.view old).rest × (mid ≡ old) → MustRead l.view l.at attribute_of (attribute_at attr) mid (Err fault) new → MustRead l.view l.at seen_attribute (outlined_or_at attr) old (Err fault) new
+    outlined_refused {old = old} {mid = mid} {new = new} {fault = fault} h m =
         let here : MustRead l.view l.at attribute_of (attribute_at attr) old (Err fault) new = subst (λ s. MustRead l.view l.at attribute_of (attribute_at attr) s (Err fault) new) h.1 m in
         record { answers = rw (starts_not marker (l.view old).rest h.0) (refuses_mapped_demanded l.view l.at l.view_at l.at_at Some (l.view old).failed (attribute_at attr (l.view old).rest) old new fault here.answers) }
+
+    -- one or the other
+    pub not_outlined : {old mid new : S} → BeginsOtherwise marker (l.view old).rest × (mid ≡ old) → (r : Result (AttrObj A) (ParseFault A)) {q : Result (Option (AttrObj A)) (ParseFault A)} → q ≡ present r → MustRead {A = A} l.view l.at attribute_of (attribute_at attr) mid r new → MustRead {A = A} l.view l.at seen_attribute (outlined_or_at attr) old q new
+    not_outlined h (Ok a) e m = rw e (outlined_there h m)
+    not_outlined h (Err fault) e m = rw e (outlined_refused h m)

@@ -1,5 +1,6 @@
 -- Between functions: what the parsed dictionaries represent.
-use Rattle.std.specs.Prelude.{◌≡◌, ℕ, true, false, IfSome, List, [], ◌∷◌, length, Option, Some, None, Result, Ok, Err, Vec}
+use Rattle.std.specs.Prelude.{◌≡◌, ℕ, Bool, true, false, IfSome, List, [], ◌∷◌, length, Option, Some, None, Result, Ok, Err, Vec}
+use Rattle.std.specs.Char.{is_whitespace}
 use Rattle.std.specs.Global.{Global}
 use Rattle.std.specs.List.{list_all}
 use Rattle.irtext_base.specs.Text.{Text, begins, in_word}
@@ -11,12 +12,14 @@ use Rattle.irtext_base.specs.Locations.{AttrView}
 use Rattle.irtext_base.specs.declared.base.attributes.AttrObj.{AttrObj}
 use Rattle.irtext_base.specs.declared.parsable.fault.ParseFault.{ParseFault}
 use Rattle.irtext_stream.specs.declared.position.Place.{Place}
+use Rattle.irtext_tokens.specs.AttrTexts.{attr_at}
 use Rattle.irtext_tokens.specs.Infix.{Reader, nothing, either, ◌⇒◌}
 use Rattle.irtext_tokens.specs.ListOutcomes.{items_after}
+use Rattle.irtext_tokens.specs.Reads.{TakesFront}
 use Rattle.irtext_grammar.specs.Contexts.Held.{attribute_of}
 use Rattle.irtext_grammar.specs.Grammar.Tree.{Name, Attribute}
 use Rattle.irtext_grammar.specs.Names.Acts.{may_hold}
-use Rattle.irtext_grammar.specs.Heads.{dictionary_at}
+use Rattle.irtext_grammar.specs.Heads.{dictionary_at, dictionary_by}
 use Rattle.irtext_grammar.specs.Readers.Operations.{RefusesAt}
 use Rattle.irtext_grammar.specs.declared.parsed.Key.{Key}
 use Rattle.irtext_parse_pieces.specs.Named.{whole, MustMean}
@@ -45,6 +48,10 @@ module _ {S A : Type 0} (view : S → StreamView) (at : S → StreamView → S) 
   abbrev pub MustEntries : (Text → Outcome (List (Name ℕ × Attribute A))) → S → Result (Vec (Key × AttrObj A) Global) (ParseFault A) → S → Type 0
   MustEntries outcome old result new = MustMean view at (AreEntries (whole (view old))) outcome old result new
 
+  -- the result is the dictionary that comes next, or its fault, where attributes are parsed by this reading
+  abbrev pub MustDictionary : (Text → Outcome A) → Bool → S → Result (Vec (Key × AttrObj A) Global) (ParseFault A) → S → Type 0
+  MustDictionary reading inside old result new = MustEntries (dictionary_by (attr_at reading) inside) old result new
+
   -- given a first entry, the result is the list of entries that continues it, or its fault
   abbrev pub EntriesAfter : (Text → Outcome (Name ℕ × Attribute A)) → Key × AttrObj A → S → Result (Vec (Key × AttrObj A) Global) (ParseFault A) → S → Type 0
   EntriesAfter item first old result new = (entry : Name ℕ × Attribute A) → IsEntry (whole (view old)) first entry → (view old).failed ≡ false
@@ -53,3 +60,9 @@ module _ {S A : Type 0} (view : S → StreamView) (at : S → StreamView → S) 
   -- the result is the dictionary that comes next, or none, or its fault
   abbrev pub MustDictionaryIf : (Text → Outcome (AttrView A)) → S → Result (Option (Vec (Key × AttrObj A) Global)) (ParseFault A) → S → Type 0
   MustDictionaryIf attr old result new = MustMean view at (Optional (AreEntries (whole (view old)))) (dictionary_if attr) old result new
+
+  -- white space was consumed, and then the result is as above
+  pub record SpacedDictionaryIf (attr : Text → Outcome (AttrView A)) (old : S) (result : Result (Option (Vec (Key × AttrObj A) Global)) (ParseFault A)) (new : S) : Type 0 where
+    pub mid : S
+    pub space : TakesFront view at is_whitespace old mid
+    pub read : MustDictionaryIf attr mid result new

@@ -1,5 +1,5 @@
 -- Between functions: what was parsed before an operation's first region.
-use Rattle.std.specs.Prelude.{◌≡◌, ℕ, Bool, false, List, [], ◌∷◌, ◌++◌, length, MatchBool, Result}
+use Rattle.std.specs.Prelude.{◌≡◌, ℕ, Bool, List, [], ◌∷◌, ◌++◌, length, Result}
 use Rattle.irtext_base.specs.Text.{Text}
 use Rattle.irtext_base.specs.Stream.{StreamView}
 use Rattle.irtext_base.specs.Answers.{Outcome}
@@ -32,11 +32,6 @@ ComeSpaced (t ∷ ts) v w = Comes t (after_spaces v) (λ u. ComeSpaced ts u w)
 -- there is one piece for each step before the first region
 abbrev pub HasFront : {T A : Type 0} → List Step → List (ReadPiece T A) → Type 0
 HasFront steps found = length found ≡ length (front_steps steps)
-
-module _ {S : Type 0} (view : S → StreamView) (at : S → StreamView → S) where
-  -- the stream had not failed, and the text was consumed; otherwise the stream is unchanged
-  abbrev pub TakesText : Text → S → Bool → S → Type 0
-  TakesText text old result new = MatchBool result (((view old).failed ≡ false) × Comes text (view old) (λ v. new ≡ at old v)) (new ≡ old)
 
 module _ {S T A : Type 0} (view : S → StreamView) (at : S → StreamView → S) where
   -- the first of these texts, as many as these, were consumed, with white space before each, and appended to the pieces

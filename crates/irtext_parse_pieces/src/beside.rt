@@ -1,6 +1,6 @@
 //! Values beside the results of parsers that come after them. A value that is passed on so has no exit at which its caller ends it.
 ghost use Rattle.std.specs.Prelude.{◌≡◌, Err};
-ghost use Rattle.irtext_parse_pieces.specs.Beside.{paired, closed};
+ghost use Rattle.irtext_parse_pieces.specs.Beside.{paired, closed, present};
 
 use irtext_base::parsable::{ParseFault, ParseResult};
 
@@ -15,13 +15,24 @@ pub(crate) fn beside<X: Drop, Y, A>(value: X, answer: ParseResult<Y, A>) -> Pars
     }
 }
 
-/// Returns a value if what closes it was parsed, or the error.
+/// Returns a value if the text that it comes with was parsed, or the error.
 #[inline(always)]
 pub(crate) fn closed_by<X: Drop, A>(value: X, answer: ParseResult<(), A>) -> ParseResult<X, A>
     ensures { result ≡ closed value answer }
 {
     match answer {
         Ok(()) => Ok(value),
+        Err(fault) => Err(fault),
+    }
+}
+
+/// Returns the value of a result as one that is there, or the result's error.
+#[inline(always)]
+pub(crate) fn present<X, A>(answer: ParseResult<X, A>) -> ParseResult<Option<X>, A>
+    ensures { result ≡ present answer }
+{
+    match answer {
+        Ok(value) => Ok(Some(value)),
         Err(fault) => Err(fault),
     }
 }

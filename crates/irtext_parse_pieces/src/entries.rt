@@ -8,12 +8,12 @@ ghost use Rattle.irtext_tokens.specs.MustRead.{MustRead};
 ghost use Rattle.irtext_grammar.specs.Readers.Directives.{attribute_at};
 ghost use Rattle.irtext_grammar.specs.Contexts.Held.{attribute_of};
 ghost use Rattle.irtext_grammar.specs.Names.Acts.{is_given, may_hold};
-ghost use Rattle.irtext_grammar.specs.Heads.{name_at, pair_at, entry_by, dictionary_by};
+ghost use Rattle.irtext_grammar.specs.Heads.{name_at, pair_at, entry_by};
 ghost use Rattle.irtext_grammar.specs.Parsed.{IsKey, IsEntry};
-ghost use Rattle.irtext_parse_pieces.specs.Entries.{TakesWord, Allows, MustEntries, EntriesAfter, MustDictionaryIf};
+ghost use Rattle.irtext_parse_pieces.specs.Entries.{TakesWord, Allows, MustEntries, MustDictionary, EntriesAfter, MustDictionaryIf};
 ghost use Rattle.irtext_parse_pieces.specs.Named.{MayMean, whole};
 
-use crate::beside::{beside, closed_by, failed};
+use crate::beside::{beside, closed_by, failed, present};
 use crate::keys::Keys;
 use crate::lists::{comma_taken, ended, none_named, unless_committed};
 use irtext_base::base::{AttrObj, Identifier};
@@ -256,8 +256,7 @@ fn bracketed_parse<S: OwnStream, A: AttrText<A>>(
     keys: &mut Keys,
     inside: bool,
 ) -> ParseResult<Vec<ReadEntry<A>>, A>
-    ensures { MustEntries S.CharStream.view S.CharStream.at
-        (dictionary_by (attr_at A.IrText.reading) inside) stream.old result stream.new }
+    ensures { MustDictionary S.CharStream.view S.CharStream.at A.IrText.reading inside stream.old result stream.new }
 {
     if let Err(fault) = text_demanded(stream, "[") {
         return Err(fault);
@@ -281,8 +280,7 @@ pub fn dictionary_parse<S: OwnStream, A: AttrText<A>>(
     keys: &mut Keys,
     inside: bool,
 ) -> ParseResult<Vec<ReadEntry<A>>, A>
-    ensures { MustEntries S.CharStream.view S.CharStream.at
-        (dictionary_by (attr_at A.IrText.reading) inside) stream.old result stream.new }
+    ensures { MustDictionary S.CharStream.view S.CharStream.at A.IrText.reading inside stream.old result stream.new }
 {
     if stream.has_failed() {
         return bracketed_parse(stream, keys, inside);
@@ -307,8 +305,6 @@ pub fn dictionary_if_parse<S: OwnStream, A: AttrText<A>>(
     if !next_is(stream, '[') {
         return Ok(None);
     }
-    match dictionary_parse(stream, keys, true) {
-        Ok(entries) => Ok(Some(entries)),
-        Err(fault) => Err(fault),
-    }
+    let answer = dictionary_parse(stream, keys, true);
+    present(answer)
 }

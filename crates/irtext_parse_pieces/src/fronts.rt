@@ -1,13 +1,12 @@
 //! Parsing of the parts of an operation that its format has before its first region.
-ghost use Rattle.std.specs.Prelude.{◌≡◌, ◌+◌, ◌<◌, ◌^◌, ℕ, Bool, List, false, length, IfOk, MatchBool, Ok};
-ghost use Rattle.irtext_base.specs.Faults.{characters};
+ghost use Rattle.std.specs.Prelude.{◌≡◌, ◌+◌, ◌<◌, ◌^◌, ℕ, List, false, length, IfOk};
 ghost use Rattle.irtext_base.specs.Text.{Text};
 ghost use Rattle.irtext_base.specs.FormatViews.{format_of};
 ghost use Rattle.irtext_tokens.specs.AttrTexts.{attr_at};
 ghost use Rattle.irtext_tokens.specs.Infix.{Reader};
 ghost use Rattle.irtext_grammar.specs.Grammar.Tree.{Piece};
 ghost use Rattle.irtext_grammar.specs.Heads.{canonical_steps, steps_of, piece_at};
-ghost use Rattle.irtext_parse_pieces.specs.Fronts.{HasFront, TakesText, MustFront, MustFind};
+ghost use Rattle.irtext_parse_pieces.specs.Fronts.{HasFront, MustFront, MustFind};
 ghost use Rattle.irtext_parse_pieces.specs.Named.{NamesRead};
 ghost use Rattle.irtext_parse_pieces.specs.Pieces.{MustPiece};
 ghost use Rattle.irtext_parse_pieces.specs.Steps.{custom_steps, seen_step};
@@ -15,7 +14,7 @@ ghost use Rattle.irtext_parse_pieces.specs.Steps.{custom_steps, seen_step};
 use crate::beside::failed;
 use crate::canonical::canonical_parse;
 use crate::keys::Keys;
-use crate::pieces::{accepts, step_parse};
+use crate::pieces::step_parse;
 use crate::steps::{FormatStep, custom_step, reads_piece, word_of};
 use irtext_base::format::{Directive, OpFormat};
 use irtext_base::parsable::{CharStream, ParseResult};
@@ -29,43 +28,6 @@ use irtext_tokens::irfmt::faults::{out_of_memory, refuse};
 use irtext_tokens::irfmt::parsers::skip_white_space;
 use irtext_tokens::parsable::OwnStream;
 use std::alloc::AllocError;
-
-/// Consumes a fixed text if the whole of it comes next, and returns whether it does. Otherwise, and on a stream that has failed, nothing
-/// changes.
-#[inline(always)]
-fn text_taken<S: CharStream>(stream: &mut S, text: &str) -> bool
-    ensures { TakesText S.view S.at (characters text.now) stream.old result stream.new }
-{
-    if stream.has_failed() {
-        return false;
-    }
-    accepts(stream, text)
-}
-
-/// Consumes the fixed text that a step is, if it is one and the whole of it comes next, and appends it to the pieces. Returns whether it
-/// did; otherwise nothing changes. Makes no error, so that a text that is there costs little.
-#[inline(always)]
-fn word_found<S: CharStream, T: IrText<A>, A: AttrText<A>>(
-    stream: &mut S,
-    step: FormatStep<'_>,
-    found: &mut CustomPieces<T, A>,
-) -> bool
-    requires { length found.old + 1 < 2 ^ 64 }
-    ensures { MatchBool result
-        ((names : List Text) (inside : Bool) → MustFind S.view S.at names
-        (piece_at T.IrText.reading (attr_at A.IrText.reading) inside (seen_step step.entry))
-        found.old found.new stream.old (Ok tt) stream.new)
-        ((stream.new ≡ stream.old) × (found.new ≡ found.old)) }
-{
-    let Some(word) = word_of(step) else {
-        return false;
-    };
-    if !text_taken(stream, word) {
-        return false;
-    }
-    found.push_word();
-    true
-}
 
 /// Appends a piece that was parsed to the pieces, or returns its error.
 #[inline(always)]
@@ -89,9 +51,10 @@ fn piece_kept<S: CharStream, T: Drop, A: Drop>(
     }
 }
 
-/// Parses what a step of a format describes, which is no region, and appends it to the pieces. Every error is committed.
+/// Parses what a step of a format describes, which is no region, and appends it to the pieces. Every error is committed. A fixed text that
+/// comes next as a whole costs little.
 #[inline(always)]
-fn step_found<S: OwnStream, V: Copy, B: Copy, T: IrText<A>, A: AttrText<A>>(
+fn piece_found<S: OwnStream, V: Copy, B: Copy, T: IrText<A>, A: AttrText<A>>(
     stream: &mut S,
     names: &mut NameTracker<V, B>,
     step: FormatStep<'_>,
@@ -114,29 +77,6 @@ fn step_found<S: OwnStream, V: Copy, B: Copy, T: IrText<A>, A: AttrText<A>>(
     }
     let answer = step_parse(stream, names, step, inside, keys);
     piece_kept(stream, found, answer)
-}
-
-/// Parses what a step of a format describes, which is no region, and appends it to the pieces. Every error is committed. A fixed text that
-/// comes next as a whole costs little.
-#[inline(always)]
-fn piece_found<S: OwnStream, V: Copy, B: Copy, T: IrText<A>, A: AttrText<A>>(
-    stream: &mut S,
-    names: &mut NameTracker<V, B>,
-    step: FormatStep<'_>,
-    inside: bool,
-    keys: &mut Keys,
-    found: &mut CustomPieces<T, A>,
-) -> ParseResult<(), A>
-    requires { length found.old + 1 < 2 ^ 64 }
-    ensures read { MustFind S.CharStream.view S.CharStream.at names.new.names
-        (piece_at T.IrText.reading (attr_at A.IrText.reading) inside (seen_step step.entry)) found.old
-        found.new stream.old result stream.new }
-    ensures names { NamesRead names.old names.new }
-{
-    if word_found(stream, step, found) {
-        return Ok(());
-    }
-    step_found(stream, names, step, inside, keys, found)
 }
 
 /// Parses what the directives of a format describe, up to the first one that parses regions, with white space before each.

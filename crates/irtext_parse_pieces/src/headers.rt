@@ -1,13 +1,13 @@
 //! Parsing of the headers of blocks.
 ghost use Rattle.std.specs.Prelude.{◌≡◌, false};
 ghost use Rattle.irtext_tokens.specs.AttrTexts.{attr_at};
-ghost use Rattle.irtext_parse_pieces.specs.Entries.{MustDictionaryIf};
+ghost use Rattle.irtext_parse_pieces.specs.Entries.{SpacedDictionaryIf};
 ghost use Rattle.irtext_parse_pieces.specs.Headers.{mark_end_at, MustHead, MustHeadEnd};
 ghost use Rattle.irtext_grammar.specs.Parsed.{IsMarkIf};
 ghost use Rattle.irtext_parse_pieces.specs.Named.{MustMean, NamesRead, whole};
 
 use crate::arguments::arguments_parse;
-use crate::beside::{beside, failed};
+use crate::beside::{beside, closed_by, failed};
 use crate::entries::dictionary_if_parse;
 use crate::keys::Keys;
 use crate::lists::ended;
@@ -34,14 +34,15 @@ pub struct BlockHead<T, A> {
 /// What a block's header has after its arguments: the entries of its dictionary if it has one, and its mark if it has one.
 type HeadEnd<A> = (Option<Vec<ReadEntry<A>>>, Option<ReadMark>);
 
-/// Parses a dictionary as `dictionary_if_parse` does, and keeps no key.
+/// Parses white space, and a dictionary as `dictionary_if_parse` does, and keeps no key.
 #[inline(always)]
 fn dictionary_alone<S: OwnStream, A: AttrText<A>>(
     stream: &mut S,
 ) -> ParseResult<Option<Vec<ReadEntry<A>>>, A>
-    ensures { MustDictionaryIf S.CharStream.view S.CharStream.at (attr_at A.IrText.reading) stream.old result
-        stream.new }
+    ensures { SpacedDictionaryIf S.CharStream.view S.CharStream.at (attr_at A.IrText.reading) stream.old
+        result stream.new }
 {
+    skip_white_space(stream);
     let mut keys = Keys::none(stream.allocator());
     let entries = dictionary_if_parse(stream, &mut keys);
     ended(keys);
@@ -61,10 +62,8 @@ fn mark_end_parse<S: CharStream, A>(stream: &mut S) -> ParseResult<Option<ReadMa
         Err(fault) => return Err(fault),
     };
     skip_white_space(stream);
-    match text_demanded(stream, ":") {
-        Ok(()) => Ok(mark),
-        Err(fault) => Err(fault),
-    }
+    let answer = text_demanded(stream, ":");
+    closed_by(mark, answer)
 }
 
 /// Parses what a block's header has after its arguments: `)`, a dictionary if `[` comes next, a mark if `!` comes next, and `:`. Every
@@ -77,7 +76,6 @@ fn head_end_parse<S: OwnStream, A: AttrText<A>>(stream: &mut S) -> ParseResult<H
     if let Err(fault) = text_demanded(stream, ")") {
         return Err(fault);
     }
-    skip_white_space(stream);
     let attributes = match dictionary_alone(stream) {
         Ok(attributes) => attributes,
         Err(fault) => return Err(fault),

@@ -16,7 +16,7 @@ ghost use Rattle.irtext_parse_pieces.specs.Pieces.{Accepts, AnyPiece, MustPiece}
 ghost use Rattle.irtext_parse_pieces.specs.Named.{NamesRead};
 ghost use Rattle.irtext_parse_pieces.specs.Steps.{seen_step};
 
-use crate::beside::failed;
+use crate::beside::{closed_by, failed, present};
 use crate::entries::{attr_demanded, dictionary_parse};
 use crate::keys::Keys;
 use crate::lists::{named_parse, names_parse};
@@ -38,7 +38,7 @@ use irtext_tokens::parsable::OwnStream;
 pub type PieceResult<T, A> = ParseResult<ReadPiece<T, A>, A>;
 
 /// Consumes a fixed text if the whole of it comes next, and returns whether it does.
-pub(crate) fn accepts<S: CharStream>(stream: &mut S, text: &str) -> bool
+fn accepts<S: CharStream>(stream: &mut S, text: &str) -> bool
     ensures { Accepts S.view S.at (characters text.now) stream.old result stream.new }
 {
     stream.accept(text)
@@ -57,10 +57,8 @@ fn outlined_or_demanded<S: OwnStream, A: AttrText<A>>(
     if accepts(stream, "!outlined") {
         return Ok(None);
     }
-    match attr_demanded(stream) {
-        Ok(attr) => Ok(Some(attr)),
-        Err(fault) => Err(fault),
-    }
+    let answer = attr_demanded(stream);
+    present(answer)
 }
 
 /// Parses a fixed text.
@@ -71,10 +69,8 @@ fn word_piece<S: OwnStream, T: IrText<A>, A: AttrText<A>>(
     ensures { AnyPiece S.CharStream.view S.CharStream.at
         (text_at (characters text.now) ⇒ λ _. word (characters text.now)) stream.old result stream.new }
 {
-    match text_demanded(stream, text) {
-        Ok(()) => Ok(ReadPiece::Word),
-        Err(fault) => Err(fault),
-    }
+    let answer = text_demanded(stream, text);
+    closed_by(ReadPiece::Word, answer)
 }
 
 /// Parses the name of an operand or the label of a successor, the one at this place.

@@ -262,11 +262,19 @@ unfolding encode_utf8
 return_missed bs u h = sym (unreturned (chars bs) (λ ys e. h (encode_utf8_all ys) (sym (encodes-chars bs u) ∙ ap encode_utf8_all e ∙ encodes-append ys (13 ∷ []))))
 
 -- ---- places
-pub next_line : (text rest : Text) (k m n : ℕ) → m ≡ suc k → after is_in_line text ≡ 10 ∷ rest → place_in text m n ≡ place_in rest k n
-next_line text rest k m n c e = ap (λ m. place_in text m n) c ∙ ap (λ t. after_newline text t (λ rest. place_in rest k n)) e
+-- what is left of a text where lines are still to be passed
+abbrev beyond : Text → Text → ℕ → ℕ → Parts
+beyond text t k n = after_newline text t (λ rest. place_in rest k n)
 
-pub last_line : (text : Text) (k m n : ℕ) → m ≡ suc k → after is_in_line text ≡ [] → place_in text m n ≡ record { before = without_return text; rest = [] }
-last_line text k m n c e = ap (λ m. place_in text m n) c ∙ ap (λ t. after_newline text t (λ rest. place_in rest k n)) e
+module _ (text : Text) (lines line n : ℕ) (more : line < lines) where
+  passing : place_in text (lines - line) n ≡ beyond text (after is_in_line text) (lines - (line + 1)) n
+  passing = let one : lines - line ≡ suc (lines - (line + 1)) = omega arith in ap (λ m. place_in text m n) one
+
+  pub next_line : (rest : Text) → after is_in_line text ≡ 10 ∷ rest → place_in text (lines - line) n ≡ place_in rest (lines - (line + 1)) n
+  next_line rest e = passing ∙ ap (λ t. beyond text t (lines - (line + 1)) n) e
+
+  pub last_line : after is_in_line text ≡ [] → place_in text (lines - line) n ≡ record { before = without_return text; rest = [] }
+  last_line e = passing ∙ ap (λ t. beyond text t (lines - (line + 1)) n) e
 
 pub in_line : (text line : Text) (m n : ℕ) → m ≡ 0 → without_return (front is_in_line text) ≡ line → place_in text m n ≡ record { before = take n line; rest = drop n line }
 in_line text line m n c e = ap (λ m. place_in text m n) c ∙ ap (λ t. after_characters n t) e

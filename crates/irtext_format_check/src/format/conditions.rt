@@ -2,7 +2,7 @@
 ghost use Rattle.std.specs.Prelude.{◌≡◌, ◌&&◌, ◌||◌, not, nat_lt, length, MatchResult};
 ghost use Rattle.std.specs.List.{list_all};
 ghost use Rattle.irtext_base.specs.FormatViews.{directives_of};
-ghost use Rattle.irtext_format_check.specs.Directives.{places_of, condition_number, free_keys};
+ghost use Rattle.irtext_format_check.specs.Directives.{places_of, condition_number, free_keys, meets, first_of};
 ghost use Rattle.irtext_base.specs.Format.{c1, c2, c3, c4, c5, c6, c7, c8, are_places, ascend, custom, first_fault};
 ghost use Rattle.irtext_base.specs.Format.{same_text, has, keys, count, is_dictionary, is_header, sym_name_key};
 
@@ -120,34 +120,51 @@ fn c8(directives: &[Directive]) -> bool
     rules::lists_end(directives)
 }
 
+/// The conditions, in the order in which they are checked.
+const IN_ORDER: &[FormatFault] = &[
+    FormatFault::LiteralNotPrintable,
+    FormatFault::OperandIndices,
+    FormatFault::SuccessorIndices,
+    FormatFault::ResultTypeIndices,
+    FormatFault::RegionOrder,
+    FormatFault::AttributeKeys,
+    FormatFault::NameAfterRegion,
+    FormatFault::AmbiguousList,
+];
+
+/// Whether the directives meet a condition.
+fn meets(condition: FormatFault, directives: &[Directive]) -> bool
+    ensures { result ≡ meets condition (directives_of directives.now) }
+{
+    match condition {
+        FormatFault::LiteralNotPrintable => c1(directives),
+        FormatFault::OperandIndices => c2(directives),
+        FormatFault::SuccessorIndices => c3(directives),
+        FormatFault::ResultTypeIndices => c4(directives),
+        FormatFault::RegionOrder => c5(directives),
+        FormatFault::AttributeKeys => c6(directives),
+        FormatFault::NameAfterRegion => c7(directives),
+        FormatFault::AmbiguousList => c8(directives),
+    }
+}
+
+/// Returns the first of these conditions that the directives fail as an error, if there is one.
+fn check_each(conditions: &[FormatFault], directives: &[Directive]) -> Result<(), FormatFault>
+    ensures { MatchResult result (λ _. first_of conditions.now (directives_of directives.now) ≡ 0)
+        (λ fault. first_of conditions.now (directives_of directives.now) ≡ condition_number fault) }
+{
+    for condition in conditions {
+        if !meets(*condition, directives) {
+            return Err(*condition);
+        }
+    }
+    Ok(())
+}
+
 /// Returns the first condition that the directives fail as an error, if there is one.
 pub(crate) fn check(directives: &[Directive]) -> Result<(), FormatFault>
     ensures { MatchResult result (λ _. first_fault (custom (directives_of directives.now)) ≡ 0)
         (λ fault. first_fault (custom (directives_of directives.now)) ≡ condition_number fault) }
 {
-    if !c1(directives) {
-        return Err(FormatFault::LiteralNotPrintable);
-    }
-    if !c2(directives) {
-        return Err(FormatFault::OperandIndices);
-    }
-    if !c3(directives) {
-        return Err(FormatFault::SuccessorIndices);
-    }
-    if !c4(directives) {
-        return Err(FormatFault::ResultTypeIndices);
-    }
-    if !c5(directives) {
-        return Err(FormatFault::RegionOrder);
-    }
-    if !c6(directives) {
-        return Err(FormatFault::AttributeKeys);
-    }
-    if !c7(directives) {
-        return Err(FormatFault::NameAfterRegion);
-    }
-    if !c8(directives) {
-        return Err(FormatFault::AmbiguousList);
-    }
-    Ok(())
+    check_each(IN_ORDER, directives)
 }

@@ -10,9 +10,9 @@ ghost use Rattle.irtext_tokens.specs.MustRead.{MustRead};
 ghost use Rattle.irtext_grammar.specs.Contexts.Held.{location_over};
 ghost use Rattle.irtext_grammar.specs.Readers.NewPaths.{AddsPaths, MayReadOver, known_location, PushesRow};
 ghost use Rattle.irtext_grammar.specs.Readers.Streams.{itself, replaced};
-ghost use Rattle.irtext_parse_locations.specs.Frames.{progress_over, progress_kept, fused_opening_at};
+ghost use Rattle.irtext_parse_locations.specs.Frames.{OpensLocation, fused_opening_at, metadata_in, to_its_end};
 ghost use Rattle.irtext_parse_locations.specs.Frames.{call_site_head_at, ReadsProgress, ReadsAfter};
-ghost use Rattle.irtext_parse_locations.specs.Frames.{ReadsOpening, row_end_at};
+ghost use Rattle.irtext_parse_locations.specs.Frames.{row_end_at};
 ghost use Rattle.irtext_parse_locations.specs.Sourced.{Keeps, ReadsWithin, ReadsNested};
 ghost use Rattle.irtext_parse_locations.specs.declared.location.frame.Frame.TheVariants.{Fused};
 ghost use Rattle.irtext_parse_locations.specs.declared.location.frame.Progress.TheVariants.{Inside};
@@ -58,6 +58,19 @@ fn attr_demanded<A: AttrText<A>>(stream: &mut TextStream) -> ParseResult<AttrObj
     committed(stream, answer)
 }
 
+/// Parses an attribute in `<` and `>`.
+fn metadata_there<A: AttrText<A>>(stream: &mut TextStream) -> ParseResult<Option<AttrObj<A>>, A>
+    ensures { MustRead itself replaced attr_view_in (metadata_in (attr_at A.IrText.reading)) stream.old result
+        stream.new }
+{
+    text_demanded(stream, "<")?;
+    skip_white_space(stream);
+    let attr = attr_demanded(stream)?;
+    skip_white_space(stream);
+    text_demanded(stream, ">")?;
+    Ok(Some(attr))
+}
+
 /// Parses an attribute in `<` and `>` if `<` comes next; otherwise returns `None`.
 fn metadata_demanded<A: AttrText<A>>(stream: &mut TextStream) -> ParseResult<Option<AttrObj<A>>, A>
     ensures { MustRead itself replaced attr_view_in (metadata_at (attr_at A.IrText.reading)) stream.old result
@@ -69,12 +82,7 @@ fn metadata_demanded<A: AttrText<A>>(stream: &mut TextStream) -> ParseResult<Opt
     if !next_is(stream, '<') {
         return Ok(None);
     }
-    text_demanded(stream, "<")?;
-    skip_white_space(stream);
-    let attr = attr_demanded(stream)?;
-    skip_white_space(stream);
-    text_demanded(stream, ">")?;
-    Ok(Some(attr))
+    metadata_there(stream)
 }
 
 /// Parses a name, and what comes before the location that it names.
@@ -163,9 +171,7 @@ fn location_opened<T: IrText<A>, A: AttrText<A>>(
     stream: &mut TextStream,
     ctx: &mut Context<T, A>,
 ) -> ParseResult<Progress<A>, A>
-    ensures adds { AddsPaths ctx.old ctx.new }
-    ensures read { ReadsOpening A.IrText.reading ctx.new.paths stream.old result stream.new }
-    ensures paths { Keeps progress_over progress_kept ctx.old.paths ctx.new.paths result }
+    ensures { OpensLocation A.IrText.reading ctx.old stream.old ctx.new result stream.new }
 {
     if stream.has_failed() {
         return Err(refuse(stream, Cause::StreamFailed));
@@ -212,6 +218,16 @@ fn row_after<A: AttrText<A>>(
     row_ended(stream, metadata, locations)
 }
 
+/// Returns a location that was made as one that is parsed to its end, or the error.
+fn whole<A>(made: ParseResult<Location<A>, A>) -> ParseResult<Progress<A>, A>
+    ensures { result ≡ to_its_end made }
+{
+    match made {
+        Ok(location) => Ok(Progress::Whole(location)),
+        Err(fault) => Err(fault),
+    }
+}
+
 /// Parses what follows a location inside of another one, up to the end of that one or to its next location.
 fn location_after<A: AttrText<A>>(
     stream: &mut TextStream,
@@ -224,8 +240,7 @@ fn location_after<A: AttrText<A>>(
     match frame {
         Frame::Named(name) => {
             text_demanded(stream, ")")?;
-            let location = named_made(stream, name, location)?;
-            Ok(Progress::Whole(location))
+            whole(named_made(stream, name, location))
         }
         Frame::Callee => {
             spaced_text_demanded(stream, "at")?;
@@ -233,8 +248,7 @@ fn location_after<A: AttrText<A>>(
         }
         Frame::Caller(callee) => {
             spaced_text_demanded(stream, ")")?;
-            let location = call_site_made(stream, callee, location)?;
-            Ok(Progress::Whole(location))
+            whole(call_site_made(stream, callee, location))
         }
         Frame::Fused {
             metadata,

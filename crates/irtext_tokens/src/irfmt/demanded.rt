@@ -1,4 +1,6 @@
 //! Parsers of tokens that are required: if the token is missing, the error is committed and the stream is left failed.
+ghost use Rattle.std.specs.Prelude.{◌≡◌, MatchBool};
+ghost use Rattle.irtext_base.specs.Answers.{Gives, unless_failed};
 ghost use Rattle.irtext_base.specs.Faults.{characters};
 ghost use Rattle.irtext_tokens.specs.Tokens.{text_at, identifier_at, number_at, integer_at};
 ghost use Rattle.irtext_tokens.specs.Demanded.{spaced_at, index_at, symbol_at};
@@ -13,6 +15,24 @@ use crate::irfmt::parsers::integer::int_parse;
 use irtext_base::base::Identifier;
 use irtext_base::parsable::{CharStream, ParseResult};
 use irtext_base::result::Cause;
+
+/// Consumes a fixed text if the whole of it comes next, and returns whether it does. Otherwise, and on a stream that has failed, the stream
+/// is unchanged.
+#[inline(always)]
+pub fn text_there<S: CharStream>(stream: &mut S, text: &str) -> bool
+    ensures { MatchBool result
+        (Gives S.view S.at (unless_failed (S.view stream.old).failed
+        (text_at (characters text.now) (S.view stream.old).rest)) stream.old tt stream.new)
+        (stream.new ≡ stream.old) }
+{
+    if stream.has_failed() {
+        return false;
+    }
+    if !stream.accept(text) {
+        return false;
+    }
+    true
+}
 
 /// The slow path of `text_demanded`, for a text that does not come next as a whole.
 #[cold]
@@ -29,10 +49,7 @@ fn text_missed<S: CharStream, A>(stream: &mut S, text: &str) -> ParseResult<(), 
 pub fn text_demanded<S: CharStream, A>(stream: &mut S, text: &str) -> ParseResult<(), A>
     ensures { MustRead S.view S.at (λ u. u) (text_at (characters text.now)) stream.old result stream.new }
 {
-    if stream.has_failed() {
-        return text_missed(stream, text);
-    }
-    if stream.accept(text) {
+    if text_there(stream, text) {
         return Ok(());
     }
     text_missed(stream, text)

@@ -1,7 +1,7 @@
 use Rattle.std.proofs.Common.{None, sym, ◌∙◌}
 use Rattle.irtext_tokens.specs.AttrTexts.{attr_at}
 use Rattle.irtext_parse_pieces.proofs.Meanings.{must_fail}
-use Rattle.irtext_parse_pieces.proofs.EntrySteps.{no_dictionary, dictionary_there, dictionary_refused}
+use Rattle.irtext_parse_pieces.proofs.EntrySteps.{no_dictionary, dictionary_read}
 use Rattle.irtext_parse_pieces.proofs.Lenses.{lens_of}
 use Rattle.irtext_parse_pieces.proofs.entries.dictionary_if_parse.Goals as goal
 
@@ -11,8 +11,5 @@ returns-then-has_failed g c = must_fail (lens_of g.world g.met.S.CharStream) Non
 pub returns-then-not-next_is : goal.returns-then-not-next_is
 returns-then-not-next_is g c = no_dictionary (lens_of g.world g.met.S.CharStream) (attr_at g.A.IrText.reading) (sym c.has_failed.ensures ∙ c.if-has_failed.false) (sym c.next_is.ensures ∙ c.if-not-next_is.true) tt
 
-pub returns-in-Err : goal.returns-in-Err
-returns-in-Err g c = (dictionary_refused (lens_of g.world g.met.S.CharStream) (attr_at g.A.IrText.reading) (sym c.next_is.ensures ∙ c.if-not-next_is.false) c.in-Err.ensures)
-
-pub returns-in-Ok : goal.returns-in-Ok
-returns-in-Ok g c = dictionary_there (lens_of g.world g.met.S.CharStream) (attr_at g.A.IrText.reading) (sym c.next_is.ensures ∙ c.if-not-next_is.false) c.in-Ok.ensures
+pub returns : goal.returns
+returns g c = dictionary_read (lens_of g.world g.met.S.CharStream) (attr_at g.A.IrText.reading) (sym c.next_is.ensures ∙ c.if-not-next_is.false) c.dictionary_parse-answer.result c.present.ensures c.dictionary_parse-answer.ensures

@@ -8,7 +8,7 @@ returns-in-Err g c = (no_closing (lens_of g.world g.met.S.CharStream) (attr_at g
 
 pub returns-in-Err-dictionary_alone : goal.returns-in-Err-dictionary_alone
 returns-in-Err-dictionary_alone g c =
-    no_dictionary (lens_of g.world g.met.S.CharStream) (attr_at g.A.IrText.reading) c.in_default.ensures c.skip_white_space.ensures c.in-Err-dictionary_alone.ensures
+    no_dictionary (lens_of g.world g.met.S.CharStream) (attr_at g.A.IrText.reading) c.in_default.ensures c.in-Err-dictionary_alone.ensures.space c.in-Err-dictionary_alone.ensures.read
 
 pub returns : goal.returns
-returns g c = end_read (lens_of g.world g.met.S.CharStream) (attr_at g.A.IrText.reading) c.in_default.ensures c.skip_white_space.ensures c.in-Ok.ensures c.mark_end_parse-answer.result c.beside.ensures c.mark_end_parse-answer.ensures
+returns g c = end_read (lens_of g.world g.met.S.CharStream) (attr_at g.A.IrText.reading) c.in_default.ensures c.in-Ok.ensures.space c.in-Ok.ensures.read c.mark_end_parse-answer.result c.beside.ensures c.mark_end_parse-answer.ensures

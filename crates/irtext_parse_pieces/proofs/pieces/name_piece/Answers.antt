@@ -7,29 +7,20 @@ use Rattle.irtext_parse_pieces.proofs.PieceSteps.{no_tree, piece_there, piece_re
 use Rattle.irtext_parse_pieces.proofs.Lenses.{lens_of}
 use Rattle.irtext_parse_pieces.proofs.pieces.name_piece.Goals as goal
 
-pub returns-in-Err-clause-read : goal.returns-in-Err-clause-read
-returns-in-Err-clause-read g c =
+pub returns-in-Err : goal.returns-in-Err
+returns-in-Err g c =
     let l = lens_of g.world g.met.S.CharStream in
     let m = insisted_mean l c.named_parse-answer.result (Err _) c.named_parse-answer.ensures.read c.in-Err.ensures in
-    piece_refused l (name_tree c.args.kind c.args.index) no_tree m.read
+    record { read = piece_refused l (name_tree c.args.kind c.args.index) no_tree m.read; names = c.named_parse-answer.ensures.names }
 
-pub returns-in-Value-clause-read : goal.returns-in-Value-clause-read
-returns-in-Value-clause-read g c =
+pub returns-in-Value : goal.returns-in-Value
+returns-in-Value g c =
     let l = lens_of g.world g.met.S.CharStream in
     let m = rw c.in-Value.is at (insisted_mean l c.named_parse-answer.result (Ok c.in-Ok.name) c.named_parse-answer.ensures.read c.in-Ok.ensures) in
-    rw c.in-Value.is (piece_there l (tree.operand c.args.index) (read.Operand c.args.index c.in-Ok.name) m (_, refl, m.means))
+    record { read = rw c.in-Value.is (piece_there l (tree.operand c.args.index) (read.Operand c.args.index c.in-Ok.name) m (_, refl, m.means)); names = c.named_parse-answer.ensures.names }
 
-pub returns-in-Block-clause-read : goal.returns-in-Block-clause-read
-returns-in-Block-clause-read g c =
+pub returns-in-Block : goal.returns-in-Block
+returns-in-Block g c =
     let l = lens_of g.world g.met.S.CharStream in
     let m = rw c.in-Block.is at (insisted_mean l c.named_parse-answer.result (Ok c.in-Ok.name) c.named_parse-answer.ensures.read c.in-Ok.ensures) in
-    rw c.in-Block.is (piece_there l (tree.successor c.args.index) (read.Successor c.args.index c.in-Ok.name) m (_, refl, m.means))
-
-pub returns-in-Err-clause-names : goal.returns-in-Err-clause-names
-returns-in-Err-clause-names g c = c.named_parse-answer.ensures.names
-
-pub returns-in-Value-clause-names : goal.returns-in-Value-clause-names
-returns-in-Value-clause-names g c = c.named_parse-answer.ensures.names
-
-pub returns-in-Block-clause-names : goal.returns-in-Block-clause-names
-returns-in-Block-clause-names g c = c.named_parse-answer.ensures.names
+    record { read = rw c.in-Block.is (piece_there l (tree.successor c.args.index) (read.Successor c.args.index c.in-Ok.name) m (_, refl, m.means)); names = c.named_parse-answer.ensures.names }

@@ -6,24 +6,15 @@ use Rattle.irtext_parse_pieces.proofs.PieceSteps.{no_tree, piece_there, piece_re
 use Rattle.irtext_parse_pieces.proofs.Lenses.{lens_of}
 use Rattle.irtext_parse_pieces.proofs.pieces.names_piece.Goals as goal
 
-pub returns-in-Err-clause-read : goal.returns-in-Err-clause-read
-returns-in-Err-clause-read g c = piece_refused (lens_of g.world g.met.S.CharStream) (names_tree c.args.kind) no_tree c.in-Err.ensures.read.read
+pub returns-in-Err : goal.returns-in-Err
+returns-in-Err g c = record { read = piece_refused (lens_of g.world g.met.S.CharStream) (names_tree c.args.kind) no_tree c.in-Err.ensures.read.read; names = c.in-Err.ensures.names }
 
-pub returns-in-Value-clause-read : goal.returns-in-Value-clause-read
-returns-in-Value-clause-read g c =
+pub returns-in-Value : goal.returns-in-Value
+returns-in-Value g c =
     let m = rw c.in-Value.is at c.in-Ok.ensures.read in
-    rw c.in-Value.is (piece_there (lens_of g.world g.met.S.CharStream) tree.operands (read.Operands c.in-Ok.found) m (_, refl, m.means))
+    record { read = rw c.in-Value.is (piece_there (lens_of g.world g.met.S.CharStream) tree.operands (read.Operands c.in-Ok.found) m (_, refl, m.means)); names = c.in-Ok.ensures.names }
 
-pub returns-in-Block-clause-read : goal.returns-in-Block-clause-read
-returns-in-Block-clause-read g c =
+pub returns-in-Block : goal.returns-in-Block
+returns-in-Block g c =
     let m = rw c.in-Block.is at c.in-Ok.ensures.read in
-    rw c.in-Block.is (piece_there (lens_of g.world g.met.S.CharStream) tree.successors (read.Successors c.in-Ok.found) m (_, refl, m.means))
-
-pub returns-in-Err-clause-names : goal.returns-in-Err-clause-names
-returns-in-Err-clause-names g c = c.in-Err.ensures.names
-
-pub returns-in-Value-clause-names : goal.returns-in-Value-clause-names
-returns-in-Value-clause-names g c = c.in-Ok.ensures.names
-
-pub returns-in-Block-clause-names : goal.returns-in-Block-clause-names
-returns-in-Block-clause-names g c = c.in-Ok.ensures.names
+    record { read = rw c.in-Block.is (piece_there (lens_of g.world g.met.S.CharStream) tree.successors (read.Successors c.in-Ok.found) m (_, refl, m.means)); names = c.in-Ok.ensures.names }

@@ -1,4 +1,4 @@
-use Rattle.std.proofs.Common.{◌≡◌, ◌∙◌, ◌+◌, ◌-◌, [], suc, take, drop, sym, ap, arith}
+use Rattle.std.proofs.Common.{◌≡◌, ◌∙◌, ◌-◌, [], take, drop, sym, ap, arith}
 use Rattle.std.proofs.lemmas.Str.{chars-nil}
 use Rattle.std.specs.Str.{chars}
 use Rattle.irtext_stream.specs.Text.{front}
@@ -14,24 +14,18 @@ loop-line-init c =
 pub returns-in-None : goal.returns-in-None
 returns-in-None c =
     let rest = c.loop-line.rest.now in
-    let lines = c.args.lines in
-    let line = c.loop-line._line in
     let kept = c.loop-line.invariant in
-    let more : lines - line ≡ suc (lines - (line + 1)) = omega (arith, c.loop-line-test.true) in
     let last = unbroken rest kept.0 c.in-None.ensures.cases in
-    in_place (chars c.args.text.now) lines c.args.characters (record { before = without_return (chars rest); rest = [] }) c.without_return.result.now [] (sym kept.1 ∙ last_line (chars rest) (lines - (line + 1)) (lines - line) c.args.characters more last.1)
+    in_place (chars c.args.text.now) c.args.lines c.args.characters (record { before = without_return (chars rest); rest = [] }) c.without_return.result.now [] (sym kept.1 ∙ last_line (chars rest) c.args.lines c.loop-line._line c.args.characters c.loop-line-test.true last.1)
     (record { first_is = c.without_return.ensures; second_is = chars-nil })
 
 pub loop-line-preserved : goal.loop-line-preserved
 loop-line-preserved c =
     let rest = c.loop-line.rest.now in
-    let lines = c.args.lines in
-    let line = c.loop-line._line in
     let kept = c.loop-line.invariant in
-    let more : lines - line ≡ suc (lines - (line + 1)) = omega (arith, c.loop-line-test.true) in
     let k = c.in-Some.ensures.cases in
     let b = broken rest c.in-Some.field-0-0.now c.in-Some.next.now k.0 k.1 kept.0 k.2 k.3 k.4 in
-    (b.utf8, sym (next_line (chars rest) (chars c.in-Some.next.now) (lines - (line + 1)) (lines - line) c.args.characters more b.rest) ∙ kept.1)
+    (b.utf8, sym (next_line (chars rest) c.args.lines c.loop-line._line c.args.characters c.loop-line-test.true (chars c.in-Some.next.now) b.rest) ∙ kept.1)
 
 pub returns : goal.returns
 returns c =

@@ -190,13 +190,11 @@ where
     if stream.has_failed() {
         return Err(refuse(stream, Cause::StreamFailed));
     }
-    let Some(c) = character_of(sep) else {
-        return items(stream, item);
-    };
-    if c.is_whitespace() {
-        return Err(pass(stream, Cause::BadSeparator));
+    match character_of(sep) {
+        None => items(stream, item),
+        Some(c) if c.is_whitespace() => Err(pass(stream, Cause::BadSeparator)),
+        Some(c) => separated(stream, c, item),
     }
-    separated(stream, c, item)
 }
 
 /// Parses white space, and items with optional white space after each, until one is missing. Every error is committed: a committed error
