@@ -11,9 +11,9 @@ use irtext_base::location::Location;
 use irtext_base::text::{AttrText, IrText};
 use irtext_context::base::attributes::Iter;
 use irtext_context::base::{AttributeDict, BlockAccess, Context, Item, OperationAccess};
+use std::alloc::AllocError;
 
 /// What the section contains for an item.
-#[derive_where(Clone, Copy)]
 pub struct Given<'c, A> {
     /// The item's location, which the entry contains if it is known.
     pub location: &'c Location<A>,
@@ -23,13 +23,32 @@ pub struct Given<'c, A> {
     pub attributes: &'c AttributeDict<A>,
 }
 
+impl<A> Copy for Given<'_, A> {}
+
+impl<A> Clone for Given<'_, A> {
+    ghost is_clone = { λ this copy. copy ≡ this };
+
+    fn clone(&self) -> Result<Self, AllocError> {
+        Ok(*self)
+    }
+}
+
 /// One of the attributes that the section contains for an item.
-#[derive_where(Clone, Copy)]
 pub enum GivenAttribute<'c, A> {
     /// A block's label, which the section contains as an identifier.
     Label(&'c Identifier),
     /// An attribute of the item, under its key.
     Outlined(&'c Identifier, &'c AttrObj<A>),
+}
+
+impl<A> Copy for GivenAttribute<'_, A> {}
+
+impl<A> Clone for GivenAttribute<'_, A> {
+    ghost is_clone = { λ this copy. copy ≡ this };
+
+    fn clone(&self) -> Result<Self, AllocError> {
+        Ok(*self)
+    }
 }
 
 /// The attributes that the section contains for an item: a block's label first, then the outlined ones, in the dictionary's order.

@@ -135,8 +135,11 @@ impl UniqueName for Value {
         self,
         ctx: &Context<T, A>,
     ) -> Result<String, AllocError> {
-        let number = ctx.graph().number_of(self);
-        value_text(ctx.allocator(), given_name(ctx, self), number)
+        value_text(
+            ctx.allocator(),
+            given_name(ctx, self),
+            ctx.graph().number_of(self),
+        )
     }
 }
 

@@ -29,20 +29,7 @@ use Rattle.irtext_print_ops.proofs.Walked.{stepped_fit, stepped_fault, stepped_m
 module _ {T A : Type 0} (C : Printing T A) (L : Language ⊤ T A) (ctx : ContextView T A) (width : ℕ) where
   -- a turn leaves the same frames inside of any others
   inside_any : (f : Frame) (items items' : List Item) (gs gs' hs hs' : List Frame) (old new : List ℕ) (s : Steps C L ctx width f items items' gs gs' old new) → hs' ≡ hs ++ s.pushed → Steps C L ctx width f items items' hs hs' old new
-  inside_any f items items' gs gs' hs hs' old new s e = record {
-    pushed = s.pushed;
-    text = s.text;
-    gathered = s.gathered;
-    stack = e;
-    marks = s.marks;
-    written = s.written;
-    turned = s.turned;
-    left = s.left;
-    fit = s.fit;
-    faults = s.faults;
-    misfits = s.misfits;
-    fewer = s.fewer;
-  }
+  inside_any f items items' gs gs' hs hs' old new s e = record { pushed = s.pushed; stack = e; step = s.step }
 
   -- inside of these as inside of none
   pub inside_others : (f : Frame) (items items' : List Item) (gs pushed : List Frame) (old new : List ℕ) →
@@ -59,40 +46,42 @@ module _ {T A : Type 0} (C : Printing T A) (L : Language ⊤ T A) (ctx : Context
     chained =
         let o = open_of C L ctx in
         let n = length items in
-        let k = length s.gathered in
-        let j = length t.gathered in
+        let k = length s.step.gathered in
+        let j = length t.step.gathered in
         let left_first : s.pushed ≡ pre ++ g ∷ [] = sym s.stack in
-        let count : length items1 ≡ n + k = ap length s.marks ∙ length-append items s.gathered in
+        let count : length items1 ≡ n + k = ap length s.step.marks ∙ length-append items s.step.gathered in
         let opened : map o s.pushed ≡ map o pre ++ o g ∷ [] = ap (map o) left_first ∙ map-append o pre (g ∷ []) in
         let following : map o pre ++ map o t.pushed ≡ map o (pre ++ post) = ap (λ z. map o pre ++ map o z) (sym t.stack) ∙ sym (map-append o pre post) in
-        let second : Turns C L width (o g) (n + k) t.text j (map o t.pushed) = subst (λ m. Turns C L width (o g) m t.text j (map o t.pushed)) count t.turned in
-        let both : j + k ≡ length (s.gathered ++ t.gathered) = (let e = length-append s.gathered t.gathered in omega (arith, e)) in
-        let sum : (n + k) + j ≡ n + length (s.gathered ++ t.gathered) = (let e = length-append s.gathered t.gathered in omega (arith, e)) in
-        let written : rest C L width (o f) n ≡ (s.text ++ t.text) ++ open_rest C L width (map o (pre ++ post)) (n + length (s.gathered ++ t.gathered)) =
-        s.turned.written ∙ (ap (λ z. s.text ++ open_rest C L width z (n + k)) opened
-        ∙ (ap (λ z. s.text ++ z) (turned C L width (map o pre) (o g) (n + k) t.text j (map o t.pushed) second)
-        ∙ (ap (λ z. s.text ++ (t.text ++ open_rest C L width z ((n + k) + j))) following
-        ∙ (ap (λ m. s.text ++ (t.text ++ open_rest C L width (map o (pre ++ post)) m)) sum
-        ∙ sym (append_assoc s.text t.text (open_rest C L width (map o (pre ++ post)) (n + length (s.gathered ++ t.gathered)))))))) in
+        let second : Turns C L width (o g) (n + k) t.step.text j (map o t.pushed) = subst (λ m. Turns C L width (o g) m t.step.text j (map o t.pushed)) count t.step.turned in
+        let both : j + k ≡ length (s.step.gathered ++ t.step.gathered) = (let e = length-append s.step.gathered t.step.gathered in omega (arith, e)) in
+        let sum : (n + k) + j ≡ n + length (s.step.gathered ++ t.step.gathered) = (let e = length-append s.step.gathered t.step.gathered in omega (arith, e)) in
+        let written : rest C L width (o f) n ≡ (s.step.text ++ t.step.text) ++ open_rest C L width (map o (pre ++ post)) (n + length (s.step.gathered ++ t.step.gathered)) =
+        s.step.turned.written ∙ (ap (λ z. s.step.text ++ open_rest C L width z (n + k)) opened
+        ∙ (ap (λ z. s.step.text ++ z) (turned C L width (map o pre) (o g) (n + k) t.step.text j (map o t.pushed) second)
+        ∙ (ap (λ z. s.step.text ++ (t.step.text ++ open_rest C L width z ((n + k) + j))) following
+        ∙ (ap (λ m. s.step.text ++ (t.step.text ++ open_rest C L width (map o (pre ++ post)) m)) sum
+        ∙ sym (append_assoc s.step.text t.step.text (open_rest C L width (map o (pre ++ post)) (n + length (s.step.gathered ++ t.step.gathered)))))))) in
         let inner : open_marks C (map o s.pushed) ≡ j + open_marks C (map o (pre ++ post)) =
-        ap (open_marks C) opened ∙ (turned_marks C L width (map o pre) (o g) (n + k) t.text j (map o t.pushed) second ∙ ap (λ z. j + open_marks C z) following) in
-        let counted : marks C (o f) ≡ length (s.gathered ++ t.gathered) + open_marks C (map o (pre ++ post)) = (let a = s.turned.counted in let b = length-append s.gathered t.gathered in omega (arith, a, b, inner)) in
-        let last : items_left C L ctx (pre ++ g ∷ []) ≡ t.gathered ++ items_left C L ctx (pre ++ post) =
-        items_both C L ctx width pre (g ∷ []) ∙ (ap (λ z. z ++ items_left C L ctx pre) (t.left ∙ ap (λ z. t.gathered ++ items_left C L ctx z) (sym t.stack))
-        ∙ (append_assoc t.gathered (items_left C L ctx post) (items_left C L ctx pre) ∙ ap (λ z. t.gathered ++ z) (sym (items_both C L ctx width pre post)))) in
+        ap (open_marks C) opened ∙ (turned_marks C L width (map o pre) (o g) (n + k) t.step.text j (map o t.pushed) second ∙ ap (λ z. j + open_marks C z) following) in
+        let counted : marks C (o f) ≡ length (s.step.gathered ++ t.step.gathered) + open_marks C (map o (pre ++ post)) = (let a = s.step.turned.counted in let b = length-append s.step.gathered t.step.gathered in omega (arith, a, b, inner)) in
+        let last : items_left C L ctx (pre ++ g ∷ []) ≡ t.step.gathered ++ items_left C L ctx (pre ++ post) =
+        items_both C L ctx width pre (g ∷ []) ∙ (ap (λ z. z ++ items_left C L ctx pre) (t.step.left ∙ ap (λ z. t.step.gathered ++ items_left C L ctx z) (sym t.stack))
+        ∙ (append_assoc t.step.gathered (items_left C L ctx post) (items_left C L ctx pre) ∙ ap (λ z. t.step.gathered ++ z) (sym (items_both C L ctx width pre post)))) in
         record {
           pushed = pre ++ post;
-          text = s.text ++ t.text;
-          gathered = s.gathered ++ t.gathered;
           stack = refl;
-          marks = t.marks ∙ (ap (λ z. z ++ t.gathered) s.marks ∙ append_assoc items s.gathered t.gathered);
-          written = more old mid new s.text t.text s.written t.written;
-          turned = record { written = written; counted = counted };
-          left = s.left ∙ (ap (λ z. s.gathered ++ items_left C L ctx z) left_first ∙ (ap (λ z. s.gathered ++ z) last ∙ sym (append_assoc s.gathered t.gathered (items_left C L ctx (pre ++ post)))));
-          fit = stepped_fit C L ctx width g items1 items2 (pre ++ g ∷ []) pre (pre ++ post) mid new refl then_inside (subst (AllFit C L ctx) left_first s.fit);
-          faults = λ e x. s.faults e (subst (λ z. AnyFault C (isolated ctx.dialects) width e (map o z)) s.stack (stepped_fault C L ctx width g items1 items2 (pre ++ g ∷ []) pre (pre ++ post) mid new refl then_inside e x));
-          misfits = λ x. stepped_misfits C L ctx width g items1 items2 (pre ++ g ∷ []) pre (pre ++ post) mid new refl then_inside (subst (λ z. AnyFault C (isolated ctx.dialects) width Misfit (map o z)) left_first (s.misfits x));
-          fewer = (let a = s.fewer in let b = stepped_fewer C L ctx width g items1 items2 (pre ++ g ∷ []) pre (pre ++ post) mid new refl then_inside in let e = ap (turns_left C L ctx) left_first in omega (arith, a, b, e));
+          step = record {
+            text = s.step.text ++ t.step.text;
+            gathered = s.step.gathered ++ t.step.gathered;
+            marks = t.step.marks ∙ (ap (λ z. z ++ t.step.gathered) s.step.marks ∙ append_assoc items s.step.gathered t.step.gathered);
+            written = more old mid new s.step.text t.step.text s.step.written t.step.written;
+            turned = record { written = written; counted = counted };
+            left = s.step.left ∙ (ap (λ z. s.step.gathered ++ items_left C L ctx z) left_first ∙ (ap (λ z. s.step.gathered ++ z) last ∙ sym (append_assoc s.step.gathered t.step.gathered (items_left C L ctx (pre ++ post)))));
+            fit = stepped_fit C L ctx width g items1 items2 (pre ++ g ∷ []) pre (pre ++ post) mid new refl then_inside (subst (AllFit C L ctx) left_first s.step.fit);
+            faults = λ e x. s.step.faults e (subst (λ z. AnyFault C (isolated ctx.dialects) width e (map o z)) s.stack (stepped_fault C L ctx width g items1 items2 (pre ++ g ∷ []) pre (pre ++ post) mid new refl then_inside e x));
+            misfits = λ x. stepped_misfits C L ctx width g items1 items2 (pre ++ g ∷ []) pre (pre ++ post) mid new refl then_inside (subst (λ z. AnyFault C (isolated ctx.dialects) width Misfit (map o z)) left_first (s.step.misfits x));
+            fewer = (let a = s.step.fewer in let b = stepped_fewer C L ctx width g items1 items2 (pre ++ g ∷ []) pre (pre ++ post) mid new refl then_inside in let e = ap (turns_left C L ctx) left_first in omega (arith, a, b, e));
+          };
         }
 
   none : {X : Type 0} (xs : List X) → (length xs == 0) ≡ true → xs ≡ []
@@ -117,16 +106,16 @@ module _ {T A : Type 0} (C : Printing T A) (L : Language ⊤ T A) (ctx : Context
 
   -- what a turn leaves fits
   pub all_fit : (f : Frame) (items items' : List Item) (pushed : List Frame) (old new : List ℕ) → Steps C L ctx width f items items' [] pushed old new → AllFit C L ctx pushed
-  all_fit f items items' pushed old new s = subst (AllFit C L ctx) (sym s.stack) s.fit
+  all_fit f items items' pushed old new s = subst (AllFit C L ctx) (sym s.stack) s.step.fit
 
   -- a turn leaves fewer turns
   pub fewer_left : (f : Frame) (items items' : List Item) (pushed : List Frame) (old new : List ℕ) → Steps C L ctx width f items items' [] pushed old new → turns_left C L ctx pushed < turns_left C L ctx (f ∷ [])
-  fewer_left f items items' pushed old new s = let a = s.fewer in let e = ap (turns_left C L ctx) s.stack in omega (arith, a, e)
+  fewer_left f items items' pushed old new s = let a = s.step.fewer in let e = ap (turns_left C L ctx) s.stack in omega (arith, a, e)
 
   -- a reason why what a turn leaves fails is one why what was open fails
   pub fault_left : (f : Frame) (items items' : List Item) (pushed : List Frame) (old new : List ℕ) → Steps C L ctx width f items items' [] pushed old new →
       (e : Refusal) → AnyFault C (isolated ctx.dialects) width e (map (open_of C L ctx) pushed) → OpenFault C (isolated ctx.dialects) width e (open_of C L ctx f)
-  fault_left f items items' pushed old new s e x = s.faults e (subst (λ z. AnyFault C (isolated ctx.dialects) width e (map (open_of C L ctx) z)) s.stack x)
+  fault_left f items items' pushed old new s e x = s.step.faults e (subst (λ z. AnyFault C (isolated ctx.dialects) width e (map (open_of C L ctx) z)) s.stack x)
 
   -- a turn without the frames outside
   pub alone : (f : Frame) (items items' : List Item) (gs gs' : List Frame) (old new : List ℕ) (s : Steps C L ctx width f items items' gs gs' old new) → Steps C L ctx width f items items' [] s.pushed old new

@@ -29,7 +29,7 @@ module _ {T A : Type 0} (C : Printing T A) (L : Language ⊤ T A) (ctx : Context
     -- a descent leaves fewer turns
     pub fewer_inside : turns_left C L ctx (here ∷ []) < turns_left C L ctx (first ∷ [])
     fewer_inside =
-        let a = d.steps.fewer in
+        let a = d.steps.step.fewer in
         let e = ap (turns_left C L ctx) d.steps.stack in
         let b = turns_both C L ctx width d.opened (here ∷ []) in
         omega (arith, a, e, b)

@@ -101,17 +101,19 @@ module _ {T A : Type 0} (C : Printing T A) (L : Language ⊤ T A) (ctx : Context
     pub block_ended : (old : List ℕ) → drop f.operation (operations_in ctx.graph f.block) ≡ [] → Steps C L ctx width (frame.Block f) items items frames frames old old
     block_ended old e = record {
       pushed = [];
-      text = [];
-      gathered = [];
       stack = sym (append-nil frames);
-      marks = sym (append-nil items);
-      written = sym (append-nil old);
-      turned = subst (λ z. Turns C L width (a_block f.indent (levels f.limit) f.first (seen_operations L.owns.written ctx (operations_by ctx.graph (inside_of C L ctx) z))) (length items) [] 0 []) (sym e) (block_ends C L width f.indent (levels f.limit) f.first (length items));
-      left = ap (λ z. items_in_operations C L ctx (levels f.limit) (operations_by ctx.graph (inside_of C L ctx) z)) e;
-      fit = tt;
-      faults = λ why x. absurd x;
-      misfits = λ x. elim (subst (λ z. OpenFault C (isolated ctx.dialects) width Misfit (a_block f.indent (levels f.limit) f.first (seen_operations L.owns.written ctx (operations_by ctx.graph (inside_of C L ctx) z)))) e x) [ inl y ↦ absurd y | inr y ↦ absurd y ];
-      fewer = omega arith;
+      step = record {
+        text = [];
+        gathered = [];
+        marks = sym (append-nil items);
+        written = sym (append-nil old);
+        turned = subst (λ z. Turns C L width (a_block f.indent (levels f.limit) f.first (seen_operations L.owns.written ctx (operations_by ctx.graph (inside_of C L ctx) z))) (length items) [] 0 []) (sym e) (block_ends C L width f.indent (levels f.limit) f.first (length items));
+        left = ap (λ z. items_in_operations C L ctx (levels f.limit) (operations_by ctx.graph (inside_of C L ctx) z)) e;
+        fit = tt;
+        faults = λ why x. absurd x;
+        misfits = λ x. elim (subst (λ z. OpenFault C (isolated ctx.dialects) width Misfit (a_block f.indent (levels f.limit) f.first (seen_operations L.owns.written ctx (operations_by ctx.graph (inside_of C L ctx) z)))) e x) [ inl y ↦ absurd y | inr y ↦ absurd y ];
+        fewer = omega arith;
+      };
     }
 
     -- the next is a placeholder, and is left out
@@ -127,19 +129,21 @@ module _ {T A : Type 0} (C : Printing T A) (L : Language ⊤ T A) (ctx : Context
         ap (λ z. seen_operations L.owns.written ctx (here z)) e ∙ ap (λ o. elim o [ Some op ↦ forest.operation (seen_operation L.owns.written ctx p op) (seen_regions L.owns.written ctx (inside_of C L ctx p)) (seen_operations L.owns.written ctx os) | None ↦ seen_operations L.owns.written ctx os ]) none in
         record {
           pushed = frame.Block q ∷ [];
-          text = [];
-          gathered = [];
           stack = k;
-          marks = sym (append-nil items);
-          written = sym (append-nil old);
-          turned = subst (λ z. Turns C L width (a_block f.indent (levels f.limit) f.first z) (length items) [] 0 (a_block f.indent (levels f.limit) f.first (seen_operations L.owns.written ctx os) ∷ [])) (sym out)
-              (goes_on C L width (a_block f.indent (levels f.limit) f.first (seen_operations L.owns.written ctx os)) (length items) [] (a_block f.indent (levels f.limit) f.first (seen_operations L.owns.written ctx os)) refl refl);
-          left = ap (λ z. items_in_operations C L ctx (levels f.limit) (here z)) e
-              ∙ ap (λ o. elim o [ Some op ↦ items_in_regions C L ctx (levels f.limit) (inside_of C L ctx p) ++ (marked_operation C L ctx p (seen_operation L.owns.written ctx p op) ++ items_in_operations C L ctx (levels f.limit) os) | None ↦ items_in_operations C L ctx (levels f.limit) os ]) none;
-          fit = (alive, tt);
-          faults = λ why x. subst (λ z. OpenFault C (isolated ctx.dialects) width why (a_block f.indent (levels f.limit) f.first z)) (sym out) (only_fault C (isolated ctx.dialects) width why (a_block f.indent (levels f.limit) f.first (seen_operations L.owns.written ctx os)) x);
-          misfits = λ x. inl (subst (λ z. OpenFault C (isolated ctx.dialects) width Misfit (a_block f.indent (levels f.limit) f.first z)) out x);
-          fewer = fewer (turns_of_operations C L ctx (here (drop f.operation ops))) (turns_of_operations C L ctx os) (directive_count C L ctx p) (turns_of_regions C L ctx (inside_of C L ctx p)) (ap (λ z. turns_of_operations C L ctx (here z)) e);
+          step = record {
+            text = [];
+            gathered = [];
+            marks = sym (append-nil items);
+            written = sym (append-nil old);
+            turned = subst (λ z. Turns C L width (a_block f.indent (levels f.limit) f.first z) (length items) [] 0 (a_block f.indent (levels f.limit) f.first (seen_operations L.owns.written ctx os) ∷ [])) (sym out)
+                (goes_on C L width (a_block f.indent (levels f.limit) f.first (seen_operations L.owns.written ctx os)) (length items) [] (a_block f.indent (levels f.limit) f.first (seen_operations L.owns.written ctx os)) refl refl);
+            left = ap (λ z. items_in_operations C L ctx (levels f.limit) (here z)) e
+                ∙ ap (λ o. elim o [ Some op ↦ items_in_regions C L ctx (levels f.limit) (inside_of C L ctx p) ++ (marked_operation C L ctx p (seen_operation L.owns.written ctx p op) ++ items_in_operations C L ctx (levels f.limit) os) | None ↦ items_in_operations C L ctx (levels f.limit) os ]) none;
+            fit = (alive, tt);
+            faults = λ why x. subst (λ z. OpenFault C (isolated ctx.dialects) width why (a_block f.indent (levels f.limit) f.first z)) (sym out) (only_fault C (isolated ctx.dialects) width why (a_block f.indent (levels f.limit) f.first (seen_operations L.owns.written ctx os)) x);
+            misfits = λ x. inl (subst (λ z. OpenFault C (isolated ctx.dialects) width Misfit (a_block f.indent (levels f.limit) f.first z)) out x);
+            fewer = fewer (turns_of_operations C L ctx (here (drop f.operation ops))) (turns_of_operations C L ctx os) (directive_count C L ctx p) (turns_of_regions C L ctx (inside_of C L ctx p)) (ap (λ z. turns_of_operations C L ctx (here z)) e);
+          };
         }
       where
         fewer : (all later d r : ℕ) → all ≡ 3 + (2 * d + (r + later)) → (1 + later) + 0 < 1 + all
@@ -176,35 +180,37 @@ module _ {T A : Type 0} (C : Printing T A) (L : Language ⊤ T A) (ctx : Context
         ∙ ap (λ i. an_operation i l (Some o) (is_canonical form) (parts_left C o 0) (seen_regions L.owns.written ctx (regions_left C L ctx p 0))) (sym n)) in
         record {
           pushed = q ∷ g ∷ [];
-          text = unless_first f.first (between_operations (f.indent + width)) ++ operation_front L (tree_op C 0 o);
-          gathered = [];
           stack = k ∙ append_assoc frames (q ∷ []) (g ∷ []);
-          marks = sym (append-nil items);
-          written = more old mid new (unless_first f.first (between_operations (f.indent + width))) (operation_front L (tree_op C 0 o)) (w ∙ ap (λ i. old ++ encode_utf8_all (unless_first f.first (between_operations i))) n) v;
-          turned = subst (λ z. Turns C L width (a_block f.indent l f.first z) (length items) (unless_first f.first (between_operations (f.indent + width)) ++ operation_front L (tree_op C 0 o)) 0 (open_of C L ctx q ∷ open_of C L ctx g ∷ [])) (sym shows)
-              (subst (λ z. Turns C L width (a_block f.indent l f.first (forest.operation o (seen_regions L.owns.written ctx inner) sos)) (length items) (unless_first f.first (between_operations (f.indent + width)) ++ operation_front L (tree_op C 0 o)) 0 (open_of C L ctx q ∷ z ∷ [])) begun
-              (operation_turns C L width f.indent l f.first o (seen_regions L.owns.written ctx inner) sos (length items)));
-          left = ap (λ z. items_in_operations C L ctx l (here z)) e
-              ∙ (ap (λ x. elim x [ Some op ↦ items_in_regions C L ctx l inner ++ (marked_operation C L ctx p (seen_operation L.owns.written ctx p op) ++ items_in_operations C L ctx l os) | None ↦ items_in_operations C L ctx l os ]) is
-              ∙ (ap (λ x. items_in_regions C L ctx l inner ++ (marked_operation C L ctx p x ++ items_in_operations C L ctx l os)) (sym same)
-              ∙ (ap (λ z. items_in_regions C L ctx l z ++ (marked_operation C L ctx p o ++ items_in_operations C L ctx l os)) is_inner
-              ∙ sym (append_assoc (items_in_regions C L ctx l (regions_left C L ctx p 0)) (marked_operation C L ctx p o) (items_in_operations C L ctx l os)))));
-          fit = (
-            alive,
-            (
+          step = record {
+            text = unless_first f.first (between_operations (f.indent + width)) ++ operation_front L (tree_op C 0 o);
+            gathered = [];
+            marks = sym (append-nil items);
+            written = more old mid new (unless_first f.first (between_operations (f.indent + width))) (operation_front L (tree_op C 0 o)) (w ∙ ap (λ i. old ++ encode_utf8_all (unless_first f.first (between_operations i))) n) v;
+            turned = subst (λ z. Turns C L width (a_block f.indent l f.first z) (length items) (unless_first f.first (between_operations (f.indent + width)) ++ operation_front L (tree_op C 0 o)) 0 (open_of C L ctx q ∷ open_of C L ctx g ∷ [])) (sym shows)
+                (subst (λ z. Turns C L width (a_block f.indent l f.first (forest.operation o (seen_regions L.owns.written ctx inner) sos)) (length items) (unless_first f.first (between_operations (f.indent + width)) ++ operation_front L (tree_op C 0 o)) 0 (open_of C L ctx q ∷ z ∷ [])) begun
+                (operation_turns C L width f.indent l f.first o (seen_regions L.owns.written ctx inner) sos (length items)));
+            left = ap (λ z. items_in_operations C L ctx l (here z)) e
+                ∙ (ap (λ x. elim x [ Some op ↦ items_in_regions C L ctx l inner ++ (marked_operation C L ctx p (seen_operation L.owns.written ctx p op) ++ items_in_operations C L ctx l os) | None ↦ items_in_operations C L ctx l os ]) is
+                ∙ (ap (λ x. items_in_regions C L ctx l inner ++ (marked_operation C L ctx p x ++ items_in_operations C L ctx l os)) (sym same)
+                ∙ (ap (λ z. items_in_regions C L ctx l z ++ (marked_operation C L ctx p o ++ items_in_operations C L ctx l os)) is_inner
+                ∙ sym (append_assoc (items_in_regions C L ctx l (regions_left C L ctx p 0)) (marked_operation C L ctx p o) (items_in_operations C L ctx l os)))));
+            fit = (
+              alive,
               (
-                (subst (λ (z : Option (OperationView T A)). IsSome z) (sym is) refl, found),
-                fits_covered (isolated ctx.dialects) form o (length (regions ctx.graph p)) (seen_regions L.owns.written ctx (regions_left C L ctx p 0)) fits (regions_counted (inside_of C L ctx) (regions ctx.graph p)),
+                (
+                  (subst (λ (z : Option (OperationView T A)). IsSome z) (sym is) refl, found),
+                  fits_covered (isolated ctx.dialects) form o (length (regions ctx.graph p)) (seen_regions L.owns.written ctx (regions_left C L ctx p 0)) fits (regions_counted (inside_of C L ctx) (regions ctx.graph p)),
+                ),
+                tt,
               ),
-              tt,
-            ),
-          );
-          faults = λ why x. subst (λ z. OpenFault C (isolated ctx.dialects) width why (a_block f.indent l f.first z)) (sym shows)
-              (block_next C (isolated ctx.dialects) width why f.indent indent l f.first (Some o) (is_canonical form) (parts_left C o 0) o (seen_regions L.owns.written ctx (regions_left C L ctx p 0)) (seen_regions L.owns.written ctx inner) sos n (ap (seen_regions L.owns.written ctx) is_inner) x);
-          misfits = λ x. block_kept C (isolated ctx.dialects) width f.indent indent l f.first (Some o) (is_canonical form) (parts_left C o 0) o (seen_regions L.owns.written ctx (regions_left C L ctx p 0)) (seen_regions L.owns.written ctx inner) sos n (ap (seen_regions L.owns.written ctx) is_inner)
-              (subst (FitsFormat C (isolated ctx.dialects) form o) (regions_seen (inside_of C L ctx) (regions ctx.graph p)) fits) (subst (λ z. OpenFault C (isolated ctx.dialects) width Misfit (a_block f.indent l f.first z)) shows x);
-          fewer = fewer (turns_of_operations C L ctx (here (drop f.operation ops))) (turns_of_operations C L ctx os) (directive_count C L ctx p) (turns_of_regions C L ctx inner) (turns_of_regions C L ctx (regions_left C L ctx p 0)) (cond (is_canonical form) 1 0)
-              (ap (λ z. turns_of_operations C L ctx (here z)) e) (ap (turns_of_regions C L ctx) is_inner) (one_at_most (is_canonical form));
+            );
+            faults = λ why x. subst (λ z. OpenFault C (isolated ctx.dialects) width why (a_block f.indent l f.first z)) (sym shows)
+                (block_next C (isolated ctx.dialects) width why f.indent indent l f.first (Some o) (is_canonical form) (parts_left C o 0) o (seen_regions L.owns.written ctx (regions_left C L ctx p 0)) (seen_regions L.owns.written ctx inner) sos n (ap (seen_regions L.owns.written ctx) is_inner) x);
+            misfits = λ x. block_kept C (isolated ctx.dialects) width f.indent indent l f.first (Some o) (is_canonical form) (parts_left C o 0) o (seen_regions L.owns.written ctx (regions_left C L ctx p 0)) (seen_regions L.owns.written ctx inner) sos n (ap (seen_regions L.owns.written ctx) is_inner)
+                (subst (FitsFormat C (isolated ctx.dialects) form o) (regions_seen (inside_of C L ctx) (regions ctx.graph p)) fits) (subst (λ z. OpenFault C (isolated ctx.dialects) width Misfit (a_block f.indent l f.first z)) shows x);
+            fewer = fewer (turns_of_operations C L ctx (here (drop f.operation ops))) (turns_of_operations C L ctx os) (directive_count C L ctx p) (turns_of_regions C L ctx inner) (turns_of_regions C L ctx (regions_left C L ctx p 0)) (cond (is_canonical form) 1 0)
+                (ap (λ z. turns_of_operations C L ctx (here z)) e) (ap (turns_of_regions C L ctx) is_inner) (one_at_most (is_canonical form));
+          };
         }
       where
         fewer : (all later d r s one : ℕ) → all ≡ 3 + (2 * d + (r + later)) → r ≡ s → one ≤ 1 → (1 + later) + ((1 + (2 * (d - 0) + (one + s))) + 0) < 1 + all
@@ -238,17 +244,19 @@ module _ {T A : Type 0} (C : Printing T A) (L : Language ⊤ T A) (ctx : Context
     pub region_ended : (old new : List ℕ) → drop f.block (blocks ctx.graph f.region) ≡ [] → new ≡ old ++ encode_utf8_all (closing f.indent) → Steps C L ctx width (frame.Region f) items items frames frames old new
     region_ended old new e w = record {
       pushed = [];
-      text = closing f.indent;
-      gathered = [];
       stack = sym (append-nil frames);
-      marks = sym (append-nil items);
-      written = w;
-      turned = subst (λ z. Turns C L width (a_region f.indent (levels f.limit) f.first (seen_blocks L.owns.written ctx (blocks_by ctx.graph (inside_of C L ctx) z))) (length items) (closing f.indent) 0 []) (sym e) (region_ends C L width f.indent (levels f.limit) f.first (length items));
-      left = ap (λ z. items_in_blocks C L ctx (levels f.limit) (blocks_by ctx.graph (inside_of C L ctx) z)) e;
-      fit = tt;
-      faults = λ why x. absurd x;
-      misfits = λ x. absurd (subst (λ z. OpenFault C (isolated ctx.dialects) width Misfit (a_region f.indent (levels f.limit) f.first (seen_blocks L.owns.written ctx (blocks_by ctx.graph (inside_of C L ctx) z)))) e x);
-      fewer = omega arith;
+      step = record {
+        text = closing f.indent;
+        gathered = [];
+        marks = sym (append-nil items);
+        written = w;
+        turned = subst (λ z. Turns C L width (a_region f.indent (levels f.limit) f.first (seen_blocks L.owns.written ctx (blocks_by ctx.graph (inside_of C L ctx) z))) (length items) (closing f.indent) 0 []) (sym e) (region_ends C L width f.indent (levels f.limit) f.first (length items));
+        left = ap (λ z. items_in_blocks C L ctx (levels f.limit) (blocks_by ctx.graph (inside_of C L ctx) z)) e;
+        fit = tt;
+        faults = λ why x. absurd x;
+        misfits = λ x. absurd (subst (λ z. OpenFault C (isolated ctx.dialects) width Misfit (a_region f.indent (levels f.limit) f.first (seen_blocks L.owns.written ctx (blocks_by ctx.graph (inside_of C L ctx) z)))) e x);
+        fewer = omega arith;
+      };
     }
 
     -- the next block's head is written
@@ -289,24 +297,26 @@ module _ {T A : Type 0} (C : Printing T A) (L : Language ⊤ T A) (ctx : Context
         let colon : codes ":" ++ newline inner ≡ codes ":" ++ newline ((f.indent + width) + width) = ap (λ j. codes ":" ++ newline j) (m ∙ ap (λ j. j + width) n) in
         record {
           pushed = q ∷ g ∷ [];
-          text = text;
-          gathered = marked_block C L ctx b h;
           stack = k ∙ append_assoc frames (q ∷ []) (g ∷ []);
-          marks = i;
-          written = more old f1 new first (head ++ (mark ++ (codes ":" ++ newline ((f.indent + width) + width)))) (w1 ∙ ap (λ j. old ++ encode_utf8_all (unless_first f.first (between_blocks j))) n)
-              (more f1 f2 new head (mark ++ (codes ":" ++ newline ((f.indent + width) + width))) w2
-              (more f2 f3 new mark (codes ":" ++ newline ((f.indent + width) + width)) w3 (w4 ∙ ap (λ z. f3 ++ encode_utf8_all z) colon)));
-          turned = subst (λ j. Turns C L width (a_region f.indent l f.first (seen_blocks L.owns.written ctx (here (drop f.block bks)))) (length items) text j (open_of C L ctx q ∷ open_of C L ctx g ∷ [])) (sym (one_marked (is_marked C h.location (block_outlined C h)) (item.Block b)))
-              (subst (λ z. Turns C L width (a_region f.indent l f.first z) (length items) text mk (open_of C L ctx q ∷ open_of C L ctx g ∷ [])) (sym shows)
-              (subst (λ j. Turns C L width (a_region f.indent l f.first (forest.block h sos sbs)) (length items) text mk (open_of C L ctx q ∷ a_block j l true sos ∷ [])) (sym n)
-              (block_turns C L width f.indent l f.first h sos sbs (length items))));
-          left = ap (λ z. items_in_blocks C L ctx l (here z)) e
-              ∙ (ap (λ x. elim x [ Some view ↦ marked_block C L ctx b (seen_block L.owns.written ctx b view) ++ (items_in_operations C L ctx l os ++ items_in_blocks C L ctx l bs) | None ↦ items_in_blocks C L ctx l bs ]) is
-              ∙ ap (λ x. marked_block C L ctx b x ++ (items_in_operations C L ctx l os ++ items_in_blocks C L ctx l bs)) (sym same));
-          fit = (alive, (block_there_is_live nested f.region b f.block got, tt));
-          faults = λ why x. subst (λ z. OpenFault C (isolated ctx.dialects) width why (a_region f.indent l f.first z)) (sym shows) (region_next C (isolated ctx.dialects) width why f.indent indent l f.first h sos sbs n x);
-          misfits = λ x. region_kept C (isolated ctx.dialects) width f.indent indent l f.first h sos sbs n (subst (λ z. OpenFault C (isolated ctx.dialects) width Misfit (a_region f.indent l f.first z)) shows x);
-          fewer = fewer (turns_of_blocks C L ctx (here (drop f.block bks))) (turns_of_blocks C L ctx bs) (turns_of_operations C L ctx os) (ap (λ z. turns_of_blocks C L ctx (here z)) e);
+          step = record {
+            text = text;
+            gathered = marked_block C L ctx b h;
+            marks = i;
+            written = more old f1 new first (head ++ (mark ++ (codes ":" ++ newline ((f.indent + width) + width)))) (w1 ∙ ap (λ j. old ++ encode_utf8_all (unless_first f.first (between_blocks j))) n)
+                (more f1 f2 new head (mark ++ (codes ":" ++ newline ((f.indent + width) + width))) w2
+                (more f2 f3 new mark (codes ":" ++ newline ((f.indent + width) + width)) w3 (w4 ∙ ap (λ z. f3 ++ encode_utf8_all z) colon)));
+            turned = subst (λ j. Turns C L width (a_region f.indent l f.first (seen_blocks L.owns.written ctx (here (drop f.block bks)))) (length items) text j (open_of C L ctx q ∷ open_of C L ctx g ∷ [])) (sym (one_marked (is_marked C h.location (block_outlined C h)) (item.Block b)))
+                (subst (λ z. Turns C L width (a_region f.indent l f.first z) (length items) text mk (open_of C L ctx q ∷ open_of C L ctx g ∷ [])) (sym shows)
+                (subst (λ j. Turns C L width (a_region f.indent l f.first (forest.block h sos sbs)) (length items) text mk (open_of C L ctx q ∷ a_block j l true sos ∷ [])) (sym n)
+                (block_turns C L width f.indent l f.first h sos sbs (length items))));
+            left = ap (λ z. items_in_blocks C L ctx l (here z)) e
+                ∙ (ap (λ x. elim x [ Some view ↦ marked_block C L ctx b (seen_block L.owns.written ctx b view) ++ (items_in_operations C L ctx l os ++ items_in_blocks C L ctx l bs) | None ↦ items_in_blocks C L ctx l bs ]) is
+                ∙ ap (λ x. marked_block C L ctx b x ++ (items_in_operations C L ctx l os ++ items_in_blocks C L ctx l bs)) (sym same));
+            fit = (alive, (block_there_is_live nested f.region b f.block got, tt));
+            faults = λ why x. subst (λ z. OpenFault C (isolated ctx.dialects) width why (a_region f.indent l f.first z)) (sym shows) (region_next C (isolated ctx.dialects) width why f.indent indent l f.first h sos sbs n x);
+            misfits = λ x. region_kept C (isolated ctx.dialects) width f.indent indent l f.first h sos sbs n (subst (λ z. OpenFault C (isolated ctx.dialects) width Misfit (a_region f.indent l f.first z)) shows x);
+            fewer = fewer (turns_of_blocks C L ctx (here (drop f.block bks))) (turns_of_blocks C L ctx bs) (turns_of_operations C L ctx os) (ap (λ z. turns_of_blocks C L ctx (here z)) e);
+          };
         }
       where
         fewer : (all later os : ℕ) → all ≡ 2 + (os + later) → (1 + later) + ((1 + os) + 0) < 1 + all
@@ -347,21 +357,23 @@ module _ {T A : Type 0} (C : Printing T A) (L : Language ⊤ T A) (ctx : Context
         let mine = cond f.marked (marked_operation C L ctx f.op (seen_at C L ctx f.op)) [] in
         record {
           pushed = [];
-          text = pieces_text L ps ++ mark;
-          gathered = mine;
           stack = sym (append-nil frames);
-          marks = i;
-          written = more old mid new (pieces_text L ps) mark w (v ∙ ap (λ z. mid ++ encode_utf8_all z) (same_mark width (length items) own));
-          turned = subst (λ b. Turns C L width (an_operation f.indent l own b ps rs) (length items) (pieces_text L ps ++ mark) (length mine) []) (sym once)
-              (subst (λ k. Turns C L width (an_operation f.indent l own false ps rs) (length items) (pieces_text L ps ++ mark) k []) (sym (own_count f.marked f.op))
-              (and_then C L width (an_operation f.indent l own false ps rs) (an_operation f.indent l own false (after_pieces ps) rs) (length items) (pieces_text L ps) mark (mark_count C own) []
-              (pieces_turn C L width f.indent l own ps rs (length items))
-              (subst (λ z. Turns C L width (an_operation f.indent l own false z rs) (length items) mark (mark_count C own) []) (sym e) (operation_ends C L width f.indent l own rs (length items) cov'))));
-          left = ap (λ z. z ++ mine) (none_covered (inside_of C L ctx) l (drop f.region (regions ctx.graph f.op)) cov') ∙ sym (append-nil mine);
-          fit = tt;
-          faults = λ why x. absurd x;
-          misfits = λ x. none_fault C (isolated ctx.dialects) width Misfit f.indent l rs cov' x;
-          fewer = omega arith;
+          step = record {
+            text = pieces_text L ps ++ mark;
+            gathered = mine;
+            marks = i;
+            written = more old mid new (pieces_text L ps) mark w (v ∙ ap (λ z. mid ++ encode_utf8_all z) (same_mark width (length items) own));
+            turned = subst (λ b. Turns C L width (an_operation f.indent l own b ps rs) (length items) (pieces_text L ps ++ mark) (length mine) []) (sym once)
+                (subst (λ k. Turns C L width (an_operation f.indent l own false ps rs) (length items) (pieces_text L ps ++ mark) k []) (sym (own_count f.marked f.op))
+                (and_then C L width (an_operation f.indent l own false ps rs) (an_operation f.indent l own false (after_pieces ps) rs) (length items) (pieces_text L ps) mark (mark_count C own) []
+                (pieces_turn C L width f.indent l own ps rs (length items))
+                (subst (λ z. Turns C L width (an_operation f.indent l own false z rs) (length items) mark (mark_count C own) []) (sym e) (operation_ends C L width f.indent l own rs (length items) cov'))));
+            left = ap (λ z. z ++ mine) (none_covered (inside_of C L ctx) l (drop f.region (regions ctx.graph f.op)) cov') ∙ sym (append-nil mine);
+            fit = tt;
+            faults = λ why x. absurd x;
+            misfits = λ x. none_fault C (isolated ctx.dialects) width Misfit f.indent l rs cov' x;
+            fewer = omega arith;
+          };
         }
 
     -- the pieces are written, and what follows leaves the operation open
@@ -378,19 +390,21 @@ module _ {T A : Type 0} (C : Printing T A) (L : Language ⊤ T A) (ctx : Context
         let next = frame.Operation (record f { directive = k; repeats = again }) in
         record {
           pushed = next ∷ [];
-          text = pieces_text L ps ++ text;
-          gathered = [];
           stack = s;
-          marks = sym (append-nil items);
-          written = w;
-          turned = subst (λ b. Turns C L width (opens b ps) (length items) (pieces_text L ps ++ text) 0 (open_of C L ctx next ∷ [])) (sym once)
-              (and_then C L width (opens false ps) (opens false (after_pieces ps)) (length items) (pieces_text L ps) text 0 (open_of C L ctx next ∷ [])
-              (pieces_turn C L width f.indent (levels f.limit) (marked_own C L ctx f.marked f.op) ps rs (length items)) turns);
-          left = refl;
-          fit = (fits, tt);
-          faults = λ why x. only_fault C (isolated ctx.dialects) width why (open_of C L ctx next) x;
-          misfits = λ x. inl x;
-          fewer = fewer (directive_count C L ctx f.op) f.directive k (turns_of_regions C L ctx (regions_left C L ctx f.op f.region)) (cond f.repeats 1 0) (cond again 1 0) (one_at_most again) low high;
+          step = record {
+            text = pieces_text L ps ++ text;
+            gathered = [];
+            marks = sym (append-nil items);
+            written = w;
+            turned = subst (λ b. Turns C L width (opens b ps) (length items) (pieces_text L ps ++ text) 0 (open_of C L ctx next ∷ [])) (sym once)
+                (and_then C L width (opens false ps) (opens false (after_pieces ps)) (length items) (pieces_text L ps) text 0 (open_of C L ctx next ∷ [])
+                (pieces_turn C L width f.indent (levels f.limit) (marked_own C L ctx f.marked f.op) ps rs (length items)) turns);
+            left = refl;
+            fit = (fits, tt);
+            faults = λ why x. only_fault C (isolated ctx.dialects) width why (open_of C L ctx next) x;
+            misfits = λ x. inl x;
+            fewer = fewer (directive_count C L ctx f.op) f.directive k (turns_of_regions C L ctx (regions_left C L ctx f.op f.region)) (cond f.repeats 1 0) (cond again 1 0) (one_at_most again) low high;
+          };
         }
       where
         fewer : (d i k r b c : ℕ) → c ≤ 1 → i < k → k ≤ d → (1 + (2 * (d - k) + (c + r))) + 0 < 1 + (2 * (d - i) + (b + r))
@@ -460,21 +474,23 @@ module _ {T A : Type 0} (C : Printing T A) (L : Language ⊤ T A) (ctx : Context
         let l = levels f.limit in
         record {
           pushed = frame.Operation (record f { repeats = false }) ∷ [];
-          text = [];
-          gathered = [];
           stack = s;
-          marks = sym (append-nil items);
-          written = w;
-          turned = subst (λ b. Turns C L width (an_operation f.indent l own b ps (seen_regions L.owns.written ctx (here (drop f.region (regions ctx.graph f.op))))) (length items) [] 0
-              (an_operation f.indent l own false ps (seen_regions L.owns.written ctx (here (drop f.region (regions ctx.graph f.op)))) ∷ [])) (sym all_left)
-              (subst (λ z. Turns C L width (an_operation f.indent l own true ps (seen_regions L.owns.written ctx (here z))) (length items) [] 0 (an_operation f.indent l own false ps (seen_regions L.owns.written ctx (here z)) ∷ [])) (sym e)
-              (repeats_end C L width f.indent l own ps (length items)));
-          left = refl;
-          fit = ((alive, subst (λ z. covers ps (seen_regions L.owns.written ctx (here z)) ≡ true) (sym e) (covers_none ps)), tt);
-          faults = λ why x. only_fault C (isolated ctx.dialects) width why (an_operation f.indent l own false ps (seen_regions L.owns.written ctx (here (drop f.region (regions ctx.graph f.op))))) x;
-          misfits = λ x. inl x;
-          fewer = subst (λ b. (1 + (2 * (directive_count C L ctx f.op - f.directive) + (0 + turns_of_regions C L ctx (regions_left C L ctx f.op f.region)))) + 0
-              < 1 + (2 * (directive_count C L ctx f.op - f.directive) + (cond b 1 0 + turns_of_regions C L ctx (regions_left C L ctx f.op f.region)))) (sym all_left) (omega arith);
+          step = record {
+            text = [];
+            gathered = [];
+            marks = sym (append-nil items);
+            written = w;
+            turned = subst (λ b. Turns C L width (an_operation f.indent l own b ps (seen_regions L.owns.written ctx (here (drop f.region (regions ctx.graph f.op))))) (length items) [] 0
+                (an_operation f.indent l own false ps (seen_regions L.owns.written ctx (here (drop f.region (regions ctx.graph f.op)))) ∷ [])) (sym all_left)
+                (subst (λ z. Turns C L width (an_operation f.indent l own true ps (seen_regions L.owns.written ctx (here z))) (length items) [] 0 (an_operation f.indent l own false ps (seen_regions L.owns.written ctx (here z)) ∷ [])) (sym e)
+                (repeats_end C L width f.indent l own ps (length items)));
+            left = refl;
+            fit = ((alive, subst (λ z. covers ps (seen_regions L.owns.written ctx (here z)) ≡ true) (sym e) (covers_none ps)), tt);
+            faults = λ why x. only_fault C (isolated ctx.dialects) width why (an_operation f.indent l own false ps (seen_regions L.owns.written ctx (here (drop f.region (regions ctx.graph f.op))))) x;
+            misfits = λ x. inl x;
+            fewer = subst (λ b. (1 + (2 * (directive_count C L ctx f.op - f.directive) + (0 + turns_of_regions C L ctx (regions_left C L ctx f.op f.region)))) + 0
+                < 1 + (2 * (directive_count C L ctx f.op - f.directive) + (cond b 1 0 + turns_of_regions C L ctx (regions_left C L ctx f.op f.region)))) (sym all_left) (omega arith);
+          };
         }
 
     -- one of all regions is begun
@@ -490,26 +506,28 @@ module _ {T A : Type 0} (C : Printing T A) (L : Language ⊤ T A) (ctx : Context
         let bs = seen_blocks L.owns.written ctx (blocks_left C L ctx r 0) in
         record {
           pushed = frame.Operation (record f { region = f.region + 1 }) ∷ region_frames r f.indent f.limit;
-          text = region_front width f.indent f.limit;
-          gathered = [];
           stack = s;
-          marks = sym (append-nil items);
-          written = w;
-          turned = subst (λ b. Turns C L width (an_operation f.indent l own b ps (seen_regions L.owns.written ctx (here (drop f.region (regions ctx.graph f.op))))) (length items) (region_front width f.indent f.limit) 0
-              (an_operation f.indent l own b ps srs ∷ map (open_of C L ctx) (region_frames r f.indent f.limit))) (sym all_left)
-              (subst (λ z. Turns C L width (an_operation f.indent l own true ps (seen_regions L.owns.written ctx (here z))) (length items) (region_front width f.indent f.limit) 0
-              (an_operation f.indent l own true ps srs ∷ map (open_of C L ctx) (region_frames r f.indent f.limit))) (sym e)
-              (subst (λ hs. Turns C L width (an_operation f.indent l own true ps (forest.region tt bs srs)) (length items) (region_front width f.indent f.limit) 0 (an_operation f.indent l own true ps srs ∷ hs)) (sym (frames_open r f.indent f.limit))
-              (repeated_turn f.indent own (length items) ps bs srs f.limit)));
-          left = ap (λ z. items_in_regions C L ctx l (here z) ++ mine) e ∙ frames_items r f.indent f.limit rs mine;
-          fit = ((alive, subst (λ b. (b || covers ps srs) ≡ true) (sym all_left) refl), frames_fit r f.indent f.limit there);
-          faults = λ why x. subst (λ z. RegionsFault C (isolated ctx.dialects) width why f.indent l (seen_regions L.owns.written ctx (here z))) (sym e)
-              (operation_next C (isolated ctx.dialects) width why f.indent f.limit own f.repeats ps bs srs
-              (subst (λ z. AnyFault C (isolated ctx.dialects) width why (an_operation f.indent l own f.repeats ps srs ∷ z)) (frames_open r f.indent f.limit) x));
-          misfits = λ x. subst (λ z. AnyFault C (isolated ctx.dialects) width Misfit (an_operation f.indent l own f.repeats ps srs ∷ z)) (sym (frames_open r f.indent f.limit))
-              (operation_kept C (isolated ctx.dialects) width f.indent f.limit own f.repeats ps bs srs (subst (λ z. RegionsFault C (isolated ctx.dialects) width Misfit f.indent l (seen_regions L.owns.written ctx (here z))) e x));
-          fewer = fewer (directive_count C L ctx f.op - f.directive) (cond f.repeats 1 0) (turns_of_regions C L ctx rs) (turns_of_regions C L ctx (here (drop f.region (regions ctx.graph f.op)))) (turns_left C L ctx (region_frames r f.indent f.limit))
-              (turns_of_blocks C L ctx (blocks_left C L ctx r 0)) (ap (λ z. turns_of_regions C L ctx (here z)) e) (frames_turns r f.indent f.limit);
+          step = record {
+            text = region_front width f.indent f.limit;
+            gathered = [];
+            marks = sym (append-nil items);
+            written = w;
+            turned = subst (λ b. Turns C L width (an_operation f.indent l own b ps (seen_regions L.owns.written ctx (here (drop f.region (regions ctx.graph f.op))))) (length items) (region_front width f.indent f.limit) 0
+                (an_operation f.indent l own b ps srs ∷ map (open_of C L ctx) (region_frames r f.indent f.limit))) (sym all_left)
+                (subst (λ z. Turns C L width (an_operation f.indent l own true ps (seen_regions L.owns.written ctx (here z))) (length items) (region_front width f.indent f.limit) 0
+                (an_operation f.indent l own true ps srs ∷ map (open_of C L ctx) (region_frames r f.indent f.limit))) (sym e)
+                (subst (λ hs. Turns C L width (an_operation f.indent l own true ps (forest.region tt bs srs)) (length items) (region_front width f.indent f.limit) 0 (an_operation f.indent l own true ps srs ∷ hs)) (sym (frames_open r f.indent f.limit))
+                (repeated_turn f.indent own (length items) ps bs srs f.limit)));
+            left = ap (λ z. items_in_regions C L ctx l (here z) ++ mine) e ∙ frames_items r f.indent f.limit rs mine;
+            fit = ((alive, subst (λ b. (b || covers ps srs) ≡ true) (sym all_left) refl), frames_fit r f.indent f.limit there);
+            faults = λ why x. subst (λ z. RegionsFault C (isolated ctx.dialects) width why f.indent l (seen_regions L.owns.written ctx (here z))) (sym e)
+                (operation_next C (isolated ctx.dialects) width why f.indent f.limit own f.repeats ps bs srs
+                (subst (λ z. AnyFault C (isolated ctx.dialects) width why (an_operation f.indent l own f.repeats ps srs ∷ z)) (frames_open r f.indent f.limit) x));
+            misfits = λ x. subst (λ z. AnyFault C (isolated ctx.dialects) width Misfit (an_operation f.indent l own f.repeats ps srs ∷ z)) (sym (frames_open r f.indent f.limit))
+                (operation_kept C (isolated ctx.dialects) width f.indent f.limit own f.repeats ps bs srs (subst (λ z. RegionsFault C (isolated ctx.dialects) width Misfit f.indent l (seen_regions L.owns.written ctx (here z))) e x));
+            fewer = fewer (directive_count C L ctx f.op - f.directive) (cond f.repeats 1 0) (turns_of_regions C L ctx rs) (turns_of_regions C L ctx (here (drop f.region (regions ctx.graph f.op)))) (turns_left C L ctx (region_frames r f.indent f.limit))
+                (turns_of_blocks C L ctx (blocks_left C L ctx r 0)) (ap (λ z. turns_of_regions C L ctx (here z)) e) (frames_turns r f.indent f.limit);
+          };
         }
       where
         fewer : (d b later all tf tb : ℕ) → all ≡ 2 + (tb + later) → tf ≤ 1 + tb → (1 + (2 * d + (b + later))) + tf < 1 + (2 * d + (b + all))
@@ -553,27 +571,29 @@ module _ {T A : Type 0} (C : Printing T A) (L : Language ⊤ T A) (ctx : Context
         let cov' : covers qs srs ≡ true = ap (λ z. covers (tree.region j ∷ qs) z) (sym shows) ∙ (ap (λ y. covers y all) (sym b) ∙ (sym (covers_after ps all) ∙ cov)) in
         record {
           pushed = frame.Operation (record f { directive = k; region = f.region + 1 }) ∷ region_frames r f.indent f.limit;
-          text = pieces_text L ps ++ front;
-          gathered = [];
           stack = s;
-          marks = sym (append-nil items);
-          written = more old mid new (pieces_text L ps) front w v;
-          turned = subst (λ x. Turns C L width (an_operation f.indent l own x ps all) (length items) (pieces_text L ps ++ front) 0 (an_operation f.indent l own x qs srs ∷ hs)) (sym once)
-              (and_then C L width (an_operation f.indent l own false ps all) (an_operation f.indent l own false (after_pieces ps) all) (length items) (pieces_text L ps) front 0 (an_operation f.indent l own false qs srs ∷ hs)
-              (pieces_turn C L width f.indent l own ps all (length items))
-              (subst (λ y. Turns C L width (an_operation f.indent l own false y all) (length items) front 0 (an_operation f.indent l own false qs srs ∷ hs)) (sym b)
-              (subst (λ z. Turns C L width (an_operation f.indent l own false (tree.region j ∷ qs) z) (length items) front 0 (an_operation f.indent l own false qs srs ∷ hs)) (sym shows)
-              (subst (λ z. Turns C L width (an_operation f.indent l own false (tree.region j ∷ qs) (forest.region tt bs srs)) (length items) front 0 (an_operation f.indent l own false qs srs ∷ z)) (sym (frames_open r f.indent f.limit))
-              (single_turn f.indent own (length items) qs bs srs f.limit j)))));
-          left = ap (λ z. items_in_regions C L ctx l (here z) ++ mine) e ∙ frames_items r f.indent f.limit rs mine;
-          fit = ((alive, subst (λ x. (x || covers qs srs) ≡ true) (sym once) cov'), frames_fit r f.indent f.limit there);
-          faults = λ why x. subst (λ z. RegionsFault C (isolated ctx.dialects) width why f.indent l z) (sym shows)
-              (operation_next C (isolated ctx.dialects) width why f.indent f.limit own f.repeats qs bs srs
-              (subst (λ z. AnyFault C (isolated ctx.dialects) width why (an_operation f.indent l own f.repeats qs srs ∷ z)) (frames_open r f.indent f.limit) x));
-          misfits = λ x. subst (λ z. AnyFault C (isolated ctx.dialects) width Misfit (an_operation f.indent l own f.repeats qs srs ∷ z)) (sym (frames_open r f.indent f.limit))
-              (operation_kept C (isolated ctx.dialects) width f.indent f.limit own f.repeats qs bs srs (subst (λ z. RegionsFault C (isolated ctx.dialects) width Misfit f.indent l z) shows x));
-          fewer = fewer (directive_count C L ctx f.op) f.directive k (cond f.repeats 1 0) (turns_of_regions C L ctx rs) (turns_of_regions C L ctx (here (drop f.region (regions ctx.graph f.op)))) (turns_left C L ctx (region_frames r f.indent f.limit))
-              (turns_of_blocks C L ctx (blocks_left C L ctx r 0)) low high (ap (λ z. turns_of_regions C L ctx (here z)) e) (frames_turns r f.indent f.limit);
+          step = record {
+            text = pieces_text L ps ++ front;
+            gathered = [];
+            marks = sym (append-nil items);
+            written = more old mid new (pieces_text L ps) front w v;
+            turned = subst (λ x. Turns C L width (an_operation f.indent l own x ps all) (length items) (pieces_text L ps ++ front) 0 (an_operation f.indent l own x qs srs ∷ hs)) (sym once)
+                (and_then C L width (an_operation f.indent l own false ps all) (an_operation f.indent l own false (after_pieces ps) all) (length items) (pieces_text L ps) front 0 (an_operation f.indent l own false qs srs ∷ hs)
+                (pieces_turn C L width f.indent l own ps all (length items))
+                (subst (λ y. Turns C L width (an_operation f.indent l own false y all) (length items) front 0 (an_operation f.indent l own false qs srs ∷ hs)) (sym b)
+                (subst (λ z. Turns C L width (an_operation f.indent l own false (tree.region j ∷ qs) z) (length items) front 0 (an_operation f.indent l own false qs srs ∷ hs)) (sym shows)
+                (subst (λ z. Turns C L width (an_operation f.indent l own false (tree.region j ∷ qs) (forest.region tt bs srs)) (length items) front 0 (an_operation f.indent l own false qs srs ∷ z)) (sym (frames_open r f.indent f.limit))
+                (single_turn f.indent own (length items) qs bs srs f.limit j)))));
+            left = ap (λ z. items_in_regions C L ctx l (here z) ++ mine) e ∙ frames_items r f.indent f.limit rs mine;
+            fit = ((alive, subst (λ x. (x || covers qs srs) ≡ true) (sym once) cov'), frames_fit r f.indent f.limit there);
+            faults = λ why x. subst (λ z. RegionsFault C (isolated ctx.dialects) width why f.indent l z) (sym shows)
+                (operation_next C (isolated ctx.dialects) width why f.indent f.limit own f.repeats qs bs srs
+                (subst (λ z. AnyFault C (isolated ctx.dialects) width why (an_operation f.indent l own f.repeats qs srs ∷ z)) (frames_open r f.indent f.limit) x));
+            misfits = λ x. subst (λ z. AnyFault C (isolated ctx.dialects) width Misfit (an_operation f.indent l own f.repeats qs srs ∷ z)) (sym (frames_open r f.indent f.limit))
+                (operation_kept C (isolated ctx.dialects) width f.indent f.limit own f.repeats qs bs srs (subst (λ z. RegionsFault C (isolated ctx.dialects) width Misfit f.indent l z) shows x));
+            fewer = fewer (directive_count C L ctx f.op) f.directive k (cond f.repeats 1 0) (turns_of_regions C L ctx rs) (turns_of_regions C L ctx (here (drop f.region (regions ctx.graph f.op)))) (turns_left C L ctx (region_frames r f.indent f.limit))
+                (turns_of_blocks C L ctx (blocks_left C L ctx r 0)) low high (ap (λ z. turns_of_regions C L ctx (here z)) e) (frames_turns r f.indent f.limit);
+          };
         }
       where
         fewer : (d i k b later all tf tb : ℕ) → i < k → k ≤ d → all ≡ 2 + (tb + later) → tf ≤ 1 + tb → (1 + (2 * (d - k) + (b + later))) + tf < 1 + (2 * (d - i) + (b + all))

@@ -81,37 +81,37 @@ module _ {T A : Type 0} (C : Printing T A) (L : Language ⊤ T A) (ctx : Context
     stepped_text whole h =
         let o = open_of C L ctx in
         let n = length items in
-        let k = length s.gathered in
+        let k = length s.step.gathered in
         let r = open_rest C L width (map o frames') (length items') in
-        let count : length items' ≡ n + k = ap length s.marks ∙ length-append items s.gathered in
+        let count : length items' ≡ n + k = ap length s.step.marks ∙ length-append items s.step.gathered in
         let opens : map o frames' ≡ map o gs ++ map o s.pushed = ap (map o) s.stack ∙ map-append o gs s.pushed in
         let before : map o frames ≡ map o gs ++ o f ∷ [] = ap (map o) e ∙ map-append o gs (f ∷ []) in
-        let turn : open_rest C L width (map o frames) n ≡ s.text ++ r =
+        let turn : open_rest C L width (map o frames) n ≡ s.step.text ++ r =
         ap (λ z. open_rest C L width z n) before
-        ∙ (turned C L width (map o gs) (o f) n s.text k (map o s.pushed) s.turned
-        ∙ (ap (λ z. s.text ++ open_rest C L width z (n + k)) (sym opens) ∙ ap (λ j. s.text ++ open_rest C L width (map o frames') j) (sym count))) in
-        more old new (new ++ encode_utf8_all r) s.text r s.written refl ∙ (ap (λ z. old ++ encode_utf8_all z) (sym turn) ∙ h)
+        ∙ (turned C L width (map o gs) (o f) n s.step.text k (map o s.pushed) s.step.turned
+        ∙ (ap (λ z. s.step.text ++ open_rest C L width z (n + k)) (sym opens) ∙ ap (λ j. s.step.text ++ open_rest C L width (map o frames') j) (sym count))) in
+        more old new (new ++ encode_utf8_all r) s.step.text r s.step.written refl ∙ (ap (λ z. old ++ encode_utf8_all z) (sym turn) ∙ h)
 
     pub stepped_items : (whole : List Item) → items ++ items_left C L ctx frames ≡ whole → items' ++ items_left C L ctx frames' ≡ whole
     stepped_items whole h =
         let g = items_left C L ctx gs in
         let p = items_left C L ctx s.pushed in
-        ap (λ z. z ++ items_left C L ctx frames') s.marks
-        ∙ (ap (λ z. (items ++ s.gathered) ++ z) (ap (items_left C L ctx) s.stack ∙ items_both gs s.pushed)
-        ∙ (regroup items s.gathered p g
-        ∙ (ap (λ z. items ++ (z ++ g)) (sym s.left)
+        ap (λ z. z ++ items_left C L ctx frames') s.step.marks
+        ∙ (ap (λ z. (items ++ s.step.gathered) ++ z) (ap (items_left C L ctx) s.stack ∙ items_both gs s.pushed)
+        ∙ (regroup items s.step.gathered p g
+        ∙ (ap (λ z. items ++ (z ++ g)) (sym s.step.left)
         ∙ (ap (λ z. items ++ z) (sym (ap (items_left C L ctx) e ∙ items_both gs (f ∷ []))) ∙ h))))
       where
         regroup : (a b c d : List Item) → (a ++ b) ++ (c ++ d) ≡ a ++ ((b ++ c) ++ d)
         regroup a b c d = simp append_assoc
 
     pub stepped_fit : AllFit C L ctx frames → AllFit C L ctx frames'
-    stepped_fit a = subst (AllFit C L ctx) (sym s.stack) (fit_both gs s.pushed (fit_front gs f (subst (AllFit C L ctx) e a)) s.fit)
+    stepped_fit a = subst (AllFit C L ctx) (sym s.stack) (fit_both gs s.pushed (fit_front gs f (subst (AllFit C L ctx) e a)) s.step.fit)
 
     pub stepped_fault : (why : Refusal) → FramesFault why frames' → FramesFault why frames
     stepped_fault why x = subst (FramesFault why) (sym e) (elim (frames_both why gs s.pushed (subst (FramesFault why) s.stack x)) [
       | inl y ↦ first_faults why gs f y
-      | inr y ↦ last_fault why gs f (s.faults why y)
+      | inr y ↦ last_fault why gs f (s.step.faults why y)
     ])
 
     pub stepped_misfits : FramesFault Misfit frames → FramesFault Misfit frames'
@@ -119,7 +119,7 @@ module _ {T A : Type 0} (C : Printing T A) (L : Language ⊤ T A) (ctx : Context
         let o = open_of C L ctx in
         let all : AnyFault C (isolated ctx.dialects) width Misfit (map o gs ++ map o s.pushed) = elim (frames_both Misfit gs (f ∷ []) (subst (FramesFault Misfit) e x)) [
           | inl y ↦ any_front C (isolated ctx.dialects) width Misfit (map o gs) (map o s.pushed) y
-          | inr y ↦ any_back C (isolated ctx.dialects) width Misfit (map o gs) (map o s.pushed) (s.misfits (only_fault C (isolated ctx.dialects) width Misfit (o f) y))
+          | inr y ↦ any_back C (isolated ctx.dialects) width Misfit (map o gs) (map o s.pushed) (s.step.misfits (only_fault C (isolated ctx.dialects) width Misfit (o f) y))
         ] in
         subst (FramesFault Misfit) (sym s.stack) (subst (AnyFault C (isolated ctx.dialects) width Misfit) (sym (map-append o gs s.pushed)) all)
 
@@ -127,7 +127,7 @@ module _ {T A : Type 0} (C : Printing T A) (L : Language ⊤ T A) (ctx : Context
     stepped_fewer =
         let a = ap (turns_left C L ctx) s.stack ∙ turns_both gs s.pushed in
         let b = ap (turns_left C L ctx) e ∙ turns_both gs (f ∷ []) in
-        let m = s.fewer in
+        let m = s.step.fewer in
         omega (arith, a, b, m)
 
   module _ (p : Ptr Operation) (known : Option (Bor (List code.Directive))) (marked : Bool) (i : ℕ) (limit : RegionPrintDepthLimit) (n : ℕ) where

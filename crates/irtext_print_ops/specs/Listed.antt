@@ -18,10 +18,14 @@ use Rattle.irtext_print_ops.specs.declared.lists.Facet.TheVariants as facet
 use Rattle.irtext_print_ops.specs.declared.lists.Listed.{Listed}
 use Rattle.irtext_print_ops.specs.declared.lists.Listed.TheVariants as listed
 
+-- `, ` before an item that is not the first
+abbrev pub gap : Bool → Text
+gap first = cond first [] comma
+
 -- a text, after `, ` if it is not the first; nothing if there is no text
 abbrev pub next_text : Bool → Option Text → Text
 next_text first None = []
-next_text first (Some t) = cond first [] comma ++ t
+next_text first (Some t) = gap first ++ t
 
 -- there are no texts
 abbrev pub are_none : List Text → Bool

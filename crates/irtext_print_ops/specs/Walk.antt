@@ -222,14 +222,12 @@ module _ {T A : Type 0} (C : Printing T A) where
     turns_left [] = 0
     turns_left (f ∷ frames) = turns_of f + turns_left frames
 
-    -- What was open is replaced by frames. The text that was appended, with the marks of the items that were gathered, and the text
+    -- What was open is replaced by these frames. The text that was appended, with the marks of the items that were gathered, and the text
     -- that the frames leave are together its text. A reason for the frames to fail is a reason for it; if it contains an operation that
     -- does not fit its format, so do the frames. Fewer steps are left.
-    pub record Replaces (width : ℕ) (before : Open T A) (waiting : List Item) (turns : ℕ) (items items' : List Item) (frames frames' : List Frame) (old new : List ℕ) : Type 0 where
-      pub pushed : List Frame
+    pub record Replaces (width : ℕ) (before : Open T A) (waiting : List Item) (turns : ℕ) (items items' : List Item) (pushed : List Frame) (old new : List ℕ) : Type 0 where
       pub text : Text
       pub gathered : List Item
-      pub stack : frames' ≡ frames ++ pushed
       pub marks : items' ≡ items ++ gathered
       pub written : new ≡ old ++ encode_utf8_all text
       pub turned : Turns C L width before (length items) text (length gathered) (map open_of pushed)
@@ -239,9 +237,11 @@ module _ {T A : Type 0} (C : Printing T A) where
       pub misfits : OpenFault C (isolated ctx.dialects) width Misfit before → AnyFault C (isolated ctx.dialects) width Misfit (map open_of pushed)
       pub fewer : turns_left pushed < turns
 
-    -- a step from a frame
-    abbrev pub Steps : ℕ → Frame → List Item → List Item → List Frame → List Frame → List ℕ → List ℕ → Type 0
-    Steps width f items items' frames frames' old new = Replaces width (open_of f) (items_of f) (turns_of f) items items' frames frames' old new
+    -- a step from a frame inside of others: it is replaced by frames, which are opened inside of the others
+    pub record Steps (width : ℕ) (f : Frame) (items items' : List Item) (frames frames' : List Frame) (old new : List ℕ) : Type 0 where
+      pub pushed : List Frame
+      pub stack : frames' ≡ frames ++ pushed
+      pub step : Replaces width (open_of f) (items_of f) (turns_of f) items items' pushed old new
 
     -- Steps from a frame lead to one inside of it, which is innermost after them. The frames between the two were opened inside of
     -- those that are open.

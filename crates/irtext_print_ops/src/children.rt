@@ -73,10 +73,7 @@ pub(crate) fn operation_at<O: Drop, B: Drop, T: Drop>(
 
 /// The number of regions of an operation.
 #[inline(always)]
-pub(crate) fn count_regions<O: Drop, B: Drop, T: Drop>(
-    graph: &Graph<O, B, T>,
-    op: Ptr<Operation>,
-) -> usize
+pub fn count_regions<O: Drop, B: Drop, T: Drop>(graph: &Graph<O, B, T>, op: Ptr<Operation>) -> usize
     requires { IsLive graph.now (TheOperation op) }
     ensures { result ≡ length (regions graph.now op) }
 {

@@ -6,7 +6,7 @@
 
 pub mod block_heads;
 pub mod canonical;
-mod children;
+pub mod children;
 pub mod fits;
 pub mod formats;
 pub mod frame;

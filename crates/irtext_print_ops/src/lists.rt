@@ -1,5 +1,5 @@
 //! The lists of operations and blocks, as they are printed: with `, ` between the items, and without the items that have no text.
-ghost use Rattle.std.specs.Prelude.{◌≡◌, ◌<◌, ◌&&◌, ◌++◌, not, true, [], cond, drop, is_some, length, slice_get, option_and_then, option_map, Some, IsSome, IfOk, IfSome, OnOk};
+ghost use Rattle.std.specs.Prelude.{◌≡◌, ◌<◌, ◌&&◌, ◌++◌, not, true, drop, is_some, length, slice_get, option_and_then, option_map, Some, IsSome, IfOk, IfSome, OnOk};
 ghost use Rattle.std.specs.Char.{is_ascii};
 ghost use Rattle.std.specs.List.{list_all};
 ghost use Rattle.irtext_context.specs.Context.{block};
@@ -8,10 +8,8 @@ ghost use Rattle.irtext_graph.specs.Parts.{operands, successors, value_at, IsDef
 ghost use Rattle.irtext_graph.specs.declared.object.Object.TheVariants.{TheOperation};
 ghost use Rattle.irtext_grammar.specs.Contexts.Held.{known_types};
 ghost use Rattle.irtext_grammar.specs.Contexts.Nested.{number_of};
-ghost use Rattle.irtext_grammar.specs.Spelling.Spell.{comma};
 ghost use Rattle.irtext_print.specs.Printers.Appended.{AppendsText};
 ghost use Rattle.irtext_print_ops.specs.Listed as texts;
-ghost use Rattle.irtext_print_ops.specs.Listed.{owner};
 ghost use Rattle.irtext_print_ops.specs.Names.{label_text, operand_text};
 ghost use Rattle.irtext_print_ops.specs.declared.lists.Facet.TheVariants as facet;
 
@@ -53,7 +51,7 @@ pub(crate) type StillFirst = Result<bool, fmt::Error>;
 /// Appends `, `, except before the first item.
 #[inline(always)]
 fn fmt_between(first: bool, f: &mut String) -> fmt::Result
-    ensures { OnOk result (AppendsText f.old (cond first [] comma) f.new) }
+    ensures { OnOk result (AppendsText f.old (texts.gap first) f.new) }
 {
     if !first {
         f.push_str(", ")?;
@@ -163,7 +161,7 @@ impl<'c, T: IrText<A>, A: AttrText<A>> Printer<'c, T, A> {
     /// Returns the number of items.
     #[inline(always)]
     pub(crate) fn count(self, listed: Listed) -> usize
-        requires { IsLive self.ctx.now.graph (owner listed) }
+        requires { IsLive self.ctx.now.graph (texts.owner listed) }
         ensures { result ≡ length (texts.texts_of T.IrText.written self.entry.ctx.now listed) }
     {
         let graph = self.ctx.graph();
@@ -184,7 +182,7 @@ impl<'c, T: IrText<A>, A: AttrText<A>> Printer<'c, T, A> {
         first: bool,
         f: &mut String,
     ) -> StillFirst
-        requires alive { IsLive self.ctx.now.graph (owner listed) }
+        requires alive { IsLive self.ctx.now.graph (texts.owner listed) }
         requires within { index < length (texts.texts_of T.IrText.written self.ctx.now listed) }
         ensures text { OnOk result (AppendsText f.old (texts.next_text first
             (texts.text_at T.IrText.written self.entry.ctx.now listed index)) f.new) }
@@ -217,7 +215,7 @@ impl<'c, T: IrText<A>, A: AttrText<A>> Printer<'c, T, A> {
     /// Appends the items from an index on, with `, ` between them. Returns whether there was none.
     #[inline(always)]
     pub(crate) fn fmt_listed(self, listed: Listed, from: usize, f: &mut String) -> StillFirst
-        requires { IsLive self.ctx.now.graph (owner listed) }
+        requires { IsLive self.ctx.now.graph (texts.owner listed) }
         ensures text { OnOk result (AppendsText f.old
             (texts.list_text T.IrText.written self.entry.ctx.now listed from) f.new) }
         ensures none { IfOk result (λ none. none ≡ texts.are_none
@@ -240,7 +238,7 @@ impl<'c, T: IrText<A>, A: AttrText<A>> Printer<'c, T, A> {
         both: &str,
         f: &mut String,
     ) -> fmt::Result
-        requires alive { IsLive self.ctx.now.graph (owner listed) }
+        requires alive { IsLive self.ctx.now.graph (texts.owner listed) }
         requires joined { both.now ≡ before.now ++ after.now }
         requires before { list_all is_ascii before.now ≡ true }
         requires after { list_all is_ascii after.now ≡ true }

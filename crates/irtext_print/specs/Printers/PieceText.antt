@@ -64,9 +64,13 @@ module _ {A : Type 0} where
   symbol_in (Some (given_names ns)) = None
   symbol_in (Some (own a)) = None
 
-  -- the symbol's name after `@`, if the attribute under its key is an identifier
+  -- the symbol's name among entries, if the attribute under its key is an identifier
+  abbrev pub symbol_name : List (Text × Attribute A) → Option Text
+  symbol_name es = symbol_in (lookup sym_name_key es)
+
+  -- the symbol's name after `@`, if there is one
   abbrev pub header_text : List (Text × Attribute A) → Text
-  header_text es = symbol_text (symbol_in (lookup sym_name_key es))
+  header_text es = symbol_text (symbol_name es)
 
   -- the dictionary prints this entry: no other directive does, and it is not outlined
   abbrev pub is_listed : (A → Bool) → List Directive → Text × Attribute A → Bool

@@ -14,7 +14,6 @@ use std::alloc::AllocError;
 use std::fmt;
 
 /// What is still to be printed of a location's text.
-#[derive_where(Clone, Copy)]
 pub(super) enum Part<'l, A> {
     /// A location.
     Whole(&'l Location<A>),
@@ -27,6 +26,16 @@ pub(super) enum Part<'l, A> {
     Caller(&'l Location<A>),
     /// A closing parenthesis.
     Closing,
+}
+
+impl<A> Copy for Part<'_, A> {}
+
+impl<A> Clone for Part<'_, A> {
+    ghost is_clone = { λ this copy. copy ≡ this };
+
+    fn clone(&self) -> Result<Self, AllocError> {
+        Ok(*self)
+    }
 }
 
 /// Appends `, `, except before the first item.

@@ -4,15 +4,13 @@ use Rattle.std.specs.Option.{option_map, option_and_then}
 use Rattle.std.specs.Str.{encode_utf8_all}
 use Rattle.irtext_base.specs.Causes.{id_text}
 use Rattle.irtext_context.specs.Context.{ContextView, OperationView}
-use Rattle.irtext_base.specs.Format.{sym_name_key}
 use Rattle.irtext_base.specs.Text.{Text}
 use Rattle.irtext_graph.specs.declared.arena.Ptr.{Ptr}
 use Rattle.irtext_base.specs.declared.base.attributes.AttrObj.{AttrObj}
 use Rattle.irtext_base.specs.declared.base.identifier.OpId.{OpId}
 use Rattle.irtext_graph.specs.declared.object.Operation.{Operation}
-use Rattle.irtext_grammar.specs.Graphs.Graph.{lookup}
 use Rattle.irtext_print_ir.specs.Printers.OpPrinters.{PartPrinted, header_of, typed_header_of, printed_part, sole}
-use Rattle.irtext_print.specs.Printers.PieceText.{symbol_in}
+use Rattle.irtext_print.specs.Printers.PieceText.{symbol_name}
 use Rattle.irtext_print.specs.Printers.Shown.{Shown}
 use Rattle.irtext_grammar.specs.Contexts.Held.{entries_of}
 use Rattle.irtext_print.specs.Printers.Appended.{Writes}
@@ -21,11 +19,11 @@ use Rattle.irtext_graph.specs.declared.object.Region.{Region}
 
 module _ {T A : Type 0} where
   -- a header is appended
-  pub header_appended : (op : OperationView T A) (id : OpId) (es : List (Text × AttrObj A)) (name : Text) (old mid new : List ℕ) → op.id ≡ id → op.attributes ≡ es → symbol_in (lookup sym_name_key (entries_of es)) ≡ Some name
+  pub header_appended : (op : OperationView T A) (id : OpId) (es : List (Text × AttrObj A)) (name : Text) (old mid new : List ℕ) → op.id ≡ id → op.attributes ≡ es → symbol_name (entries_of es) ≡ Some name
       → mid ≡ old ++ encode_utf8_all (id_text id) → new ≡ mid ++ encode_utf8_all (codes " @" ++ name) → IsSomeAnd (header_of op) (λ t. new ≡ old ++ encode_utf8_all t)
   header_appended op id es name old mid new i a found p q =
       let is : header_of op ≡ Some (id_text id ++ (codes " @" ++ name))
-      = ap (λ es. option_map (λ name. id_text op.id ++ (codes " @" ++ name)) (symbol_in (lookup sym_name_key (entries_of es)))) a
+      = ap (λ es. option_map (λ name. id_text op.id ++ (codes " @" ++ name)) (symbol_name (entries_of es))) a
       ∙ ap (option_map (λ name. id_text op.id ++ (codes " @" ++ name))) found ∙ ap (λ i. Some (id_text i ++ (codes " @" ++ name))) i in
       subst (λ o. IsSomeAnd o (λ t. new ≡ old ++ encode_utf8_all t)) (sym is) (more old mid new (id_text id) (codes " @" ++ name) p q)
 

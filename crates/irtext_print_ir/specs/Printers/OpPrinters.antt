@@ -8,14 +8,12 @@ use Rattle.irtext_base.specs.Causes.{id_text}
 use Rattle.irtext_base.specs.declared.text.AttrText as attr_text
 use Rattle.irtext_base.specs.declared.text.IrText as ir_text
 use Rattle.irtext_context.specs.Context.{ContextView, OperationView, operation}
-use Rattle.irtext_base.specs.Format.{sym_name_key}
 use Rattle.irtext_base.specs.Text.{Text}
 use Rattle.irtext_graph.specs.Parts.{regions}
 use Rattle.irtext_graph.specs.declared.arena.Ptr.{Ptr}
 use Rattle.irtext_graph.specs.declared.object.Operation.{Operation}
 use Rattle.irtext_graph.specs.declared.object.Region.{Region}
-use Rattle.irtext_grammar.specs.Graphs.Graph.{lookup}
-use Rattle.irtext_print.specs.Printers.PieceText.{symbol_in}
+use Rattle.irtext_print.specs.Printers.PieceText.{symbol_name}
 use Rattle.irtext_print.specs.Printers.Shown.{Shown}
 use Rattle.irtext_grammar.specs.Contexts.Held.{entries_of}
 use Rattle.irtext_print.specs.declared.printable.refusal.Refusal.{Refusal}
@@ -26,7 +24,7 @@ use Rattle.irtext_print_ops.specs.Heads as heads
 module _ {T A : Type 0} where
   -- an operation's id, and `@` with its symbol's name, if it has one
   abbrev pub header_of : OperationView T A → Option Text
-  header_of op = option_map (λ name. id_text op.id ++ (codes " @" ++ name)) (symbol_in (lookup sym_name_key (entries_of op.attributes)))
+  header_of op = option_map (λ name. id_text op.id ++ (codes " @" ++ name)) (symbol_name (entries_of op.attributes))
 
   -- the same with a type's text after `: `
   abbrev pub typed_header_of : Text → OperationView T A → Option Text

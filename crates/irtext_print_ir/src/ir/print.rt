@@ -1,21 +1,24 @@
-//! Printing of roots. The printing state gathers the items, the operations and blocks that carry a mark; the section has an entry for
-//! each.
+//! Printing of operations, blocks and regions with everything nested in them. The printing state gathers the items, the operations and
+//! blocks that carry a mark; a root in no block is followed by the section, which has an entry for each.
 ghost use Rattle.std.specs.Prelude.{◌≡◌, ◌++◌, [], OnOk, IfErr, IsSome};
 ghost use Rattle.irtext_context.specs.Context.{operation};
+ghost use Rattle.irtext_context.specs.Context as context;
+ghost use Rattle.irtext_graph.specs.Graph.{IsLive};
+ghost use Rattle.irtext_graph.specs.declared.object.Object.TheVariants.{TheRegion};
 ghost use Rattle.irtext_print.specs.Printers.Appended.{AppendsText};
 ghost use Rattle.irtext_print.specs.Printers.Printing.{gathered_of, with_gathered};
 ghost use Rattle.irtext_print.specs.declared.printable.refusal.Refusal.TheVariants as refusal;
 ghost use Rattle.irtext_print_ir.specs.Printers.Printed as printed;
 ghost use Rattle.irtext_print_ops.specs.Heads as heads;
 
-use crate::ir::print::concrete::gather_operation;
 use crate::ir::print::nesting::block_of;
 use crate::printable::{Printable, Refusal, State};
 use irtext_base::text::{AttrText, IrText};
-use irtext_context::base::{Context, Item, Operation, Ptr};
+use irtext_context::base::{BasicBlock, Context, Item, Operation, Ptr, Region};
 use irtext_graph::held::HasGraph;
 use irtext_print::printable::gathered::{has_gathered, put_gathered, take_gathered};
 use irtext_print::section::{print_alone, print_section};
+use irtext_print_ops::nested::{print_nested, print_nested_block, print_nested_region};
 use irtext_print_ops::printer::Printer;
 use std::fmt;
 
@@ -23,6 +26,108 @@ pub mod concrete;
 pub mod debug;
 pub(crate) mod nesting;
 pub mod parts;
+
+/// Appends the concrete text of an operation with everything nested in it, and its mark after that, if `marked`. Items are gathered.
+fn gather_operation<T: IrText<A>, A: AttrText<A>, U>(
+    ctx: &Context<T, A>,
+    op: Ptr<Operation>,
+    marked: bool,
+    state: &mut State<U>,
+    f: &mut String,
+) -> Result<(), Refusal>
+    requires live { IsSome (operation ctx.now op) }
+    ensures prints { OnOk result (printed.PrintsNested T.IrText.own A.IrText.own A.AttrText.own A.eq ctx.now
+        op state.old f.old state.new f.new marked) }
+    ensures refused { IfErr result (heads.RefusesUnder T.IrText.own A.IrText.own A.AttrText.own A.eq ctx.now
+        op state.old) }
+    ensures rest { state.new ≡ with_gathered state.old (gathered_of state.new) }
+{
+    let mut items = take_gathered(state, ctx.allocator());
+    let answer = print_nested(ctx, op, marked, state, &mut items, f);
+    put_gathered(state, items);
+    answer
+}
+
+/// Appends the concrete text of an operation with everything nested in it, as [`OpObj`] prints it. Items inside are gathered in the
+/// state.
+///
+/// The error is `Memory`, `Misfit` (the operation, or one that is shown inside, does not fit its format) or `Depth` (an indentation
+/// inside does not fit 16 bits). What was appended and gathered up to the error remains. Nothing else of the state changes.
+///
+/// For example: `x_v1 = test.make: builtin.integer si64`.
+pub fn print_concrete<T: IrText<A>, A: AttrText<A>, U>(
+    ctx: &Context<T, A>,
+    op: Ptr<Operation>,
+    state: &mut State<U>,
+    f: &mut String,
+) -> Result<(), Refusal>
+    requires live { IsSome (operation ctx.now op) }
+    ensures prints { OnOk result (printed.PrintsConcrete T.IrText.own A.IrText.own A.AttrText.own A.eq ctx.now
+        op state.old f.old state.new
+        f.new) }
+    ensures refused { IfErr result (heads.RefusesUnder T.IrText.own A.IrText.own A.AttrText.own A.eq ctx.now
+        op state.old) }
+    ensures rest { state.new ≡ with_gathered state.old (gathered_of state.new) }
+{
+    gather_operation(ctx, op, false, state, f)
+}
+
+/// Appends the text of a block with everything nested in it, at the state's indentation, with its mark. The items, the block and those
+/// inside that carry a mark, are gathered in the state.
+///
+/// The error is `Memory`, `Misfit` (an operation that is shown inside does not fit its format) or `Depth` (an indentation inside does
+/// not fit 16 bits). What was appended and gathered up to the error remains. Nothing else of the state changes.
+///
+/// For example, at indentation 0:
+///
+/// ```text
+/// ^a_block1v1() !0:
+///   test.nop !1
+/// ```
+pub fn print_block<T: IrText<A>, A: AttrText<A>, U>(
+    ctx: &Context<T, A>,
+    block: Ptr<BasicBlock>,
+    state: &mut State<U>,
+    f: &mut String,
+) -> Result<(), Refusal>
+    requires live { IsSome (context.block ctx.now block) }
+    ensures prints { OnOk result (printed.PrintsBlock T.IrText.own A.IrText.own A.AttrText.own A.eq ctx.now
+        block state.old f.old state.new
+        f.new) }
+    ensures refused { IfErr result (heads.RefusesBlockUnder T.IrText.own A.IrText.own A.AttrText.own A.eq
+        ctx.now block state.old) }
+    ensures rest { state.new ≡ with_gathered state.old (gathered_of state.new) }
+{
+    let mut items = take_gathered(state, ctx.allocator());
+    let answer = print_nested_block(ctx, block, state, &mut items, f);
+    put_gathered(state, items);
+    answer
+}
+
+/// Appends the text of a region with everything nested in it, at the state's indentation: `{..}` if the state's limit elides it,
+/// otherwise a newline, its blocks between braces on lines of their own. Items inside are gathered in the state.
+///
+/// The error is `Memory`, `Misfit` (an operation that is shown inside does not fit its format) or `Depth` (the region is shown and an
+/// indentation inside does not fit 16 bits). What was appended and gathered up to the error remains. Nothing else of the state changes.
+pub fn print_region<T: IrText<A>, A: AttrText<A>, U>(
+    ctx: &Context<T, A>,
+    region: Ptr<Region>,
+    state: &mut State<U>,
+    f: &mut String,
+) -> Result<(), Refusal>
+    requires live { IsLive ctx.now.graph (TheRegion region) }
+    ensures prints { OnOk result (printed.PrintsRegion T.IrText.own A.IrText.own A.AttrText.own A.eq ctx.now
+        region state.old f.old
+        state.new f.new) }
+    ensures refused { IfErr result (heads.RefusesRegionUnder T.IrText.own A.IrText.own A.AttrText.own A.eq
+        ctx.now region state.old) }
+    ensures rest { state.new ≡ with_gathered state.old (gathered_of state.new) }
+{
+    let mut items = take_gathered(state, ctx.allocator());
+    let answer = print_nested_region(ctx, region, state, &mut items, f);
+    put_gathered(state, items);
+    answer
+}
 
 /// Appends what follows the concrete text of an operation in no block: its mark, and the section of all gathered items, which are
 /// cleared. If nothing was gathered, no list is allocated for the operation alone.
@@ -107,6 +212,14 @@ pub fn keeps_text<T: IrText<A>, A: AttrText<A>>(ctx: &Context<T, A>, op: Ptr<Ope
     ctx.graph().keeps_nesting();
 }
 
+/// An operation as a plain value, which prints its concrete text: without its mark, and without a section. The operation has to be
+/// live. [`print_concrete`] prints the same, and returns why it failed.
+#[derive(Clone, Copy, Debug, PartialEq, Eq)]
+pub struct OpObj {
+    /// The operation.
+    pub op: Ptr<Operation>,
+}
+
 /// Prints the operation as [`print_root`] does. The operation has to be live.
 impl<T: IrText<A>, A: AttrText<A>, U> Printable<U, T, A> for Ptr<Operation> {
     ghost can_print = { λ op ctx. IsSome (operation ctx op) };
@@ -117,6 +230,47 @@ impl<T: IrText<A>, A: AttrText<A>, U> Printable<U, T, A> for Ptr<Operation> {
 
     fn fmt(&self, ctx: &Context<T, A>, state: &mut State<U>, f: &mut String) -> fmt::Result {
         print_root(ctx, *self, state, f)?;
+        Ok(())
+    }
+}
+
+impl<T: IrText<A>, A: AttrText<A>, U> Printable<U, T, A> for OpObj {
+    ghost can_print = { λ obj ctx. IsSome (operation ctx obj.op) };
+
+    ghost gives = { λ obj ctx s. printed.concrete_gives T.IrText.own A.IrText.own A.AttrText.own A.eq ctx obj.op s };
+
+    ghost prints = { λ obj ctx s b t d. printed.PrintsConcrete T.IrText.own A.IrText.own A.AttrText.own A.eq ctx obj.op s b t d };
+
+    fn fmt(&self, ctx: &Context<T, A>, state: &mut State<U>, f: &mut String) -> fmt::Result {
+        print_concrete(ctx, self.op, state, f)?;
+        Ok(())
+    }
+}
+
+/// Prints the block as [`print_block`] does. The block has to be live.
+impl<T: IrText<A>, A: AttrText<A>, U> Printable<U, T, A> for Ptr<BasicBlock> {
+    ghost can_print = { λ block ctx. IsSome (context.block ctx block) };
+
+    ghost gives = { λ block ctx s. printed.block_gives T.IrText.own A.IrText.own A.AttrText.own A.eq ctx block s };
+
+    ghost prints = { λ block ctx s b t d. printed.PrintsBlock T.IrText.own A.IrText.own A.AttrText.own A.eq ctx block s b t d };
+
+    fn fmt(&self, ctx: &Context<T, A>, state: &mut State<U>, f: &mut String) -> fmt::Result {
+        print_block(ctx, *self, state, f)?;
+        Ok(())
+    }
+}
+
+/// Prints the region as [`print_region`] does. The region has to be live.
+impl<T: IrText<A>, A: AttrText<A>, U> Printable<U, T, A> for Ptr<Region> {
+    ghost can_print = { λ region ctx. IsLive ctx.graph (TheRegion region) };
+
+    ghost gives = { λ region ctx s. printed.region_gives T.IrText.own A.IrText.own A.AttrText.own A.eq ctx region s };
+
+    ghost prints = { λ region ctx s b t d. printed.PrintsRegion T.IrText.own A.IrText.own A.AttrText.own A.eq ctx region s b t d };
+
+    fn fmt(&self, ctx: &Context<T, A>, state: &mut State<U>, f: &mut String) -> fmt::Result {
+        print_region(ctx, *self, state, f)?;
         Ok(())
     }
 }

@@ -4,7 +4,6 @@ ghost use Rattle.std.specs.Map.{lookup};
 ghost use Rattle.std.specs.Str.{bytes_eq, chars};
 ghost use Rattle.irtext_print.specs.Printers.Appended.{AppendsText};
 ghost use Rattle.irtext_base.specs.FormatViews.{directive_of, directives_of};
-ghost use Rattle.irtext_base.specs.Format.{sym_name_key};
 ghost use Rattle.irtext_base.specs.Text.{begins};
 ghost use Rattle.irtext_grammar.specs.Graphs.Graph as graph;
 ghost use Rattle.irtext_print.specs.Printers.PieceText as pieces;
@@ -17,6 +16,7 @@ use irtext_base::format::Directive;
 use irtext_base::text::AttrText;
 use irtext_context::base;
 use irtext_context::base::AttributeDict;
+use std::alloc::AllocError;
 use std::fmt;
 
 /// Whether there is no space before a word that begins with this character.
@@ -111,8 +111,7 @@ pub(crate) fn attribute_under<'a, A: AttrText<A>>(
 
 /// Returns the symbol's name, if the attribute under its key is an identifier.
 pub fn symbol_of<A: AttrText<A>>(attributes: &AttributeDict<A>) -> Option<&Identifier>
-    ensures { option_copied result ≡ pieces.symbol_in (graph.lookup sym_name_key
-        (entries_of attributes.now)) }
+    ensures { option_copied result ≡ pieces.symbol_name (entries_of attributes.now) }
 {
     match attribute_under(attributes, "builtin_sym_name") {
         Some(attr) => ident_of(attr),
@@ -172,12 +171,21 @@ fn fmt_entry<A: AttrText<A>>(
 }
 
 /// Prints the entries of a dictionary that no other directive of a format prints, if they are not outlined.
-#[derive_where(Clone, Copy)]
 pub struct DictPrinter<'a, A: AttrText<A>> {
     /// The dictionary.
     pub attributes: &'a AttributeDict<A>,
     /// The directives of the format.
     pub directives: &'a [Directive],
+}
+
+impl<A: AttrText<A>> Copy for DictPrinter<'_, A> {}
+
+impl<A: AttrText<A>> Clone for DictPrinter<'_, A> {
+    ghost is_clone = { λ this copy. copy ≡ this };
+
+    fn clone(&self) -> Result<Self, AllocError> {
+        Ok(*self)
+    }
 }
 
 impl<'a, A: AttrText<A>> DictPrinter<'a, A> {

@@ -4,7 +4,7 @@ ghost use Rattle.irtext_context.specs.Context.{operation};
 ghost use Rattle.irtext_print_ir.specs.Printers.Printed as printed;
 ghost use Rattle.irtext_print_ops.specs.Heads as heads;
 
-use crate::ir::print::concrete::print_concrete;
+use crate::ir::print::print_concrete;
 use crate::printable::{Refusal, RegionPrintDepthLimit, State};
 use irtext_base::text::{AttrText, IrText};
 use irtext_context::base::{Context, Operation, Ptr};

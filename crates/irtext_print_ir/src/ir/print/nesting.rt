@@ -23,17 +23,6 @@ pub(crate) fn block_of<O: Drop, B: Drop, T: Drop>(
     }
 }
 
-/// The number of regions of an operation.
-pub(crate) fn count_regions<O: Drop, B: Drop, T: Drop>(
-    graph: &Graph<O, B, T>,
-    op: Ptr<Operation>,
-) -> usize
-    requires { IsLive graph.now (TheOperation op) }
-    ensures { result ≡ length (regions graph.now op) }
-{
-    graph.num_children(Object::TheOperation(op))
-}
-
 /// Returns the only region of an operation.
 pub(crate) fn only_region<O: Drop, B: Drop, T: Drop>(
     graph: &Graph<O, B, T>,

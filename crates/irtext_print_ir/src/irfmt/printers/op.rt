@@ -5,8 +5,8 @@ ghost use Rattle.irtext_print_ir.specs.Printers.OpPrinters.{PrintsPart, WritesPa
 ghost use Rattle.irtext_print.specs.Printers.Printing.{gathered_of, with_gathered};
 ghost use Rattle.irtext_print_ir.specs.Printers.OpPrinters as parts;
 
-use crate::ir::print::nesting::{count_regions, only_region};
-use crate::ir::print::parts::print_region as print_nested_region;
+use crate::ir::print::nesting::only_region;
+use crate::ir::print::print_region as print_nested_region;
 use crate::printable::{Printable, Refusal, State};
 use irtext_base::text::{AttrText, IrText};
 use irtext_context::base::{Context, Operation, OperationAccess, Ptr};
@@ -14,6 +14,7 @@ use irtext_graph::held::HasGraph;
 use irtext_print::ir::print::concrete::fmt_id;
 use irtext_print::ir::print::pieces::symbol_of;
 use irtext_print::printable::refusal::memory_alone;
+use irtext_print_ops::children::count_regions;
 use std::fmt;
 
 /// Prints an operation's id and its symbol's name. Created by [`symb_op_header`].

@@ -1,4 +1,4 @@
-use Rattle.irtext_print_ir.proofs.ir.print.parts.PtrBasicBlockPrintable.fmt.Goals as goal
+use Rattle.irtext_print_ir.proofs.ir.print.PtrBasicBlockPrintable.fmt.Goals as goal
 
 pub returns-clause-text : goal.returns-clause-text
 returns-clause-text g c = record { text = c.in_ok-print_block.ensures.prints.text; state = c.in_ok-print_block.ensures.prints.state }

@@ -2,7 +2,7 @@ use Rattle.std.proofs.Common.{IfErr, subst, string_bytes}
 use Rattle.irtext_print_ops.specs.Heads as heads
 use Rattle.irtext_print.specs.declared.printable.refusal.Refusal.TheVariants.{Misfit}
 use Rattle.irtext_print_ir.proofs.Printers.Gathered.{put_back, rests_put}
-use Rattle.irtext_print_ir.proofs.ir.print.parts.print_block.Goals as goal
+use Rattle.irtext_print_ir.proofs.ir.print.print_block.Goals as goal
 
 pub returns : goal.returns
 returns g c = record {

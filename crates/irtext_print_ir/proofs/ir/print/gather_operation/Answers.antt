@@ -1,7 +1,7 @@
 use Rattle.std.proofs.Common.{IfErr, subst, string_bytes}
 use Rattle.irtext_print_ops.specs.Heads as heads
 use Rattle.irtext_print_ir.proofs.Printers.Gathered.{put_back, rests_put}
-use Rattle.irtext_print_ir.proofs.ir.print.concrete.gather_operation.Goals as goal
+use Rattle.irtext_print_ir.proofs.ir.print.gather_operation.Goals as goal
 
 pub returns : goal.returns
 returns g c = record {
