@@ -1,5 +1,5 @@
 -- The names of a block's header, one after another: its arguments, its mark and its label.
-use Rattle.std.proofs.Common.{◌≡◌, ◌∙◌, inl, inr, ℕ, List, [], Option, Some, None, IsSome, refl, sym, subst, slice_get}
+use Rattle.std.proofs.Common.{◌≡◌, ◌∙◌, inl, inr, ℕ, List, [], Option, Some, None, IsSome, refl, sym, subst}
 use Rattle.irtext_base.specs.Text.{Text}
 use Rattle.irtext_base.specs.declared.parsable.fault.ParseFault.{ParseFault}
 use Rattle.irtext_context.specs.Context.{ContextView, KeepsOlder}
@@ -9,21 +9,17 @@ use Rattle.irtext_graph.specs.declared.arena.Ptr.{Ptr}
 use Rattle.irtext_graph.specs.declared.object.BasicBlock.{BasicBlock}
 use Rattle.irtext_graph.specs.declared.object.Object.{Object}
 use Rattle.irtext_graph.specs.declared.object.Object.TheVariants.{TheBlock}
-use Rattle.irtext_graph.specs.declared.object.Defined.TheVariants.{OfBlock}
 use Rattle.irtext_graph.specs.declared.object.Value.{Value}
 use Rattle.irtext_graph.specs.Back.{IsClosedBelow}
 use Rattle.irtext_graph.specs.Graph.{GraphView, parent, IsLive}
 use Rattle.irtext_parse_state.specs.States.{marks_of}
 use Rattle.irtext_parse_state.specs.declared.parsable.state.State as code
 use Rattle.irtext_scopes.specs.Scopes.{Scope}
-use Rattle.irtext_grammar.specs.Names.Script.{Place, define_label}
-use Rattle.irtext_grammar.specs.Names.TextScopes.{Word}
-use Rattle.irtext_names.specs.Linked.{TakesDefinition}
 use Rattle.irtext_names.specs.Tied.{MatchesGraph, ArePending, IsNoPlaceholder}
 use Rattle.irtext_grammar.specs.Promises.Root.{UnlessMemory}
 use Rattle.irtext_grammar.specs.declared.parsed.ReadMark.{ReadMark}
 use Rattle.irtext_grammar.specs.declared.parsed.ReadName.{ReadName}
-use Rattle.irtext_parse_nested.specs.Blocks.{DefinesArguments, NamesHead, RefusesHead, same_mark, same_label}
+use Rattle.irtext_parse_nested.specs.Blocks.{DefinesArguments, DefinesLabel, NamesHead, RefusesHead, same_mark, same_label}
 use Rattle.irtext_names.specs.LosesPlaceholders.{LosesPlaceholders}
 use Rattle.irtext_parse_nested.specs.Ends.{NotesMark, RefusesMark}
 use Rattle.irtext_names.specs.Items.{Names, IsSound, BlanksDefine}
@@ -95,11 +91,11 @@ module _ {T A U : Type 0} (b : Ptr BasicBlock) (label : ReadName) (arguments : L
 
     -- all of them are defined, and the mark is recorded
     pub names_head : (new : Names) (z : code.State T A U) → marks_of z ≡ marks_of n
-        → ((w : Word) (p : Place) → slice_get mid.names label.name ≡ Some w.name → TakesDefinition (define_label w p) mid new n.ctx.now.graph z.ctx.now.graph p (OfBlock b)) → NamesHead b label arguments mark old s new z
+        → DefinesLabel label b mid new n.ctx.now.graph z.ctx.now.graph → NamesHead b label arguments mark old s new z
     names_head new z last follows = record {
       mid = mid;
       between = m.ctx.now.graph;
       defines = defines;
       notes = subst (λ ms. NotesMark mark (item.Block b) (marks_of s) ms) (sym last) noted;
-      labels = λ w p e. subst (λ c. TakesDefinition (define_label w p) mid new c.graph z.ctx.now.graph p (OfBlock b)) same (follows w p e);
+      labels = subst (λ c. DefinesLabel label b mid new c.graph z.ctx.now.graph) same follows;
     }

@@ -1,9 +1,9 @@
 -- A piece after a region of its operation was parsed and stored, and the operation goes on; or why it is an error.
-use Rattle.std.proofs.Common.{◌≡◌, ◌∙◌, ◌+◌, inl, inr, ℕ, suc, false, true, List, [], ◌∷◌, ◌++◌, drop, length, map, slice_get, None, Some, IsSome, Result, Ok, Err, refl, sym, ap, subst, arith, append-nil, append_assoc}
+use Rattle.std.proofs.Common.{◌≡◌, ◌∙◌, ◌+◌, inl, inr, ℕ, suc, false, true, List, [], ◌∷◌, ◌++◌, drop, length, map, slice_get, None, Some, IsSome, Ok, Err, refl, sym, ap, subst, arith, append-nil, append_assoc}
 use Rattle.std.specs.List.{All}
 use Rattle.irtext_base.specs.Text.{Text}
 use Rattle.irtext_base.specs.Own.{Sincere}
-use Rattle.irtext_base.specs.Answers.{Outcome, Read}
+use Rattle.irtext_base.specs.Answers.{Outcome}
 use Rattle.irtext_base.specs.Faults as causes
 use Rattle.irtext_base.specs.Faults.{id_of}
 use Rattle.irtext_base.specs.Locations.{AttrView}
@@ -59,9 +59,9 @@ use Rattle.irtext_parse_nested.specs.OpenOperation.{IsBegun, HasNoType, ReadNeit
 use Rattle.irtext_parse_nested.specs.Ends.{WritesAttributes}
 use Rattle.irtext_names.specs.Gathering.{stored_of}
 use Rattle.irtext_names.specs.Items.{Names, Pledge, Made, MachineAgrees, Acts, IsSound, KeepsLive, doing}
-use Rattle.irtext_parse_nested.specs.Later.{IsFlatNext, RefusesStored, StoresPiece, NotStored, GoesOn}
+use Rattle.irtext_parse_nested.specs.Later.{IsFlatNext, ReadsNext, RefusesStored, StoresPiece, NotStored, GoesOn}
 use Rattle.irtext_names.specs.Located.{IsLocated}
-use Rattle.irtext_parse_nested.specs.Read.{Demands, ReadsPiece, RefusesPiece}
+use Rattle.irtext_parse_nested.specs.Read.{ReadsPiece, RefusesPiece}
 use Rattle.irtext_parse_nested.proofs.Begins.{note_piece, marks_stay}
 use Rattle.irtext_parse_nested.proofs.BegunParts.{stored_alike, later_one, all_more}
 use Rattle.irtext_parse_nested.proofs.BegunSteps.{begun_step}
@@ -71,10 +71,6 @@ use Rattle.irtext_parse_nested.proofs.Faults.{StaysWithin, must_demand, place_is
 use Rattle.irtext_parse_nested.proofs.FrontHonest.{spaced_within}
 use Rattle.irtext_parse_nested.proofs.FrontRead.{each_on}
 use Rattle.irtext_parse_nested.proofs.LaterPieces.{part_of, flat_next, first_left, spaced_of, late_takes, late_fails, never_outside}
-
--- what the parser of a piece promises, given the next step
-abbrev pub ReadsNext : {T A : Type 0} → Reader T → Reader (AttrView A) → List (Text × Table) → BegunOperation → List Text → StreamView → Result (ReadPiece T A) (ParseFault A) → StreamView → Type 0
-ReadsNext types_at attr dialects b names old result new = (step : Step) → slice_get (steps_in dialects (id_of b.id)) b.step ≡ Some step → MustPiece itself replaced names (space_at ▷ piece_at types_at attr true step) old result new
 
 -- the names are unchanged, and still match the graph
 tied_on : {T A U : Type 0} (before middle : Names) (s : StateStream T A U) → NamesRead before middle → MatchesGraph before.values before.labels s.state.ctx.now.graph → MatchesGraph middle.values middle.labels s.state.ctx.now.graph

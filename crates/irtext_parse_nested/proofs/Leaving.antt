@@ -15,7 +15,6 @@ use Rattle.irtext_grammar.specs.Contexts.Held.{whole}
 use Rattle.irtext_grammar.specs.Names.History as history
 use Rattle.irtext_grammar.specs.Names.History.{State, leave}
 use Rattle.irtext_grammar.specs.Names.Script.{UnresolvedReference}
-use Rattle.irtext_names.specs.Linked.{Takes}
 use Rattle.irtext_grammar.specs.Promises.Root.{UnlessMemory}
 use Rattle.irtext_grammar.specs.Readers.Streams.{itself, replaced}
 use Rattle.irtext_grammar.proofs.Readers.Answered.{answered}
@@ -24,7 +23,7 @@ use Rattle.irtext_parse_pieces.proofs.Meanings.{must_whole}
 use Rattle.irtext_parse_nested.specs.declared.frame.BegunRegion.{BegunRegion}
 use Rattle.irtext_names.specs.Definitions.{IsFaultOf}
 use Rattle.irtext_names.specs.Items.{Names}
-use Rattle.irtext_parse_nested.specs.Leaving.{IsUnresolved}
+use Rattle.irtext_parse_nested.specs.Leaving.{IsUnresolved, TakesLeave}
 use Rattle.irtext_parse_nested.specs.Read.{EndsRegion, RefusesRegionEnd}
 use Rattle.irtext_parse_nested.proofs.Ended.{within_honest}
 use Rattle.irtext_parse_nested.proofs.Faults.{must_demand, name_failure}
@@ -46,7 +45,7 @@ module _ {T A U : Type 0} (types_at : Reader T) (attr : Reader (AttrView A)) (be
   ]
 
   module _ (v : StreamView) (h : MustRead {A = A} itself replaced (λ (u : Unit {0}). u) end_at old.stream (Ok tt) v) where
-    pub closed : (names : Names) (new : StateStream T A U) → new.state ≡ old.state → new.stream ≡ v → ((a : ℕ) → Takes (leave region.isolated a) (history.left region.isolated) before names old.state.ctx.now.graph)
+    pub closed : (names : Names) (new : StateStream T A U) → new.state ≡ old.state → new.stream ≡ v → TakesLeave region.isolated before names old.state.ctx.now.graph
         → EndsRegion types_at attr region.isolated place before old names new
     closed names new state stream takes =
         let a = answered (subst (λ s. MustRead {A = A} itself replaced (λ (u : Unit {0}). u) end_at old.stream (Ok tt) s) (sym stream) h) in

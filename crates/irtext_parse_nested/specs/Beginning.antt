@@ -1,7 +1,7 @@
 -- Between functions: an operation that begins: what was parsed before its first region, its own parts so far, and where it is created.
-use Rattle.std.specs.Prelude.{◌≡◌, ◌<◌, ℕ, Bool, true, ◌||◌, List, [], ◌∷◌, ◌++◌, length, Option, Some, None, ⊤}
+use Rattle.std.specs.Prelude.{◌≡◌, ◌<◌, ℕ, Bool, true, ◌||◌, List, [], ◌∷◌, ◌++◌, length, Option, Some, None, IfSome, ⊤}
 use Rattle.irtext_base.specs.Text.{Text}
-use Rattle.irtext_base.specs.Format.{Format, Id, Accepted}
+use Rattle.irtext_base.specs.Format.{Format, Id, Accepted, sym_name_key}
 use Rattle.irtext_base.specs.Faults.{id_of, fault_of}
 use Rattle.irtext_base.specs.Faults as causes
 use Rattle.irtext_base.specs.Answers.{Read}
@@ -47,8 +47,9 @@ use Rattle.irtext_names.specs.declared.operation_parts.NotGathered.TheVariants a
 use Rattle.irtext_names.specs.Definitions.{IsFaultOf}
 use Rattle.irtext_names.specs.Gathered.{IsNothing, types_made}
 use Rattle.irtext_names.specs.Placing.{PlacedIn}
+use Rattle.irtext_names.specs.Tied.{MatchesGraph}
 use Rattle.irtext_names.specs.Uses.{KeepsScopes}
-use Rattle.irtext_names.specs.Gathering.{Gathers, RefusesGathering}
+use Rattle.irtext_names.specs.Gathering.{CanGather, Gathers, RefusesGathering}
 use Rattle.irtext_names.specs.Items.{Names}
 use Rattle.irtext_parse_nested.specs.Read.{Demands}
 
@@ -97,6 +98,16 @@ module _ {A : Type 0} where
 pub data NotGatheredAs {T A O B : Type 0} (pieces : List (ReadPiece T A)) (names : Names) (g : GraphView (Option O) B (Option T)) (text : Text) (fault : ParseFault A) : Type 0 where
   ran_out : IsOutOfMemory fault → NotGatheredAs pieces names g text fault
   refused : (why : NotGathered) → RefusesGathering pieces names g why → SaysGather names.names text why fault → NotGatheredAs pieces names g text fault
+
+-- An operation can be made of these pieces, which are parts of a text: the scopes of their names are open where they have to be, the names
+-- match the graph, and the key, if there is one, is that of a symbol's name.
+pub record CanCreate {T A O B : Type 0} (pieces : List (ReadPiece T A)) (key : Option Text) (names : Names) (g : GraphView (Option O) B (Option T)) : Type 0 where
+  pub can : CanGather names [] [] pieces
+  pub text : Text
+  pub parts : List (Part ℕ T A)
+  pub are : Each (IsPart names.names text) pieces parts
+  pub tied : MatchesGraph names.values names.labels g
+  pub key_is : IfSome key (λ key. key ≡ sym_name_key)
 
 -- ---- what is created
 module _ {T A : Type 0} where

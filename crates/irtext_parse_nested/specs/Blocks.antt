@@ -1,10 +1,12 @@
 -- Between functions: what the header of a block gives: its dictionary is stored, the block is created in its region, and its names are
 -- defined.
-use Rattle.std.specs.Prelude.{◌≡◌, ℕ, true, List, [], ◌++◌, map, Option, Some, slice_get, ⊤}
+use Rattle.std.specs.Prelude.{◌≡◌, ℕ, true, List, [], ◌++◌, map, Option, Some, Result, slice_get, ⊤}
 use Rattle.irtext_base.specs.Text.{Text}
+use Rattle.irtext_base.specs.Answers.{Read}
 use Rattle.irtext_base.specs.Faults as causes
 use Rattle.irtext_base.specs.Faults.{fault_of}
-use Rattle.irtext_base.specs.Stream.{IsAt}
+use Rattle.irtext_base.specs.Locations.{AttrView}
+use Rattle.irtext_base.specs.Stream.{IsAt, StreamView}
 use Rattle.irtext_base.specs.declared.base.attributes.AttrObj.{AttrObj}
 use Rattle.irtext_base.specs.declared.location.Location.{Location}
 use Rattle.irtext_base.specs.declared.location.Source.{Source}
@@ -21,14 +23,22 @@ use Rattle.irtext_graph.specs.declared.object.Region.{Region}
 use Rattle.irtext_graph.specs.declared.object.Value.TheVariants.{Argument}
 use Rattle.irtext_graph.specs.declared.object.Defined.TheVariants.{OfBlock}
 use Rattle.irtext_graph.specs.Graph.{GraphView}
+use Rattle.irtext_tokens.specs.Infix.{Reader}
+use Rattle.irtext_scopes.specs.Names.{AreDistinct}
 use Rattle.irtext_parse_state.specs.States.{marks_of}
 use Rattle.irtext_parse_state.specs.declared.parsable.state.State as code
+use Rattle.irtext_parse_state.specs.declared.parsable.state.StateStream.{StateStream}
 use Rattle.irtext_grammar.specs.Contexts.Held.{entries_of}
 use Rattle.irtext_grammar.specs.Graphs.Build.{put_all, read_names}
-use Rattle.irtext_grammar.specs.Grammar.Tree.{Name}
+use Rattle.irtext_grammar.specs.Grammar.Tree.{Name, Head}
+use Rattle.irtext_grammar.specs.Heads.{head_at}
 use Rattle.irtext_grammar.specs.Names.Acts.{block_may_hold}
 use Rattle.irtext_grammar.specs.Names.Script.{Place, define_label}
 use Rattle.irtext_grammar.specs.Names.TextScopes.{Word}
+use Rattle.irtext_grammar.specs.Readers.Streams.{itself, replaced}
+use Rattle.irtext_parse_pieces.specs.Headers.{MustHead}
+use Rattle.irtext_parse_pieces.specs.Named.{NamesRead}
+use Rattle.irtext_parse_pieces.specs.declared.headers.BlockHead.{BlockHead}
 use Rattle.irtext_names.specs.Linked.{TakesDefinition}
 use Rattle.irtext_names.specs.Rows.{AreNamed, DefinesRow, FailsRow}
 use Rattle.irtext_grammar.specs.declared.parsed.Key.{Key}
@@ -100,6 +110,20 @@ pub record DefinesArguments {T A U : Type 0} (b : Ptr BasicBlock) (arguments : L
   pub same : mid.names ≡ old.names
   pub row : DefinesRow (Argument b) (numbers_of arguments) old mid s.ctx.now.graph g
 
+-- the header of a block was parsed, or there is none; its names are stored, and no name has two numbers
+pub record ReadsHead {T A : Type 0} (types_at : Reader T) (attr : Reader (AttrView A)) (before : Names) (old : StreamView) (result : Result (BlockHead T A) (ParseFault A)) (after : Names) (new : StreamView) : Type 0 where
+  pub read : MustHead itself replaced after.names types_at attr old result new
+  pub names : NamesRead before after
+  pub distinct : AreDistinct after.names
+
+-- what holds of the header of a block that comes next in the text
+abbrev pub OfNextHead : {T A U : Type 0} → Reader T → Reader (AttrView A) → StateStream T A U → StateStream T A U → (Head ℕ T A → Type 0) → Type 0
+OfNextHead {T} {A} types_at attr old new P = (h : Head ℕ T A) (taken : Text) → head_at types_at attr old.stream.rest ≡ Read h taken new.stream.rest → P h
+
+-- names and graph follow the definition of a block's label, wherever it is
+abbrev pub DefinesLabel : {O B T : Type 0} → ReadName → Ptr BasicBlock → Names → Names → GraphView (Option O) B T → GraphView (Option O) B T → Type 0
+DefinesLabel label b old new g k = (w : Word) (p : Place) → slice_get old.names label.name ≡ Some w.name → TakesDefinition (define_label w p) old new g k p (OfBlock b)
+
 module _ {T A U : Type 0} (b : Ptr BasicBlock) (label : ReadName) (arguments : List ReadName) (mark : Option ReadMark) (old : Names) (s : code.State T A U) where
   -- The names of a block's header were processed in this order: its arguments were defined, its mark was recorded, and its label was
   -- defined.
@@ -108,7 +132,7 @@ module _ {T A U : Type 0} (b : Ptr BasicBlock) (label : ReadName) (arguments : L
     pub between : GraphView (Option (OperationData A)) (BlockData A) (Option T)
     pub defines : DefinesArguments b arguments old s mid between
     pub notes : NotesMark mark (item.Block b) (marks_of s) (marks_of z)
-    pub labels : (w : Word) (p : Place) → slice_get mid.names label.name ≡ Some w.name → TakesDefinition (define_label w p) mid new between z.ctx.now.graph p (OfBlock b)
+    pub labels : DefinesLabel label b mid new between z.ctx.now.graph
 
   -- They were not: an argument is already defined; or the index of its mark is already recorded; or its label is already defined.
   pub data RefusesHead (text : Text) (fault : ParseFault A) : Type 0 where

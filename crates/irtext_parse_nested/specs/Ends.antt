@@ -2,26 +2,32 @@
 use Rattle.std.specs.Prelude.{◌≡◌, ℕ, true, false, List, [], ◌∷◌, ◌++◌, length, map, Option, Some, None, slice_get}
 use Rattle.std.specs.Map.{lookup}
 use Rattle.irtext_base.specs.Text.{Text}
+use Rattle.irtext_base.specs.Answers.{Read}
 use Rattle.irtext_base.specs.Faults as causes
 use Rattle.irtext_base.specs.Faults.{fault_of}
 use Rattle.irtext_base.specs.Stream.{IsAt}
 use Rattle.irtext_base.specs.declared.parsable.fault.ParseFault.{ParseFault}
 use Rattle.irtext_stream.specs.Places.{AtOffset}
+use Rattle.irtext_context.specs.declared.base.item.Item.{Item}
 use Rattle.irtext_graph.specs.declared.object.Value.TheVariants.{Result}
 use Rattle.irtext_graph.specs.Graph.{GraphView}
 use Rattle.irtext_scopes.specs.Scopes.{is_open}
-use Rattle.irtext_parse_state.specs.States.{same_index, Notes}
+use Rattle.irtext_tokens.specs.Infix.{◌▷◌}
+use Rattle.irtext_tokens.specs.Tokens.{space_at}
+use Rattle.irtext_parse_state.specs.States.{same_index, marks_of, Notes}
 use Rattle.irtext_grammar.specs.declared.parsed.ReadMark.{ReadMark}
 use Rattle.irtext_grammar.specs.declared.parsed.ReadName.{ReadName}
 use Rattle.irtext_parse_nested.specs.declared.frame.BegunOperation.{BegunOperation}
 use Rattle.irtext_names.specs.Rows.{FailsRow, AreNamed}
 use Rattle.irtext_names.specs.Definitions.{IsFaultOf, numbers_of}
 use Rattle.irtext_parse_state.specs.declared.parsable.state.State as code
+use Rattle.irtext_parse_state.specs.declared.parsable.state.StateStream.{StateStream}
 use Rattle.irtext_grammar.specs.Names.History.{Outcome}
 use Rattle.irtext_grammar.specs.Names.Script.{Path}
 use Rattle.irtext_grammar.specs.Contexts.Held.{entries_of}
 use Rattle.irtext_grammar.specs.Grammar.Tree.{Name, Mark}
 use Rattle.irtext_grammar.specs.Graphs.Build.{put_all, read_names}
+use Rattle.irtext_grammar.specs.Heads.{mark_if_at}
 use Rattle.irtext_grammar.specs.Grows.{OwnBecame}
 use Rattle.irtext_grammar.specs.Unchanged.{OwnSoFar, HasOwn, HasUses}
 use Rattle.irtext_grammar.specs.Parsed.{Represents, Each}
@@ -51,6 +57,10 @@ NotesMark (Some mark) item old new = Notes mark.index item true old new
 abbrev pub noted_as : {X : Type 0} → Option (Mark ℕ) → X → List (ℕ × X)
 noted_as None item = []
 noted_as (Some m) item = (m.index, item) ∷ []
+
+-- the mark that comes next in the text, if one does, was recorded for this item
+abbrev pub NotesNext : {T A U : Type 0} → StateStream T A U → StateStream T A U → Item → Type 0
+NotesNext old new item = (mark : Option (Mark ℕ)) (taken : Text) → (space_at ▷ mark_if_at) old.stream.rest ≡ Read mark taken new.stream.rest → marks_of new.state ≡ marks_of old.state ++ noted_as mark item
 
 -- marks may have been recorded after the earlier ones
 abbrev pub GainsMarks : {X : Type 0} → List (ℕ × X) → List (ℕ × X) → Type 0

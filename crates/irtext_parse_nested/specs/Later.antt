@@ -1,25 +1,32 @@
 -- Between functions: a piece of an operation after a region: what is stored of it, and what the action that parses it promises.
-use Rattle.std.specs.Prelude.{◌≡◌, ℕ, true, List, [], ◌∷◌, ◌++◌, Option, Some, None, ⊤}
+use Rattle.std.specs.Prelude.{◌≡◌, true, List, [], ◌∷◌, ◌++◌, Option, Some, None, Result, ⊤, slice_get}
 use Rattle.irtext_base.specs.Text.{Text}
+use Rattle.irtext_base.specs.Faults.{id_of}
 use Rattle.irtext_base.specs.Locations.{AttrView}
+use Rattle.irtext_base.specs.Stream.{StreamView}
 use Rattle.irtext_base.specs.declared.base.attributes.AttrObj.{AttrObj}
 use Rattle.irtext_base.specs.declared.parsable.fault.ParseFault.{ParseFault}
 use Rattle.irtext_context.specs.Context.{ContextView, OperationView, operation, EditsOperation, with_attributes}
+use Rattle.irtext_context.specs.Dialects.{Table}
 use Rattle.irtext_graph.specs.declared.arena.Ptr.{Ptr}
 use Rattle.irtext_graph.specs.declared.object.Operation.{Operation}
-use Rattle.irtext_tokens.specs.Infix.{Reader}
+use Rattle.irtext_tokens.specs.Infix.{Reader, ◌▷◌}
+use Rattle.irtext_tokens.specs.Tokens.{space_at}
 use Rattle.irtext_parse_state.specs.declared.parsable.state.StateStream.{StateStream}
 use Rattle.irtext_grammar.specs.Contexts.Formats.{format_of}
 use Rattle.irtext_grammar.specs.Contexts.Held.{attribute_of, entries_of, whole}
 use Rattle.irtext_grammar.specs.Grammar.Tree as tree
 use Rattle.irtext_grammar.specs.Grammar.Tree.{Attribute}
 use Rattle.irtext_grammar.specs.Graphs.Build.{put_all, stored}
-use Rattle.irtext_grammar.specs.Heads.{Step}
+use Rattle.irtext_grammar.specs.Heads.{Step, piece_at}
+use Rattle.irtext_grammar.specs.Reached.{steps_in}
+use Rattle.irtext_grammar.specs.Readers.Streams.{itself, replaced}
 use Rattle.irtext_grammar.specs.Resume.{OpenOperation, is_flat, with_steps}
 use Rattle.irtext_grammar.specs.Grows.{OwnBecame}
 use Rattle.irtext_grammar.specs.Unchanged.{OwnSoFar, HasOwn, HasUses}
 use Rattle.irtext_grammar.specs.declared.parsed.ReadPiece.{ReadPiece}
 use Rattle.irtext_grammar.specs.declared.parsed.ReadPiece.TheVariants as read
+use Rattle.irtext_parse_pieces.specs.Pieces.{MustPiece}
 use Rattle.irtext_parse_nested.specs.declared.frame.BegunOperation.{BegunOperation}
 use Rattle.irtext_names.specs.declared.operation_parts.NotGathered.{NotGathered}
 use Rattle.irtext_names.specs.declared.operation_parts.NotGathered.TheVariants as refusal
@@ -34,6 +41,10 @@ use Rattle.irtext_parse_nested.specs.Read.{ReadsPiece}
 abbrev pub IsFlatNext : Option Step → Type 0
 IsFlatNext (Some step) = is_flat step ≡ true
 IsFlatNext None = ⊥
+
+-- what the next step of an open operation describes was parsed, with white space before it; every error is committed
+abbrev pub ReadsNext : {T A : Type 0} → Reader T → Reader (AttrView A) → List (Text × Table) → BegunOperation → List Text → StreamView → Result (ReadPiece T A) (ParseFault A) → StreamView → Type 0
+ReadsNext types_at attr dialects b names old result new = (step : Step) → slice_get (steps_in dialects (id_of b.id)) b.step ≡ Some step → MustPiece itself replaced names (space_at ▷ piece_at types_at attr true step) old result new
 
 -- ---- a piece that is stored
 -- what a parsed attribute gives: nothing if the text has the marker

@@ -150,6 +150,10 @@ module _ {T A U : Type 0} (types_at : Reader T) (attr : Reader (AttrView A)) whe
   RefusesRegionEnd iso place before old fault = Demands (whole old.stream) (word (codes "}") old.stream.rest) old.stream.rest fault
       ⊎ ((taken rest : Text) × (word (codes "}") old.stream.rest ≡ Read tt taken rest) × ActFails (whole old.stream) (leaves_of iso place old) before old.state [] fault)
 
+  -- the same of a region that was begun, wherever it begins
+  abbrev pub RefusesToLeave : BegunRegion → Names → StateStream T A U → ParseFault A → Type 0
+  RefusesToLeave r before old fault = (place : ℕ) → IsRegion before.names (whole old.stream) old.state.ctx.now r r.isolated place → UnlessMemory (RefusesRegionEnd r.isolated place before old) fault
+
   -- ---- a block begins
 
   -- what the header of a block does

@@ -1,9 +1,8 @@
 //! The beginning of an operation: what precedes its first region is parsed, names are used, and the operation is created and appended to
 //! its block.
-ghost use Rattle.std.specs.Prelude.{◌≡◌, ◌≤◌, ◌<◌, ℕ, List, [], length, cond, true, false, IfOk, IfErr, IfSome, OnOk, is_some, slice_get};
+ghost use Rattle.std.specs.Prelude.{◌≡◌, ◌≤◌, ◌<◌, ℕ, length, cond, false, IfOk, IfErr, IfSome, OnOk, is_some, slice_get};
 ghost use Rattle.irtext_base.specs.Answers.{Demands};
 ghost use Rattle.irtext_base.specs.Format.{sym_name_key};
-ghost use Rattle.irtext_base.specs.Text.{Text};
 ghost use Rattle.irtext_context.specs.Context.{KeepsOlder};
 ghost use Rattle.irtext_graph.specs.Graph.{IsNew};
 ghost use Rattle.irtext_graph.specs.declared.object.Object.TheVariants.{TheBlock, TheOperation};
@@ -12,16 +11,13 @@ ghost use Rattle.irtext_scopes.specs.Names.{AreDistinct};
 ghost use Rattle.irtext_parse_state.specs.States.{KeepsRest, marks_of};
 ghost use Rattle.irtext_grammar.specs.Contexts.Formats.{format_of, isolated};
 ghost use Rattle.irtext_grammar.specs.Contexts.Held.{whole};
-ghost use Rattle.irtext_grammar.specs.Grammar.Tree.{Part};
 ghost use Rattle.irtext_names.specs.Tied.{MatchesGraph};
 ghost use Rattle.irtext_grammar.specs.Readers.Streams.{itself, replaced};
 ghost use Rattle.irtext_grammar.specs.Promises.Root.{UnlessMemory};
 ghost use Rattle.irtext_grammar.specs.Unchanged.{OwnSoFar, IsThere};
-ghost use Rattle.irtext_grammar.specs.Parsed.{IsPart, Each};
 ghost use Rattle.irtext_parse_pieces.specs.Named.{NamesRead};
-ghost use Rattle.irtext_parse_nested.specs.Beginning.{FrontComes, MissesFront, IsKnownIn, SaysGather, NotGatheredAs, CreatesOf, MakesOf, HasBegun, ComesInto};
+ghost use Rattle.irtext_parse_nested.specs.Beginning.{FrontComes, MissesFront, IsKnownIn, SaysGather, NotGatheredAs, CanCreate, CreatesOf, MakesOf, HasBegun, ComesInto};
 ghost use Rattle.irtext_parse_pieces.specs.Coming.{IsStep};
-ghost use Rattle.irtext_names.specs.Gathering.{CanGather};
 ghost use Rattle.irtext_names.specs.Items.{IsSound, KeepsLive, KeepsDepths};
 ghost use Rattle.irtext_base.specs.Faults.{id_of};
 ghost use Rattle.irtext_grammar.specs.Reached.{steps_in};
@@ -169,11 +165,7 @@ fn pieces_created<T: IrText<A>, A: AttrText<A>, U>(
     loc: Location<A>,
     pieces: Pieces<T, A>,
 ) -> ParseResult<(Ptr<Operation>, usize), A>
-    requires can { CanGather names.old [] [] pieces }
-    requires are { (text : Text) × (parts : List (Part ℕ T A))
-        × Each (IsPart names.old.names text) pieces parts }
-    requires tied { MatchesGraph names.old.values names.old.labels s.old.state.ctx.now.graph }
-    requires key { IfSome key.now (λ key. key ≡ sym_name_key) }
+    requires can { CanCreate pieces key.now names.old s.old.state.ctx.now.graph }
     ensures lent { s.new.state.ctx.ghost_name ≡ s.old.state.ctx.ghost_name }
     ensures rest { KeepsRest s.old.state s.new.state }
     ensures marks { marks_of s.new.state ≡ marks_of s.old.state }
@@ -214,11 +206,7 @@ fn created<T: IrText<A>, A: AttrText<A>, U>(
     loc: Location<A>,
     pieces: Pieces<T, A>,
 ) -> ParseResult<(Ptr<Operation>, usize), A>
-    requires can { CanGather names.old [] [] pieces }
-    requires are { (text : Text) × (parts : List (Part ℕ T A))
-        × Each (IsPart names.old.names text) pieces parts }
-    requires tied { MatchesGraph names.old.values names.old.labels s.old.state.ctx.now.graph }
-    requires key { IfSome key.now (λ key. key ≡ sym_name_key) }
+    requires can { CanCreate pieces key.now names.old s.old.state.ctx.now.graph }
     ensures lent { s.new.state.ctx.ghost_name ≡ s.old.state.ctx.ghost_name }
     ensures rest { KeepsRest s.old.state s.new.state }
     ensures marks { marks_of s.new.state ≡ marks_of s.old.state }
@@ -253,11 +241,7 @@ fn begin_read<T: IrText<A>, A: AttrText<A>, U>(
     loc: Location<A>,
     front: ReadFront<T, A>,
 ) -> ParseResult<BegunOperation, A>
-    requires can { CanGather names.old [] [] front.pieces }
-    requires are { (text : Text) × (parts : List (Part ℕ T A))
-        × Each (IsPart names.old.names text) front.pieces parts }
-    requires tied { MatchesGraph names.old.values names.old.labels s.old.state.ctx.now.graph }
-    requires key { IfSome front.key (λ key. key ≡ sym_name_key) }
+    requires can { CanCreate front.pieces front.key names.old s.old.state.ctx.now.graph }
     requires block { IfSome block (λ b. IsThere s.old.state.ctx.now (TheBlock b)) }
     ensures lent { s.new.state.ctx.ghost_name ≡ s.old.state.ctx.ghost_name }
     ensures rest { KeepsRest s.old.state s.new.state }

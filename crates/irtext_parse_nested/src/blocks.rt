@@ -1,7 +1,5 @@
 //! The beginning of a block: its header is parsed, it is created in its region, and the names of the header are defined.
-ghost use Rattle.std.specs.Prelude.{◌≡◌, ◌<◌, ◌≤◌, ◌∷◌, ◌++◌, [], ℕ, length, map, true, false, Some, IfOk, IfErr, OnOk, OnErr, IsSome, slice_get};
-ghost use Rattle.irtext_base.specs.Text.{Text};
-ghost use Rattle.irtext_base.specs.Answers.{Read};
+ghost use Rattle.std.specs.Prelude.{◌≡◌, ◌<◌, ◌≤◌, ◌∷◌, ◌++◌, [], ℕ, length, map, true, false, IfOk, IfErr, OnOk, OnErr, IsSome};
 ghost use Rattle.irtext_context.specs.Context.{KeepsOlder, with_graph};
 ghost use Rattle.irtext_context.specs.declared.base.item.Item.TheVariants as item;
 ghost use Rattle.irtext_graph.specs.declared.arena.Ptr.{Ptr};
@@ -10,30 +8,19 @@ ghost use Rattle.irtext_graph.specs.declared.object.Object.TheVariants.{TheBlock
 ghost use Rattle.irtext_graph.specs.declared.object.Value.TheVariants.{Argument};
 ghost use Rattle.irtext_graph.specs.Back.{IsClosedBelow};
 ghost use Rattle.irtext_graph.specs.Graph.{IsNew, IsLive, parent};
-ghost use Rattle.irtext_graph.specs.declared.object.Defined.TheVariants.{OfBlock};
-ghost use Rattle.irtext_names.specs.Linked.{TakesDefinition};
-ghost use Rattle.irtext_names.specs.Labels.{RefusesLabel};
 ghost use Rattle.irtext_tokens.specs.AttrTexts.{attr_at};
 ghost use Rattle.irtext_parse_state.specs.States.{KeepsRest, marks_of};
-ghost use Rattle.irtext_scopes.specs.Names.{AreDistinct};
 ghost use Rattle.irtext_scopes.specs.Scopes.{is_open};
-ghost use Rattle.irtext_names.specs.Tied.{MatchesGraph, IsNoPlaceholder};
+ghost use Rattle.irtext_names.specs.Tied.{MatchesGraph};
 ghost use Rattle.irtext_grammar.specs.Contexts.Held.{whole};
-ghost use Rattle.irtext_grammar.specs.Grammar.Tree.{Head};
 ghost use Rattle.irtext_grammar.specs.Names.Acts.{block_may_hold};
-ghost use Rattle.irtext_grammar.specs.Names.Script as script;
-ghost use Rattle.irtext_grammar.specs.Names.Script.{define_label};
-ghost use Rattle.irtext_grammar.specs.Names.TextScopes.{Word};
-ghost use Rattle.irtext_grammar.specs.Readers.Streams.{itself, replaced};
 ghost use Rattle.irtext_grammar.specs.Promises.Root.{UnlessMemory};
-ghost use Rattle.irtext_grammar.specs.Heads.{head_at};
 ghost use Rattle.irtext_grammar.specs.Grows.{BlockCame, RegionGains};
 ghost use Rattle.irtext_grammar.specs.Unchanged.{ModifiesOnly};
 ghost use Rattle.irtext_names.specs.Rows.{AreKnown, ValuesReady};
-ghost use Rattle.irtext_parse_pieces.specs.Headers.{MustHead};
-ghost use Rattle.irtext_parse_pieces.specs.Named.{AreWords, NamesRead};
+ghost use Rattle.irtext_parse_pieces.specs.Named.{AreWords};
 ghost use Rattle.irtext_names.specs.Gathering.{entries_in, Forbids};
-ghost use Rattle.irtext_parse_nested.specs.Blocks.{PlacesLabelled, IsOfEntries, IsRefusalFault, MakesHead, RefusesArguments, DefinesArguments, NamesHead, RefusesHead};
+ghost use Rattle.irtext_parse_nested.specs.Blocks.{PlacesLabelled, IsOfEntries, ReadsHead, OfNextHead, IsRefusalFault, MakesHead, RefusesArguments, DefinesArguments, NamesHead, RefusesHead};
 ghost use Rattle.irtext_names.specs.LosesPlaceholders.{LosesPlaceholders};
 ghost use Rattle.irtext_names.specs.Definitions.{numbers_of};
 ghost use Rattle.irtext_parse_nested.specs.Ends.{noted_as, GainsMarks};
@@ -71,10 +58,8 @@ fn head_parse<T: IrText<A>, A: AttrText<A>>(
     stream: &mut TextStream,
     names: &mut Names,
 ) -> ParseResult<BlockHead<T, A>, A>
-    ensures read { MustHead itself replaced names.new.names T.IrText.reading (attr_at A.IrText.reading)
-        stream.old result stream.new }
-    ensures names { NamesRead names.old names.new }
-    ensures distinct { AreDistinct names.new.names }
+    ensures { ReadsHead T.IrText.reading (attr_at A.IrText.reading) names.old stream.old result names.new
+        stream.new }
 {
     let answer = block_head_parse(stream, names);
     names.keeps_names();
@@ -208,41 +193,6 @@ fn arguments_defined<T: IrText<A>, A: AttrText<A>, U>(
     }
 }
 
-/// Defines the label of a block, in the state's context. Every error is committed.
-fn label_defined<T: IrText<A>, A: AttrText<A>, U>(
-    s: &mut StateStream<'_, T, A, U>,
-    names: &mut Names,
-    label: ReadName,
-    block: Ptr<BasicBlock>,
-) -> ParseResult<(), A>
-    requires open { is_open names.old.labels ≡ true }
-    requires known { label.name < length names.old.names }
-    requires tied { MatchesGraph names.old.values names.old.labels s.old.state.ctx.now.graph }
-    requires there { IsLive s.old.state.ctx.now.graph (TheBlock block) }
-    requires no_placeholder { IsNoPlaceholder names.old.labels block }
-    ensures lent { s.new.state.ctx.ghost_name ≡ s.old.state.ctx.ghost_name }
-    ensures rest { KeepsRest s.old.state s.new.state }
-    ensures marks { marks_of s.new.state ≡ marks_of s.old.state }
-    ensures ctx { s.new.state.ctx.now ≡ with_graph s.old.state.ctx.now s.new.state.ctx.now.graph }
-    ensures stream { OnOk result (s.new.stream ≡ s.old.stream) }
-    ensures follows { OnOk result ((w : Word) (p : script.Place) → slice_get names.old.names label.name
-        ≡ Some w.name
-        → TakesDefinition (define_label w p) names.old names.new s.old.state.ctx.now.graph
-        s.new.state.ctx.now.graph p (OfBlock block)) }
-    ensures refused { IfErr result (UnlessMemory
-        (RefusesLabel names.old s.old.state.ctx.now.graph (whole s.old.stream) label)) }
-    ensures committed { IfErr result (λ f. f.committed ≡ true) }
-    ensures loses { LosesPlaceholders s.old.state.ctx.now.graph s.new.state.ctx.now.graph }
-    ensures labels { length names.new.labels ≡ length names.old.labels }
-    ensures names { (names.new.names ≡ names.old.names) × (names.new.values ≡ names.old.values) }
-    ensures sound { (m : ℕ) → IsSound m names.old s.old.state → IsSound m names.new s.new.state }
-    ensures kept { (m : ℕ) → IsClosedBelow m s.old.state.ctx.now.graph → IsSound m names.old s.old.state
-        → KeepsOlder m s.old.state.ctx.now s.new.state.ctx.now }
-{
-    let ctx = &mut *s.state.ctx;
-    label_block(&mut s.stream, names, ctx.graph_mut(), label, block)
-}
-
 /// Defines the names of a block's arguments, records its mark, if it has one, and defines its label. Every error is committed; what
 /// precedes the error is defined and recorded then.
 fn head_named<T: IrText<A>, A: AttrText<A>, U>(
@@ -286,7 +236,8 @@ fn head_named<T: IrText<A>, A: AttrText<A>, U>(
     if let Err(fault) = note_mark(s, mark, Item::Block(block)) {
         return Err(fault);
     }
-    label_defined(s, names, label, block)
+    let ctx = &mut *s.state.ctx;
+    label_block(&mut s.stream, names, ctx.graph_mut(), label, block)
 }
 
 /// Begins a block, the last of a region whose scopes of values and of labels are open. Its header is parsed, and the block is created
@@ -308,18 +259,16 @@ pub fn block_begin<T: IrText<A>, A: AttrText<A>, U>(
     ensures rest { KeepsRest s.old.state s.new.state }
     ensures begins { IfOk result (λ b. BeginsBlock T.IrText.reading (attr_at A.IrText.reading) b names.old
         s.old names.new s.new) }
-    ensures came { IfOk result (λ b. (h : Head ℕ T A) (taken : Text) → head_at T.IrText.reading
-        (attr_at A.IrText.reading) s.old.stream.rest ≡ Read h taken s.new.stream.rest
-        → BlockCame s.old.state.ctx.now s.new.state.ctx.now
-        (IsLocated s.old.state.src (whole s.old.stream)) b.block h) }
+    ensures came { IfOk result (λ b. OfNextHead T.IrText.reading (attr_at A.IrText.reading) s.old s.new
+        (BlockCame s.old.state.ctx.now s.new.state.ctx.now (IsLocated s.old.state.src (whole s.old.stream))
+        b.block)) }
     ensures gains { IfOk result (λ b. RegionGains s.old.state.ctx.now s.new.state.ctx.now region b.block) }
     ensures spares { IfOk result (λ b. ModifiesOnly (TheBlock b.block ∷ TheRegion region ∷ [])
         s.old.state.ctx.now s.new.state.ctx.now) }
     ensures new { IfOk result (λ b. (m : ℕ) → m ≤ s.old.state.ctx.now.graph.made
         → IsNew m s.new.state.ctx.now.graph (TheBlock b.block)) }
-    ensures noted { IfOk result (λ b. (h : Head ℕ T A) (taken : Text) → head_at T.IrText.reading
-        (attr_at A.IrText.reading) s.old.stream.rest ≡ Read h taken s.new.stream.rest
-        → marks_of s.new.state ≡ marks_of s.old.state ++ noted_as h.mark (item.Block b.block)) }
+    ensures noted { IfOk result (λ b. OfNextHead T.IrText.reading (attr_at A.IrText.reading) s.old s.new
+        (λ h. marks_of s.new.state ≡ marks_of s.old.state ++ noted_as h.mark (item.Block b.block))) }
     ensures unnoted { OnErr result (GainsMarks (marks_of s.old.state) (marks_of s.new.state)) }
     ensures refused { IfErr result (UnlessMemory
         (RefusesBlock T.IrText.reading (attr_at A.IrText.reading) names.old s.old)) }

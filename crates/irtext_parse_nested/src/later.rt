@@ -1,5 +1,5 @@
 //! A piece of an operation after a region: it is parsed by the operation's next step, and what it gives is stored.
-ghost use Rattle.std.specs.Prelude.{◌≡◌, ◌≤◌, ◌<◌, ◌+◌, ◌∷◌, [], ℕ, None, Some, IfErr, OnOk, IsSome, length, slice_get, false, true};
+ghost use Rattle.std.specs.Prelude.{◌≡◌, ◌≤◌, ◌<◌, ◌+◌, ◌∷◌, [], ℕ, None, IfErr, OnOk, IsSome, length, slice_get, false, true};
 ghost use Rattle.irtext_base.specs.Faults.{id_of};
 ghost use Rattle.irtext_base.specs.Format.{sym_name_key};
 ghost use Rattle.irtext_context.specs.Context.{KeepsOlder, operation};
@@ -7,25 +7,21 @@ ghost use Rattle.irtext_base.specs.FormatViews.{format_of};
 ghost use Rattle.irtext_graph.specs.Graph.{IsNew};
 ghost use Rattle.irtext_graph.specs.declared.object.Object.TheVariants.{TheOperation};
 ghost use Rattle.irtext_tokens.specs.AttrTexts.{attr_at};
-ghost use Rattle.irtext_tokens.specs.Infix.{◌▷◌};
-ghost use Rattle.irtext_tokens.specs.Tokens.{space_at};
 ghost use Rattle.irtext_parse_state.specs.States.{KeepsRest, marks_of};
 ghost use Rattle.irtext_grammar.specs.Contexts.Held.{entries_of, whole};
 ghost use Rattle.irtext_grammar.specs.Graphs.Build.{put_all};
 ghost use Rattle.irtext_grammar.specs.Grammar.Tree.{ident};
 ghost use Rattle.irtext_names.specs.Tied.{MatchesGraph};
 ghost use Rattle.irtext_grammar.specs.Promises.Section.{Moves};
-ghost use Rattle.irtext_grammar.specs.Readers.Streams.{itself, replaced};
 ghost use Rattle.irtext_grammar.specs.Unchanged.{ModifiesOnly};
-ghost use Rattle.irtext_grammar.specs.Heads.{Step, steps_of, piece_at};
+ghost use Rattle.irtext_grammar.specs.Heads.{steps_of};
 ghost use Rattle.irtext_grammar.specs.Reached.{steps_in};
 ghost use Rattle.irtext_parse_pieces.specs.Named.{NamesRead};
-ghost use Rattle.irtext_parse_pieces.specs.Pieces.{MustPiece};
 ghost use Rattle.irtext_names.specs.declared.operation_parts.NotGathered.TheVariants.{Memory};
 ghost use Rattle.irtext_parse_nested.specs.Ends.{WritesAttributes};
 ghost use Rattle.irtext_names.specs.Gathering.{stored_of};
 ghost use Rattle.irtext_names.specs.Items.{IsSound, KeepsLive, KeepsDepths};
-ghost use Rattle.irtext_parse_nested.specs.Later.{given_by, IsFlatNext, MayStore, RefusesStored, StoresPiece, NotStored, GoesOn};
+ghost use Rattle.irtext_parse_nested.specs.Later.{given_by, IsFlatNext, ReadsNext, MayStore, RefusesStored, StoresPiece, NotStored, GoesOn};
 ghost use Rattle.irtext_parse_nested.specs.Read.{RefusesNext};
 
 use crate::beginning::gather_fault;
@@ -123,10 +119,8 @@ fn piece_read<T: IrText<A>, A: AttrText<A>>(
 ) -> ParseResult<ReadPiece<T, A>, A>
     requires fine { stream.old.failed ≡ false }
     requires step { IsFlatNext (slice_get (steps_in ctx.now.dialects (id_of begun.old.id)) begun.old.step) }
-    ensures read { (step : Step) → slice_get (steps_in ctx.now.dialects (id_of begun.old.id))
-        begun.old.step ≡ Some step → MustPiece itself replaced names.new.names
-        (space_at ▷ piece_at T.IrText.reading (attr_at A.IrText.reading) true step) stream.old
-        result stream.new }
+    ensures read { ReadsNext T.IrText.reading (attr_at A.IrText.reading) ctx.now.dialects begun.old
+        names.new.names stream.old result stream.new }
     ensures names { NamesRead names.old names.new }
     ensures following { begun.new ≡ record begun.old { coming = None; step = begun.old.step + 1 } }
 {

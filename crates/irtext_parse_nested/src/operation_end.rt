@@ -1,8 +1,6 @@
 //! The end of an operation: the names of its results are defined, and its mark is parsed and recorded.
-ghost use Rattle.std.specs.Prelude.{◌≡◌, ◌≤◌, ℕ, List, [], ◌∷◌, ◌++◌, Option, length, map, true, false, IfErr, IfSome, OnOk, OnErr, IsSome};
+ghost use Rattle.std.specs.Prelude.{◌≡◌, ◌≤◌, ℕ, List, [], ◌∷◌, length, map, true, false, IfErr, IfSome, OnOk, OnErr, IsSome};
 ghost use Rattle.irtext_base.specs.Format.{given_names_key};
-ghost use Rattle.irtext_base.specs.Text.{Text};
-ghost use Rattle.irtext_base.specs.Answers.{Read};
 ghost use Rattle.irtext_base.specs.Faults as fault;
 ghost use Rattle.irtext_base.specs.Faults.{fault_of};
 ghost use Rattle.irtext_base.specs.Stream.{IsAt};
@@ -26,7 +24,6 @@ ghost use Rattle.irtext_grammar.specs.Contexts.Held.{whole};
 ghost use Rattle.irtext_grammar.specs.Readers.Streams.{itself, replaced};
 ghost use Rattle.irtext_grammar.specs.Promises.Root.{UnlessMemory};
 ghost use Rattle.irtext_grammar.specs.Unchanged.{ModifiesOnly};
-ghost use Rattle.irtext_grammar.specs.Grammar.Tree.{Mark};
 ghost use Rattle.irtext_grammar.specs.Heads.{mark_if_at};
 ghost use Rattle.irtext_grammar.specs.Resume.{OpenOperation};
 ghost use Rattle.irtext_names.specs.Rows.{AreKnown, ValuesReady, DefinesRow};
@@ -35,7 +32,7 @@ ghost use Rattle.irtext_parse_pieces.specs.Named.{MustMean};
 ghost use Rattle.irtext_parse_nested.specs.OpenOperation.{IsBegun, pledge_of};
 ghost use Rattle.irtext_names.specs.LosesPlaceholders.{LosesPlaceholders};
 ghost use Rattle.irtext_names.specs.Definitions.{numbers_of};
-ghost use Rattle.irtext_parse_nested.specs.Ends.{closes_at, RefusesResults, NotesMark, noted_as, GainsMarks, RefusesMark, WritesAttributes, GivesNames, BecomesNamed};
+ghost use Rattle.irtext_parse_nested.specs.Ends.{closes_at, RefusesResults, NotesMark, NotesNext, GainsMarks, RefusesMark, WritesAttributes, GivesNames, BecomesNamed};
 ghost use Rattle.irtext_names.specs.Items.{Acts, ActFails, IsSound, KeepsLive, KeepsDepths};
 ghost use Rattle.irtext_names.specs.Located.{IsLocated};
 ghost use Rattle.irtext_parse_nested.specs.Read.{EndsOperation, RefusesItsEnd};
@@ -307,9 +304,7 @@ pub fn operation_end<T: IrText<A>, A: AttrText<A>, U>(
         s.old.state.ctx.now s.new.state.ctx.now begun.now.op) }
     ensures spares { OnOk result (ModifiesOnly (TheOperation begun.now.op ∷ []) s.old.state.ctx.now
         s.new.state.ctx.now) }
-    ensures noted { OnOk result ((mark : Option (Mark ℕ)) (taken : Text) → (space_at ▷ mark_if_at)
-        s.old.stream.rest ≡ Read mark taken s.new.stream.rest
-        → marks_of s.new.state ≡ marks_of s.old.state ++ noted_as mark (item.Operation begun.now.op)) }
+    ensures noted { OnOk result (NotesNext s.old s.new (item.Operation begun.now.op)) }
     ensures unnoted { OnErr result (GainsMarks (marks_of s.old.state) (marks_of s.new.state)) }
     ensures lasts { OnOk result (KeepsLive s.old.state.ctx.now s.new.state.ctx.now) }
     ensures names { KeepsDepths names.old names.new }

@@ -9,18 +9,15 @@ ghost use Rattle.irtext_scopes.specs.Scopes.{is_open, outer};
 ghost use Rattle.irtext_scopes.specs.Tracker.{entered, left};
 ghost use Rattle.irtext_parse_state.specs.States.{KeepsRest, marks_of};
 ghost use Rattle.irtext_grammar.specs.Contexts.Held.{whole};
-ghost use Rattle.irtext_grammar.specs.Names.History.{leave};
-ghost use Rattle.irtext_grammar.specs.Names.History as history;
-ghost use Rattle.irtext_names.specs.Linked.{Takes};
 ghost use Rattle.irtext_names.specs.Tied.{MatchesGraph, StaysPending};
 ghost use Rattle.irtext_grammar.specs.Promises.Root.{UnlessMemory};
 ghost use Rattle.irtext_grammar.specs.Grows.{RegionCame, OperationGains};
 ghost use Rattle.irtext_grammar.specs.Unchanged.{ModifiesOnly};
 ghost use Rattle.irtext_parse_nested.specs.OpenOperation.{IsRegion};
 ghost use Rattle.irtext_names.specs.Items.{IsSound, KeepsLive};
-ghost use Rattle.irtext_parse_nested.specs.Leaving.{IsUnresolved};
+ghost use Rattle.irtext_parse_nested.specs.Leaving.{IsUnresolved, TakesLeave};
 ghost use Rattle.irtext_names.specs.Placing.{CreatesIn};
-ghost use Rattle.irtext_parse_nested.specs.Read.{BeginsRegion, RefusesRegion, EndsRegion, RefusesRegionEnd};
+ghost use Rattle.irtext_parse_nested.specs.Read.{BeginsRegion, RefusesRegion, EndsRegion, RefusesToLeave};
 
 use crate::frame::BegunRegion;
 use irtext_base::parsable::{CharStream, ParseResult, TextStream};
@@ -108,8 +105,7 @@ fn leave<O: Drop, B: Drop, T: Drop, A>(
     ensures names { names.new.names ≡ names.old.names }
     ensures tied { MatchesGraph names.new.values names.new.labels graph.now }
     ensures waiting { OnOk result (StaysPending names.old names.new graph.now graph.now) }
-    ensures takes { OnOk result ((a : ℕ) → Takes (leave region.isolated a) (history.left region.isolated)
-        names.old names.new graph.now) }
+    ensures takes { OnOk result (TakesLeave region.isolated names.old names.new graph.now) }
     ensures refused { IfErr result (UnlessMemory (IsUnresolved names.old graph.now (whole stream.old) region)) }
     ensures committed { IfErr result (λ fault. fault.committed ≡ true) }
 {
@@ -138,10 +134,8 @@ pub fn region_end<T: IrText<A>, A: AttrText<A>, U>(
         s.old.state.ctx.now region region.isolated place
         → EndsRegion T.IrText.reading (attr_at A.IrText.reading) region.isolated place names.old s.old
         names.new s.new) }
-    ensures refused { IfErr result (λ fault. (place : ℕ) → IsRegion names.old.names (whole s.old.stream)
-        s.old.state.ctx.now region region.isolated place
-        → UnlessMemory (RefusesRegionEnd T.IrText.reading (attr_at A.IrText.reading) region.isolated place
-        names.old s.old) fault) }
+    ensures refused { IfErr result (RefusesToLeave T.IrText.reading (attr_at A.IrText.reading) region
+        names.old s.old) }
     ensures committed { IfErr result (λ fault. fault.committed ≡ true) }
     ensures names { names.new.names ≡ names.old.names }
     ensures values { OnOk result (names.new.values ≡ left region.isolated names.old.values) }

@@ -1,7 +1,7 @@
 -- Where a parse begins no name is known: names, graph and marks agree with the initial state of the machine.
 use Rattle.std.proofs.Common.{◌≡◌, ◌∙◌, ℕ, [], Option, Some, None, IsSome, refl, sym, ap, subst, le_refl}
-use Rattle.irtext_context.specs.Context.{ContextView}
-use Rattle.irtext_graph.specs.Back.{AllOlder}
+use Rattle.irtext_context.specs.Context.{ContextView, KeepsOlder}
+use Rattle.irtext_graph.specs.Back.{AllOlder, IsClosedBelow}
 use Rattle.irtext_graph.specs.Store.{get}
 use Rattle.irtext_graph.proofs.Frames.{new_operation}
 use Rattle.irtext_scopes.specs.Names.{AreDistinct}
@@ -16,7 +16,7 @@ use Rattle.irtext_names.proofs.Linked.Kept.{agrees_by}
 use Rattle.irtext_names.specs.Promises.{start_with}
 use Rattle.irtext_names.specs.Items.{Names, MachineAgrees, BlanksDefine, IsSound}
 use Rattle.irtext_parse_nested.proofs.OfItems.{nothing_of}
-use Rattle.irtext_parse_root.specs.Turned.{IsSoundOnce}
+use Rattle.irtext_parse_root.specs.Turned.{IsSoundOnce, KeepsEarlier}
 
 -- no name has two numbers
 pub none_twice : AreDistinct []
@@ -62,3 +62,8 @@ module _ {T A U : Type 0} (names : Names) (s : code.State T A U) (no_names : nam
 
   pub fresh_once : AllOlder s.ctx.now.graph.made s.ctx.now.graph → IsSoundOnce names s
   fresh_once older = record { since = s.ctx.now.graph.made; past = le_refl s.ctx.now.graph.made; sound = fresh_sound older }
+
+  -- so what keeps all that is older than any count since which they are sound keeps everything that was there
+  pub keeps_all : {new : ContextView T A} → AllOlder s.ctx.now.graph.made s.ctx.now.graph → IsClosedBelow s.ctx.now.graph.made s.ctx.now.graph
+      → KeepsEarlier names s new → KeepsOlder s.ctx.now.graph.made s.ctx.now new
+  keeps_all older closed keeps = keeps s.ctx.now.graph.made (le_refl s.ctx.now.graph.made) closed (fresh_sound older)

@@ -18,13 +18,9 @@ use Rattle.irtext_grammar.specs.Naming.{paths_in_regions, paths_in_blocks, paths
 use Rattle.irtext_grammar.proofs.Naming.Places as places
 use Rattle.irtext_grammar.specs.Tracks.{Made}
 use Rattle.irtext_parse_nested.specs.Ends.{noted_as}
+use Rattle.irtext_parse_section.specs.Items.{CarriesOnly}
 use Rattle.irtext_parse_root.specs.Carried.{marks_in_regions, marks_in_blocks, marks_in_operations, marks_in, object_of, AreCarried, Falls}
 use Rattle.irtext_parse_root.proofs.Carrying.{carried_by}
-
--- the item carries this mark alone, or none
-abbrev pub CarriesOnly : List (ℕ × Item) → Item → Option (Mark ℕ) → Type 0
-CarriesOnly marks x None = (i : ℕ) → lookup (same_index i) marks ≡ Some x → ⊥
-CarriesOnly marks x (Some m) = (lookup (same_index m.index) marks ≡ Some x) × ((i : ℕ) → lookup (same_index i) marks ≡ Some x → i ≡ m.index)
 
 -- ---- each item with its mark
 module _ {T A : Type 0} where

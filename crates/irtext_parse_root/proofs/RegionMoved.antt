@@ -81,25 +81,22 @@ module _ {T A : Type 0} (I : Object → ℕ → Location A → Type 0) (mid c : 
   mutual
     pub regions_moved : (rs : List (Ptr Region)) (bs : Regions (Op ℕ T A) (Head ℕ T A) (Brace ℕ)) → RegionsHold I mid whole rs bs → RegionsHold I c whole rs bs
     regions_moved [] no_regions h = tt
-    regions_moved [] (forest.region brace bs more) h = absurd h
-    regions_moved (q ∷ rs) no_regions h = absurd h
     regions_moved (q ∷ rs) (forest.region brace bs more) (i, (view, is, hold), k) =
         let now = region_seen q view is in
         (i, (now.0, now.1, subst (λ z. BlocksHold I c whole z bs) (sym now.2) (blocks_moved view.blocks bs hold)), regions_moved rs more k)
+    regions_moved _ _ h = absurd h
 
     blocks_moved : (ps : List (Ptr BasicBlock)) (bs : Blocks (Op ℕ T A) (Head ℕ T A) (Brace ℕ)) → BlocksHold I mid whole ps bs → BlocksHold I c whole ps bs
     blocks_moved [] no_blocks h = tt
-    blocks_moved [] (forest.block head os more) h = absurd h
-    blocks_moved (b ∷ ps) no_blocks h = absurd h
     blocks_moved (b ∷ ps) (forest.block head os more) (i, (view, is, has, hold), k) =
         (i, (view, same_block b ∙ is, has, operations_moved view.operations os hold), blocks_moved ps more k)
+    blocks_moved _ _ h = absurd h
 
     operations_moved : (ps : List (Ptr Operation)) (os : Operations (Op ℕ T A) (Head ℕ T A) (Brace ℕ)) → OperationsHold I mid whole ps os → OperationsHold I c whole ps os
     operations_moved [] no_operations h = tt
-    operations_moved [] (forest.operation o rs more) h = absurd h
-    operations_moved (p ∷ ps) no_operations h = absurd h
     operations_moved (p ∷ ps) (forest.operation o rs more) (i, (view, is, has, uses, hold), k) =
         (i, (view, same_operation p i ∙ is, has, uses_moved p o i uses, regions_moved view.regions rs hold), operations_moved ps more k)
+    operations_moved _ _ h = absurd h
 
   -- and what was a child of a complete object still is
   pub child_moved : (k o : Object) → Among k whole → HasChild mid k o → HasChild c k o

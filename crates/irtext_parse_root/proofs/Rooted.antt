@@ -20,7 +20,8 @@ use Rattle.irtext_names.specs.Given.{OperationHas, BlockHas, RegionsHave, Blocks
 use Rattle.irtext_names.specs.Held.{PtrRegions, PtrBlocks, PtrOperations}
 use Rattle.irtext_names.specs.Placed.{OperationAt, BlockAt, RegionsAre, BlocksAre, OperationsAre, RootIs}
 use Rattle.irtext_parse_root.specs.Carried.{object_of}
-use Rattle.irtext_parse_root.proofs.Marks.{CarriesOnly, marked_regions, marked_blocks, marked_operations, marked_items}
+use Rattle.irtext_parse_section.specs.Items.{CarriesOnly}
+use Rattle.irtext_parse_root.proofs.Marks.{marked_regions, marked_blocks, marked_operations, marked_items}
 
 module _ {T A : Type 0} (L : ℕ → Location A → Type 0) (c : ContextView T A) (items : Made) (marks : List (ℕ × Item)) (d : ContextView T A) (first : ℕ → Written A) (es : List (Entry ℕ A (Written A))) where
   -- What each item has: what its tree gives it, and what the entry of its mark does; it is the only item with this mark.

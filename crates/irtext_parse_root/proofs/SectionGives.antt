@@ -9,7 +9,6 @@ use Rattle.irtext_base.specs.Locations.{AttrView}
 use Rattle.irtext_base.specs.Paths.{Written}
 use Rattle.irtext_base.specs.declared.location.Location.{Location}
 use Rattle.irtext_context.specs.Context.{ContextView}
-use Rattle.irtext_context.specs.declared.base.item.Item.TheVariants as item
 use Rattle.irtext_context.specs.declared.base.operation.OperationData.{OperationData}
 use Rattle.irtext_graph.specs.Content.{Node, OperationContent}
 use Rattle.irtext_graph.specs.Data.{EditsOperation, with_data}
@@ -26,20 +25,17 @@ use Rattle.irtext_graph.proofs.Pointers.{ptr_or}
 use Rattle.irtext_parse_state.specs.States.{marks_of}
 use Rattle.irtext_parse_state.specs.declared.parsable.state.StateStream.{StateStream}
 use Rattle.irtext_grammar.specs.Contexts.Held.{location_over}
-use Rattle.irtext_grammar.specs.Grammar.Tree.{Op, Head}
 use Rattle.irtext_grammar.specs.Graphs.Build.{content, located, labelled, but_label, with_content}
 use Rattle.irtext_grammar.specs.Names.Acts.{Rule}
 use Rattle.irtext_grammar.specs.Promises.Section.{indices_of}
 use Rattle.irtext_grammar.specs.Tracks.{Made}
-use Rattle.irtext_names.specs.Given.{OperationHas, BlockHas}
-use Rattle.irtext_names.specs.Placed.{OperationAt, BlockAt}
 use Rattle.irtext_names.specs.WithSection.{SameShape}
 use Rattle.irtext_names.proofs.Shapes.{shape_self, shape_then, operation_shape, block_shape}
 use Rattle.irtext_grammar.specs.Agrees.{refused}
-use Rattle.irtext_parse_section.specs.Items.{CarriesOnly}
 use Rattle.irtext_parse_section.specs.Section.{ReadsSection}
 use Rattle.irtext_parse_section.proofs.Frames.{applied}
 use Rattle.irtext_parse_section.proofs.Items.{operation_given, block_given}
+use Rattle.irtext_parse_root.proofs.Rooted.{GivesEach}
 
 -- an operation's place in a graph, as it is seen
 abbrev Seen : Type 0 → Type 0 → Type 0
@@ -90,30 +86,29 @@ module _ {T A U : Type 0} (attr : Text → Outcome (AttrView A)) (old new : Stat
   successors_same = uses_same successors_in (λ change. elim [ None ↦ refl | Some e ↦ refl ])
 
   module _ (rules : ℕ → Rule A) (none : refused (indices_of (marks_of old.state)) rules r.entries ≡ []) (L : ℕ → Location A → Type 0) (items : Made) (first : ℕ → Written A) (tells : (n : ℕ) (l : Location A) → L n l → location_over d.paths l ≡ first n) where
-    -- an operation of a root has its own, with what the entry of its mark gives it
-    pub operation_has : (p : Ptr Operation) (o : Op ℕ T A) (rs : List (Ptr Region)) → OperationAt L c items p o rs → CarriesOnly (marks_of old.state) (item.Operation p) o.mark → OperationHas d first r.entries p o
-    operation_has p o rs at carries =
-        let g = operation_given attr old new r rules none p o.mark carries at.view at.is in
-        record {
-          view = g.after;
-          is = g.is;
-          uses = record { operands_are = ap length (operands_same p) ∙ at.uses.operands_are; successors_are = ap length (successors_same p) ∙ at.uses.successors_are };
-          id = ap id_of g.id ∙ at.has.id;
-          types = g.types ∙ at.has.types;
-          entries = g.entries ∙ ap (λ es. with_content es (content r.entries o.mark)) at.has.entries;
-          location = g.location ∙ ap (λ l. located l (content r.entries o.mark)) (tells o.place at.view.loc at.has.location);
-        }
-
-    -- a block of a root has its own, with what the entry of its mark gives it
-    pub block_has : (b : Ptr BasicBlock) (h : Head ℕ T A) (ps : List (Ptr Operation)) → BlockAt L c items b h ps → CarriesOnly (marks_of old.state) (item.Block b) h.mark → BlockHas d first r.entries b h
-    block_has b h ps at carries =
-        let g = block_given attr old new r rules none b h.mark carries at.view at.is in
-        record {
-          view = g.after;
-          is = g.is;
-          has_label = g.has_label (ap (λ z. is_some z) at.has.label);
-          label = g.label ∙ ap (λ l. labelled (unwrap_or l []) (content r.entries h.mark)) at.has.label;
-          types = g.types ∙ at.has.types;
-          entries = g.entries ∙ ap (λ es. with_content es (but_label (content r.entries h.mark))) at.has.entries;
-          location = g.location ∙ ap (λ l. located l (content r.entries h.mark)) (tells h.label.place at.view.loc at.has.location);
-        }
+    -- each operation and each block of a root has its own, with what the entry of its mark gives it
+    pub each : GivesEach L c items (marks_of old.state) d first r.entries
+    each = record {
+      operations = λ p o rs at carries.
+          let g = operation_given attr old new r rules none p o.mark carries at.view at.is in
+          record {
+            view = g.after;
+            is = g.is;
+            uses = record { operands_are = ap length (operands_same p) ∙ at.uses.operands_are; successors_are = ap length (successors_same p) ∙ at.uses.successors_are };
+            id = ap id_of g.id ∙ at.has.id;
+            types = g.types ∙ at.has.types;
+            entries = g.entries ∙ ap (λ es. with_content es (content r.entries o.mark)) at.has.entries;
+            location = g.location ∙ ap (λ l. located l (content r.entries o.mark)) (tells o.place at.view.loc at.has.location);
+          };
+      blocks = λ b h ps at carries.
+          let g = block_given attr old new r rules none b h.mark carries at.view at.is in
+          record {
+            view = g.after;
+            is = g.is;
+            has_label = g.has_label (ap (λ z. is_some z) at.has.label);
+            label = g.label ∙ ap (λ l. labelled (unwrap_or l []) (content r.entries h.mark)) at.has.label;
+            types = g.types ∙ at.has.types;
+            entries = g.entries ∙ ap (λ es. with_content es (but_label (content r.entries h.mark))) at.has.entries;
+            location = g.location ∙ ap (λ l. located l (content r.entries h.mark)) (tells h.label.place at.view.loc at.has.location);
+          };
+    }

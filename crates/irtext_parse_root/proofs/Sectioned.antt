@@ -41,7 +41,7 @@ use Rattle.irtext_grammar.proofs.Readers.Answered.{moves_more}
 use Rattle.irtext_grammar.proofs.Knot.Whole as knot
 use Rattle.irtext_grammar.proofs.Naming.Places.{places_fall}
 use Rattle.irtext_names.specs.Given.{RootHas}
-use Rattle.irtext_names.specs.Held.{held_root, placed_under, IsWhole}
+use Rattle.irtext_names.specs.Held.{held_root, placed_under}
 use Rattle.irtext_names.specs.OnlyNew.{OnlyNew}
 use Rattle.irtext_names.specs.Placed.{RootIs}
 use Rattle.irtext_names.specs.Promises.{BuildsTree, BuildsRoot, RefusesRoot}
@@ -65,9 +65,10 @@ use Rattle.irtext_tokens.proofs.Steps.{alone}
 use Rattle.irtext_names.specs.Located.{IsLocated}
 use Rattle.irtext_parse_locations.specs.Applied.{AreNewer}
 use Rattle.irtext_parse_section.specs.Said.{rules_of}
+use Rattle.irtext_parse_section.specs.Items.{CarriesOnly}
 use Rattle.irtext_parse_section.specs.Section.{ReadsSection}
 use Rattle.irtext_parse_root.proofs.Laws.{Laws}
-use Rattle.irtext_parse_root.proofs.Marks.{CarriesOnly, marked_items, carries_only}
+use Rattle.irtext_parse_root.proofs.Marks.{marked_items, carries_only}
 use Rattle.irtext_parse_root.proofs.Newer.{all_newer}
 use Rattle.irtext_parse_root.proofs.Rooted.{GivesEach, root_given}
 use Rattle.irtext_parse_root.proofs.Rules.{rules_are}
@@ -150,10 +151,6 @@ module _ {T A U : Type 0} {types : ir_text.Ghosts T A} {owns : ir_text.Ghosts A 
   tells_first : (n : ℕ) (l : Location A) → L n l → location_over mid.state.ctx.now.paths l ≡ first_of mid.state.ctx.now n
   tells_first n l e = place_written mid.state.ctx.now.paths old.state.src (whole old.stream) n l e
 
-  whole_without : IsWhole mid.state.ctx.now op
-  whole_without = root_whole mid.state.ctx.now (first_of mid.state.ctx.now) [] op t
-      (root_has L mid.state.ctx.now m.leaves.items (first_of mid.state.ctx.now) tells_first (pointers mid.state.ctx.now.graph op) t (is_tree (first_of mid.state.ctx.now)))
-
   -- so does a root without a mark, after which no section is looked for
   pub root_unmarked : marks_of mid.state ≡ [] → BuildsRoot (texts_of types_at types_written) (texts_of reading written) (attr_at reading) op old mid
   root_unmarked bare =
@@ -165,7 +162,8 @@ module _ {T A U : Type 0} {types : ir_text.Ghosts T A} {owns : ir_text.Ghosts A 
         resolves = tree_resolves;
         moves = m.moves;
         builds = m.builds;
-        is_whole = whole_without;
+        is_whole = root_whole mid.state.ctx.now (first_of mid.state.ctx.now) [] op t
+            (root_has L mid.state.ctx.now m.leaves.items (first_of mid.state.ctx.now) tells_first (pointers mid.state.ctx.now.graph op) t (is_tree (first_of mid.state.ctx.now)));
         fresh = bare;
         only = m.only;
       }
@@ -218,10 +216,7 @@ module _ {T A U : Type 0} {types : ir_text.Ghosts T A} {owns : ir_text.Ghosts A 
       none_refused = (read r.entries r.taken new.stream.rest r.reads).2
 
       each : GivesEach L mid.state.ctx.now m.leaves.items marks new.state.ctx.now first r.entries
-      each = record {
-        operations = gives.operation_has (attr_at reading) mid new r (rules_of marks) none_refused L m.leaves.items first (λ n l e. place_written new.state.ctx.now.paths old.state.src (whole old.stream) n l e);
-        blocks = gives.block_has (attr_at reading) mid new r (rules_of marks) none_refused L m.leaves.items first (λ n l e. place_written new.state.ctx.now.paths old.state.src (whole old.stream) n l e);
-      }
+      each = gives.each (attr_at reading) mid new r (rules_of marks) none_refused L m.leaves.items first (λ n l e. place_written new.state.ctx.now.paths old.state.src (whole old.stream) n l e)
 
       has : RootHas new.state.ctx.now first r.entries (pointers mid.state.ctx.now.graph op) t
       has = root_given L mid.state.ctx.now m.leaves.items marks new.state.ctx.now first r.entries each t carries (pointers mid.state.ctx.now.graph op) (is_tree first)

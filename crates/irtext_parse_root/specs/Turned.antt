@@ -62,10 +62,18 @@ module _ {T A U : Type 0} where
     pub past : since ≤ s.ctx.now.graph.made
     pub sound : IsSound since names s
 
-  -- a step can be made: the stream has not failed, the names are sound, and this is the innermost of the open frames and these are the others
-  pub record AreReady (frame : Frame) (waits : List Frame) (names : Names) (s : StateStream T A U) : Type 0 where
+  -- objects that are older than any count since which the names are sound are unchanged
+  abbrev pub KeepsEarlier : Names → code.State T A U → ContextView T A → Type 0
+  KeepsEarlier names old new = (m : ℕ) → m ≤ old.ctx.now.graph.made → IsClosedBelow m old.ctx.now.graph → IsSound m names old → KeepsOlder m old.ctx.now new
+
+  -- a parser can begin: the stream has not failed, and the names are sound
+  pub record IsSteady (names : Names) (s : StateStream T A U) : Type 0 where
     pub fine : s.stream.failed ≡ false
     pub sound : IsSoundOnce names s.state
+
+  -- a step can be made: the stream has not failed, the names are sound, and this is the innermost of the open frames and these are the others
+  pub record AreReady (frame : Frame) (waits : List Frame) (names : Names) (s : StateStream T A U) : Type 0 where
+    pub steady : IsSteady names s
     pub here : AreHere T A (whole s.stream) s.state.ctx.now names (Some frame) waits
 
   -- What an action, a step or the loop leaves: on an error the recorded marks are kept, the known names keep their numbers, and objects

@@ -23,7 +23,7 @@ use Rattle.irtext_grammar.specs.Contexts.Formats.{format_of}
 use Rattle.irtext_grammar.specs.Contexts.Held.{whole}
 use Rattle.irtext_grammar.specs.Grammar.Tree.{Mark}
 use Rattle.irtext_grammar.specs.Graphs.Build.{put_all, read_names}
-use Rattle.irtext_grammar.specs.Heads.{mark_if_at}
+use Rattle.irtext_grammar.specs.Heads.{Step, mark_if_at}
 use Rattle.irtext_grammar.specs.Reached.{steps_in}
 use Rattle.irtext_grammar.specs.Resume.{OpenOperation}
 use Rattle.irtext_grammar.specs.Grows.{RegionCame, OperationGains, RegionGains, BlockCame, OwnBecame}
@@ -46,6 +46,18 @@ use Rattle.irtext_parse_root.specs.Turned.{Carries}
 -- the next step of an open operation is of this kind
 abbrev pub IsNext : List (Text × Table) → BegunOperation → Coming → Type 0
 IsNext dialects b c = IsStep c (slice_get (steps_in dialects (id_of b.id)) b.step)
+
+-- what was parsed so far of an operation that was begun is that of an open operation
+abbrev pub IsOpenOperation : {T A U : Type 0} → Names → StateStream T A U → BegunOperation → Type 0
+IsOpenOperation {T} {A} names s b = (o : OpenOperation T A) × IsBegun names.names (whole s.stream) s.state.ctx.now b o
+
+-- the same, and a step of its format is left
+abbrev pub HasNextStep : {T A U : Type 0} → Names → StateStream T A U → BegunOperation → Type 0
+HasNextStep {T} {A} names s b = (o : OpenOperation T A) × (step : Step) × (ss : List Step) × IsBegun names.names (whole s.stream) s.state.ctx.now b o × (o.steps ≡ step ∷ ss)
+
+-- the region that was begun is one of the text, at some place
+abbrev pub IsOpenRegion : {T A U : Type 0} → Names → StateStream T A U → BegunRegion → Type 0
+IsOpenRegion names s r = (place : ℕ) × IsRegion names.names (whole s.stream) s.state.ctx.now r r.isolated place
 
 -- ---- what the actions promise
 -- the same number of scopes is open

@@ -24,6 +24,7 @@ ghost use Rattle.irtext_parse_root.specs.Block.{MissesBlock, first_reserved, not
 
 use crate::beside::ended;
 use crate::outermost::failed_fault;
+use crate::parsable::Parsable;
 use irtext_base::base::{AttrObj, Identifier};
 use irtext_base::parsable::{CharStream, ParseFault, ParseResult, TextStream};
 use irtext_base::result::Cause;
@@ -176,33 +177,44 @@ fn header_parse<T: IrText<A>, A: AttrText<A>>(
     }
 }
 
-/// Parses the header of a block where no region is open, as `^b(x: builtin.integer si64):`, and always fails. The header begins at `^`:
-/// white space before it is not skipped. If `^` does not come next, the error is uncommitted and the stream is unchanged. If the header
-/// parses, the error is the first of these: a key of its dictionary is reserved; a name is defined outside of every scope, that of the
-/// first argument or, after the mark, the label; the index of its mark is already recorded. If an allocation fails, the error is
-/// `Memory`. On a stream that has failed the error is `StreamFailed`. The state is unchanged: no mark is recorded.
-pub fn block_parse<T: IrText<A>, A: AttrText<A>, U>(
-    s: &mut StateStream<'_, T, A, U>,
-) -> ParseResult<Ptr<BasicBlock>, A>
-    ensures state { s.new.state ≡ s.old.state }
-    ensures refused { IfErr result (λ fault. Refusal s.old.stream fault s.new.stream) }
-    ensures failed { RefusesFailed s.old.stream result s.new.stream }
-    ensures none { OnOk result ⊥ }
-    ensures missed { s.old.stream.failed ≡ false →
-        IfErr result (UnlessMemory (MissesBlock T.reading (attr_at A.reading)
-        (indices_of (marks_of s.old.state)) s.old.stream s.new.stream)) }
-    ensures unresolved { IsFresh s.old → IfErr result
-        (UnlessMemory (RefusesBlock T.reading (attr_at A.reading) s.old.stream)) }
-{
-    if s.stream.has_failed() {
-        return Err(failed_fault(&s.stream));
-    }
-    let mut names = NameTracker::new(s.stream.allocator());
-    match header_parse(&mut s.stream, &mut names) {
-        Ok(head) => ended(
-            Err(header_fault(&mut s.stream, &s.state, &names, &head)),
-            (names, head),
-        ),
-        Err(fault) => ended(Err(fault), names),
+impl<T: IrText<A>, A: AttrText<A>, U> Parsable<T, A, U> for BasicBlock {
+    type Arg = ();
+
+    type Parsed = Ptr<BasicBlock>;
+
+    /// Parses the header of a block outside of every region, and always fails: no scope is open in which its label could be defined. It
+    /// begins at `^`: white space before it is not skipped. The error is the first of these: the header does not parse; a key of its
+    /// dictionary is reserved; a name has no scope, that of the first argument or, after the mark, the label; its mark is already
+    /// recorded. If an allocation fails, the error is `Memory`. On a stream that has failed the error is `StreamFailed`. The state is
+    /// unchanged: no mark is recorded. The error is uncommitted if `^` does not come next; otherwise the stream is left failed. The error
+    /// of the first of these texts is that of the label `b`, at its `^` in column 1. The error of the second is that of `x`, in column 4.
+    ///
+    /// ```text
+    /// ^b(): test.nop
+    /// ^b(x: builtin.integer si64): test.nop
+    /// ```
+    fn parse(stream: &mut StateStream<'_, T, A, U>, _arg: ()) -> ParseResult<Ptr<BasicBlock>, A>
+        ensures state { stream.new.state ≡ stream.old.state }
+        ensures refused { IfErr result (λ fault. Refusal stream.old.stream fault stream.new.stream) }
+        ensures failed { RefusesFailed stream.old.stream result stream.new.stream }
+        ensures none { OnOk result ⊥ }
+        ensures missed { stream.old.stream.failed ≡ false →
+            IfErr result (UnlessMemory
+            (MissesBlock T.reading (attr_at A.reading) (indices_of (marks_of stream.old.state))
+            stream.old.stream stream.new.stream)) }
+        ensures unresolved { IsFresh stream.old →
+            IfErr result (UnlessMemory (RefusesBlock T.reading (attr_at A.reading) stream.old.stream)) }
+    {
+        if stream.stream.has_failed() {
+            return Err(failed_fault(&stream.stream));
+        }
+        let mut names = NameTracker::new(stream.stream.allocator());
+        match header_parse(&mut stream.stream, &mut names) {
+            Ok(head) => ended(
+                Err(header_fault(&mut stream.stream, &stream.state, &names, &head)),
+                (names, head),
+            ),
+            Err(fault) => ended(Err(fault), names),
+        }
     }
 }

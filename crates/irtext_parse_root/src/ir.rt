@@ -1,4 +1,3 @@
-//! Parsers for operations, regions and blocks.
+//! The parser for operations. Those for regions and for blocks alone are in `region` and `block`.
 
-mod parts;
 pub mod read;

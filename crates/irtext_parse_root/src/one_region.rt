@@ -1,10 +1,9 @@
 //! The parser for one region of a live operation, with everything nested in it. The region has no parent until all of it is parsed.
-ghost use Rattle.std.specs.Prelude.{◌≡◌, ◌≤◌, ◌||◌, ℕ, true, false, Some, IfOk, IfErr, OnErr, IsSome, OnOk};
+ghost use Rattle.std.specs.Prelude.{◌≡◌, ◌||◌, true, false, Some, IfOk, IfErr, OnErr, IsSome, OnOk};
 ghost use Rattle.irtext_base.specs.Faults as fault;
 ghost use Rattle.irtext_base.specs.Faults.{fault_of, id_of};
 ghost use Rattle.irtext_base.specs.Stream.{after_failure};
-ghost use Rattle.irtext_context.specs.Context.{OperationView, operation, KeepsOlder, with_graph};
-ghost use Rattle.irtext_graph.specs.Back.{IsClosedBelow};
+ghost use Rattle.irtext_context.specs.Context.{OperationView, operation, with_graph};
 ghost use Rattle.irtext_tokens.specs.AttrTexts.{attr_at};
 ghost use Rattle.irtext_scopes.specs.Names.{KeepsNames};
 ghost use Rattle.irtext_scopes.specs.Scopes.{is_open};
@@ -14,6 +13,7 @@ ghost use Rattle.irtext_grammar.specs.Promises.Root.{UnlessMemory};
 ghost use Rattle.irtext_parse_nested.specs.Ends.{GainsMarks};
 ghost use Rattle.irtext_names.specs.Items.{IsSound};
 ghost use Rattle.irtext_names.specs.Alone.{IsOutermost};
+ghost use Rattle.irtext_parse_root.specs.Turned.{KeepsEarlier};
 ghost use Rattle.irtext_parse_root.specs.Under.{IsolatedAs, ReadsUnder, RefusesUnder};
 ghost use Rattle.irtext_graph.specs.Graph.{Appends, CanInsert, IsLive};
 ghost use Rattle.irtext_graph.specs.declared.object.Object.TheVariants.{TheOperation, TheRegion};
@@ -177,9 +177,7 @@ pub fn region_parse<T: IrText<A>, A: AttrText<A>, U>(
     ensures rest { KeepsRest s.old.state s.new.state }
     ensures unnoted { OnErr result (GainsMarks (marks_of s.old.state) (marks_of s.new.state)) }
     ensures names { KeepsNames names.old.names names.new.names }
-    ensures kept { OnErr result ((m : ℕ) → m ≤ s.old.state.ctx.now.graph.made
-        → IsClosedBelow m s.old.state.ctx.now.graph → IsSound m names.old s.old.state
-        → KeepsOlder m s.old.state.ctx.now s.new.state.ctx.now) }
+    ensures kept { OnErr result (KeepsEarlier names.old s.old.state s.new.state.ctx.now) }
 {
     let ctx = &mut *s.state.ctx;
     ctx.made();

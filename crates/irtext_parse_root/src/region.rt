@@ -8,7 +8,8 @@ use crate::beside::ended;
 use crate::one_region as items;
 use crate::one_region::{isolated_by, not_isolated, position_of};
 use crate::outermost::failed_fault;
-use crate::tree::{context_keeps, failed_by};
+use crate::parsable::Parsable;
+use crate::tree::{context_keeps, refused};
 use crate::undo::{start_of, undone_on_error};
 use irtext_base::parsable::{CharStream, ParseResult, SourcePosition};
 use irtext_base::text::{AttrText, IrText};
@@ -65,37 +66,45 @@ fn alone_parse<T: IrText<A>, A: AttrText<A>, U>(
             context_keeps(&s.state);
             ended(Ok(region), names)
         }
-        Err(fault) => {
-            failed_by(&mut s.stream, &fault);
-            ended(Err(fault), names)
-        }
+        Err(fault) => refused(&mut s.stream, fault, names),
     }
 }
 
-/// Parses `{`, blocks and `}` at the current position of the stream, and appends the region to an operation that is live in the context.
-/// The region is appended only when all of it has been parsed: on an error, all objects and all recorded marks are unchanged.
-///
-/// The region has scopes of names of its own, so for an operation that is not isolated from above the error is
-/// `TopLevelOpRegionNotIsolatedFromAbove`, at the position of the operation's location, whatever the text is. For an isolated one it is
-/// the first error of the text, on every state: a fault of the text with no name failing before it, or the failure of a name or a mark,
-/// whatever text follows. An error is committed, unless `{` does not come next. On a stream that has failed the error is `StreamFailed`;
-/// if an allocation fails, the error is `Memory`. This text is a region of one block, which has one argument and one operation:
-///
-/// ```text
-/// { ^entry(x: i32): test.return x }
-/// ```
-pub fn region_parse<T: IrText<A>, A: AttrText<A>, U>(
-    s: &mut StateStream<'_, T, A, U>,
-    parent: Ptr<Operation>,
-) -> ParseResult<Ptr<Region>, A>
-    requires { IsSome (operation s.old.state.ctx.now parent) }
-    ensures lent { s.new.state.ctx.ghost_name ≡ s.old.state.ctx.ghost_name }
-    ensures parses { Parses (AnswersRegion T.IrText.own A.IrText.own parent) s.old result s.new }
-{
-    if s.stream.has_failed() {
-        return Err(failed_fault(&s.stream));
+impl<T: IrText<A>, A: AttrText<A>, U> Parsable<T, A, U> for Region {
+    /// The operation to which the region is appended. It has to be live in the context.
+    type Arg = Ptr<Operation>;
+
+    type Parsed = Ptr<Region>;
+
+    ghost can_parse = { λ op s. IsSome (operation s.state.ctx.now op) };
+
+    /// Parses `{`, blocks and `}` at the current position of the stream, with everything nested in them, and appends the region to an
+    /// operation. The marks of the region are recorded, and no section is parsed. The region is appended only when all of it has been
+    /// parsed, so on an error all objects and marks are unchanged.
+    ///
+    /// The region has scopes of names of its own, so for an operation that is not isolated from above the error is
+    /// `TopLevelOpRegionNotIsolatedFromAbove`, at the line and column of its location, whatever the text is. For an isolated one it is the
+    /// first error of the text, on every state: a fault of the text with no name failing before it, or the failure of a name or a mark,
+    /// whatever text follows. The error is uncommitted if the operation is isolated and `{` does not come next; otherwise the stream is
+    /// left failed. On a stream that has failed the error is `StreamFailed`; if an allocation fails, the error is `Memory`. This text is a
+    /// region of one block, which has one argument and one operation:
+    ///
+    /// ```text
+    /// { ^entry(x: builtin.integer si64): test.use x }
+    /// ```
+    fn parse(
+        stream: &mut StateStream<'_, T, A, U>,
+        op: Ptr<Operation>,
+    ) -> ParseResult<Ptr<Region>, A>
+        requires { IsSome (operation stream.old.state.ctx.now op) }
+        ensures lent { stream.new.state.ctx.ghost_name ≡ stream.old.state.ctx.ghost_name }
+        ensures parses { Parses (AnswersRegion T.IrText.own A.IrText.own op) stream.old result stream.new }
+    {
+        if stream.stream.has_failed() {
+            return Err(failed_fault(&stream.stream));
+        }
+        let start = start_of(&stream.state);
+        let answer = alone_parse(stream, op);
+        undone_on_error(stream, start, answer)
     }
-    let start = start_of(&s.state);
-    let answer = alone_parse(s, parent);
-    undone_on_error(s, start, answer)
 }

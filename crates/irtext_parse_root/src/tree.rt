@@ -1,5 +1,5 @@
 //! The parser for an operation with everything nested in it, with names of its own.
-ghost use Rattle.std.specs.Prelude.{◌≡◌, ℕ, List, ◌++◌, Some, cond, false, IfOk, IfErr, OnOk};
+ghost use Rattle.std.specs.Prelude.{◌≡◌, ℕ, List, ◌++◌, Some, Err, cond, false, IfOk, IfErr, OnOk};
 ghost use Rattle.irtext_base.specs.Format.{Id};
 ghost use Rattle.irtext_base.specs.Stream.{after_failure};
 ghost use Rattle.irtext_context.specs.Context.{KeepsOlder};
@@ -24,6 +24,7 @@ use irtext_base::text::{AttrText, IrText};
 use irtext_context::base::context::making::Making;
 use irtext_context::base::{Operation, Ptr};
 use irtext_graph::held::HasGraph;
+use irtext_names::kinds::Names;
 use irtext_parse_state::parsable::{State, StateStream};
 use irtext_scopes::tracker::NameTracker;
 
@@ -42,13 +43,19 @@ pub(crate) fn context_keeps<T: IrText<A>, A: AttrText<A>, U>(state: &State<'_, T
     state.ctx.keeps_formats();
 }
 
-/// Marks the stream as failed if the error is committed.
-pub(crate) fn failed_by<A>(stream: &mut TextStream, fault: &ParseFault<A>)
-    ensures { stream.new ≡ cond fault.now.committed (after_failure stream.old) stream.old }
+/// Returns the error of a parser that had names of its own, which end here. A committed error leaves the stream failed.
+pub(crate) fn refused<A, X>(
+    stream: &mut TextStream,
+    fault: ParseFault<A>,
+    names: Names,
+) -> ParseResult<X, A>
+    ensures same { result ≡ Err fault }
+    ensures fails { stream.new ≡ cond fault.committed (after_failure stream.old) stream.old }
 {
     if fault.committed {
         stream.fail();
     }
+    ended(Err(fault), names)
 }
 
 /// Parses an operation with everything nested in it. On an error, the objects that were created stay in the context. A mark with an index
@@ -76,9 +83,6 @@ pub fn tree_parse<T: IrText<A>, A: AttrText<A>, U>(
             context_keeps(&s.state);
             ended(Ok(op), names)
         }
-        Err(fault) => {
-            failed_by(&mut s.stream, &fault);
-            ended(Err(fault), names)
-        }
+        Err(fault) => refused(&mut s.stream, fault, names),
     }
 }

@@ -1,5 +1,5 @@
 //! The actions of the loop, each with its contract.
-ghost use Rattle.std.specs.Prelude.{◌≡◌, ◌∷◌, ℕ, List, false, true, length, is_some, IfOk, IfErr, IfSome, IsSome, OnOk};
+ghost use Rattle.std.specs.Prelude.{◌≡◌, ℕ, false, true, length, is_some, IfOk, IfErr, IfSome, IsSome, OnOk};
 ghost use Rattle.irtext_context.specs.Context.{operation};
 ghost use Rattle.irtext_graph.specs.Graph.{IsNew, IsLive};
 ghost use Rattle.irtext_graph.specs.Parts.{results};
@@ -8,15 +8,13 @@ ghost use Rattle.irtext_tokens.specs.AttrTexts.{attr_at};
 ghost use Rattle.irtext_scopes.specs.Scopes.{is_open};
 ghost use Rattle.irtext_grammar.specs.Contexts.Held.{whole};
 ghost use Rattle.irtext_grammar.specs.Promises.Root.{UnlessMemory};
-ghost use Rattle.irtext_grammar.specs.Heads.{Step};
-ghost use Rattle.irtext_grammar.specs.Resume.{OpenOperation};
 ghost use Rattle.irtext_grammar.specs.Unchanged.{IsThere};
 ghost use Rattle.irtext_names.specs.Rows.{AreKnown};
-ghost use Rattle.irtext_parse_nested.specs.OpenOperation.{IsBegun, IsRegion};
+ghost use Rattle.irtext_parse_nested.specs.OpenOperation.{IsRegion};
 ghost use Rattle.irtext_names.specs.Definitions.{numbers_of};
 ghost use Rattle.irtext_parse_nested.specs.Read.{RefusesOperation, RefusesNext, RefusesItsEnd, RefusesRegion, RefusesRegionEnd, RefusesBlock};
-ghost use Rattle.irtext_parse_root.specs.Turned.{IsSoundOnce, Spares};
-ghost use Rattle.irtext_parse_root.specs.Turns.{IsNext, Begins, Continues, Ends, Enters, Leaves, Heads};
+ghost use Rattle.irtext_parse_root.specs.Turned.{IsSteady, Spares};
+ghost use Rattle.irtext_parse_root.specs.Turns.{IsNext, IsOpenOperation, HasNextStep, IsOpenRegion, Begins, Continues, Ends, Enters, Leaves, Heads};
 ghost use Rattle.irtext_parse_pieces.specs.declared.coming.Coming.TheVariants as comes;
 
 use irtext_base::parsable::ParseResult;
@@ -39,8 +37,7 @@ pub(crate) fn begin<T: IrText<A>, A: AttrText<A>, U>(
     keys: &mut Keys,
     block: Option<Ptr<BasicBlock>>,
 ) -> ParseResult<BegunOperation, A>
-    requires fine { s.old.stream.failed ≡ false }
-    requires sound { IsSoundOnce names.old s.old.state }
+    requires steady { IsSteady names.old s.old }
     requires place { IfSome block (λ b. IsThere s.old.state.ctx.now (TheBlock b)) }
     ensures lent { s.new.state.ctx.ghost_name ≡ s.old.state.ctx.ghost_name }
     ensures begins { IfOk result (λ b. Begins T.IrText.reading (attr_at A.IrText.reading) names.old s.old
@@ -61,13 +58,10 @@ pub(crate) fn go_on<T: IrText<A>, A: AttrText<A>, U>(
     names: &mut Names,
     begun: &mut BegunOperation,
 ) -> ParseResult<(), A>
-    requires fine { s.old.stream.failed ≡ false }
-    requires sound { IsSoundOnce names.old s.old.state }
+    requires steady { IsSteady names.old s.old }
     requires alive { IsSome (operation s.old.state.ctx.now begun.old.op) }
     requires step { IsNext s.old.state.ctx.now.dialects begun.old comes.Piece }
-    requires begun { (o : OpenOperation T A) × (step : Step) × (ss : List Step) × IsBegun names.old.names
-        (whole s.old.stream)
-        s.old.state.ctx.now begun.old o × (o.steps ≡ step ∷ ss) }
+    requires begun { HasNextStep names.old s.old begun.old }
     ensures lent { s.new.state.ctx.ghost_name ≡ s.old.state.ctx.ghost_name }
     ensures goes_on { OnOk result (Continues T.IrText.reading (attr_at A.IrText.reading) names.old s.old
         begun.old begun.new
@@ -88,13 +82,11 @@ pub(crate) fn end<T: IrText<A>, A: AttrText<A>, U>(
     names: &mut Names,
     begun: &BegunOperation,
 ) -> ParseResult<(), A>
-    requires fine { s.old.stream.failed ≡ false }
-    requires sound { IsSoundOnce names.old s.old.state }
+    requires steady { IsSteady names.old s.old }
     requires alive { IsSome (operation s.old.state.ctx.now begun.now.op) }
     requires counts { length (results s.old.state.ctx.now.graph begun.now.op) ≡ begun.now.results }
     requires known { AreKnown (length names.old.names) (numbers_of begun.now.names) }
-    requires begun { (o : OpenOperation T A) × IsBegun names.old.names (whole s.old.stream)
-        s.old.state.ctx.now begun.now o }
+    requires begun { IsOpenOperation names.old s.old begun.now }
     ensures lent { s.new.state.ctx.ghost_name ≡ s.old.state.ctx.ghost_name }
     ensures ends { OnOk result (Ends T.IrText.reading (attr_at A.IrText.reading) names.old s.old begun.now
         names.new s.new) }
@@ -115,8 +107,7 @@ pub(crate) fn enter<T: IrText<A>, A: AttrText<A>, U>(
     op: Ptr<Operation>,
     isolated: bool,
 ) -> ParseResult<BegunRegion, A>
-    requires fine { s.old.stream.failed ≡ false }
-    requires sound { IsSoundOnce names.old s.old.state }
+    requires steady { IsSteady names.old s.old }
     requires alive { IsSome (operation s.old.state.ctx.now op) }
     ensures lent { s.new.state.ctx.ghost_name ≡ s.old.state.ctx.ghost_name }
     ensures enters { IfOk result (λ r. Enters T.IrText.reading (attr_at A.IrText.reading) names.old s.old op
@@ -136,10 +127,8 @@ pub(crate) fn leave<T: IrText<A>, A: AttrText<A>, U>(
     names: &mut Names,
     region: BegunRegion,
 ) -> ParseResult<(), A>
-    requires fine { s.old.stream.failed ≡ false }
-    requires sound { IsSoundOnce names.old s.old.state }
-    requires begun { (place : ℕ) × IsRegion names.old.names (whole s.old.stream) s.old.state.ctx.now region
-        region.isolated place }
+    requires steady { IsSteady names.old s.old }
+    requires begun { IsOpenRegion names.old s.old region }
     ensures lent { s.new.state.ctx.ghost_name ≡ s.old.state.ctx.ghost_name }
     ensures leaves { OnOk result (Leaves T.IrText.reading (attr_at A.IrText.reading) names.old s.old region
         names.new s.new) }
@@ -163,8 +152,7 @@ pub(crate) fn head<T: IrText<A>, A: AttrText<A>, U>(
     keys: &mut Keys,
     region: Ptr<Region>,
 ) -> ParseResult<BegunBlock, A>
-    requires fine { s.old.stream.failed ≡ false }
-    requires sound { IsSoundOnce names.old s.old.state }
+    requires steady { IsSteady names.old s.old }
     requires region { IsLive s.old.state.ctx.now.graph (TheRegion region) }
     requires open { (is_open names.old.values ≡ true) × (is_open names.old.labels ≡ true) }
     ensures lent { s.new.state.ctx.ghost_name ≡ s.old.state.ctx.ghost_name }

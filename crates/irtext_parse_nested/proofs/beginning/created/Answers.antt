@@ -11,7 +11,7 @@ returns-clause-creates g c =
     let e = c.nothing-none.ensures in
     if_ok_handed _ c.make_bare-made.result c.or_memory.result c.or_memory.ensures.value
     (if_ok_two c.make_bare-made.result
-    (λ made. bare_creates c.args.id.now c.args.pieces (none_left c.args.pieces (sym c.len.ensures ∙ c.if-len-ne0.false)) c.args.loc c.args.names.now c.args.s.now.state.ctx.now c.make_bare-made.new.ctx c.requires.tied
+    (λ made. bare_creates c.args.id.now c.args.pieces (none_left c.args.pieces (sym c.len.ensures ∙ c.if-len-ne0.false)) c.args.loc c.args.names.now c.args.s.now.state.ctx.now c.make_bare-made.new.ctx c.requires.can.tied
     c.nothing-none.result (record { operands = e.operands; successors = e.successors; types = e.types; attributes = e.attributes }) made.0 made.1)
     (rw c.attributes_of-attributes.ensures at c.make_bare-made.ensures.makes) c.make_bare-made.ensures.counts)
 

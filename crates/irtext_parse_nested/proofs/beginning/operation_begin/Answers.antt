@@ -9,6 +9,7 @@ use Rattle.irtext_names.specs.Tied.{ArePending}
 use Rattle.irtext_parse_nested.specs.Beginning.{NotGatheredAs}
 use Rattle.irtext_parse_nested.specs.Read.{RefusesOperation}
 use Rattle.irtext_parse_nested.proofs.BeginRead.{if_ok_both, on_ok_by}
+use Rattle.irtext_parse_nested.proofs.BlockOpened.{read_tied}
 use Rattle.irtext_parse_nested.proofs.Depths.{depths_read, depths_on}
 use Rattle.irtext_names.proofs.Outcomes.{if_err}
 use Rattle.irtext_parse_nested.proofs.OperationBegun.{comes_where, located_here, front_can, front_own, front_begun, front_came, front_begins, front_misses, front_fails, ungathered_commits}
@@ -29,7 +30,16 @@ returns-in-Ok-clause-unread g c =
     if_err c.begin_read.result (λ fault u e. absurd (true≢false (sym (ungathered_commits g.T.IrText.reading (attr_at g.A.IrText.reading) (is_some c.args.block) c.args.s.now c.in-Ok.front.pieces c.front_read.new.names (whole c.front_read.new.stream) fault u) ∙ e))) c.begin_read.ensures.refused
 
 pub begin_read-requires-clause-can : goal.begin_read-requires-clause-can
-begin_read-requires-clause-can g c = front_can g.T.IrText.reading (attr_at g.A.IrText.reading) c.is_some.result c.args.s.now c.in-Ok.ensures.alive c.front_read.new.names refl
+begin_read-requires-clause-can g c =
+    let front = c.in-Ok.ensures in
+    record {
+      can = front_can g.T.IrText.reading (attr_at g.A.IrText.reading) c.is_some.result c.args.s.now front.alive c.front_read.new.names refl;
+      text = whole c.args.s.now.stream;
+      parts = front.alive.parts;
+      are = front.alive.are;
+      tied = read_tied c.args.names.now c.front_read.new.names c.front_read.ensures.names c.args.s.now.state.ctx.now c.requires.tied;
+      key_is = front.key;
+    }
 
 pub begin_read-requires-clause-block : goal.begin_read-requires-clause-block
 begin_read-requires-clause-block g c = c.requires.block

@@ -49,7 +49,7 @@ returns-in-Ok-clause-kept g c = λ m le.
 -- ---- a name or a key is an error
 pub gather_fault-requires : goal.gather_fault-requires
 gather_fault-requires g c =
-    refusal_known c.args.pieces c.args.names.now c.args.s.now.state.ctx.now.graph c.requires.are.0 c.requires.are.1 c.requires.are.2 c.gather.new.names.names c.gather.ensures.steady.names c.in-Err.refusal
+    refusal_known c.args.pieces c.args.names.now c.args.s.now.state.ctx.now.graph c.requires.can.text c.requires.can.parts c.requires.can.are c.gather.new.names.names c.gather.ensures.steady.names c.in-Err.refusal
     (subst (λ k. RefusesGathering c.args.pieces c.args.names.now k c.in-Err.refusal) c.graph_mut.ensures.value c.in-Err.ensures.refused)
 
 pub returns-in-Err-clause-refused : goal.returns-in-Err-clause-refused

@@ -21,8 +21,7 @@ step-requires g c =
     let at = c.requires.ready.here in
     record {
       ready = record {
-        fine = fine_after c.requires.ready.fine inv.carries.moves;
-        sound = sound_after c.requires.ready.sound inv.carries;
+        steady = record { fine = fine_after c.requires.ready.steady.fine inv.carries.moves; sound = sound_after c.requires.ready.steady.sound inv.carries };
         here = are_here g.T.IrText.reading (attr_at g.A.IrText.reading) c.args.names.now c.args.s.now c.loop-next.names c.loop-next.s inv.carries at.base at.v at.l at.ls (Some c.in-Some.frame) c.loop-next.frames
             (come_to g.T.IrText.reading (attr_at g.A.IrText.reading) c.args.names.now c.args.s.now c.loop-next.names c.loop-next.s c.loop-next.next c.loop-next.frames c.args.first (Some c.in-Some.frame) c.in-Some.is inv.arrives at.base at.v at.l at.ls at.here);
       };

@@ -6,6 +6,9 @@ use Rattle.irtext_parse_root.proofs.Nesting.{root_is_here, nested_reads, nested_
 use Rattle.irtext_parse_root.proofs.Sparing.{fine_after, sound_after, spares_as, spares_then}
 use Rattle.irtext_parse_root.proofs.nested.nested_parse.Goals as goal
 
+pub begin-requires-clause-steady : goal.begin-requires-clause-steady
+begin-requires-clause-steady g c = record { fine = c.requires.fine; sound = c.requires.sound }
+
 -- ---- the operation was not begun
 pub returns-in_err-begun-clause-refused : goal.returns-in_err-begun-clause-refused
 returns-in_err-begun-clause-refused g c = rw (propagated c.from_residual.result c.from_residual.ensures.1) (none_begins g.T.IrText.reading g.A.IrText.reading g.met.T.IrText.sincere.reads g.met.A.IrText.sincere.reads c.args.names.now c.args.s.now _ c.in_err-begun.ensures.refused)
@@ -25,7 +28,7 @@ returns-in_err-begun-clause-spares g c =
 pub items_parse-requires : goal.items_parse-requires
 items_parse-requires g c =
     let b = c.in_ok-begun.ensures.begins in
-    record { ready = record { fine = fine_after c.requires.fine b.carries.moves; sound = sound_after c.requires.sound b.carries; here = root_is_here g.T.IrText.reading g.A.IrText.reading g.met.T.IrText.sincere.reads g.met.A.IrText.sincere.reads c.args.names.now c.args.s.now c.in_ok-begun.begun c.begin.new.names c.begin.new.s b } }
+    record { ready = record { steady = record { fine = fine_after c.requires.fine b.carries.moves; sound = sound_after c.requires.sound b.carries }; here = root_is_here g.T.IrText.reading g.A.IrText.reading g.met.T.IrText.sincere.reads g.met.A.IrText.sincere.reads c.args.names.now c.args.s.now c.in_ok-begun.begun c.begin.new.names c.begin.new.s b } }
 
 pub returns-in_err-items_parse-clause-refused : goal.returns-in_err-items_parse-clause-refused
 returns-in_err-items_parse-clause-refused g c =

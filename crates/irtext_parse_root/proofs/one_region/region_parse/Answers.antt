@@ -54,8 +54,10 @@ items_parse-requires g c =
     let more = e.creates.0.made in
     record {
       ready = record {
-        fine = fine_after c.requires.fine e.begins.moves;
-        sound = record { since = made; past = omega (arith, more); sound = e.sound made (le_refl made) c.requires.sound };
+        steady = record {
+          fine = fine_after c.requires.fine e.begins.moves;
+          sound = record { since = made; past = omega (arith, more); sound = e.sound made (le_refl made) c.requires.sound };
+        };
         here = region_is_here g.T.IrText.reading g.A.IrText.reading g.met.T.IrText.sincere.reads g.met.A.IrText.sincere.reads c.args.names.now c.args.s.now c.in_ok-begun.begun c.isolated_here-closed.result c.region_begin.new.names c.region_begin.new.s
             e.begins e.creates.0 e.creates.1 e.values e.labels e.open w.marks w.rest;
       };

@@ -6,7 +6,7 @@ use Rattle.irtext_grammar.specs.Readers.Refusals.{Refusal}
 use Rattle.irtext_parse_nested.proofs.Marking.{gains_nothing}
 use Rattle.irtext_parse_root.specs.AnyRegion as any
 use Rattle.irtext_parse_root.proofs.Laws.{Laws, laws_of}
-use Rattle.irtext_parse_root.proofs.Fresh.{fresh_sound}
+use Rattle.irtext_parse_root.proofs.Fresh.{fresh_sound, keeps_all}
 use Rattle.irtext_parse_root.proofs.Refused.{refusal_by}
 use Rattle.irtext_parse_root.proofs.RegionReads.{builds_region}
 use Rattle.irtext_parse_root.proofs.RegionRefused.{reported, unreported, refused_unisolated, closed_as, closed_id, says_region, region_read, misses_region, refuses_region}
@@ -40,15 +40,14 @@ region_parse-requires-clause-sound g c = fresh_sound c.new-names.result c.args.s
 
 pub returns-in-Err-clause-undone : goal.returns-in-Err-clause-undone
 returns-in-Err-clause-undone g c =
-    let m = c.args.s.now.state.ctx.now.graph.made in
     let e = c.new-names.ensures in
     let f = c.in-Err.ensures in
     let says = says_region g.T.IrText.reading g.A.IrText.reading g.met.T.IrText.sincere g.met.A.IrText.sincere c.new-names.result c.args.s.now e.names e.values e.labels c.args.parent c.in-Err.fault f.refused in
-    rw c.ended-in-Err.ensures (record {
+    rw c.refused.ensures.same (record {
       rest = f.rest;
-      refused = subst (Refusal c.args.s.now.stream c.in-Err.fault) (sym c.failed_by.ensures) (refusal_by c.args.s.now.stream c.region_parse.new.s.stream c.in-Err.fault says f.unread);
+      refused = subst (Refusal c.args.s.now.stream c.in-Err.fault) (sym c.refused.ensures.fails) (refusal_by c.args.s.now.stream c.region_parse.new.s.stream c.in-Err.fault says f.unread);
       noted = f.unnoted;
-      kept = f.kept m (le_refl m) c.context_keeps.ensures.closed (fresh_sound c.new-names.result c.args.s.now.state e.names e.values e.labels c.context_keeps.ensures.older);
+      kept = keeps_all c.new-names.result c.args.s.now.state e.names e.values e.labels c.context_keeps.ensures.older c.context_keeps.ensures.closed f.kept;
     })
 
 pub returns-in-Err-clause-answers : goal.returns-in-Err-clause-answers
@@ -56,7 +55,7 @@ returns-in-Err-clause-answers g c =
     let e = c.new-names.ensures in
     let l = laws g in
     let missed = misses_region g.T.IrText.reading (attr_at g.A.IrText.reading) c.new-names.result c.args.s.now e.names e.values e.labels c.args.parent c.requires.alive (unreported _ c.in_default.ensures) c.in-Err.fault c.in-Err.ensures.refused in
-    rw c.ended-in-Err.ensures (record {
+    rw c.refused.ensures.same (record {
       read = tt;
       missed = λ fine. missed;
       builds = λ fresh. tt;

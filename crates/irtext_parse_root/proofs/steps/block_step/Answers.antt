@@ -10,8 +10,8 @@ pub returns-then-not-skip_to_operation-clause-steps : goal.returns-then-not-skip
 returns-then-not-skip_to_operation-clause-steps g c = step_passed
     (gone_proceeds g.T.IrText.reading g.A.IrText.reading g.met.T.IrText.sincere.reads g.met.A.IrText.sincere.reads c.args.names.now c.args.s.now c.args.block c.args.frames.now c.pop.new.self c.skip_to_operation.new.stream c.skip_to_operation.ensures.passes c.pop.result (sym c.skip_to_operation.ensures.follows_on ∙ c.if-not-skip_to_operation.true) c.pop.ensures c.requires.ready.here)
 
-pub begin-requires-clause-fine : goal.begin-requires-clause-fine
-begin-requires-clause-fine g c = fine_after c.requires.ready.fine c.skip_to_operation.ensures.passes.moves
+pub begin-requires-clause-steady : goal.begin-requires-clause-steady
+begin-requires-clause-steady g c = record { fine = fine_after c.requires.ready.steady.fine c.skip_to_operation.ensures.passes.moves; sound = c.requires.ready.steady.sound }
 
 pub returns-in_err-begun-clause-steps : goal.returns-in_err-begun-clause-steps
 returns-in_err-begun-clause-steps g c = rw (propagated c.from_residual.result c.from_residual.ensures.1)

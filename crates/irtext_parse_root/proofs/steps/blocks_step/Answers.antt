@@ -9,8 +9,8 @@ use Rattle.irtext_parse_root.proofs.Stopping.{block_stops, left_stops, region_th
 use Rattle.irtext_parse_root.proofs.steps.blocks_step.Goals as goal
 
 -- ---- the region ends
-pub leave-requires-clause-fine : goal.leave-requires-clause-fine
-leave-requires-clause-fine g c = fine_after c.requires.ready.fine c.space_parse.ensures.moves
+pub leave-requires-clause-steady : goal.leave-requires-clause-steady
+leave-requires-clause-steady g c = record { fine = fine_after c.requires.ready.steady.fine c.space_parse.ensures.moves; sound = c.requires.ready.steady.sound }
 
 pub leave-requires-clause-begun : goal.leave-requires-clause-begun
 leave-requires-clause-begun g c =
@@ -30,8 +30,8 @@ returns-then-not-next_is-clause-steps g c =
     c.in_ok-leave.ensures.spares
 
 -- ---- a block begins
-pub head-requires-clause-fine : goal.head-requires-clause-fine
-head-requires-clause-fine g c = fine_after c.requires.ready.fine c.space_parse.ensures.moves
+pub head-requires-clause-steady : goal.head-requires-clause-steady
+head-requires-clause-steady g c = record { fine = fine_after c.requires.ready.steady.fine c.space_parse.ensures.moves; sound = c.requires.ready.steady.sound }
 
 pub returns-in_err-block-clause-steps : goal.returns-in_err-block-clause-steps
 returns-in_err-block-clause-steps g c =

@@ -5,8 +5,8 @@ use Rattle.irtext_parse_root.proofs.Sparing.{fine_after, step_made, step_failed,
 use Rattle.irtext_parse_root.proofs.Stopping.{region_stops}
 use Rattle.irtext_parse_root.proofs.steps.region_step.Goals as goal
 
-pub enter-requires-clause-fine : goal.enter-requires-clause-fine
-enter-requires-clause-fine g c = fine_after c.requires.ready.fine c.space_parse.ensures.moves
+pub enter-requires-clause-steady : goal.enter-requires-clause-steady
+enter-requires-clause-steady g c = record { fine = fine_after c.requires.ready.steady.fine c.space_parse.ensures.moves; sound = c.requires.ready.steady.sound }
 
 pub returns-in-Err-clause-steps : goal.returns-in-Err-clause-steps
 returns-in-Err-clause-steps g c = rw c.ended.ensures

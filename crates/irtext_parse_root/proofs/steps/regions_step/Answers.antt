@@ -12,8 +12,8 @@ returns-then-not-next_is-clause-steps g c =
     let next = c.at_step.ensures ∙ ap (λ z. record c.args.begun { coming = None; step = z }) c.requires.following in
     step_passed (over_proceeds g.T.IrText.reading g.A.IrText.reading g.met.T.IrText.sincere.reads g.met.A.IrText.sincere.reads c.args.names.now c.args.s.now c.space_parse.new.stream c.space_parse.ensures c.args.begun c.at_step.result c.args.frames.now c.requires.next none next c.requires.ready.here)
 
-pub enter-requires-clause-fine : goal.enter-requires-clause-fine
-enter-requires-clause-fine g c = fine_after c.requires.ready.fine c.space_parse.ensures.moves
+pub enter-requires-clause-steady : goal.enter-requires-clause-steady
+enter-requires-clause-steady g c = record { fine = fine_after c.requires.ready.steady.fine c.space_parse.ensures.moves; sound = c.requires.ready.steady.sound }
 
 pub returns-in-Err-clause-steps : goal.returns-in-Err-clause-steps
 returns-in-Err-clause-steps g c =

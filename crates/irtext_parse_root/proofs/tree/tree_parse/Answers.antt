@@ -1,9 +1,9 @@
-use Rattle.std.proofs.Common.{sym, subst, le_refl}
+use Rattle.std.proofs.Common.{sym, subst}
 use Rattle.irtext_grammar.specs.Readers.Refusals.{Refusal}
 use Rattle.irtext_tokens.specs.AttrTexts.{attr_at}
 use Rattle.irtext_parse_root.proofs.Laws.{laws_of}
 use Rattle.irtext_parse_root.proofs.Closed.{reads_tree}
-use Rattle.irtext_parse_root.proofs.Fresh.{fresh_sound, fresh_once}
+use Rattle.irtext_parse_root.proofs.Fresh.{fresh_once, keeps_all}
 use Rattle.irtext_parse_root.proofs.NestedWhole.{has_fault}
 use Rattle.irtext_parse_root.proofs.Refused.{says_text, refusal_by}
 use Rattle.irtext_parse_root.proofs.tree.tree_parse.Goals as goal
@@ -12,10 +12,7 @@ pub nested_parse-requires-clause-sound : goal.nested_parse-requires-clause-sound
 nested_parse-requires-clause-sound g c = fresh_once c.new-names.result c.args.s.now.state c.new-names.ensures.names c.new-names.ensures.values c.new-names.ensures.labels c.context_keeps.ensures.older
 
 pub returns-in-Ok-clause-kept : goal.returns-in-Ok-clause-kept
-returns-in-Ok-clause-kept g c =
-    let m = c.args.s.now.state.ctx.now.graph.made in
-    let e = c.new-names.ensures in
-    c.in-Ok.ensures.spares.kept m (le_refl m) c.context_keeps.ensures.closed (fresh_sound c.new-names.result c.args.s.now.state e.names e.values e.labels c.context_keeps.ensures.older) tt
+returns-in-Ok-clause-kept g c = keeps_all c.new-names.result c.args.s.now.state c.new-names.ensures.names c.new-names.ensures.values c.new-names.ensures.labels c.context_keeps.ensures.older c.context_keeps.ensures.closed (λ m le closed sound. c.in-Ok.ensures.spares.kept m le closed sound tt)
 
 pub returns-in-Ok-clause-read : goal.returns-in-Ok-clause-read
 returns-in-Ok-clause-read g c =
@@ -41,28 +38,25 @@ returns-in-Ok-clause-noted g c = c.in-Ok.ensures.carries.gains
 pub returns-in-Err-clause-missed : goal.returns-in-Err-clause-missed
 returns-in-Err-clause-missed g c =
     let e = c.new-names.ensures in
-    rw c.ended-in-Err.ensures (has_fault g.T.IrText.reading (attr_at g.A.IrText.reading) c.new-names.result c.args.s.now e.names e.values e.labels c.in-Err.fault c.in-Err.ensures.refused)
+    rw c.refused.ensures.same (has_fault g.T.IrText.reading (attr_at g.A.IrText.reading) c.new-names.result c.args.s.now e.names e.values e.labels c.in-Err.fault c.in-Err.ensures.refused)
 
 pub returns-in-Err-clause-read : goal.returns-in-Err-clause-read
-returns-in-Err-clause-read g c = rw c.ended-in-Err.ensures tt
+returns-in-Err-clause-read g c = rw c.refused.ensures.same tt
 
 pub returns-in-Err-clause-moves : goal.returns-in-Err-clause-moves
-returns-in-Err-clause-moves g c = rw c.ended-in-Err.ensures tt
+returns-in-Err-clause-moves g c = rw c.refused.ensures.same tt
 
 pub returns-in-Err-clause-kept : goal.returns-in-Err-clause-kept
-returns-in-Err-clause-kept g c =
-    let m = c.args.s.now.state.ctx.now.graph.made in
-    let e = c.new-names.ensures in
-    c.in-Err.ensures.spares.kept m (le_refl m) c.context_keeps.ensures.closed (fresh_sound c.new-names.result c.args.s.now.state e.names e.values e.labels c.context_keeps.ensures.older) tt
+returns-in-Err-clause-kept g c = keeps_all c.new-names.result c.args.s.now.state c.new-names.ensures.names c.new-names.ensures.values c.new-names.ensures.labels c.context_keeps.ensures.older c.context_keeps.ensures.closed (λ m le closed sound. c.in-Err.ensures.spares.kept m le closed sound tt)
 
 pub returns-in-Err-clause-undone : goal.returns-in-Err-clause-undone
 returns-in-Err-clause-undone g c =
     let e = c.new-names.ensures in
     let f = c.in-Err.ensures in
     let says = says_text g.T.IrText.reading g.A.IrText.reading g.met.T.IrText.sincere g.met.A.IrText.sincere c.new-names.result c.args.s.now e.names e.values e.labels c.in-Err.fault f.refused in
-    rw c.ended-in-Err.ensures (record {
+    rw c.refused.ensures.same (record {
       rest = f.rest;
-      refused = subst (Refusal c.args.s.now.stream c.in-Err.fault) (sym c.failed_by.ensures) (refusal_by c.args.s.now.stream c.nested_parse.new.s.stream c.in-Err.fault says f.unread);
+      refused = subst (Refusal c.args.s.now.stream c.in-Err.fault) (sym c.refused.ensures.fails) (refusal_by c.args.s.now.stream c.nested_parse.new.s.stream c.in-Err.fault says f.unread);
       noted = f.spares.remains.gains;
       kept = returns-in-Err-clause-kept g c;
     })

@@ -3,7 +3,7 @@ use Rattle.irtext_parse_root.proofs.Handing.{begins_given, spares_same}
 use Rattle.irtext_parse_root.proofs.turns.begin.Goals as goal
 
 pub operation_begin-requires-clause-tied : goal.operation_begin-requires-clause-tied
-operation_begin-requires-clause-tied g c = c.requires.sound.sound.tied
+operation_begin-requires-clause-tied g c = c.requires.steady.sound.sound.tied
 
 pub returns-clause-begins : goal.returns-clause-begins
 returns-clause-begins g c =

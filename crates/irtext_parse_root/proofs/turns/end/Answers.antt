@@ -3,7 +3,7 @@ use Rattle.irtext_parse_root.proofs.Handing.{ends_given, spares_more}
 use Rattle.irtext_parse_root.proofs.turns.end.Goals as goal
 
 pub operation_end-requires-clause-tied : goal.operation_end-requires-clause-tied
-operation_end-requires-clause-tied g c = c.requires.sound.sound.tied
+operation_end-requires-clause-tied g c = c.requires.steady.sound.sound.tied
 
 pub operation_end-requires-clause-known : goal.operation_end-requires-clause-known
 operation_end-requires-clause-known g c = c.requires.known

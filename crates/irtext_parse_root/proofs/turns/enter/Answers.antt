@@ -3,7 +3,7 @@ use Rattle.irtext_parse_root.proofs.Handing.{enters_given, spares_same}
 use Rattle.irtext_parse_root.proofs.turns.enter.Goals as goal
 
 pub region_begin-requires-clause-tied : goal.region_begin-requires-clause-tied
-region_begin-requires-clause-tied g c = c.requires.sound.sound.tied
+region_begin-requires-clause-tied g c = c.requires.steady.sound.sound.tied
 
 pub returns-clause-enters : goal.returns-clause-enters
 returns-clause-enters g c =

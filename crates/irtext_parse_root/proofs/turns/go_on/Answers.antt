@@ -14,7 +14,7 @@ flat_here None h = absurd h
 flat_here (Some step) h = h
 
 pub operation_piece-requires-clause-tied : goal.operation_piece-requires-clause-tied
-operation_piece-requires-clause-tied g c = c.requires.sound.sound.tied
+operation_piece-requires-clause-tied g c = c.requires.steady.sound.sound.tied
 
 pub operation_piece-requires-clause-step : goal.operation_piece-requires-clause-step
 operation_piece-requires-clause-step g c = flat_here (slice_get (steps_in c.args.s.now.state.ctx.now.dialects (id_of c.args.begun.now.id)) c.args.begun.now.step) c.requires.step

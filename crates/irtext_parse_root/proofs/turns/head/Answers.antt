@@ -9,7 +9,7 @@ pub block_begin-requires-clause-labels : goal.block_begin-requires-clause-labels
 block_begin-requires-clause-labels g c = c.requires.open.1
 
 pub block_begin-requires-clause-tied : goal.block_begin-requires-clause-tied
-block_begin-requires-clause-tied g c = c.requires.sound.sound.tied
+block_begin-requires-clause-tied g c = c.requires.steady.sound.sound.tied
 
 pub returns-clause-first : goal.returns-clause-first
 returns-clause-first g c =

@@ -8,7 +8,7 @@ use Rattle.irtext_parse_root.proofs.Looping.{keeps_itself}
 use Rattle.irtext_parse_root.proofs.turns.leave.Goals as goal
 
 pub region_end-requires-clause-tied : goal.region_end-requires-clause-tied
-region_end-requires-clause-tied g c = c.requires.sound.sound.tied
+region_end-requires-clause-tied g c = c.requires.steady.sound.sound.tied
 
 pub returns-clause-leaves : goal.returns-clause-leaves
 returns-clause-leaves g c =

@@ -3,7 +3,7 @@ use Rattle.irtext_tokens.specs.AttrTexts.{attr_at}
 use Rattle.irtext_parse_state.specs.States.{marks_of}
 use Rattle.irtext_grammar.specs.Promises.Section.{indices_of}
 use Rattle.irtext_parse_root.proofs.BlockHeads.{no_words, head_read, read_missed, read_refusal, unread_missed, unread_refusal, misses_fresh}
-use Rattle.irtext_parse_root.proofs.block.block_parse.Goals as goal
+use Rattle.irtext_parse_root.proofs.block.BasicBlockParsable.parse.Goals as goal
 
 -- ---- the header is parsed
 pub header_fault-requires-clause-words : goal.header_fault-requires-clause-words
@@ -11,16 +11,16 @@ header_fault-requires-clause-words g c = c.header_parse.ensures.names.words (no_
 
 pub header_fault-requires-clause-read : goal.header_fault-requires-clause-read
 header_fault-requires-clause-read g c =
-    let old = c.args.s.now.stream in
+    let old = c.args.stream.now.stream in
     let h = head_read g.T.IrText.reading (attr_at g.A.IrText.reading) c.header_parse.new.names.names old (sym c.has_failed.ensures ∙ c.if-has_failed.false) c.in-Ok.head c.header_parse.new.stream c.in-Ok.ensures.read in
     record { head = h.head; is = h.is }
 
 pub returns-in-Ok : goal.returns-in-Ok
 returns-in-Ok g c =
-    let old = c.args.s.now.stream in
+    let old = c.args.stream.now.stream in
     let new = c.header_fault.new.stream in
     let names = c.header_parse.new.names.names in
-    let marks = indices_of (marks_of c.args.s.now.state) in
+    let marks = indices_of (marks_of c.args.stream.now.state) in
     let attr = attr_at g.A.IrText.reading in
     let fine = sym c.has_failed.ensures ∙ c.if-has_failed.false in
     let h = head_read g.T.IrText.reading attr names old fine c.in-Ok.head c.header_parse.new.stream c.in-Ok.ensures.read in
@@ -47,12 +47,12 @@ returns-in-Err-clause-failed g c = λ e. absurd (true≢false (sym e ∙ sym c.h
 
 pub returns-in-Err-clause-missed : goal.returns-in-Err-clause-missed
 returns-in-Err-clause-missed g c = λ fine.
-    rw c.ended-in-Err.ensures (unread_missed g.T.IrText.reading (attr_at g.A.IrText.reading) c.args.s.now.stream c.header_parse.new.stream c.in-Err.fault (indices_of (marks_of c.args.s.now.state)) fine c.in-Err.ensures.read)
+    rw c.ended-in-Err.ensures (unread_missed g.T.IrText.reading (attr_at g.A.IrText.reading) c.args.stream.now.stream c.header_parse.new.stream c.in-Err.fault (indices_of (marks_of c.args.stream.now.state)) fine c.in-Err.ensures.read)
 
 pub returns-in-Err-clause-unresolved : goal.returns-in-Err-clause-unresolved
 returns-in-Err-clause-unresolved g c = λ fresh.
     let attr = attr_at g.A.IrText.reading in
-    let old = c.args.s.now.stream in
-    let marks = indices_of (marks_of c.args.s.now.state) in
+    let old = c.args.stream.now.stream in
+    let marks = indices_of (marks_of c.args.stream.now.state) in
     rw c.ended-in-Err.ensures (misses_fresh g.T.IrText.reading attr old c.header_parse.new.stream c.in-Err.fault marks (ap indices_of fresh.marks)
     (unread_missed g.T.IrText.reading attr old c.header_parse.new.stream c.in-Err.fault marks fresh.fine c.in-Err.ensures.read))
