@@ -1,8 +1,8 @@
 //! Numbers of every type, in decimal and hexadecimal digits and as their text, and booleans.
 ghost use Rattle.std.specs.Prelude.{◌≤◌};
 
-use crate::must::{line_told, same};
-use crate::read::numbers::Kind::{
+use crate::tests::must::{line_told, same};
+use crate::tests::read::numbers::Kind::{
     HexI64, HexU8, HexU16, HexU32, HexU64, HexUsize, I8, I16, I32, I64, Isize, Text, Truth, U8,
     U16, U32, U64, Usize,
 };

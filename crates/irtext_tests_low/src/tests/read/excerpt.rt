@@ -1,5 +1,5 @@
 //! Excerpts of texts: the line of a position, with a caret below it.
-use crate::must::same;
+use crate::tests::must::same;
 use irtext_base::parsable::SourcePosition;
 use irtext_tokens::excerpt::Excerpt;
 use std::alloc::Global;

@@ -1,7 +1,8 @@
 //! What every step of these tests needs: a call that fails ends the test.
 use irtext_base::parsable::ParseResult;
 use irtext_base::result::Result as Answer;
-use irtext_tests_common::answers::{done_or_cause, line, value_or_cause};
+use irtext_tests_common::answers;
+use irtext_tests_common::answers::{done_or_cause, value_or_cause};
 use std::alloc::Global;
 use std::fmt;
 use std::process::Abort;
@@ -34,9 +35,7 @@ pub(crate) fn line_told<X: fmt::Display + Drop, A: Drop>(
     alloc: Global,
     answer: ParseResult<X, A>,
 ) -> String {
-    let said = must(rt, line(alloc, &answer));
-    drop(answer);
-    said
+    must(rt, answers::told(alloc, answer))
 }
 
 /// This word for a call that succeeded, or the cause of its error. The result ends here, and not in each test that has one.

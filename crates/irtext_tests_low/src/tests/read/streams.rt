@@ -1,5 +1,5 @@
 //! The stream over a text, places, faults and tokens.
-use crate::must::{must, same};
+use crate::tests::must::{must, same};
 use irtext_base::parsable::{
     CharStream, ParseFault, ParseResult, Place, SourcePosition, TextStream,
 };

@@ -1,5 +1,5 @@
 //! Quoted texts and their parser.
-use crate::must::{must, same};
+use crate::tests::must::{must, same};
 use irtext_base::parsable::TextStream;
 use irtext_tests_common::answers::with_next;
 use irtext_tokens::irfmt::parsers::quoted_string_parse;

@@ -1,47 +1,14 @@
-//! Identifiers, and a dictionary with them, one call of each kind.
-use crate::must::{must, same, value_told};
+//! A dictionary with identifiers, one call of each kind.
+use crate::tests::must::must;
 use irtext_base::base::{AttrObj, GIVEN_NAMES_KEY, Identifier, Refusal};
-use irtext_base::result::Result as Answer;
 use irtext_context::base::AttributeDict;
 use irtext_tests_common::answers::named;
 use std::alloc::Global;
 use std::process::Abort;
 
-/// Texts, and the identifier of each, or the error.
-const WORDS: &[(&str, &str)] = &[
-    ("a_1", "a_1"),
-    ("", "Unexpected end of input, expected identifier"),
-    ("1a", "Unexpected `1`, expected identifier"),
-    ("a-b", "Unexpected `-`, expected identifier"),
-];
-
-/// The identifier of a text, or the error.
-fn word(rt: &impl Abort, alloc: Global, text: &str) -> String {
-    let answer: Answer<Identifier, ()> = Identifier::try_new(alloc, text);
-    value_told(rt, alloc, answer)
-}
-
 /// The identifier of a text that is one.
 fn identifier(rt: &impl Abort, alloc: Global, text: &str) -> Identifier {
     must(rt, named(alloc, text))
-}
-
-/// Whether the copy of an identifier equals it.
-fn copied(rt: &impl Abort, alloc: Global) -> bool {
-    let name = identifier(rt, alloc, "a_1");
-    let copy = name.clone().expect(rt, "out of memory");
-    let same = copy == name;
-    drop(copy);
-    drop(name);
-    same
-}
-
-#[test]
-fn identifiers_are_words(rt: HostRuntime) {
-    for row in WORDS {
-        same(&rt, word(&rt, rt.alloc(), row.0), row.1);
-    }
-    assert!(rt; copied(&rt, rt.alloc()));
 }
 
 /// Inserts an attribute into a dictionary.

@@ -1,5 +1,5 @@
 //! The checks that need a context, and the one place where it is made for them.
-use crate::must::must;
+use crate::tests::must::must;
 use crate::tests::{blocks, contexts, edges, lent, locations, made, unique};
 use irtext_tests_common::contexts::{Ctx, with_counters};
 use std::alloc::Global;

@@ -1,7 +1,7 @@
 //! A dictionary of up to twenty keys and given names: they are inserted, replaced and removed, and are in the order in which
 //! they were inserted. A copy without the outlined attributes keeps that order.
-use crate::dict::pairs::put;
-use crate::must::{must, same};
+use crate::tests::dict::pairs::put;
+use crate::tests::must::{must, same};
 use irtext_base::base::{AttrObj, GIVEN_NAMES_KEY, Identifier};
 use irtext_context::base::AttributeDict;
 use irtext_demo::DemoAttr;
