@@ -1,8 +1,8 @@
 //! The sections of items (operations and blocks), and which of these have a mark.
-use crate::checks::{Check, in_demo};
-use crate::must::same;
-use crate::sections::building::Step::{Block, Erase, Ident, Name, Nop, Note};
-use crate::sections::building::{Step, built};
+use crate::tests::checks::{Check, in_demo};
+use crate::tests::must::same;
+use crate::tests::sections::building::Step::{Block, Erase, Ident, Name, Nop, Note};
+use crate::tests::sections::building::{Step, built};
 use irtext_context::base::Item;
 use irtext_print::given::is_marked;
 use irtext_print::section::print_section;

@@ -1,5 +1,5 @@
 //! The steps on a context, one after the other: operations and blocks are given by their number, in the order in which they were made.
-use crate::must::must;
+use crate::tests::must::must;
 use irtext_base::base::GIVEN_NAMES_KEY;
 use irtext_context::base::Item;
 use irtext_few::Few;

@@ -1,7 +1,7 @@
 //! Which operations fit their formats, and the first reason why the others do not.
-use crate::checks::{Check, in_demo};
-use crate::must::must;
-use crate::nested::steps::give_letter;
+use crate::tests::checks::{Check, in_demo};
+use crate::tests::must::must;
+use crate::tests::nested::steps::give_letter;
 use irtext_base::location::Location;
 use irtext_context::base::context::making::Making;
 use irtext_context::base::{AttributeDict, BasicBlock, Item, Operation, Ptr, Value};

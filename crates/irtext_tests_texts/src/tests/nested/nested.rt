@@ -1,7 +1,7 @@
 //! Operations that are printed with everything nested in them, with the items (operations and blocks with a mark); or why they are not.
-use crate::checks::{Check, in_demo};
-use crate::must::same;
-use crate::nested::steps::{FUNCTION, Made, Part, Step, Used, built, operation_of};
+use crate::tests::checks::{Check, in_demo};
+use crate::tests::must::same;
+use crate::tests::nested::steps::{FUNCTION, Made, Part, Step, Used, built, operation_of};
 use irtext_context::base::Item;
 use irtext_print::printable::{RegionPrintDepthLimit, State};
 use irtext_print_ops::nested::print_nested;
@@ -32,13 +32,12 @@ const ANY: &[Step] = &[
     Step::Register("any", "-"),
     Step::Root("any", 1),
     Step::Block(0, 0, "entry", "pb"),
-    Step::Using(0, "any", "p", &[Used::Argument(0, 0)], &[]),
+    Step::Using(0, "any", "p", &[Used::Argument(0, 0)]),
     Step::Using(
         0,
         "any",
         "",
-        &[Used::Result(1, 0), Used::Argument(0, 1)],
-        &[0],
+        &[Used::Result(1, 0), Used::Argument(0, 1), Used::Block(0)],
     ),
 ];
 

@@ -1,21 +1,18 @@
-//! The text of demo operations with everything nested in them, as users print it: roots, concrete texts, blocks, regions, and with regions
-//! elided.
-use crate::checks::{Check, in_demo};
-use crate::must::{must, same};
+//! The text of demo operations that calls have made, with everything nested in them, as users print it: roots, concrete texts, blocks and
+//! regions.
+use crate::tests::checks::{Check, in_demo};
+use crate::tests::must::{must, same};
 use irtext_base::base::{AttrObj, GIVEN_NAMES_KEY};
 use irtext_base::parsable::{ParseFault, TextStream};
 use irtext_base::text::IrText;
 use irtext_context::base::{BasicBlock, Item, Operation, OperationAccess, Ptr, Value};
 use irtext_demo::{DemoAttr, DemoType};
 use irtext_few::Few;
-use irtext_print::printable::{RegionPrintDepthLimit, State};
 use irtext_print_ir::ir::print::concrete::OpObj;
-use irtext_print_ir::ir::print::debug::OpDbg;
-use irtext_print_ir::irfmt::printers::op::{region, symb_op_header, typed_symb_op_header};
+use irtext_print_ir::irfmt::printers::op::region;
 use irtext_print_ir::printable::{Disp, Printable};
 use irtext_tests_common::building::{
-    block_inside, erase, give, id, into_block, module, name, one_name, operation, place, register,
-    types,
+    block_inside, give, id, into_block, module, name, one_name, operation, register, types,
 };
 use irtext_tests_common::contexts::Ctx;
 use std::alloc::Global;
@@ -50,12 +47,7 @@ fn give_text(
 }
 
 /// The demo operations that use or define values and blocks, and the letters of their formats.
-const FORMATS: &[(&str, &str)] = &[
-    ("constant", "c:v"),
-    ("return", "O"),
-    ("br", "s"),
-    ("global", "-"),
-];
+const FORMATS: &[(&str, &str)] = &[("constant", "c:v"), ("return", "O"), ("global", "-")];
 
 /// Registers these operations.
 fn register_all(rt: &impl Abort, alloc: Global, ctx: &mut Ctx) {
@@ -102,16 +94,13 @@ fn concrete(rt: &impl Abort, alloc: Global, ctx: &Ctx, op: Ptr<Operation>) -> St
 }
 
 /// The printed texts of a module with one empty block, in this order: its concrete text, the module, its region by a pointer and by the
-/// printer of an operation's one region, its block, its header, its header with a type, and its debug text.
+/// printer of an operation's one region, and its block.
 const MODULE: &[&str] = &[
     "builtin.module @bar \n{\n  ^block1v1():\n    \n}",
     "builtin.module @bar \n{\n  ^block1v1():\n    \n}",
     "\n{\n  ^block1v1():\n    \n}",
     "\n{\n  ^block1v1():\n    \n}",
     "^block1v1():\n  ",
-    "builtin.module @bar",
-    "builtin.module @bar: test.ptr ",
-    "builtin.module @bar {..}",
 ];
 
 /// The text of an operation's first region.
@@ -126,12 +115,6 @@ fn region_text(rt: &impl Abort, alloc: Global, ctx: &Ctx, op: Ptr<Operation>) ->
 fn block_text(rt: &impl Abort, alloc: Global, ctx: &Ctx, block: Ptr<BasicBlock>) -> String {
     assert!(rt; ctx.contains_block(block));
     shown(rt, alloc, ctx, &block)
-}
-
-/// The debug text of an operation.
-fn debug_text(rt: &impl Abort, alloc: Global, ctx: &Ctx, op: Ptr<Operation>) -> String {
-    assert!(rt; ctx.contains_operation(op));
-    format!(in alloc; "{}", OpDbg { op, ctx }).expect(rt, "out of memory")
 }
 
 /// The printed text of a part of the module, by its number.
@@ -149,15 +132,7 @@ fn module_text(
         1 => whole(rt, alloc, ctx, op),
         2 => region_text(rt, alloc, ctx, op),
         3 => shown(rt, alloc, ctx, &region(op)),
-        4 => block_text(rt, alloc, ctx, entry),
-        5 => shown(rt, alloc, ctx, &symb_op_header(op)),
-        6 => shown(
-            rt,
-            alloc,
-            ctx,
-            &typed_symb_op_header(op, &DemoType::Pointer),
-        ),
-        _ => debug_text(rt, alloc, ctx, op),
+        _ => block_text(rt, alloc, ctx, entry),
     }
 }
 
@@ -172,11 +147,6 @@ pub(crate) fn check_module(rt: &impl Abort, alloc: Global, ctx: &mut Ctx) {
             *wanted,
         );
     }
-}
-
-#[test]
-fn a_module_with_an_empty_block_is_printed(rt: HostRuntime) {
-    in_demo(&rt, rt.alloc(), Check::Module);
 }
 
 /// A module with a function that returns a constant: its concrete text, and its section.
@@ -234,11 +204,6 @@ pub(crate) fn check_function(rt: &impl Abort, alloc: Global, ctx: &mut Ctx) {
     assert!(rt; whole(rt, alloc, ctx, op).strip_prefix(text) == Some(section));
 }
 
-#[test]
-fn a_module_with_a_function_is_printed(rt: HostRuntime) {
-    in_demo(&rt, rt.alloc(), Check::Function);
-}
-
 /// An operation in the canonical form, whose result is the second value.
 const GLOBAL: &str =
     "v1 = test.global () [] [builtin_sym_name: builtin.identifier global_0, test_global_op_const_val: builtin.integer <0: si64>]: <() -> (test.ptr )>";
@@ -254,113 +219,8 @@ pub(crate) fn check_global(rt: &impl Abort, alloc: Global, ctx: &mut Ctx) {
 }
 
 #[test]
-fn an_operation_without_a_format_of_its_own_is_printed(rt: HostRuntime) {
-    in_demo(&rt, rt.alloc(), Check::Global);
-}
-
-/// Makes a branch with a place, last in a block.
-fn branch(
-    rt: &impl Abort,
-    alloc: Global,
-    ctx: &mut Ctx,
-    from: Ptr<BasicBlock>,
-    to: Ptr<BasicBlock>,
-    column: i32,
-) -> Ptr<Operation> {
-    let id = must(rt, id(alloc, ("test", "br")));
-    let op = must(rt, operation(ctx, id, Few::none(), &[], &[to], 0));
-    must(rt, place(ctx, Item::Operation(op), column));
-    must(rt, into_block(ctx, op, from));
-    op
-}
-
-/// Makes a module of two blocks that branch to one another, with the first branch.
-fn branches(rt: &impl Abort, alloc: Global, ctx: &mut Ctx) -> (Ptr<Operation>, Ptr<Operation>) {
-    register_all(rt, alloc, ctx);
-    let root = must(rt, module(alloc, ctx, "m"));
-    must(rt, place(ctx, Item::Operation(root), 1));
-    let a = must(rt, block_inside(alloc, ctx, root, "a", Few::none()));
-    must(rt, place(ctx, Item::Block(a), 21));
-    let b = must(rt, block_inside(alloc, ctx, root, "b", Few::none()));
-    must(rt, place(ctx, Item::Block(b), 38));
-    let first = branch(rt, alloc, ctx, a, b, 27);
-    branch(rt, alloc, ctx, b, a, 44);
-    (root, first)
-}
-
-/// The printed texts of the module, in this order: the module; with its region elided; and, with one state, its first branch, a line below
-/// which is the module after that branch is erased.
-const BRANCHES: &[&str] = &[
-    "builtin.module @m \n{\n  ^a_block1v1() !0:\n    test.br ^b_block2v1 !1\n\n  ^b_block2v1() !2:\n    test.br ^a_block1v1 !3\n} !4\n\noutlined_attributes:\n!0 = @[<in-memory>: line: 1, column: 21], [builtin_block_label = builtin.identifier a]\n!1 = @[<in-memory>: line: 1, column: 27], []\n!2 = @[<in-memory>: line: 1, column: 38], [builtin_block_label = builtin.identifier b]\n!3 = @[<in-memory>: line: 1, column: 44], []\n!4 = @[<in-memory>: line: 1, column: 1], []\n",
-    "builtin.module @m {..} !0\n\noutlined_attributes:\n!0 = @[<in-memory>: line: 1, column: 1], []\n",
-    "test.br ^b_block2v1 !0\nbuiltin.module @m \n{\n  ^a_block1v1() !1:\n    \n\n  ^b_block2v1() !2:\n    test.br ^a_block1v1 !3\n} !4\n\noutlined_attributes:\n!1 = @[<in-memory>: line: 1, column: 21], [builtin_block_label = builtin.identifier a]\n!2 = @[<in-memory>: line: 1, column: 38], [builtin_block_label = builtin.identifier b]\n!3 = @[<in-memory>: line: 1, column: 44], []\n!4 = @[<in-memory>: line: 1, column: 1], []\n",
-];
-
-/// The whole text of an operation, its regions elided.
-fn elided(rt: &impl Abort, alloc: Global, ctx: &Ctx, op: Ptr<Operation>) -> String {
-    assert!(rt; ctx.contains_operation(op));
-    let mut none: State<()> = State::new(alloc, ());
-    none.set_region_print_depth_limit(RegionPrintDepthLimit::Max(0));
-    format!(in alloc; "{}", op.print(ctx, &none)).expect(rt, "out of memory")
-}
-
-/// Appends the text of an operation with this state.
-fn append(
-    rt: &impl Abort,
-    ctx: &Ctx,
-    op: Ptr<Operation>,
-    state: &mut State<()>,
-    text: &mut String,
-) {
-    assert!(rt; ctx.contains_operation(op));
-    op.fmt(ctx, state, text).expect(rt, "refused");
-}
-
-/// With one state, the texts of an operation and, once it is erased, of the module around it.
-fn with_one_state(
-    rt: &impl Abort,
-    alloc: Global,
-    ctx: &mut Ctx,
-    op: Ptr<Operation>,
-    root: Ptr<Operation>,
-) -> String {
-    let mut state: State<()> = State::new(alloc, ());
-    let mut text = String::new(alloc);
-    append(rt, ctx, op, &mut state, &mut text);
-    text.push('\n').expect(rt, "out of memory");
-    must(rt, erase(ctx, Item::Operation(op)));
-    append(rt, ctx, root, &mut state, &mut text);
-    text
-}
-
-/// The printed text of the module, by its number.
-fn branches_text(
-    rt: &impl Abort,
-    alloc: Global,
-    ctx: &mut Ctx,
-    made: (Ptr<Operation>, Ptr<Operation>),
-    number: usize,
-) -> String {
-    match number {
-        0 => whole(rt, alloc, ctx, made.0),
-        1 => elided(rt, alloc, ctx, made.0),
-        _ => with_one_state(rt, alloc, ctx, made.1, made.0),
+fn modules_and_an_operation_without_a_format_of_its_own_are_printed(rt: HostRuntime) {
+    for check in &[Check::Module, Check::Function, Check::Global] {
+        in_demo(&rt, rt.alloc(), *check);
     }
-}
-
-/// Checks each text of the module.
-pub(crate) fn check_branches(rt: &impl Abort, alloc: Global, ctx: &mut Ctx) {
-    let made = branches(rt, alloc, ctx);
-    for (number, wanted) in BRANCHES.iter().enumerate() {
-        same(
-            rt,
-            branches_text(rt, alloc, ctx, made, number).as_str(),
-            *wanted,
-        );
-    }
-}
-
-#[test]
-fn blocks_that_branch_to_one_another_are_printed(rt: HostRuntime) {
-    in_demo(&rt, rt.alloc(), Check::Branches);
 }

@@ -1,8 +1,8 @@
 //! The checks that need a context, and the one place where it is made for them.
-use crate::must::must;
-use crate::nested::{misfits, nested, pieces, printed};
-use crate::sections::rows;
-use crate::tests::{fits, listed, location_texts, roots, separators};
+use crate::tests::must::must;
+use crate::tests::nested::{misfits, nested, pieces, printed};
+use crate::tests::sections::rows;
+use crate::tests::{fits, location_texts, roots, separators};
 use irtext_tests_common::contexts::{Ctx, with_demo};
 use std::alloc::Global;
 use std::process::Abort;
@@ -16,10 +16,8 @@ pub(crate) enum Check {
     Module,
     Function,
     Global,
-    Branches,
     Section(usize),
     Fits(usize),
-    Listed,
     Locations,
     DeepLocation(usize),
     Roots,
@@ -41,10 +39,8 @@ fn make(rt: &impl Abort, alloc: Global, ctx: &mut Ctx, check: Check) {
         Check::Module => printed::check_module(rt, alloc, ctx),
         Check::Function => printed::check_function(rt, alloc, ctx),
         Check::Global => printed::check_global(rt, alloc, ctx),
-        Check::Branches => printed::check_branches(rt, alloc, ctx),
         Check::Section(row) => rows::check(rt, alloc, ctx, row),
         Check::Fits(row) => fits::check(rt, alloc, ctx, row),
-        Check::Listed => listed::check(rt, alloc, ctx),
         Check::Locations => location_texts::check(rt, alloc, ctx),
         Check::DeepLocation(row) => location_texts::check_deep(rt, alloc, ctx, row),
         Check::Roots => roots::check(rt, alloc, ctx),

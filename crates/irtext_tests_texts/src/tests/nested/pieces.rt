@@ -1,7 +1,7 @@
 //! The pieces of the texts of operations and blocks, each by its own call; and which of these are marked, and fit their formats.
-use crate::checks::{Check, in_demo};
-use crate::must::same;
-use crate::nested::steps::{FUNCTION, Made, block_of, built, operation_of};
+use crate::tests::checks::{Check, in_demo};
+use crate::tests::must::same;
+use crate::tests::nested::steps::{FUNCTION, Made, block_of, built, operation_of};
 use irtext_context::base::{BasicBlock, Operation, OperationAccess, Ptr, Value};
 use irtext_graph::held::HasGraph;
 use irtext_print_ops::block_heads::fmt_block_head;

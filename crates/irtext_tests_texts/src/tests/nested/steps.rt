@@ -1,5 +1,5 @@
 //! The steps on a context, one after the other: operations and blocks are given by their number, in the order in which they were made.
-use crate::must::must;
+use crate::tests::must::must;
 use irtext_base::base::{GIVEN_NAMES_KEY, SYM_NAME_KEY};
 use irtext_context::base::{BasicBlock, Item, Operation, Ptr, Value};
 use irtext_few::Few;
@@ -11,11 +11,12 @@ use irtext_tests_common::contexts::Ctx;
 use std::alloc::Global;
 use std::process::Abort;
 
-/// A value: a result of an operation, or an argument of a block, by its index.
+/// What an operation uses: a result of an operation or an argument of a block, by its index, or a block.
 #[derive(Clone, Copy)]
 pub(crate) enum Used {
     Result(usize, usize),
     Argument(usize, usize),
+    Block(usize),
 }
 
 /// An operation or a block.
@@ -35,7 +36,7 @@ pub(crate) enum Step {
     /// Makes such an operation last in a block.
     Inner(usize, &'static str, usize),
     /// Makes an operation last in a block, with results of these types, that uses these values and blocks.
-    Using(usize, &'static str, &'static str, &'static [Used], &'static [usize]),
+    Using(usize, &'static str, &'static str, &'static [Used]),
     /// Makes a block last in the region of an operation, with this label or none, and arguments of these types.
     Block(usize, usize, &'static str, &'static str),
     /// Makes a placeholder last in a block.
@@ -71,39 +72,36 @@ fn item_of(rt: &impl Abort, made: &Made, part: Part) -> Item {
     }
 }
 
-/// The value of an operation or a block.
-fn value_of(rt: &impl Abort, made: &Made, used: Used) -> Value {
-    match used {
+/// The operands and the successors of an operation that is to be made.
+#[derive(Drop)]
+struct Uses {
+    values: Vec<Value>,
+    blocks: Vec<Ptr<BasicBlock>>,
+}
+
+/// Adds a value or a block to what is used.
+fn add_use(rt: &impl Abort, made: &Made, used: Used, uses: &mut Uses) {
+    let value = match used {
         Used::Result(number, index) => Value::Result(operation_of(rt, made, number), index),
         Used::Argument(number, index) => Value::Argument(block_of(rt, made, number), index),
-    }
+        Used::Block(number) => {
+            let block = block_of(rt, made, number);
+            return uses.blocks.push(block).expect(rt, "out of memory");
+        }
+    };
+    uses.values.push(value).expect(rt, "out of memory");
 }
 
-/// The values of operations and blocks.
-fn values_of(rt: &impl Abort, alloc: Global, made: &Made, used: &[Used]) -> Vec<Value> {
-    let mut values = Vec::new(alloc);
+/// The values and blocks that these denote.
+fn uses_of(rt: &impl Abort, alloc: Global, made: &Made, used: &[Used]) -> Uses {
+    let mut uses = Uses {
+        values: Vec::new(alloc),
+        blocks: Vec::new(alloc),
+    };
     for used in used {
-        values
-            .push(value_of(rt, made, *used))
-            .expect(rt, "out of memory");
+        add_use(rt, made, *used, &mut uses);
     }
-    values
-}
-
-/// The blocks of numbers.
-fn blocks_of(
-    rt: &impl Abort,
-    alloc: Global,
-    made: &Made,
-    numbers: &[usize],
-) -> Vec<Ptr<BasicBlock>> {
-    let mut blocks = Vec::new(alloc);
-    for number in numbers {
-        blocks
-            .push(block_of(rt, made, *number))
-            .expect(rt, "out of memory");
-    }
-    blocks
+    uses
 }
 
 /// Makes an operation that uses nothing.
@@ -129,13 +127,11 @@ fn make_using(
     made: &mut Made,
     name: (&str, &str),
     used: &[Used],
-    successors: &[usize],
 ) -> Ptr<Operation> {
-    let values = values_of(rt, alloc, made, used);
-    let blocks = blocks_of(rt, alloc, made, successors);
+    let uses = uses_of(rt, alloc, made, used);
     let id = must(rt, id(alloc, ("lab", name.0)));
     let types = must(rt, types(alloc, name.1));
-    let op = must(rt, operation(ctx, id, types, &values, &blocks, 0));
+    let op = must(rt, operation(ctx, id, types, &uses.values, &uses.blocks, 0));
     made.operations.push(op).expect(rt, "out of memory");
     op
 }
@@ -200,8 +196,8 @@ fn make(rt: &impl Abort, alloc: Global, ctx: &mut Ctx, made: &mut Made, step: St
             let op = make_root(rt, alloc, ctx, made, name, regions);
             must(rt, into_block(ctx, op, block_of(rt, made, block)));
         }
-        Step::Using(block, name, results, used, successors) => {
-            let op = make_using(rt, alloc, ctx, made, (name, results), used, successors);
+        Step::Using(block, name, results, used) => {
+            let op = make_using(rt, alloc, ctx, made, (name, results), used);
             must(rt, into_block(ctx, op, block_of(rt, made, block)));
         }
         Step::Block(op, region, label, letters) => {
@@ -253,16 +249,10 @@ pub(crate) const FUNCTION: &[Step] = &[
     Step::Place(Part::Operation(0)),
     Step::Block(0, 0, "", ""),
     Step::Block(0, 0, "exit", "p"),
-    Step::Using(0, "const", "p", &[], &[]),
+    Step::Using(0, "const", "p", &[]),
     Step::Give(Part::Operation(1), 'k'),
     Step::Give(Part::Operation(1), 'g'),
-    Step::Using(
-        0,
-        "add",
-        "p",
-        &[Used::Result(1, 0), Used::Result(1, 0)],
-        &[],
-    ),
-    Step::Using(0, "br", "", &[], &[1]),
+    Step::Using(0, "add", "p", &[Used::Result(1, 0), Used::Result(1, 0)]),
+    Step::Using(0, "br", "", &[Used::Block(1)]),
     Step::Place(Part::Operation(3)),
 ];
