@@ -1,8 +1,8 @@
 //! The checks that need a context, and the one place where it is made for them.
-use crate::dialects_page;
-use crate::layer::{checked, dialects, graphs, macros, reexports};
-use crate::parse::{errors, location_readings, outside, refused};
-use crate::value::{is_done, value_of};
+use crate::tests::dialects_page;
+use crate::tests::layer::{checked, dialects, graphs, macros, reexports};
+use crate::tests::parse::{errors, location_readings, outside, refused};
+use crate::tests::value::{is_done, value_of};
 use irtext_demo::dialects::register_demo;
 use irtext_tests_common::contexts::{Ctx, with_counters};
 use std::alloc::Global;

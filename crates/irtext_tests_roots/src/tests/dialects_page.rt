@@ -17,9 +17,9 @@ fn register_make(ctx: &mut Context<DemoType, DemoAttr>) -> Answer<(), DemoAttr> 
     ctx.register_op("mine", "make", format, false)
 }
 
-use crate::checks::{Check, alone};
-use crate::reading::{root, whole};
-use crate::value::{is_done, same, value_of};
+use crate::tests::checks::{Check, alone};
+use crate::tests::reading::{root, whole};
+use crate::tests::value::{is_done, same, value_of};
 use std::process::Abort;
 
 /// The printed text of a module with one such operation.

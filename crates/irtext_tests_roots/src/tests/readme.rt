@@ -33,7 +33,7 @@ fn parsed_and_printed(alloc: Global, text: &str) -> Result<String, Fail> {
     printed(alloc, &ctx, root)
 }
 
-use crate::value::{same, value_of};
+use crate::tests::value::{same, value_of};
 
 /// The printed text of an empty module.
 const PRINTED: &str =

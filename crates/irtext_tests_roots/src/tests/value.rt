@@ -5,7 +5,8 @@ ghost use Rattle.std.specs.Prelude.{◌≡◌, Ok};
 use irtext_base::base::{Identifier, OpId};
 use irtext_base::parsable::ParseResult;
 use irtext_base::result::Result as Answer;
-use irtext_tests_common::answers::{done_or_cause, line, named, printed};
+use irtext_tests_common::answers;
+use irtext_tests_common::answers::{done_or_cause, named, printed};
 use irtext_tests_common::building::id;
 use std::alloc::Global;
 use std::fmt;
@@ -75,9 +76,7 @@ pub(crate) fn read<X: fmt::Display + Drop, A: Drop>(
     alloc: Global,
     answer: ParseResult<X, A>,
 ) -> String {
-    let text = value_of(rt, line(alloc, &answer), "out of memory");
-    drop(answer);
-    text
+    value_of(rt, answers::told(alloc, answer), "out of memory")
 }
 
 /// Whether a call has succeeded. Its result ends here.

@@ -5,9 +5,9 @@ ghost use Rattle.irtext_base.specs.Format as format;
 ghost use Rattle.irtext_base.specs.FormatViews.{directive_of, format_of};
 ghost use Rattle.irtext_tests_roots.specs.Apart.{lab_dialects, lab_format, lab_id};
 
-use crate::reading::concrete;
-use crate::registering::register_operation;
-use crate::value::{name_of, same, value_of};
+use crate::tests::reading::concrete;
+use crate::tests::registering::register_operation;
+use crate::tests::value::{name_of, same, value_of};
 use irtext_context::base::context::making::Making;
 use irtext_demo::DemoAttr;
 use irtext_tests_common::answers::result_text;

@@ -1,6 +1,6 @@
 //! Calls that test what other calls require, the types of values, and the list of all operations in a root, by the names of this layer.
-use crate::checks::{Check, alone};
-use crate::value::{held, id_of, same, to_text, value_of};
+use crate::tests::checks::{Check, alone};
+use crate::tests::value::{held, id_of, same, to_text, value_of};
 use irtext_demo::{DemoAttr, DemoType};
 use irtext_graph::graph::Graph;
 use irtext_graph::held::HasGraph;
@@ -143,40 +143,31 @@ fn inserted(rt: &impl Abort, alloc: Global, ctx: &mut Ctx) -> String {
     text.expect(rt, "out of memory")
 }
 
-/// What each call says.
-const SAID: &[&str] = &[
-    "2 false false true",
-    "ok; Compilation error: invalid argument.\nthe object cannot be inserted there",
-    "true false true",
+/// What is said of an operation that uses a value which is not in the context, and of one that is not registered.
+const REFUSED: (&str, &str) = (
     "Compilation error: invalid argument.\nan operand or a successor is not in the context",
     "Compilation error: invalid argument.\nUnregistered Op test.none",
-];
+);
 
-/// What the call of a number says.
-fn said(rt: &impl Abort, alloc: Global, ctx: &mut Ctx, number: usize) -> String {
-    if number == 0 {
-        return contained(rt, alloc, ctx);
-    }
-    if number == 1 {
-        return inserted(rt, alloc, ctx);
-    }
-    if number == 2 {
-        return typed(rt, alloc, ctx);
-    }
+/// Checks that operations are refused.
+fn check_refused(rt: &impl Abort, alloc: Global, ctx: &mut Ctx) {
     let op = nop(rt, alloc, ctx);
-    let answer = if number == 3 {
-        tried(rt, alloc, ctx, "use", &[Value::Result(op, 0)])
-    } else {
-        tried(rt, alloc, ctx, "none", &[])
-    };
-    answered(rt, alloc, answer)
+    let unknown = tried(rt, alloc, ctx, "use", &[Value::Result(op, 0)]);
+    same(rt, answered(rt, alloc, unknown), REFUSED.0);
+    let unregistered = tried(rt, alloc, ctx, "none", &[]);
+    same(rt, answered(rt, alloc, unregistered), REFUSED.1);
 }
+
+/// What is said of two insertions of one operation.
+const INSERTED: &str =
+    "ok; Compilation error: invalid argument.\nthe object cannot be inserted there";
 
 /// Checks what each call says.
 pub(crate) fn check(rt: &impl Abort, alloc: Global, ctx: &mut Ctx) {
-    for (number, wanted) in SAID.iter().enumerate() {
-        same(rt, said(rt, alloc, ctx, number), *wanted);
-    }
+    same(rt, contained(rt, alloc, ctx), "2 false false true");
+    same(rt, inserted(rt, alloc, ctx), INSERTED);
+    same(rt, typed(rt, alloc, ctx), "true false true");
+    check_refused(rt, alloc, ctx);
 }
 
 #[test]

@@ -1,6 +1,6 @@
 //! The dialects of a context: how they are registered and looked up, and how their names are parsed and printed.
-use crate::checks::{Check, alone};
-use crate::value::{held, id_of, name_of, same, to_text, told, value_of};
+use crate::tests::checks::{Check, alone};
+use crate::tests::value::{held, id_of, name_of, same, to_text, told, value_of};
 use irtext_demo::{DemoAttr, DemoType};
 use irtext_graph::graph::Graph;
 use irtext_graph::held::HasGraph;

@@ -1,7 +1,7 @@
 //! Graphs with blocks and values that a caller makes, and their printed texts.
-use crate::checks::{Check, alone};
-use crate::reading::{concrete, whole};
-use crate::value::{id_of, same, value_of};
+use crate::tests::checks::{Check, alone};
+use crate::tests::reading::{concrete, whole};
+use crate::tests::value::{id_of, same, value_of};
 use irtext_context::base::Item;
 use irtext_tests_common::building::{
     block_inside, give, into_block, module, note, one_name, operation, place, register, types,

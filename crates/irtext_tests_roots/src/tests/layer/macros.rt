@@ -1,7 +1,7 @@
 //! The errors that the macros make from a cause or a text.
-use crate::checks::{Check, alone};
-use crate::parse::errors::{Answer, at, shown};
-use crate::value::{same, to_text};
+use crate::tests::checks::{Check, alone};
+use crate::tests::parse::errors::{Answer, at, shown};
+use crate::tests::value::{same, to_text};
 use irtext_demo::DemoAttr;
 use irtext_tests_common::contexts::Ctx;
 use pliron_text::result::{Cause, Error, ErrorKind};

@@ -1,7 +1,7 @@
 //! What `pliron_text` re-exports from the crates below, by its own paths, unless another row names it.
-use crate::checks::{Check, alone};
-use crate::reading::root;
-use crate::value::{held, id_of, is_done, name_of, same, to_text};
+use crate::tests::checks::{Check, alone};
+use crate::tests::reading::root;
+use crate::tests::value::{held, id_of, is_done, name_of, same, to_text};
 use irtext_demo::DemoAttr;
 use irtext_graph::graph::Graph;
 use irtext_graph::held::HasGraph;

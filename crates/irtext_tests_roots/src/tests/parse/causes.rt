@@ -1,6 +1,6 @@
 //! The texts of causes and of the small error types.
-use crate::parse::errors::{at, error};
-use crate::value::{held, id_of, name_of, same, to_text};
+use crate::tests::parse::errors::{at, error};
+use crate::tests::value::{held, id_of, name_of, same, to_text};
 use irtext_base::base::{Identifier, OpId};
 use irtext_base::format::FormatFault;
 use irtext_base::location::Location;

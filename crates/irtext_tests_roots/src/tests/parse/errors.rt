@@ -1,6 +1,6 @@
 //! Errors in errors, and errors as faults of a parser.
-use crate::checks::{Check, alone};
-use crate::value::{read, same};
+use crate::tests::checks::{Check, alone};
+use crate::tests::value::{read, same};
 use irtext_base::location::{Location, Source};
 use irtext_base::parsable::{ParseResult, SourcePosition};
 use irtext_base::result::{Cause, Error, ErrorKind};

@@ -1,6 +1,6 @@
 //! Locations of each kind and their parser, and the errors of other texts.
-use crate::checks::{Check, alone};
-use crate::value::{is_done, same};
+use crate::tests::checks::{Check, alone};
+use crate::tests::value::{is_done, same};
 use irtext_base::location::{Location, Source};
 use irtext_base::result::Result as Answer;
 use irtext_demo::DemoAttr;

@@ -1,9 +1,9 @@
 //! Items with white space around them, and the marker that may be in place of one.
-use crate::value::{same, value_of};
+use crate::tests::value::{same, value_of};
 use irtext_base::parsable::{ParseResult, TextStream};
 use irtext_demo::DemoAttr;
 use irtext_parse_root::irfmt::outlined::outlined_marker_or;
-use irtext_tests_common::answers::{left, with_next};
+use irtext_tests_common::answers::left;
 use irtext_tokens::irfmt::parsers::{bool_parse, int_parse, spaced};
 use std::alloc::Global;
 use std::fmt;
@@ -31,20 +31,8 @@ const MARKED: &[(&str, &str)] = &[
     ),
 ];
 
-/// The text of the result for an item, which ends here, with the next character of the stream.
-fn told<X: fmt::Display + Drop>(
-    rt: &impl Abort,
-    alloc: Global,
-    answer: ParseResult<X, DemoAttr>,
-    next: Option<char>,
-) -> String {
-    let text = value_of(rt, with_next(alloc, &answer, next), "out of memory");
-    drop(answer);
-    text
-}
-
-/// The same for an item or the marker in its place.
-fn marked<X: fmt::Debug + Drop>(
+/// The text of the result for an item, or for the marker in its place, which ends here, with the next character of the stream.
+fn told<X: fmt::Debug + Drop>(
     rt: &impl Abort,
     alloc: Global,
     answer: ParseResult<X, DemoAttr>,
@@ -82,7 +70,7 @@ fn parsed(rt: &impl Abort, alloc: Global, stream: &mut TextStream, item: Item) -
         }
         Item::Marked => {
             let answer: ParseResult<Option<i32>, DemoAttr> = outlined_marker_or(stream, int_parse);
-            marked(rt, alloc, answer, stream.peek())
+            told(rt, alloc, answer, stream.peek())
         }
     }
 }

@@ -2,9 +2,9 @@
 ghost use Rattle.std.specs.Prelude.{IsTrue, IsSome};
 ghost use Rattle.irtext_context.specs.Context.{operation};
 
-use crate::checks::{Check, alone};
-use crate::reading::root;
-use crate::value::{held, name_of, same, value_of};
+use crate::tests::checks::{Check, alone};
+use crate::tests::reading::root;
+use crate::tests::value::{held, name_of, same, value_of};
 use irtext_demo::{DemoAttr, DemoType};
 use irtext_graph::graph::Graph;
 use irtext_graph::held::HasGraph;

@@ -1,7 +1,7 @@
 //! A text that is no root, because its id is not registered.
-use crate::checks::{Check, alone};
-use crate::reading::read_root;
-use crate::value::{done, same};
+use crate::tests::checks::{Check, alone};
+use crate::tests::reading::read_root;
+use crate::tests::value::{done, same};
 use irtext_tests_common::contexts::Ctx;
 use std::alloc::Global;
 use std::process::Abort;

@@ -1,5 +1,5 @@
 //! Numbers, booleans, identifiers and texts that are parsed with a context.
-use crate::value::{same, value_of};
+use crate::tests::value::{same, value_of};
 use irtext_base::base::Identifier;
 use irtext_demo::{DemoAttr, DemoType};
 use irtext_parse_root::parsable::Parsable;

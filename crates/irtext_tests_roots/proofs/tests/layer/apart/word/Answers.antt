@@ -1,7 +1,7 @@
 use Rattle.std.proofs.Common.{ap}
 use Rattle.std.specs.Str.{chars}
 use Rattle.irtext_base.specs.Format.{word}
-use Rattle.irtext_tests_roots.proofs.layer.apart.word.Goals as goal
+use Rattle.irtext_tests_roots.proofs.tests.layer.apart.word.Goals as goal
 
 pub returns : goal.returns
 unfolding chars
