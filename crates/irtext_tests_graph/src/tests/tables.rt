@@ -63,16 +63,6 @@ const PARTS: &[Row] = &[
     Uses(2),
 ];
 
-/// An operation without results, and one that uses nothing: they are erased in either order.
-const NO_RESULTS: &[Row] = &[
-    Make(Operation, 0, 0, 0),
-    Make(Operation, 0, 0, 0),
-    Own(0, 0, 0),
-    Uses(1),
-    Erase(1, true),
-    Erase(0, true),
-];
-
 /// How many results an operation has, and the number of the first, if those of all rows are made one after the other in one graph.
 const LENGTHS: &[(usize, u64)] = &[(1, 0), (2, 1), (3, 3), (4, 6)];
 
@@ -92,6 +82,16 @@ fn with_results(count: usize, first: u64) -> [Row; 10] {
         Erase(0, true),
     ]
 }
+
+/// An operation without results, and one that uses nothing: they are erased in either order.
+const NO_RESULTS: &[Row] = &[
+    Make(Operation, 0, 0, 0),
+    Make(Operation, 0, 0, 0),
+    Own(0, 0, 0),
+    Uses(1),
+    Erase(1, true),
+    Erase(0, true),
+];
 
 /// The data of an operation and of a block are written, and everything else is unchanged.
 const WRITES: &[Row] = &[
