@@ -2,11 +2,12 @@
 ghost use Rattle.std.specs.Prelude.{◌≤◌};
 
 use crate::tests::must::{line_told, same};
+use crate::tests::read::numbers::Digits::{Decimal, Hexadecimal};
 use crate::tests::read::numbers::Kind::{
     HexI64, HexU8, HexU16, HexU32, HexU64, HexUsize, I8, I16, I32, I64, Isize, Text, Truth, U8,
     U16, U32, U64, Usize,
 };
-use irtext_base::parsable::{CharStream, TextStream};
+use irtext_base::parsable::{CharStream, ParseResult, TextStream};
 use irtext_tokens::irfmt::parsers::{
     FromStrRadix, bool_parse, hex_int_parse, int_parse, number_as_string_parse,
 };
@@ -116,22 +117,31 @@ const AFTER_SKIPPED: &[(u8, &str, &str)] = &[
     ),
 ];
 
-/// An integer of a type.
-fn int<N: FromStrRadix + fmt::Display + Drop>(
-    rt: &impl Abort,
-    alloc: Global,
-    stream: &mut TextStream,
-) -> String {
-    line_told(rt, alloc, int_parse::<TextStream, N, ()>(stream))
+/// The digits of an integer.
+#[derive(Clone, Copy)]
+enum Digits {
+    Decimal,
+    Hexadecimal,
 }
 
-/// An integer of a type in hexadecimal digits.
-fn hex<N: FromStrRadix + fmt::Display + Drop>(
-    rt: &impl Abort,
-    alloc: Global,
-    stream: &mut TextStream,
-) -> String {
-    line_told(rt, alloc, hex_int_parse::<TextStream, N, ()>(stream))
+impl Digits {
+    /// The result for an integer of a type in these digits.
+    fn parsed<N: FromStrRadix>(self, stream: &mut TextStream) -> ParseResult<N, ()> {
+        match self {
+            Decimal => int_parse(stream),
+            Hexadecimal => hex_int_parse(stream),
+        }
+    }
+
+    /// An integer of a type in these digits.
+    fn int<N: FromStrRadix + fmt::Display + Drop>(
+        self,
+        rt: &impl Abort,
+        alloc: Global,
+        stream: &mut TextStream,
+    ) -> String {
+        line_told(rt, alloc, self.parsed::<N>(stream))
+    }
 }
 
 /// The text of a number.
@@ -147,22 +157,22 @@ fn truth(rt: &impl Abort, alloc: Global, stream: &mut TextStream) -> String {
 /// The result for what comes next, parsed as this kind.
 fn read_next(rt: &impl Abort, alloc: Global, kind: Kind, stream: &mut TextStream) -> String {
     match kind {
-        U8 => int::<u8>(rt, alloc, stream),
-        U16 => int::<u16>(rt, alloc, stream),
-        U32 => int::<u32>(rt, alloc, stream),
-        U64 => int::<u64>(rt, alloc, stream),
-        Usize => int::<usize>(rt, alloc, stream),
-        I8 => int::<i8>(rt, alloc, stream),
-        I16 => int::<i16>(rt, alloc, stream),
-        I32 => int::<i32>(rt, alloc, stream),
-        I64 => int::<i64>(rt, alloc, stream),
-        Isize => int::<isize>(rt, alloc, stream),
-        HexU8 => hex::<u8>(rt, alloc, stream),
-        HexU16 => hex::<u16>(rt, alloc, stream),
-        HexU32 => hex::<u32>(rt, alloc, stream),
-        HexU64 => hex::<u64>(rt, alloc, stream),
-        HexUsize => hex::<usize>(rt, alloc, stream),
-        HexI64 => hex::<i64>(rt, alloc, stream),
+        U8 => Decimal.int::<u8>(rt, alloc, stream),
+        U16 => Decimal.int::<u16>(rt, alloc, stream),
+        U32 => Decimal.int::<u32>(rt, alloc, stream),
+        U64 => Decimal.int::<u64>(rt, alloc, stream),
+        Usize => Decimal.int::<usize>(rt, alloc, stream),
+        I8 => Decimal.int::<i8>(rt, alloc, stream),
+        I16 => Decimal.int::<i16>(rt, alloc, stream),
+        I32 => Decimal.int::<i32>(rt, alloc, stream),
+        I64 => Decimal.int::<i64>(rt, alloc, stream),
+        Isize => Decimal.int::<isize>(rt, alloc, stream),
+        HexU8 => Hexadecimal.int::<u8>(rt, alloc, stream),
+        HexU16 => Hexadecimal.int::<u16>(rt, alloc, stream),
+        HexU32 => Hexadecimal.int::<u32>(rt, alloc, stream),
+        HexU64 => Hexadecimal.int::<u64>(rt, alloc, stream),
+        HexUsize => Hexadecimal.int::<usize>(rt, alloc, stream),
+        HexI64 => Hexadecimal.int::<i64>(rt, alloc, stream),
         Text => digits(rt, alloc, stream),
         Truth => truth(rt, alloc, stream),
     }
@@ -178,7 +188,7 @@ fn read(rt: &impl Abort, alloc: Global, kind: Kind, text: &str) -> String {
 
 /// An integer of eight bits, and then a boolean.
 fn two(rt: &impl Abort, alloc: Global, stream: &mut TextStream) -> String {
-    let mut said = int::<i8>(rt, alloc, stream);
+    let mut said = Decimal.int::<i8>(rt, alloc, stream);
     said.push(' ').expect(rt, "out of memory");
     let truth = truth(rt, alloc, stream);
     said.push_str(truth.as_str()).expect(rt, "out of memory");
