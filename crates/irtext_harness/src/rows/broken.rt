@@ -183,35 +183,37 @@ fn add(alloc: Global, lines: &mut String, test: Broken<'_>, rule: &str) -> Resul
     done
 }
 
-/// Adds a line for each place of the piece of which something else is said. Returns the offset of its end.
+/// Adds a line for each place of a piece of which something else is said. Returns the offset of its end.
 fn add_piece(
     alloc: Global,
     lines: &mut String,
-    mut test: Broken<'_>,
+    test: Broken<'_>,
+    from: usize,
     parts: (&str, &str),
 ) -> Result<usize, Fail> {
-    let to = test.from.saturating_add(parts.0.chars().count());
-    for at in test.from..to {
-        test.at = at;
-        add(alloc, lines, test, parts.1)?;
+    let to = from.saturating_add(parts.0.chars().count());
+    for at in from..to {
+        let broken = Broken {
+            text: test.text,
+            way: test.way,
+            from,
+            at,
+        };
+        add(alloc, lines, broken, parts.1)?;
     }
     Ok(to)
 }
 
 /// Adds the number of the places, after a line for each at which something else is said.
-fn add_lines(
-    alloc: Global,
-    lines: &mut String,
-    mut test: Broken<'_>,
-    row: &Row,
-) -> Result<(), Fail> {
+fn add_lines(alloc: Global, lines: &mut String, test: Broken<'_>, row: &Row) -> Result<(), Fail> {
+    let mut next = 0_usize;
     for (index, piece) in row.texts.iter().enumerate() {
         if index % 2 == 0 {
             let parts = (piece.as_str(), row.text(index.saturating_add(1)));
-            test.from = add_piece(alloc, lines, test, parts)?;
+            next = add_piece(alloc, lines, test, next, parts)?;
         }
     }
-    written(write!(lines, "{} places", test.from))
+    written(write!(lines, "{next} places"))
 }
 
 /// The same for this text.

@@ -193,7 +193,7 @@ fn with_state(
 impl Given<'_> {
     /// Says the text of the root that a text is parsed as, as the word of the group selects it, or the error.
     pub(crate) fn say(self, alloc: Global, ctx: &mut Ctx, said: &mut String) -> Result<(), Fail> {
-        let Given { group, row } = self;
+        let (group, row) = (self.group, self.row);
         let Some(op) = root_unless_said(ctx, row.text(0), Refusal::Located, said)? else {
             return Ok(());
         };

@@ -2,7 +2,7 @@
 ghost use Rattle.std.specs.Prelude.{◌≤◌};
 
 use crate::tests::must::{line_told, same};
-use crate::tests::read::numbers::Digits::{Decimal, Hexadecimal};
+use crate::tests::read::numbers::Base::{Decimal, Hexadecimal};
 use crate::tests::read::numbers::Kind::{
     HexI64, HexU8, HexU16, HexU32, HexU64, HexUsize, I8, I16, I32, I64, Isize, Text, Truth, U8,
     U16, U32, U64, Usize,
@@ -117,14 +117,14 @@ const AFTER_SKIPPED: &[(u8, &str, &str)] = &[
     ),
 ];
 
-/// The digits of an integer.
+/// In which digits an integer is written.
 #[derive(Clone, Copy)]
-enum Digits {
+enum Base {
     Decimal,
     Hexadecimal,
 }
 
-impl Digits {
+impl Base {
     /// The result for an integer of a type in these digits.
     fn parsed<N: FromStrRadix>(self, stream: &mut TextStream) -> ParseResult<N, ()> {
         match self {
