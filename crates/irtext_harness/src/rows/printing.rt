@@ -193,13 +193,13 @@ fn with_state(
 impl Given<'_> {
     /// Says the text of the root that a text is parsed as, as the word of the group selects it, or the error.
     pub(crate) fn say(self, alloc: Global, ctx: &mut Ctx, said: &mut String) -> Result<(), Fail> {
-        let (group, row) = (self.group, self.row);
-        let Some(op) = root_unless_said(ctx, row.text(0), Refusal::Located, said)? else {
+        let group = self.group;
+        let Some(op) = root_unless_said(ctx, self.row.text(0), Refusal::Located, said)? else {
             return Ok(());
         };
         match group.word.as_str() {
             "unlocated" | "unlocated_concrete" => unlocated(ctx, op, group, said),
-            "in_file" => in_file(ctx, op, row.text(1), said),
+            "in_file" => in_file(ctx, op, self.row.text(1), said),
             "kept" => kept(alloc, ctx, op, said),
             "layout" | "elided" | "typed_header" | "afterwards" => {
                 with_state(alloc, ctx, op, self, said)
