@@ -27,9 +27,9 @@ fn done(
         "fill" => objects::counted(alloc, Way::Fill, size, times),
         "erase" => objects::counted(alloc, Way::Erase, size, times),
         "texts" => names::are_texts(alloc, size),
-        "names" => names::new_names(alloc, size),
-        "definitions" => names::definitions(alloc, size, times),
-        "uses" => names::uses(alloc, size, times),
+        "names" => names::counted(alloc, names::Way::Intern, size, times),
+        "definitions" => names::counted(alloc, names::Way::Define, size, times),
+        "uses" => names::counted(alloc, names::Way::Use, size, times),
         _ => Ok(names::regions(alloc, size, times)),
     }
 }

@@ -4,7 +4,7 @@ use crate::fault::{Fault, cause_of, checked, written};
 use irtext_demo::DemoAttr;
 use irtext_demo::dialects::register_demo;
 use irtext_tests_common::answers::accepted;
-use irtext_tests_common::building::live;
+use irtext_tests_common::building::{live, register};
 pub(crate) use irtext_tests_common::contexts::{Ctx, Stream};
 use pliron_text::base::{Operation, OperationAccess, Ptr};
 use pliron_text::ir::{OpObj, OperationText};
@@ -18,6 +18,11 @@ use std::test::Fail;
 /// Registers the demo dialects with a context.
 pub(crate) fn register_dialects(ctx: &mut Ctx) -> Result<(), Fault> {
     checked(register_demo(ctx))
+}
+
+/// Registers `test.z` with the format of these letters.
+pub(crate) fn register_z(alloc: Global, ctx: &mut Ctx, letters: &str) -> Result<(), Fail> {
+    register(alloc, ctx, ("test", "z"), letters, false)
 }
 
 /// The root that a text is parsed as, or the error.

@@ -49,7 +49,7 @@ mod streams;
 mod uses;
 
 use crate::rows::file::{next, without_comments};
-use crate::rows::row::{Group, Item, Row};
+use crate::rows::row::{Given, Group, Item, Row};
 use pliron_text::parsable::TextStream;
 use std::io::Write;
 use std::mem::replace;
@@ -106,7 +106,7 @@ fn holds(rt: &HostRuntime, row: &Row, answer: Result<String, Fail>) -> Result<bo
 /// Tries a row of a group.
 fn tried(rt: &HostRuntime, group: &Option<Group>, row: &Row) -> Result<bool, Fail> {
     match group {
-        Some(group) => holds(rt, row, modes::said(rt.alloc(), group, row)),
+        Some(group) => holds(rt, row, modes::said(rt.alloc(), Given { group, row })),
         None => Err(Fail::from("the first row is in no group")),
     }
 }

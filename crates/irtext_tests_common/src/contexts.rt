@@ -75,31 +75,22 @@ fn add_demo(ctx: &mut Ctx) -> Result<(), Fail> {
     accepted(register_demo(ctx), "not registered")
 }
 
-/// The result of a call with two empty contexts.
-pub fn with_contexts<X, F: FnOnce(Global, &mut Ctx, &mut Ctx) -> Result<X, Fail> + Drop>(
-    alloc: Global,
-    call: F,
-) -> Result<X, Fail>
+/// Makes a call with two empty contexts.
+pub fn with_contexts<F: FnOnce(Global, &mut Ctx, &mut Ctx) + Drop>(alloc: Global, call: F)
     requires { F.IsAlwaysCallable call }
 {
     let mut ctx: Ctx = Context::new(alloc);
-    let result = beside(alloc, &mut ctx, call);
+    beside(alloc, &mut ctx, call);
     drop(ctx);
-    result
 }
 
-/// The result of a call with this context and an empty one.
-fn beside<X, F: FnOnce(Global, &mut Ctx, &mut Ctx) -> Result<X, Fail> + Drop>(
-    alloc: Global,
-    ctx: &mut Ctx,
-    call: F,
-) -> Result<X, Fail>
+/// Makes a call with this context and an empty one.
+fn beside<F: FnOnce(Global, &mut Ctx, &mut Ctx) + Drop>(alloc: Global, ctx: &mut Ctx, call: F)
     requires { F.IsAlwaysCallable call }
 {
     let mut other: Ctx = Context::new(alloc);
-    let result = call(alloc, ctx, &mut other);
+    call(alloc, ctx, &mut other);
     drop(other);
-    result
 }
 
 /// The result of a function on a stream over a text, with a context of its own.

@@ -3,12 +3,4 @@
 #![tactic(auto)]
 
 #[cfg(test)]
-mod checks;
-#[cfg(test)]
-mod dict;
-#[cfg(test)]
-mod must;
-#[cfg(test)]
-mod read;
-#[cfg(test)]
 mod tests;

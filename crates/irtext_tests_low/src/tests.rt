@@ -1,9 +1,13 @@
 //! The tests, a file for each subject.
-pub(crate) mod blocks;
-pub(crate) mod contexts;
-pub(crate) mod edges;
-pub(crate) mod lent;
-pub(crate) mod locations;
-pub(crate) mod made;
+mod blocks;
+mod checks;
+mod contexts;
+mod dict;
+mod edges;
+mod lent;
+mod locations;
+mod made;
+mod must;
 mod nested;
-pub(crate) mod unique;
+mod read;
+mod unique;

@@ -3,24 +3,8 @@
 #![tactic(auto)]
 
 pub mod causes;
-#[cfg(test)]
-mod checks;
 pub mod definitions;
-#[cfg(test)]
-mod held;
 pub mod labels;
 pub mod location_rows;
 #[cfg(test)]
-mod memory;
-#[cfg(test)]
-mod model;
-#[cfg(test)]
-mod rowed;
-#[cfg(test)]
-mod rows;
-#[cfg(test)]
-mod scopes;
-#[cfg(test)]
-mod script;
-#[cfg(test)]
-mod steps;
+mod tests;

@@ -4,18 +4,4 @@
 #![tactic(auto)]
 
 #[cfg(test)]
-mod checks;
-#[cfg(test)]
-mod dialects_page;
-#[cfg(test)]
-mod layer;
-#[cfg(test)]
-mod parse;
-#[cfg(test)]
-mod reading;
-#[cfg(test)]
-mod readme;
-#[cfg(test)]
-mod registering;
-#[cfg(test)]
-mod value;
+mod tests;

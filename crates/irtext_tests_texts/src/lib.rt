@@ -4,12 +4,4 @@
 #![tactic(auto)]
 
 #[cfg(test)]
-mod checks;
-#[cfg(test)]
-mod must;
-#[cfg(test)]
-mod nested;
-#[cfg(test)]
-mod sections;
-#[cfg(test)]
 mod tests;

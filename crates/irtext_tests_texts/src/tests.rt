@@ -1,13 +1,16 @@
 //! The tests, a file for each subject.
 mod attributes;
+mod checks;
 mod demo;
-pub(crate) mod fits;
+mod fits;
 mod formats;
-pub(crate) mod listed;
 mod lists;
-pub(crate) mod location_texts;
+mod location_texts;
+mod must;
+mod nested;
 mod notation;
 mod parts;
 mod printing;
-pub(crate) mod roots;
-pub(crate) mod separators;
+mod roots;
+mod sections;
+mod separators;

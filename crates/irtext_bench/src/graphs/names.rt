@@ -70,26 +70,6 @@ fn intern_all(tracker: &mut Measured, texts: &[String]) -> Result<usize, AllocEr
     Ok(tracker.num_names())
 }
 
-/// Interns so many names, each for the first time.
-pub fn new_names(alloc: Global, size: usize) -> Result<bool, AllocError> {
-    let texts = texts(alloc, size)?;
-    let mut tracker: Measured = NameTracker::new(alloc);
-    let known = intern_all(&mut tracker, &texts);
-    drop(tracker);
-    drop(texts);
-    Ok(known? == size)
-}
-
-/// Defines so many names in a region of their own, so many times.
-pub fn definitions(alloc: Global, size: usize, times: usize) -> Result<bool, AllocError> {
-    let texts = texts(alloc, size)?;
-    let mut tracker: Measured = NameTracker::new(alloc);
-    let all = define_often(&mut tracker, &texts, times);
-    drop(tracker);
-    drop(texts);
-    all
-}
-
 /// Uses all these names, which are known.
 fn use_all(tracker: &mut Measured, texts: &[String]) -> Result<bool, AllocError> {
     let mut all = true;
@@ -109,11 +89,36 @@ fn use_often(tracker: &mut Measured, texts: &[String], times: usize) -> Result<b
     Ok(all)
 }
 
-/// Defines so many names in a region, and uses each so many times.
-pub fn uses(alloc: Global, size: usize, times: usize) -> Result<bool, AllocError> {
+/// What is done with names.
+#[derive(Clone, Copy)]
+pub enum Way {
+    /// Each is interned for the first time.
+    Intern,
+    /// They are defined in a region of their own, so many times.
+    Define,
+    /// They are defined in a region, and each is used so many times.
+    Use,
+}
+
+/// Does this with these names. Returns whether each call returned what it should.
+fn done(
+    tracker: &mut Measured,
+    texts: &[String],
+    way: Way,
+    times: usize,
+) -> Result<bool, AllocError> {
+    match way {
+        Way::Intern => Ok(intern_all(tracker, texts)? == texts.len()),
+        Way::Define => define_often(tracker, texts, times),
+        Way::Use => use_often(tracker, texts, times),
+    }
+}
+
+/// Does this with so many names. Returns whether each call returned what it should.
+pub fn counted(alloc: Global, way: Way, size: usize, times: usize) -> Result<bool, AllocError> {
     let texts = texts(alloc, size)?;
     let mut tracker: Measured = NameTracker::new(alloc);
-    let all = use_often(&mut tracker, &texts, times);
+    let all = done(&mut tracker, &texts, way, times);
     drop(tracker);
     drop(texts);
     all

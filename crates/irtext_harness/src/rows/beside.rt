@@ -1,13 +1,12 @@
 //! Texts that are parsed in a context with a live root, which has to be unchanged.
 use crate::fault::written;
-use crate::roots::{Ctx, has_text, root, whole};
+use crate::roots::{Ctx, has_text, register_z, root, whole};
 use crate::rows::places::num_parts;
 use crate::rows::row::Row;
 use crate::rows::said::require;
-use crate::rows::streams::{Asked, on_stream};
+use crate::rows::streams::{Asked, Question, on_stream};
 use irtext_graph::held::HasGraph;
 use irtext_graph::object::Object;
-use irtext_tests_common::building::register;
 use pliron_text::base::{Operation, Ptr};
 use std::alloc::Global;
 use std::fmt::Write;
@@ -24,31 +23,31 @@ fn compared(
     ctx: &mut Ctx,
     live_root: Ptr<Operation>,
     before: &str,
-    text: &str,
-    asked: Asked<'_>,
+    question: Question<'_>,
     said: &mut String,
 ) -> Result<(), Fail> {
     let live = ctx.num_live();
-    let marks = on_stream(alloc, ctx, text, asked, said)?;
+    let marks = on_stream(alloc, ctx, question, said)?;
     let is_same = has_text(alloc, ctx, live_root, before)?;
     require(is_same, "what stood has changed")?;
     let is_left = marks || ctx.num_live() != live;
     require(said.as_str() == "read" || !is_left, "something was left")
 }
 
-/// Says the result for a text that is parsed beside a live root: `read`, or its fault.
-pub(crate) fn beside(
-    alloc: Global,
-    ctx: &mut Ctx,
-    text: &str,
-    asked: Asked<'_>,
-    said: &mut String,
-) -> Result<(), Fail> {
-    let live_root = root(ctx, LIVE_ROOT)?;
-    let before = whole(alloc, ctx, live_root)?;
-    let done = compared(alloc, ctx, live_root, before.as_str(), text, asked, said);
-    drop(before);
-    done
+impl Question<'_> {
+    /// Says the result for a text that is parsed beside a live root: `read`, or its fault.
+    pub(crate) fn say_beside(
+        self,
+        alloc: Global,
+        ctx: &mut Ctx,
+        said: &mut String,
+    ) -> Result<(), Fail> {
+        let live_root = root(ctx, LIVE_ROOT)?;
+        let before = whole(alloc, ctx, live_root)?;
+        let done = compared(alloc, ctx, live_root, before.as_str(), self, said);
+        drop(before);
+        done
+    }
 }
 
 /// Says the same for a root, once `test.z` is registered with the format of the letters that come first.
@@ -58,8 +57,8 @@ pub(crate) fn beside_formatted(
     row: &Row,
     said: &mut String,
 ) -> Result<(), Fail> {
-    register(alloc, ctx, ("test", "z"), row.text(0), false)?;
-    beside(alloc, ctx, row.text(1), Asked::Root, said)
+    register_z(alloc, ctx, row.text(0))?;
+    Asked::Root.of(row.text(1)).say_beside(alloc, ctx, said)
 }
 
 /// Says the result for a region that is parsed into an operation, whose text is `before`: its place or the fault, whether a mark is
@@ -74,7 +73,7 @@ fn compared_region(
     said: &mut String,
 ) -> Result<(), Fail> {
     let live = ctx.num_live();
-    let marks = on_stream(alloc, ctx, text, Asked::Region(op), said)?;
+    let marks = on_stream(alloc, ctx, Asked::Region(op).of(text), said)?;
     let is_last = said.as_str() == "last";
     let is_kept = is_last || (ctx.num_live() == live && has_text(alloc, ctx, op, before)?);
     require(is_kept, "something was left")?;

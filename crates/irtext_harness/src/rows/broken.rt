@@ -28,16 +28,12 @@ impl Break {
     }
 }
 
-/// The text of a row, which consists of every second of its texts, and how it is broken.
+/// The text of a row, which consists of every second of its texts, how it is broken, and where: at an offset in a piece that begins at
+/// `from`.
 #[derive(Clone, Copy)]
 struct Broken<'t> {
     text: &'t str,
     way: Break,
-}
-
-/// A place at which a text is broken, in a piece that begins at `from`.
-#[derive(Clone, Copy)]
-struct Spot {
     from: usize,
     at: usize,
 }
@@ -60,14 +56,14 @@ fn push_between(text: &str, from: usize, to: usize, out: &mut String) -> Result<
     Ok(())
 }
 
-/// Appends the text that is broken at an offset.
-fn push_broken(test: Broken<'_>, at: usize, out: &mut String) -> Result<(), AllocError> {
-    push_between(test.text, 0, at, out)?;
+/// Appends the broken text.
+fn push_broken(test: Broken<'_>, out: &mut String) -> Result<(), AllocError> {
+    push_between(test.text, 0, test.at, out)?;
     match test.way {
         Break::End => Ok(()),
         Break::Character => {
             out.push('#')?;
-            push_between(test.text, at.saturating_add(1), usize::MAX, out)
+            push_between(test.text, test.at.saturating_add(1), usize::MAX, out)
         }
     }
 }
@@ -89,47 +85,36 @@ fn place(text: &str, at: usize) -> SourcePosition {
 }
 
 /// Appends the error if something else is expected at the break.
-fn push_unexpected(
-    test: Broken<'_>,
-    at: usize,
-    rule: &str,
-    out: &mut String,
-) -> Result<(), AllocError> {
-    let place = place(test.text, at);
+fn push_unexpected(test: Broken<'_>, rule: &str, out: &mut String) -> Result<(), AllocError> {
+    let place = place(test.text, test.at);
     let found = test.way.found();
     // a fault is uncommitted if nothing was consumed
-    let mark = if at == 0 { "" } else { "!" };
+    let mark = if test.at == 0 { "" } else { "!" };
     write!(out, "{place}: Unexpected {found}, {rule}{mark}")
 }
 
 /// Appends the error so many characters before the piece: these words, and then the piece up to the break.
 fn push_earlier(
     test: Broken<'_>,
-    spot: Spot,
     back: &str,
     words: &str,
     out: &mut String,
 ) -> Result<(), AllocError> {
     let back = back.parse::<usize>().unwrap_or(0);
-    let place = place(test.text, spot.from.saturating_sub(back));
+    let place = place(test.text, test.from.saturating_sub(back));
     write!(out, "{place}: {words}")?;
-    push_between(test.text, spot.from, spot.at, out)?;
+    push_between(test.text, test.from, test.at, out)?;
     out.push('!')
 }
 
-/// Appends what has to be said of the text that is broken at a place. A rule is `expected` and what is expected there, or a number,
+/// Appends what has to be said of the broken text. A rule is `expected` and what is expected there, or a number,
 /// ` before: ` and the words of an error so many characters before the piece. Any other rule is the text of a root that is printed.
-fn push_wanted(
-    test: Broken<'_>,
-    spot: Spot,
-    rule: &str,
-    out: &mut String,
-) -> Result<(), AllocError> {
+fn push_wanted(test: Broken<'_>, rule: &str, out: &mut String) -> Result<(), AllocError> {
     if rule.starts_with("expected ") {
-        return push_unexpected(test, spot.at, rule, out);
+        return push_unexpected(test, rule, out);
     }
     match rule.split_once(" before: ") {
-        Some((back, words)) => push_earlier(test, spot, back, words, out),
+        Some((back, words)) => push_earlier(test, back, words, out),
         None => out.push_str(rule),
     }
 }
@@ -152,49 +137,49 @@ fn push_unless(lines: &mut String, at: usize, said: &str, wanted: &str) -> Resul
     written(writeln!(lines, "at {at}: {said}"))
 }
 
-/// Adds a line if this is not what is said of the text that is broken at an offset.
-fn add_unless(
-    alloc: Global,
-    lines: &mut String,
-    text: &str,
-    at: usize,
-    wanted: &str,
-) -> Result<(), Fail> {
-    let said = said_of(alloc, text)?;
-    let done = push_unless(lines, at, said.as_str(), wanted);
-    drop(said);
-    done
+/// The broken text, and what has to be said of it.
+#[derive(Drop)]
+struct Texts {
+    broken: String,
+    wanted: String,
 }
 
-/// Adds a line if something else is said of the text that is broken at a place. Both texts are empty before: that text, and what has to be
-/// said of it.
-fn add_between(
-    alloc: Global,
-    lines: &mut String,
-    test: Broken<'_>,
-    spot: Spot,
-    rule: &str,
-    text: &mut String,
-    wanted: &mut String,
-) -> Result<(), Fail> {
-    push_broken(test, spot.at, text)?;
-    push_wanted(test, spot, rule, wanted)?;
-    add_unless(alloc, lines, text.as_str(), spot.at, wanted.as_str())
+impl Texts {
+    /// Appends both, which are empty before.
+    fn fill(&mut self, test: Broken<'_>, rule: &str) -> Result<(), AllocError> {
+        push_broken(test, &mut self.broken)?;
+        push_wanted(test, rule, &mut self.wanted)
+    }
+
+    /// Adds a line if something else is said of the text, which is broken at this offset.
+    fn add_unless(&self, alloc: Global, lines: &mut String, at: usize) -> Result<(), Fail> {
+        let said = said_of(alloc, self.broken.as_str())?;
+        let done = push_unless(lines, at, said.as_str(), self.wanted.as_str());
+        drop(said);
+        done
+    }
 }
 
-/// Adds a line if something else is said of the text that is broken at a place.
-fn add(
-    alloc: Global,
-    lines: &mut String,
-    test: Broken<'_>,
-    spot: Spot,
-    rule: &str,
-) -> Result<(), Fail> {
-    let mut text = String::new(alloc);
-    let mut wanted = String::new(alloc);
-    let done = add_between(alloc, lines, test, spot, rule, &mut text, &mut wanted);
-    drop(text);
-    drop(wanted);
+/// The broken text, and what has to be said of it.
+fn texts_of(alloc: Global, test: Broken<'_>, rule: &str) -> Result<Texts, Fail> {
+    let mut texts = Texts {
+        broken: String::new(alloc),
+        wanted: String::new(alloc),
+    };
+    match texts.fill(test, rule) {
+        Ok(()) => Ok(texts),
+        Err(error) => {
+            drop(texts);
+            Err(Fail::from(error))
+        }
+    }
+}
+
+/// Adds a line if something else is said of the broken text.
+fn add(alloc: Global, lines: &mut String, test: Broken<'_>, rule: &str) -> Result<(), Fail> {
+    let texts = texts_of(alloc, test, rule)?;
+    let done = texts.add_unless(alloc, lines, test.at);
+    drop(texts);
     done
 }
 
@@ -208,7 +193,13 @@ fn add_piece(
 ) -> Result<usize, Fail> {
     let to = from.saturating_add(parts.0.chars().count());
     for at in from..to {
-        add(alloc, lines, test, Spot { from, at }, parts.1)?;
+        let broken = Broken {
+            text: test.text,
+            way: test.way,
+            from,
+            at,
+        };
+        add(alloc, lines, broken, parts.1)?;
     }
     Ok(to)
 }
@@ -245,6 +236,8 @@ pub(crate) fn said(alloc: Global, row: &Row, way: Break) -> Result<String, Fail>
     let test = Broken {
         text: text.as_str(),
         way,
+        from: 0,
+        at: 0,
     };
     let lines = lines(alloc, test, row);
     drop(text);

@@ -1,5 +1,7 @@
 //! Operations that are parsed and printed in a format of their own, which is given by its letters.
-use crate::roots::{Ctx, Refusal, has_text, push_concrete, push_whole, root, root_unless_said};
+use crate::roots::{
+    Ctx, Refusal, has_text, push_concrete, push_whole, register_z, root, root_unless_said,
+};
 use crate::rows::modes::Trial;
 use crate::rows::row::Row;
 use crate::rows::said::require;
@@ -22,7 +24,7 @@ pub(crate) fn registered(
     text: &str,
     said: &mut String,
 ) -> Result<(), Fail> {
-    register(alloc, ctx, ("test", "z"), letters, false)?;
+    register_z(alloc, ctx, letters)?;
     printed(ctx, text, said)
 }
 

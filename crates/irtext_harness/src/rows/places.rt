@@ -56,7 +56,7 @@ fn part<O: Drop, B: Drop, T: Drop>(
 }
 
 /// What a path from a root leads to.
-fn at<O: Drop, B: Drop, T: Drop>(
+pub(crate) fn at<O: Drop, B: Drop, T: Drop>(
     graph: &Graph<O, B, T>,
     root: Ptr<Operation>,
     path: &str,
@@ -79,18 +79,6 @@ pub(crate) fn operation_at<O: Drop, B: Drop, T: Drop>(
     match at(graph, root, path)? {
         Object::TheOperation(op) => Ok(op),
         _ => Err(Fail::from("this is no path of an operation")),
-    }
-}
-
-/// The block at a path.
-pub(crate) fn block_at<O: Drop, B: Drop, T: Drop>(
-    graph: &Graph<O, B, T>,
-    root: Ptr<Operation>,
-    path: &str,
-) -> Result<Ptr<BasicBlock>, Fail> {
-    match at(graph, root, path)? {
-        Object::TheBlock(block) => Ok(block),
-        _ => Err(Fail::from("this is no path of a block")),
     }
 }
 

@@ -2,7 +2,7 @@
 use crate::fault::written;
 use crate::roots::{Ctx, Refusal, has_text, push_concrete, push_whole, root_unless_said};
 use crate::rows::places::operation_at;
-use crate::rows::row::{Group, Row};
+use crate::rows::row::{Given, Group};
 use crate::rows::said::{push_words, require};
 use irtext_context::base::Item;
 use irtext_demo::DemoType;
@@ -165,14 +165,13 @@ fn unlocated(
 fn stated(
     ctx: &mut Ctx,
     op: Ptr<Operation>,
-    group: &Group,
-    row: &Row,
+    given: Given<'_>,
     state: &mut State<()>,
     said: &mut String,
 ) -> Result<(), Fail> {
-    match group.word.as_str() {
+    match given.group.word.as_str() {
         "typed_header" => typed_header(ctx, op, &DemoType::Pointer, state, said),
-        "afterwards" => afterwards(ctx, op, row.text(1), state, said),
+        "afterwards" => afterwards(ctx, op, given.row.text(1), state, said),
         _ => print_by(ctx, op, state, said),
     }
 }
@@ -182,46 +181,30 @@ fn with_state(
     alloc: Global,
     ctx: &mut Ctx,
     op: Ptr<Operation>,
-    group: &Group,
-    row: &Row,
+    given: Given<'_>,
     said: &mut String,
 ) -> Result<(), Fail> {
-    let mut state = state_of(alloc, group);
-    let done = stated(ctx, op, group, row, &mut state, said);
+    let mut state = state_of(alloc, given.group);
+    let done = stated(ctx, op, given, &mut state, said);
     drop(state);
     done
 }
 
-/// Says the text of a root, as the word of the group selects it.
-fn changed(
-    alloc: Global,
-    ctx: &mut Ctx,
-    op: Ptr<Operation>,
-    group: &Group,
-    row: &Row,
-    said: &mut String,
-) -> Result<(), Fail> {
-    match group.word.as_str() {
-        "unlocated" | "unlocated_concrete" => unlocated(ctx, op, group, said),
-        "in_file" => in_file(ctx, op, row.text(1), said),
-        "kept" => kept(alloc, ctx, op, said),
-        "layout" | "elided" | "typed_header" | "afterwards" => {
-            with_state(alloc, ctx, op, group, row, said)
+impl Given<'_> {
+    /// Says the text of the root that a text is parsed as, as the word of the group selects it, or the error.
+    pub(crate) fn say(self, alloc: Global, ctx: &mut Ctx, said: &mut String) -> Result<(), Fail> {
+        let group = self.group;
+        let Some(op) = root_unless_said(ctx, self.row.text(0), Refusal::Located, said)? else {
+            return Ok(());
+        };
+        match group.word.as_str() {
+            "unlocated" | "unlocated_concrete" => unlocated(ctx, op, group, said),
+            "in_file" => in_file(ctx, op, self.row.text(1), said),
+            "kept" => kept(alloc, ctx, op, said),
+            "layout" | "elided" | "typed_header" | "afterwards" => {
+                with_state(alloc, ctx, op, self, said)
+            }
+            _ => text(ctx, op, group, said),
         }
-        _ => text(ctx, op, group, said),
-    }
-}
-
-/// Says the text of the root that a text is parsed as, or the error.
-pub(crate) fn say(
-    alloc: Global,
-    ctx: &mut Ctx,
-    group: &Group,
-    row: &Row,
-    said: &mut String,
-) -> Result<(), Fail> {
-    match root_unless_said(ctx, row.text(0), Refusal::Located, said)? {
-        Some(op) => changed(alloc, ctx, op, group, row, said),
-        None => Ok(()),
     }
 }

@@ -36,6 +36,13 @@ impl Row {
     }
 }
 
+/// A row, and the group that it is in.
+#[derive(Clone, Copy)]
+pub(crate) struct Given<'r> {
+    pub(crate) group: &'r Group,
+    pub(crate) row: &'r Row,
+}
+
 /// What comes next in a file.
 #[derive(Drop)]
 pub(crate) enum Item {

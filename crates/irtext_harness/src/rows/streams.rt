@@ -43,6 +43,20 @@ pub(crate) enum Asked<'t> {
     After(&'t str, &'t str),
 }
 
+/// A text, and what is parsed from its stream.
+#[derive(Clone, Copy)]
+pub(crate) struct Question<'t> {
+    pub(crate) text: &'t str,
+    pub(crate) asked: Asked<'t>,
+}
+
+impl<'t> Asked<'t> {
+    /// This is asked of a text.
+    pub(crate) fn of(self, text: &'t str) -> Question<'t> {
+        Question { text, asked: self }
+    }
+}
+
 /// Says a fault. If it is committed, one more call has to return that the stream has failed; else it has to return something else.
 fn faulted(
     s: &mut Stream<'_>,
@@ -254,13 +268,12 @@ fn marked(
 pub(crate) fn on_stream(
     alloc: Global,
     ctx: &mut Ctx,
-    text: &str,
-    asked: Asked<'_>,
+    question: Question<'_>,
     said: &mut String,
 ) -> Result<bool, Fail> {
     let state = State::new(ctx, Source::InMemory, ());
-    let mut s = state_stream_from_iterator(text.chars(), state)?;
-    let marks = marked(alloc, &mut s, asked, said);
+    let mut s = state_stream_from_iterator(question.text.chars(), state)?;
+    let marks = marked(alloc, &mut s, question.asked, said);
     drop(s);
     marks
 }

@@ -1,7 +1,7 @@
 //! The uses in a root that was parsed: which value an operand is, and which block a successor is.
 use crate::fault::written;
 use crate::roots::{Ctx, root};
-use crate::rows::places::{block_at, number, operand, operation_at, successor, value_at};
+use crate::rows::places::{at, number, operand, operation_at, successor, value_at};
 use crate::rows::row::Row;
 use irtext_graph::graph::Graph;
 use irtext_graph::held::HasGraph;
@@ -16,10 +16,9 @@ fn value_of<O: Drop, B: Drop, T: Drop>(
     root: Ptr<Operation>,
     row: &Row,
 ) -> Result<Value, Fail> {
-    let user = operation_at(graph, root, row.text(1))?;
-    let found = operand(graph, user, number(row.text(2))?)?;
     let value = value_at(graph, root, row.text(3), number(row.text(4))?)?;
-    if found == value {
+    let user = operation_at(graph, root, row.text(1))?;
+    if operand(graph, user, number(row.text(2))?)? == value {
         Ok(value)
     } else {
         Err(Fail::from("it is another value"))
@@ -52,10 +51,10 @@ fn num_taken<O: Drop, B: Drop, T: Drop>(
     row: &Row,
 ) -> Result<usize, Fail> {
     let user = operation_at(graph, root, row.text(1))?;
-    let found = successor(graph, user, number(row.text(2))?)?;
-    let target = block_at(graph, root, row.text(3))?;
-    if found == target && graph.contains(Object::TheBlock(target)) {
-        Ok(graph.num_uses(Defined::OfBlock(target)))
+    let block = successor(graph, user, number(row.text(2))?)?;
+    let is_wanted = at(graph, root, row.text(3))? == Object::TheBlock(block);
+    if is_wanted && graph.contains(Object::TheBlock(block)) {
+        Ok(graph.num_uses(Defined::OfBlock(block)))
     } else {
         Err(Fail::from("it is another block"))
     }

@@ -63,55 +63,34 @@ const PARTS: &[Row] = &[
     Uses(2),
 ];
 
-/// Operations with none and with up to four results, and for each one that uses them all: the first is erased after the second, and not
-/// before it if it has results.
-const LENGTHS: &[Row] = &[
+/// How many results an operation has, and the number of the first, if those of all rows are made one after the other in one graph.
+const LENGTHS: &[(usize, u64)] = &[(1, 0), (2, 1), (3, 3), (4, 6)];
+
+/// An operation with so many results, of numbers from this one on, and one that uses them all: the first is erased after the second, and not
+/// before it.
+fn with_results(count: usize, first: u64) -> [Row; 10] {
+    [
+        Make(Operation, 0, 0, count),
+        Operands(0, 0, count),
+        Make(Operation, 0, 0, 0),
+        Own(0, 0, count),
+        Values(0, count, 0, first),
+        Operands(0, 0, count),
+        Uses(1),
+        Erase(0, false),
+        Erase(1, true),
+        Erase(0, true),
+    ]
+}
+
+/// An operation without results, and one that uses nothing: they are erased in either order.
+const NO_RESULTS: &[Row] = &[
     Make(Operation, 0, 0, 0),
     Make(Operation, 0, 0, 0),
     Own(0, 0, 0),
     Uses(1),
     Erase(1, true),
     Erase(0, true),
-    Make(Operation, 0, 0, 1),
-    Operands(2, 0, 1),
-    Make(Operation, 0, 0, 0),
-    Own(2, 0, 1),
-    Values(2, 1, 0, 0),
-    Operands(2, 0, 1),
-    Uses(3),
-    Erase(2, false),
-    Erase(3, true),
-    Erase(2, true),
-    Make(Operation, 0, 0, 2),
-    Operands(4, 0, 2),
-    Make(Operation, 0, 0, 0),
-    Own(4, 0, 2),
-    Values(4, 2, 0, 1),
-    Operands(4, 0, 2),
-    Uses(5),
-    Erase(4, false),
-    Erase(5, true),
-    Erase(4, true),
-    Make(Operation, 0, 0, 3),
-    Operands(6, 0, 3),
-    Make(Operation, 0, 0, 0),
-    Own(6, 0, 3),
-    Values(6, 3, 0, 3),
-    Operands(6, 0, 3),
-    Uses(7),
-    Erase(6, false),
-    Erase(7, true),
-    Erase(6, true),
-    Make(Operation, 0, 0, 4),
-    Operands(8, 0, 4),
-    Make(Operation, 0, 0, 0),
-    Own(8, 0, 4),
-    Values(8, 4, 0, 6),
-    Operands(8, 0, 4),
-    Uses(9),
-    Erase(8, false),
-    Erase(9, true),
-    Erase(8, true),
 ];
 
 /// The data of an operation and of a block are written, and everything else is unchanged.
@@ -248,7 +227,6 @@ const REGIONS: &[Row] = &[
 const TABLES: &[(Kind, &[Row])] = &[
     (Operation, NESTS),
     (Operation, PARTS),
-    (Operation, LENGTHS),
     (Operation, WRITES),
     (Operation, USES),
     (Operation, WALKS),
@@ -277,6 +255,17 @@ fn failing_place(rt: &impl Abort, alloc: Global, graph: Numbers) -> Option<usize
     operations.or(blocks).or(regions)
 }
 
+/// The same for operations of every length in one graph.
+fn failing_length(rt: &impl Abort, alloc: Global, graph: Numbers) -> Option<usize> {
+    let mut worked = Worked::new(alloc, graph, 1);
+    let mut differing = worked.failing(rt, Operation, NO_RESULTS);
+    for length in LENGTHS {
+        let rows = with_results(length.0, length.1);
+        differing = differing.or(worked.failing(rt, Operation, &rows));
+    }
+    differing
+}
+
 #[test]
 fn rows_hold(rt: HostRuntime) {
     for table in TABLES {
@@ -286,6 +275,7 @@ fn rows_hold(rt: HostRuntime) {
         );
     }
     ends(&rt, failing_place(&rt, rt.alloc(), Graph::new(rt.alloc())));
+    ends(&rt, failing_length(&rt, rt.alloc(), Graph::new(rt.alloc())));
 }
 
 #[test]

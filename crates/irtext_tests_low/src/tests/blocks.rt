@@ -1,8 +1,8 @@
 //! Blocks of a context: how they are made, labelled and changed.
-use crate::checks::{Check, alone, counting};
-use crate::must::{is_allowed, must, same, told};
+use crate::tests::checks::{Check, alone, counting};
 use crate::tests::locations::{at, make};
 use crate::tests::made::has_type;
+use crate::tests::must::{is_allowed, must, same, told};
 use irtext_base::base::{AttrObj, GIVEN_NAMES_KEY, SYM_NAME_KEY};
 use irtext_base::location::Source;
 use irtext_base::result::Result as Answer;

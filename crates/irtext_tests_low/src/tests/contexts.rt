@@ -2,8 +2,8 @@
 ghost use Rattle.std.specs.Prelude.{◌≤◌, ℕ};
 ghost use Rattle.irtext_context.specs.Context.{KeepsOlder};
 
-use crate::checks::{Check, alone, counting};
-use crate::must::{must, same};
+use crate::tests::checks::{Check, alone, counting};
+use crate::tests::must::{must, same};
 use irtext_base::location::Location;
 use irtext_context::base::context::making::Making;
 use irtext_context::base::{AttributeDict, Operation, OperationAccess, Ptr, Region};

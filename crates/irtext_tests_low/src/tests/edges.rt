@@ -1,7 +1,7 @@
 //! Attributes that are set on an operation, `Refusal`s as errors, and the causes of errors and faults.
-use crate::checks::{Check, alone};
-use crate::must::{error_told, must, same, told};
+use crate::tests::checks::{Check, alone};
 use crate::tests::locations::make;
+use crate::tests::must::{error_told, must, same, told};
 use irtext_base::base::{AttrObj, GIVEN_NAMES_KEY, Refusal, SYM_NAME_KEY};
 use irtext_base::parsable::{ParseFault, SourcePosition};
 use irtext_base::result::{Cause, Error, Result as Answer};

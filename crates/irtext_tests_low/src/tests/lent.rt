@@ -1,7 +1,7 @@
 //! Attributes that are borrowed mutably from a context: an inserted key is there, a reserved one is rejected, other objects are unchanged.
-use crate::checks::{Check, alone};
-use crate::must::{is_allowed, must};
+use crate::tests::checks::{Check, alone};
 use crate::tests::locations::make;
+use crate::tests::must::{is_allowed, must};
 use crate::tests::unique::make_block;
 use irtext_base::base::{AttrObj, GIVEN_NAMES_KEY, SYM_NAME_KEY};
 use irtext_context::base::context::making::Making;

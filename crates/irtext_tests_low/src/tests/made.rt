@@ -1,6 +1,6 @@
 //! Operations of a context that are made with results, operands, successors and regions, or fail.
-use crate::checks::{Check, alone, counting};
-use crate::must::{is_allowed, must, same, told};
+use crate::tests::checks::{Check, alone, counting};
+use crate::tests::must::{is_allowed, must, same, told};
 use crate::tests::unique::make_block;
 use irtext_base::result::Result as Answer;
 use irtext_checked::make::NewOperation;
@@ -35,19 +35,6 @@ fn answered(
     let types = Few::two(DemoType::Pointer, byte(rt));
     let id = must(rt, id(alloc, words));
     Operation::new(ctx, id, types, operands, successors, 2)
-}
-
-/// The text of the result for such an operation.
-fn said(
-    rt: &impl Abort,
-    alloc: Global,
-    ctx: &mut Ctx,
-    words: (&str, &str),
-    operands: &[Value],
-    successors: &[Ptr<BasicBlock>],
-) -> String {
-    let answer = answered(rt, alloc, ctx, words, operands, successors);
-    told(rt, alloc, answer, "made")
 }
 
 /// Makes such an operation of a demo dialect.
@@ -175,8 +162,8 @@ pub(crate) fn refuse(rt: &impl Abort, alloc: Global, ctx: &mut Ctx, row: usize) 
     add_demo(rt, ctx);
     let row = UNREGISTERED.get(row).expect(rt, "no such row");
     let used = Value::Result(made(rt, alloc, ctx, &[], &[]), 0);
-    let said = said(rt, alloc, ctx, (row.0, row.1), &[used], &[]);
-    same(rt, said, row.2);
+    let answer = answered(rt, alloc, ctx, (row.0, row.1), &[used], &[]);
+    same(rt, told(rt, alloc, answer, "made"), row.2);
     assert!(rt; (ctx.num_live() == 3) & (num_uses(ctx.graph(), used) == Some(0)));
 }
 
@@ -192,8 +179,8 @@ pub(crate) fn fill(rt: &impl Abort, alloc: Global, ctx: &mut Ctx) {
     add_demo(rt, ctx);
     let used = Value::Result(made(rt, alloc, ctx, &[], &[]), 0);
     let block = make_block(rt, alloc, ctx, "", "p");
-    let said = said(rt, alloc, ctx, ("builtin", "module"), &[used], &[block]);
-    same(rt, said, "Out of memory");
+    let answer = answered(rt, alloc, ctx, ("builtin", "module"), &[used], &[block]);
+    same(rt, told(rt, alloc, answer, "made"), "Out of memory");
     assert!(rt; (ctx.num_live() == 4) & (num_uses(ctx.graph(), used) == Some(0)));
 }
 

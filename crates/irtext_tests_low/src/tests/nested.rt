@@ -1,5 +1,5 @@
 //! Locations nested deeper than the stack allows: searched, compared, copied, moved into another context and released.
-use crate::tests::locations::{at, file};
+use crate::tests::locations::{at, file, has_sources};
 use irtext_base::location::{Location, Source};
 use irtext_demo::DemoAttr;
 use irtext_tests_common::contexts::Ctx;
@@ -30,19 +30,6 @@ fn is_nested(nesting: Nesting, location: &Location<DemoAttr>, source: Source) ->
     same
 }
 
-/// Whether a text in memory is the only source of a location.
-fn has_one_source(
-    rt: &impl Abort,
-    alloc: Global,
-    nesting: Nesting,
-    location: &Location<DemoAttr>,
-) -> bool {
-    let sources = location.sources(alloc).ok().expect(rt, "out of memory");
-    let found = sources.len() == 1 && sources[0] == Source::InMemory;
-    drop(sources);
-    found && (!is_last_nested(nesting) || location.source() == Some(Source::InMemory))
-}
-
 fn is_copied(rt: &impl Abort, alloc: Global, nesting: Nesting) -> bool {
     let location = nested(alloc, nesting, DEPTH, at(Source::InMemory)).expect(rt, "out of memory");
     let copied = has_copy(rt, alloc, nesting, &location);
@@ -50,7 +37,7 @@ fn is_copied(rt: &impl Abort, alloc: Global, nesting: Nesting) -> bool {
     copied
 }
 
-/// Whether a nested location is copied, and its source found in the copy.
+/// Whether a nested location is copied, and its source, a text in memory, found in the copy.
 fn has_copy(
     rt: &impl Abort,
     alloc: Global,
@@ -58,11 +45,12 @@ fn has_copy(
     location: &Location<DemoAttr>,
 ) -> bool {
     let copy = location.try_clone(alloc).ok().expect(rt, "out of memory");
-    let same = !is_last_nested(nesting) || copy == *location;
     let nested = is_nested(nesting, &copy, Source::InMemory);
-    let sourced = has_one_source(rt, alloc, nesting, &copy);
+    let listed = has_sources(rt, alloc, &copy, &[Source::InMemory]);
+    let equal = !is_last_nested(nesting) || copy == *location;
+    let found = !is_last_nested(nesting) || copy.source() == Some(Source::InMemory);
     drop(copy);
-    same & nested & sourced
+    nested & listed & equal & found
 }
 
 fn is_carried(

@@ -1,7 +1,7 @@
 //! The names under which values and blocks are printed.
-use crate::checks::{Check, counting};
-use crate::must::{must, same};
+use crate::tests::checks::{Check, counting};
 use crate::tests::locations::make;
+use crate::tests::must::{must, same};
 use irtext_base::base::{AttrObj, GIVEN_NAMES_KEY, Identifier};
 use irtext_context::base::{BasicBlock, Item, Operation, OperationData, Ptr};
 use irtext_demo::{DemoAttr, DemoType};

@@ -1,5 +1,5 @@
 //! Attributes and types as they are parsed and printed.
-use crate::must::{must, same};
+use crate::tests::must::{must, same};
 use irtext_base::base::AttrObj;
 use irtext_base::parsable::{CharStream, ParseResult};
 use irtext_demo::DemoAttr;

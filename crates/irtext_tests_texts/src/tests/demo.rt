@@ -1,5 +1,5 @@
 //! The demo types and attributes, as they are parsed and printed.
-use crate::must::{must, same};
+use crate::tests::must::{must, same};
 use irtext_base::parsable::{ParseResult, TextStream};
 use irtext_base::text::IrText;
 use irtext_demo::{DemoAttr, DemoType};
@@ -103,24 +103,19 @@ fn written<X: IrText<DemoAttr>>(
     }
 }
 
-#[test]
-fn types(rt: HostRuntime) {
-    for row in TYPES {
-        same(
-            &rt,
-            again::<DemoType, _>(&rt, rt.alloc(), row.0).as_str(),
-            row.1,
-        );
+/// Checks the text of the value, or the fault, for each row of a table.
+fn check<X: IrText<DemoAttr>, R: Abort>(rt: &R, alloc: Global, rows: &[(&str, &str)]) {
+    for row in rows {
+        same(rt, again::<X, R>(rt, alloc, row.0).as_str(), row.1);
     }
 }
 
 #[test]
+fn types(rt: HostRuntime) {
+    check::<DemoType, _>(&rt, rt.alloc(), TYPES);
+}
+
+#[test]
 fn attributes(rt: HostRuntime) {
-    for row in ATTRIBUTES {
-        same(
-            &rt,
-            again::<DemoAttr, _>(&rt, rt.alloc(), row.0).as_str(),
-            row.1,
-        );
-    }
+    check::<DemoAttr, _>(&rt, rt.alloc(), ATTRIBUTES);
 }

@@ -1,8 +1,8 @@
 //! Which operations fit their formats, and the reason why the others don't.
-use crate::checks::{Check, in_demo};
-use crate::must::{must, same};
-use crate::nested::misfits::{ID, bare};
-use crate::nested::steps::give_under;
+use crate::tests::checks::{Check, in_demo};
+use crate::tests::must::{must, same};
+use crate::tests::nested::misfits::{ID, bare};
+use crate::tests::nested::steps::give_under;
 use irtext_base::base::SYM_NAME_KEY;
 use irtext_checked::make::operation::add_regions;
 use irtext_context::base::{Item, Operation, Ptr};

@@ -1,5 +1,5 @@
 //! Which formats are accepted, and by which condition the others are rejected; and the operations of a dialect.
-use crate::must::{must, same};
+use crate::tests::must::{must, same};
 use irtext_base::base::Identifier;
 use irtext_base::format::{Directive, FormatFault, OpFormat};
 use irtext_base::result::Result as Answer;

@@ -1,5 +1,5 @@
 //! A list on a stream with its state.
-use crate::must::{must, same};
+use crate::tests::must::{must, same};
 use irtext_base::parsable::{CharStream, ParseResult};
 use irtext_demo::DemoAttr;
 use irtext_tests_common::answers::listed;

@@ -1,6 +1,6 @@
 //! Locations of each kind as texts, and errors after theirs: files by the paths that the context keeps.
-use crate::checks::{Check, in_demo};
-use crate::must::same;
+use crate::tests::checks::{Check, in_demo};
+use crate::tests::must::same;
 use irtext_base::base::{AttrObj, Identifier};
 use irtext_base::location::{Location, Source};
 use irtext_base::parsable::SourcePosition;

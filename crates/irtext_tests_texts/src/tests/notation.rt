@@ -1,5 +1,5 @@
 //! The notation of formats: which texts denote which formats, how formats are printed, and where a wrong text is rejected.
-use crate::must::{must, same};
+use crate::tests::must::{must, same};
 use irtext_base::format::OpFormat;
 use irtext_base::format::notation::NotationFault;
 use irtext_tests_common::formats::format_of;

@@ -3,7 +3,7 @@ ghost use Rattle.std.specs.Prelude.{codes, refl};
 ghost use Rattle.irtext_syntax.specs.KeywordTexts.{fixed_word};
 ghost use Rattle.irtext_syntax.specs.Ranges.{from_to};
 
-use crate::must::{must, same};
+use crate::tests::must::{must, same};
 use irtext_base::parsable::{CharStream, ParseResult, TextStream};
 use irtext_demo::{DemoAttr, DemoType};
 use irtext_syntax::characters::Characters;

@@ -1,5 +1,5 @@
 //! The printing state and its guards.
-use crate::must::same;
+use crate::tests::must::same;
 use irtext_print_ir::printable::{RegionPrintDepthLimit, State, fmt_indented_newline};
 
 #[test]

@@ -1,7 +1,7 @@
 //! Roots that are printed by the call that returns why it fails.
-use crate::checks::{Check, in_demo};
-use crate::must::must;
-use crate::nested::nested::{ALL, NONE};
+use crate::tests::checks::{Check, in_demo};
+use crate::tests::must::must;
+use crate::tests::nested::nested::{ALL, NONE};
 use irtext_context::base::context::making::Making;
 use irtext_context::base::{Item, Operation, Ptr};
 use irtext_few::Few;

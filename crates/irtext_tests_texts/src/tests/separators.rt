@@ -1,11 +1,13 @@
-//! Plain values, separators, quoted texts and stored printers as texts, and the printing state's guards.
-use crate::checks::{Check, in_demo};
-use crate::must::same;
+//! Plain values, lists, separators, quoted texts and stored printers as texts, and the printing state's guards.
+use crate::tests::checks::{Check, in_demo};
+use crate::tests::must::same;
 use irtext_context::base::Context;
 use irtext_demo::{DemoAttr, DemoType};
-use irtext_print_ir::irfmt::printers::{enclosed, iter_with_sep_by, printable_from_fn, quoted};
+use irtext_print_ir::irfmt::printers::{
+    enclosed, iter_with_sep, iter_with_sep_by, list_with_sep, printable_from_fn, quoted,
+};
 use irtext_print_ir::printable::{
-    Disp, ListSeparator, Printable, RegionPrintDepthLimit, State, fmt_quoted, indented_nl,
+    Disp, ListSeparator, Printable, RegionPrintDepthLimit, State, fmt_iter, fmt_quoted, indented_nl,
 };
 use irtext_tests_common::contexts::Ctx;
 use std::alloc::Global;
@@ -29,6 +31,9 @@ const LINES: &[&str] = &[
     "\n",
     "text: <\"a\">",
     "\n  108\n",
+    "1,2",
+    "012",
+    "1+ 2",
 ];
 
 /// Appends a number.
@@ -138,6 +143,36 @@ fn widened(rt: &impl Abort, alloc: Global) -> String {
     text
 }
 
+/// The items of a slice.
+const NUMBERS: &[u64] = &[1, 2];
+
+/// The items of a slice, which print themselves.
+fn of_slice(rt: &impl Abort, alloc: Global, ctx: &Ctx) -> String {
+    let list = list_with_sep(NUMBERS, ListSeparator::Char(','));
+    format!(in alloc; "{}", list.disp(ctx)).expect(rt, "out of memory")
+}
+
+/// The items of an iterator.
+fn of_iterator(rt: &impl Abort, alloc: Global, ctx: &Ctx) -> String {
+    let list = iter_with_sep(0u64..3, ListSeparator::None);
+    format!(in alloc; "{}", list.disp(ctx)).expect(rt, "out of memory")
+}
+
+/// Items that are appended to a text.
+fn written(rt: &impl Abort, alloc: Global, ctx: &Ctx) -> String {
+    let mut state = State::new(alloc, ());
+    let mut text = String::new(alloc);
+    fmt_iter(
+        1u64..3,
+        ctx,
+        &mut state,
+        ListSeparator::CharSpace('+'),
+        &mut text,
+    )
+    .expect(rt, "refused");
+    text
+}
+
 /// The printed text for a line.
 fn line(rt: &impl Abort, alloc: Global, ctx: &Ctx, number: usize) -> String {
     match number {
@@ -155,7 +190,10 @@ fn line(rt: &impl Abort, alloc: Global, ctx: &Ctx, number: usize) -> String {
         11 => newline(rt, alloc, ctx),
         12 => after_guard(rt, alloc),
         13 => appended(rt, alloc, ctx),
-        _ => widened(rt, alloc),
+        14 => widened(rt, alloc),
+        15 => of_slice(rt, alloc, ctx),
+        16 => of_iterator(rt, alloc, ctx),
+        _ => written(rt, alloc, ctx),
     }
 }
 
