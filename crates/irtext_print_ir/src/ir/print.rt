@@ -22,10 +22,8 @@ use irtext_print_ops::nested::{print_nested, print_nested_block, print_nested_re
 use irtext_print_ops::printer::Printer;
 use std::fmt;
 
-pub mod concrete;
 pub mod debug;
 pub(crate) mod nesting;
-pub mod parts;
 
 /// Appends the concrete text of an operation with everything nested in it, and its mark after that, if `marked`. Items are gathered.
 fn gather_operation<T: IrText<A>, A: AttrText<A>, U>(

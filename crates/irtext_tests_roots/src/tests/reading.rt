@@ -7,7 +7,7 @@ use irtext_context::base::{Operation, Ptr};
 use irtext_demo::DemoAttr;
 use irtext_parse_root::outermost::outermost_parse;
 use irtext_parse_root::parsable::parse_from_str;
-use irtext_print_ir::ir::print::concrete::OpObj;
+use irtext_print_ir::ir::print::OpObj;
 use irtext_print_ir::printable::Disp;
 use irtext_tests_common::building::live;
 use irtext_tests_common::contexts::Ctx;

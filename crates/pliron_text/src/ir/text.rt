@@ -8,7 +8,7 @@ use irtext_context::base::{Context, Operation, Ptr};
 use irtext_parse_root::outermost::outermost_parse;
 use irtext_parse_root::whole::whole_parse;
 use irtext_parse_state::parsable::StateStream;
-use irtext_print_ir::ir::print::concrete::OpObj;
+use irtext_print_ir::ir::print::OpObj;
 
 /// Parsing of operations, and an operation as a printable value.
 pub trait OperationText {

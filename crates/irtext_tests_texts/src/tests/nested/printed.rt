@@ -8,7 +8,7 @@ use irtext_base::text::IrText;
 use irtext_context::base::{BasicBlock, Item, Operation, OperationAccess, Ptr, Value};
 use irtext_demo::{DemoAttr, DemoType};
 use irtext_few::Few;
-use irtext_print_ir::ir::print::concrete::OpObj;
+use irtext_print_ir::ir::print::OpObj;
 use irtext_print_ir::irfmt::printers::op::region;
 use irtext_print_ir::printable::{Disp, Printable};
 use irtext_tests_common::building::{

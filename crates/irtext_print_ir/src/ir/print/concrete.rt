@@ -1,3 +1,0 @@
-//! The concrete text of an operation.
-
-pub use crate::ir::print::{OpObj, print_concrete};
