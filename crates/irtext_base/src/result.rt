@@ -161,7 +161,8 @@ pub type Result<X, A> = std::result::Result<X, Error<A>>;
 impl<A> Cause<A> {
     /// Returns a message of the caller as a cause. If the message could not be made, the cause is `Memory`.
     pub fn of_text<E: Drop>(text: std::result::Result<String, E>) -> Cause<A>
-        ensures { MatchResult text (λ s. result ≡ Cause.Text (record { 0 = s })) (λ _. result ≡ Cause.Memory) }
+        ensures { MatchResult text (λ s. result ≡ Cause.Text (record { 0 = s }))
+            (λ _. result ≡ Cause.Memory) }
     {
         match text {
             Ok(text) => Cause::Text(StringError(text)),

@@ -27,7 +27,8 @@ pub trait IrText<A>: Sized + Drop + Eq {
 
     /// Appends the text of the value. Fails only when out of memory.
     fn write_text(&self, f: &mut String) -> fmt::Result
-        ensures { IfOk result (λ _. string_bytes f.new ≡ string_bytes f.old ++ encode_utf8_all (written self.now)) };
+        ensures { IfOk result (λ _. string_bytes f.new ≡ string_bytes f.old
+            ++ encode_utf8_all (written self.now)) };
 
     ghost lawful: { Lawful Self (texts_of reading written) };
 

@@ -49,7 +49,8 @@ fn can_insert<O: Drop, B: Drop, T: Drop>(
     holder: Object,
     item: Object,
 ) -> bool
-    ensures { IsTrue result ↔ (IsLive graph.now holder × IsLive graph.now item × CanInsert graph.now holder item) }
+    ensures { IsTrue result ↔ (IsLive graph.now holder × IsLive graph.now item
+        × CanInsert graph.now holder item) }
 {
     graph.contains(holder) && graph.contains(item) && graph.can_insert_at_back(holder, item)
 }
@@ -64,7 +65,8 @@ fn insert<O: Drop, B: Drop, T: Drop, A>(
     ensures ok { OnOk result (Appends graph.old graph.new holder item) }
     ensures err { OnErr result (graph.new ≡ graph.old) }
     ensures refused { IfErr result (λ e. RefusesInsert graph.old holder item e.err) }
-    ensures kept { (m : ℕ) → IsNew m graph.old holder → IsNew m graph.old item → KeepsOlder m graph.old graph.new }
+    ensures kept { (m : ℕ) → IsNew m graph.old holder → IsNew m graph.old item
+        → KeepsOlder m graph.old graph.new }
     ensures kind { IfErr result (λ e. (e.kind ≡ ErrorKind.InvalidArgument) × (e.loc ≡ Unknown)) }
 {
     if !can_insert(graph, holder, item) {

@@ -245,9 +245,11 @@ fn put(
 
 /// What a dialect records of an operation with this format, which has to be accepted.
 fn info_of<A>(alloc: Global, format: OpFormat, isolated: bool) -> Result<OpInfo, Cause<A>>
-    ensures ok { IfOk result (λ info. known_of info ≡ record { format = format_of format; isolated = isolated }) }
+    ensures ok { IfOk result (λ info. known_of info ≡ record
+        { format = format_of format; isolated = isolated }) }
     ensures accepted { OnOk result (Accepted (format_of format)) }
-    ensures refused { IfErr result (λ cause. (own : _) (id : _) → id.dialect ≡ own → IsRefusedBy own id format cause) }
+    ensures refused { IfErr result (λ cause. (own : _) (id : _) → id.dialect ≡ own
+        → IsRefusedBy own id format cause) }
 {
     if let Err(fault) = format::check_format(&format) {
         return Err(Cause::FormatFault(fault));

@@ -55,7 +55,8 @@ fn type_of_operand<O: Drop, B: Drop, T: Drop>(
 ) -> &T
     requires alive { IsLive graph.now (TheOperation op) }
     requires within { index < length (operands graph.now op) }
-    ensures { slice_get (map (λ v. option_map (λ t. t.of_type) (value_at graph.now v)) (operands graph.now op)) index
+    ensures { slice_get (map (λ v. option_map (λ t. t.of_type) (value_at graph.now v))
+        (operands graph.now op)) index
         ≡ Some (Some result.now) }
 {
     graph.keeps_nesting();

@@ -43,7 +43,8 @@ pub fn label_block<O: Drop, B: Drop, T: Drop, A>(
     ensures stream { OnOk result (stream.new ≡ stream.old) }
     ensures follows { OnOk result ((w : Word) (p : Place) → slice_get names.old.names label.name ≡ Some w.name
         → TakesDefinition (define_label w p) names.old names.new graph.old graph.new p (OfBlock block)) }
-    ensures refused { IfErr result (UnlessMemory (RefusesLabel names.old graph.old (whole stream.old) label)) }
+    ensures refused { IfErr result (UnlessMemory (RefusesLabel names.old graph.old
+        (whole stream.old) label)) }
     ensures loses { LosesPlaceholders graph.old graph.new }
     ensures labels { length names.new.labels ≡ length names.old.labels }
     ensures rest { (names.new.names ≡ names.old.names) × (names.new.values ≡ names.old.values) }

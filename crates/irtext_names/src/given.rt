@@ -56,7 +56,8 @@ pub fn names_shared<A: Drop>(
     requires known { AreKnown (length names.now.names) (numbers_of read.now) }
     requires key { IfSome shared (λ key. key ≡ given_names_key) }
     ensures { OnOk result ((ws : List (Name ℕ)) → AreNamed names.now.names (numbers_of read.now) ws
-        → entries_of attributes.new ≡ put_all (entries_of attributes.old) (read_names (map (λ w. w.text) ws))) }
+        → entries_of attributes.new ≡ put_all (entries_of attributes.old)
+        (read_names (map (λ w. w.text) ws))) }
 {
     if read.len() == 0 {
         return Ok(());
@@ -79,7 +80,8 @@ pub(crate) fn names_stored<A: Drop>(
 ) -> Result<(), AllocError>
     requires { AreKnown (length names.now.names) (numbers_of read.now) }
     ensures { OnOk result ((ws : List (Name ℕ)) → AreNamed names.now.names (numbers_of read.now) ws
-        → entries_of attributes.new ≡ put_all (entries_of attributes.old) (read_names (map (λ w. w.text) ws))) }
+        → entries_of attributes.new ≡ put_all (entries_of attributes.old)
+        (read_names (map (λ w. w.text) ws))) }
 {
     names_shared(alloc, names, read, None, attributes)
 }

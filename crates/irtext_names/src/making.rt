@@ -151,7 +151,8 @@ fn parts_of<T: Drop>(
     types: Vec<(usize, T)>,
     listed: Few<T>,
 ) -> Result<Parts<T>, AllocError>
-    ensures operands { IfOk result (λ p. p.operands.items ≡ in_order operands.single.items ++ operands.list.items) }
+    ensures operands { IfOk result (λ p. p.operands.items ≡ in_order operands.single.items
+        ++ operands.list.items) }
     ensures successors { IfOk result (λ p. p.successors.items ≡
         in_order successors.single.items ++ successors.list.items) }
     ensures types { IfOk result (λ p. p.types ≡ types_made types.items listed) }

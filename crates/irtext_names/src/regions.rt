@@ -45,7 +45,8 @@ pub fn enter_region<O: Drop, B: Drop, T: Drop>(
     isolated: bool,
 ) -> Result<(), EnterFault>
     requires { MatchesGraph names.old.values names.old.labels graph.now }
-    ensures region { EntersRegion isolated result names.old.values names.new.values names.old.labels names.new.labels }
+    ensures region { EntersRegion isolated result names.old.values names.new.values names.old.labels
+        names.new.labels }
     ensures names { names.new.names ≡ names.old.names }
     ensures tied { MatchesGraph names.new.values names.new.labels graph.now }
     ensures waiting { StaysPending names.old names.new graph.now graph.now }

@@ -319,10 +319,12 @@ pub fn operation_begin<T: IrText<A>, A: AttrText<A>, U>(
     ensures refused { IfErr result (UnlessMemory
         (RefusesOperation T.IrText.reading (attr_at A.IrText.reading) (is_some block) names.old s.old)) }
     ensures unread { IfErr result (λ fault. fault.committed ≡ false → s.new.stream ≡ s.old.stream) }
-    ensures came { IfOk result (λ b. (read : ReadsFront T.IrText.reading (attr_at A.IrText.reading) (is_some block)
+    ensures came { IfOk result (λ b. (read : ReadsFront T.IrText.reading (attr_at A.IrText.reading)
+        (is_some block)
         s.old s.new.stream.rest) → (own : OwnSoFar T A)
         × HasBegun (format_of s.old.state.ctx.now.dialects)
-        (begun_by T.IrText.reading (attr_at A.IrText.reading) (is_some block) s.old s.new.stream.rest read) own
+        (begun_by T.IrText.reading (attr_at A.IrText.reading)
+        (is_some block) s.old s.new.stream.rest read) own
         × ComesInto (IsLocated s.old.state.src (whole s.old.stream)) s.old.state.ctx.now s.new.state.ctx.now
         b.op own block) }
     ensures lasts { OnOk result (KeepsLive s.old.state.ctx.now s.new.state.ctx.now) }

@@ -106,7 +106,8 @@ fn leave<O: Drop, B: Drop, T: Drop, A>(
     ensures tied { MatchesGraph names.new.values names.new.labels graph.now }
     ensures waiting { OnOk result (StaysPending names.old names.new graph.now graph.now) }
     ensures takes { OnOk result (TakesLeave region.isolated names.old names.new graph.now) }
-    ensures refused { IfErr result (UnlessMemory (IsUnresolved names.old graph.now (whole stream.old) region)) }
+    ensures refused { IfErr result (UnlessMemory (IsUnresolved names.old graph.now
+        (whole stream.old) region)) }
     ensures committed { IfErr result (λ fault. fault.committed ≡ true) }
 {
     let Some(name) = exit_region(names, graph, region.isolated) else {

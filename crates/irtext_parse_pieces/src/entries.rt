@@ -256,7 +256,8 @@ fn bracketed_parse<S: OwnStream, A: AttrText<A>>(
     keys: &mut Keys,
     inside: bool,
 ) -> ParseResult<Vec<ReadEntry<A>>, A>
-    ensures { MustDictionary S.CharStream.view S.CharStream.at A.IrText.reading inside stream.old result stream.new }
+    ensures { MustDictionary S.CharStream.view S.CharStream.at A.IrText.reading inside stream.old
+        result stream.new }
 {
     if let Err(fault) = text_demanded(stream, "[") {
         return Err(fault);
@@ -280,7 +281,8 @@ pub fn dictionary_parse<S: OwnStream, A: AttrText<A>>(
     keys: &mut Keys,
     inside: bool,
 ) -> ParseResult<Vec<ReadEntry<A>>, A>
-    ensures { MustDictionary S.CharStream.view S.CharStream.at A.IrText.reading inside stream.old result stream.new }
+    ensures { MustDictionary S.CharStream.view S.CharStream.at A.IrText.reading inside stream.old
+        result stream.new }
 {
     if stream.has_failed() {
         return bracketed_parse(stream, keys, inside);

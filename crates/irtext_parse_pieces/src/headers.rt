@@ -53,7 +53,8 @@ fn dictionary_alone<S: OwnStream, A: AttrText<A>>(
 /// Every error is committed.
 #[inline(always)]
 fn mark_end_parse<S: CharStream, A>(stream: &mut S) -> ParseResult<Option<ReadMark>, A>
-    ensures { (S.view stream.old).failed ≡ false → MustMean S.view S.at (IsMarkIf (whole (S.view stream.old))) mark_end_at
+    ensures { (S.view stream.old).failed ≡ false → MustMean S.view S.at
+        (IsMarkIf (whole (S.view stream.old))) mark_end_at
         stream.old result stream.new }
 {
     skip_white_space(stream);

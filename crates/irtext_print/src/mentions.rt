@@ -25,7 +25,8 @@ impl<'c, A: AttrText<A>> Mentions<'c, A> {
             mentions.with_mention (mentions.asking A.print_once A.eq)
             (mentions.known_in self.old.known) attr.now) }
         ensures place { IfOk result (λ place. (more : List A) → place ≡
-            place_in (mentions.asking A.print_once A.eq) (mentions.known_in self.new.known ++ more) attr.now) }
+            place_in (mentions.asking A.print_once A.eq)
+            (mentions.known_in self.new.known ++ more) attr.now) }
         ensures small { IfOk result (λ place. place < 2 ^ 63) }
     {
         match self.known.insert_full(attr) {

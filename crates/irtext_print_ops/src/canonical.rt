@@ -42,7 +42,8 @@ impl<'c, T: IrText<A>, A: AttrText<A>> Printer<'c, T, A> {
         requires live { IsSome (operation self.ctx.now op) }
         ensures { OnOk result (IfSome (seen_own A.IrText.written self.entry.ctx.now op) (λ o.
             AppendsText f.old (body_front (language_in T.IrText.own A.IrText.own self.entry.ctx.now)
-            (body_of (printing_by A.AttrText.own A.eq self.entry.ctx.now) o (Some format.canonical))) f.new)) }
+            (body_of (printing_by A.AttrText.own A.eq self.entry.ctx.now) o
+            (Some format.canonical))) f.new)) }
     {
         self.fmt_uses(op, f)?;
         DictPrinter {
@@ -64,7 +65,8 @@ impl<'c, T: IrText<A>, A: AttrText<A>> Printer<'c, T, A> {
         requires live { IsSome (operation self.ctx.now op) }
         ensures text { OnOk result (IfSome (seen_own A.IrText.written self.entry.ctx.now op) (λ o.
             AppendsText f.old (body_front (language_in T.IrText.own A.IrText.own self.entry.ctx.now)
-            (body_of (printing_by A.AttrText.own A.eq self.entry.ctx.now) o (Some format.canonical))) f.new)) }
+            (body_of (printing_by A.AttrText.own A.eq self.entry.ctx.now) o
+            (Some format.canonical))) f.new)) }
         ensures refused { IfErr result (λ e. e ≡ refusal.Memory) }
     {
         memory_alone(self.fmt_canonical(op, f))

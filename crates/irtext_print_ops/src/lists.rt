@@ -243,7 +243,8 @@ impl<'c, T: IrText<A>, A: AttrText<A>> Printer<'c, T, A> {
         requires before { list_all is_ascii before.now ≡ true }
         requires after { list_all is_ascii after.now ≡ true }
         ensures { OnOk result (AppendsText f.old
-            (before.now ++ (texts.list_text T.IrText.written self.entry.ctx.now listed 0 ++ after.now)) f.new) }
+            (before.now ++ (texts.list_text T.IrText.written self.entry.ctx.now listed 0
+            ++ after.now)) f.new) }
     {
         if self.count(listed) == 0 {
             f.push_str(both)?;

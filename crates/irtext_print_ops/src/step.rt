@@ -367,7 +367,8 @@ fn block_turn<'c, T: IrText<A>, A: AttrText<A>>(
         (framed.Block frame) }
     ensures steps { IfOk result (λ turn.
         heads.LeadsAt T.IrText.own A.IrText.own A.AttrText.own A.eq ctx.now width (framed.Block frame)
-        (steps.block_left turn) items.old.items items.new.items frames.old.items frames.new.items f.old f.new) }
+        (steps.block_left turn) items.old.items items.new.items frames.old.items
+        frames.new.items f.old f.new) }
     ensures refused { IfErr result (heads.RefusesFrame T.IrText.own A.IrText.own A.AttrText.own A.eq ctx.now
         width (framed.Block frame)) }
 {

@@ -151,7 +151,8 @@ impl<V: Copy, B: Copy> NameTracker<V, B> {
     /// isolated and no scope of values is open, the error is `TopLevelOpRegionNotIsolatedFromAbove`. When out of memory, the error is
     /// `Memory`. On an error nothing changes.
     pub fn enter_region(&mut self, isolated: bool) -> Result<(), EnterFault>
-        ensures region { EntersRegion isolated result self.old.values self.new.values self.old.labels self.new.labels }
+        ensures region { EntersRegion isolated result self.old.values self.new.values self.old.labels
+            self.new.labels }
         ensures names { self.new.names ≡ self.old.names }
     {
         if !isolated && !self.values.is_open() {

@@ -37,7 +37,8 @@ pub trait Table<E, A>: Copy {
     /// succeeds.
     fn parse_known(self, stream: &mut TextStream) -> Option<E>
         ensures { MatchOption result (stream.new ≡ stream.old)
-            (λ x. MustRead {A = A} (λ s. s) (λ s v. v) (λ x. x) (following self) stream.old (Ok x) stream.new) }
+            (λ x. MustRead {A = A} (λ s. s) (λ s v. v) (λ x. x) (following self) stream.old
+            (Ok x) stream.new) }
     {
         None
     }

@@ -21,7 +21,8 @@ pub fn texts_of_locations()
     ensures several { Says (two_as_one None) (codes "fused[<in-memory>: line: 3, column: 4, ?]") }
     ensures with_metadata { Says (fused (Some (own tt)) no_location) (codes "fused<note>[]") }
     ensures call { Says (call_site unknown unknown) (codes "callsite(? at ?)") }
-    ensures inside { Says nested (codes "callsite(name: \"f\", loc: (callsite(? at ?)) at fused<note>[<in-memory>: line: 3, column: 4, ?])") }
+    ensures inside { Says nested (codes
+        "callsite(name: \"f\", loc: (callsite(? at ?)) at fused<note>[<in-memory>: line: 3, column: 4, ?])") }
     ensures none { Says unknown (codes "?") }
 {}
 

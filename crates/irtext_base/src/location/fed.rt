@@ -13,7 +13,8 @@ use crate::parsable::SourcePosition;
 use std::hash::{Hash, Hasher};
 
 fn feed_metadata<A: Hash, H: Hasher>(metadata: &Option<AttrObj<A>>, state: &mut H)
-    ensures { state.new ≡ fold H.write state.old (fed.option (attr_writes A.hash_input) (attr_view_in metadata.now)) }
+    ensures { state.new ≡ fold H.write state.old (fed.option (attr_writes A.hash_input)
+        (attr_view_in metadata.now)) }
 {
     match metadata {
         Some(attr) => {

@@ -15,7 +15,8 @@ impl Source {
         ctx: &mut C,
         path: &str,
     ) -> crate::result::Result<Source, A>
-        ensures source { IfOk result (λ source. source ≡ Source.File (record { index = path_index (C.paths ctx.old) path.now })) }
+        ensures source { IfOk result (λ source. source ≡ Source.File
+            (record { index = path_index (C.paths ctx.old) path.now })) }
         ensures kept { OnOk result (ctx.new ≡ C.with_paths ctx.old (with_path (C.paths ctx.old) path.now)) }
         ensures err { OnErr result (ctx.new ≡ ctx.old) }
         ensures memory { IfErr result (λ e. e ≡ out_of_memory) }

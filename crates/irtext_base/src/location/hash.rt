@@ -79,7 +79,8 @@ impl<A: AttrText<A>, H: Hasher> Visitor<A, H> for Paths {
 }
 
 fn hash_location<A: AttrText<A>, H: Hasher>(location: &Location<A>, paths: &Paths, state: &mut H)
-    ensures { state.new ≡ fold H.write state.old (location_writes A.hash_input paths.now (location_view location.now)) }
+    ensures { state.new ≡ fold H.write state.old (location_writes A.hash_input paths.now
+        (location_view location.now)) }
 {
     visit(location, paths, state);
 }
@@ -100,7 +101,8 @@ impl<A: AttrText<A>> Location<A> {
     /// the nested locations, but not into the last one in each location.
     pub fn stable_hash<C: HasPaths<A>, H: Hasher>(&self, ctx: &C, state: &mut H)
         requires { IsTrue (are_known (length (C.paths ctx.now)) (location_view self.now)) }
-        ensures { state.new ≡ fold H.write state.old (location_writes A.hash_input (C.paths ctx.now) (location_view self.now)) }
+        ensures { state.new ≡ fold H.write state.old (location_writes A.hash_input (C.paths ctx.now)
+            (location_view self.now)) }
     {
         hash_location(self, ctx.paths(), state);
     }

@@ -43,8 +43,10 @@ fn move_nested<A: AttrText<A>>(
     to: &mut Paths,
 ) -> Result<Location<A>, AllocError>
     requires { IsTrue (are_known (length from.now) (location_view location.now)) }
-    ensures ok { IfOk result (λ l. location_view l ≡ all_under to.old (written_with from.now (location_view location.now))) }
-    ensures kept { OnOk result (to.new ≡ all_kept to.old (written_with from.now (location_view location.now))) }
+    ensures ok { IfOk result (λ l. location_view l ≡ all_under to.old
+        (written_with from.now (location_view location.now))) }
+    ensures kept { OnOk result (to.new ≡ all_kept to.old
+        (written_with from.now (location_view location.now))) }
     ensures more { KeepsMore to.old to.new }
 {
     let walk = Walk {
@@ -61,8 +63,10 @@ fn move_location<A: AttrText<A>>(
     to: &mut Paths,
 ) -> Result<Location<A>, AllocError>
     requires { IsTrue (are_known (length from.now) (location_view location.now)) }
-    ensures ok { IfOk result (λ l. location_view l ≡ all_under to.old (written_with from.now (location_view location.now))) }
-    ensures kept { OnOk result (to.new ≡ all_kept to.old (written_with from.now (location_view location.now))) }
+    ensures ok { IfOk result (λ l. location_view l ≡ all_under to.old
+        (written_with from.now (location_view location.now))) }
+    ensures kept { OnOk result (to.new ≡ all_kept to.old
+        (written_with from.now (location_view location.now))) }
     ensures more { KeepsMore to.old to.new }
     ensures free { OnErr result (is_free (written_with from.now (location_view location.now)) ≡ false) }
 {
@@ -85,10 +89,13 @@ fn moved<A: AttrText<A>>(
     to: &mut Paths,
 ) -> Result<Location<A>, AllocError>
     requires { IsTrue (are_known (length from.now) (location_view location.now)) }
-    ensures ok { IfOk result (λ l. location_view l ≡ all_under to.old (written_with from.now (location_view location.now))) }
-    ensures kept { OnOk result (to.new ≡ all_kept to.old (written_with from.now (location_view location.now))) }
+    ensures ok { IfOk result (λ l. location_view l ≡ all_under to.old
+        (written_with from.now (location_view location.now))) }
+    ensures kept { OnOk result (to.new ≡ all_kept to.old
+        (written_with from.now (location_view location.now))) }
     ensures known { IfOk result (λ l. IsTrue (are_known (length to.new) (location_view l))) }
-    ensures text { IfOk result (λ l. written_with to.new (location_view l) ≡ written_with from.now (location_view location.now)) }
+    ensures text { IfOk result (λ l. written_with to.new
+        (location_view l) ≡ written_with from.now (location_view location.now)) }
     ensures err { OnErr result (to.new ≡ to.old) }
     ensures free { OnErr result (is_free (written_with from.now (location_view location.now)) ≡ false) }
 {
@@ -112,9 +119,11 @@ impl Source {
         dst_ctx: &mut C,
     ) -> crate::result::Result<Source, A>
         requires { IsTrue (is_known (length (C.paths src_ctx.now)) self.now) }
-        ensures ok { IfOk result (λ s. s ≡ source_under (C.paths dst_ctx.old) (path_of (C.paths src_ctx.now) self.now)) }
+        ensures ok { IfOk result (λ s. s ≡ source_under (C.paths dst_ctx.old)
+            (path_of (C.paths src_ctx.now) self.now)) }
         ensures kept { OnOk result (dst_ctx.new ≡
-            C.with_paths dst_ctx.old (path_kept (C.paths dst_ctx.old) (path_of (C.paths src_ctx.now) self.now))) }
+            C.with_paths dst_ctx.old (path_kept (C.paths dst_ctx.old)
+            (path_of (C.paths src_ctx.now) self.now))) }
         ensures err { OnErr result (dst_ctx.new ≡ dst_ctx.old) }
         ensures memory { IfErr result (λ e. e ≡ out_of_memory) }
         ensures file { OnErr result (self.now ≢ Source.InMemory) }
@@ -163,12 +172,14 @@ impl<A: AttrText<A>> Location<A> {
             all_under (C.paths dst_ctx.old) (written_with (C.paths src_ctx.now) (location_view self.now))) }
         ensures kept { OnOk result (dst_ctx.new ≡ C.with_paths dst_ctx.old
             (all_kept (C.paths dst_ctx.old) (written_with (C.paths src_ctx.now) (location_view self.now)))) }
-        ensures known { IfOk result (λ l. IsTrue (are_known (length (C.paths dst_ctx.new)) (location_view l))) }
+        ensures known { IfOk result (λ l. IsTrue (are_known (length (C.paths dst_ctx.new))
+            (location_view l))) }
         ensures text { IfOk result (λ l. written_with (C.paths dst_ctx.new) (location_view l) ≡
             written_with (C.paths src_ctx.now) (location_view self.now)) }
         ensures err { OnErr result (dst_ctx.new ≡ dst_ctx.old) }
         ensures memory { IfErr result (λ e. e ≡ out_of_memory) }
-        ensures free { OnErr result (is_free (written_with (C.paths src_ctx.now) (location_view self.now)) ≡ false) }
+        ensures free { OnErr result (is_free (written_with (C.paths src_ctx.now)
+            (location_view self.now)) ≡ false) }
     {
         match moved(self, src_ctx.paths(), dst_ctx.paths_mut()) {
             Ok(location) => Ok(location),

@@ -32,7 +32,8 @@ pub(super) fn fused<A: AttrText<A>>(
     metadata: &Option<AttrObj<A>>,
     locations: Vec<Location<A>>,
 ) -> Result<Location<A>, AllocError>
-    ensures { IfOk result (λ l. location_view l ≡ fused (attr_view_in metadata.now) (in_row (map location_view locations.items))) }
+    ensures { IfOk result (λ l. location_view l ≡ fused (attr_view_in metadata.now)
+        (in_row (map location_view locations.items))) }
 {
     let locations = boxed(alloc, locations)?;
     let metadata = boxed_metadata(alloc, metadata)?;

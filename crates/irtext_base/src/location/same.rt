@@ -32,7 +32,8 @@ fn last_if<'a, A: PartialEq>(
     last: &'a Location<A>,
     end: &'a Location<A>,
 ) -> Left<'a, A>
-    ensures same { left_same A.eq result ≡ (alike && same_view A.eq (location_view last.now) (location_view end.now)) }
+    ensures same { left_same A.eq result ≡ (alike && same_view A.eq (location_view last.now)
+        (location_view end.now)) }
     ensures inside { left_weight result ≤ suc (weight_of last.now) }
 {
     if alike {
@@ -113,7 +114,8 @@ fn all_but_last_fused<'a, A: PartialEq>(
     locations: &'a [Location<A>],
     other: &'a Location<A>,
 ) -> Left<'a, A>
-    ensures same { left_same A.eq result ≡ same_view A.eq (several metadata.now locations.now) (location_view other.now) }
+    ensures same { left_same A.eq result ≡ same_view A.eq (several metadata.now locations.now)
+        (location_view other.now) }
     ensures inside { left_weight result ≤ weight_all locations.now }
 {
     let Location::Fused {
@@ -133,7 +135,8 @@ fn all_but_last_fused<'a, A: PartialEq>(
 /// Compares two rows of locations, but not the last location of each. Returns what is left to compare.
 #[cycle(same)]
 fn all_but_last_of_rows<'a, A: PartialEq>(a: &'a [Location<A>], b: &'a [Location<A>]) -> Left<'a, A>
-    ensures same { left_same A.eq result ≡ same_rows A.eq (in_row (map location_view a.now)) (in_row (map location_view b.now)) }
+    ensures same { left_same A.eq result ≡ same_rows A.eq (in_row (map location_view a.now))
+        (in_row (map location_view b.now)) }
     ensures inside { left_weight result ≤ weight_all a.now }
 {
     let Some((last, others)) = a.split_last() else {

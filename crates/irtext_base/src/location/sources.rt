@@ -59,7 +59,8 @@ fn note_one<'a, A>(
 ) -> Result<(), AllocError>
     ensures noted { OnOk result (left_noted found.new.items waits.new.items ≡
         left_noted (all_noted found.old.items (location_view location.now)) waits.old.items) }
-    ensures less { OnOk result (left_weight waits.new.items ≡ left_weight waits.old.items + weight_of location.now) }
+    ensures less { OnOk result (left_weight waits.new.items ≡ left_weight waits.old.items
+        + weight_of location.now) }
 {
     match location {
         Location::SrcPos { src, .. } => note_source(found, *src),
@@ -80,7 +81,8 @@ fn note_next<'a, A>(
 ) -> Result<(), AllocError>
     ensures noted { OnOk result (left_noted found.new.items waits.new.items ≡
         left_noted (wait_noted found.old.items next.entry) waits.old.items) }
-    ensures less { OnOk result (left_weight waits.new.items < left_weight waits.old.items + wait_weight next.entry) }
+    ensures less { OnOk result (left_weight waits.new.items < left_weight waits.old.items
+        + wait_weight next.entry) }
 {
     let locations = match next {
         Waits::One(location) => return note_one(location, waits, found),

@@ -72,7 +72,8 @@ pub(super) fn visit<A, S, V: Visitor<A, S>>(location: &Location<A>, visitor: &V,
 
 #[cycle(visit)]
 fn visit_all<A, S, V: Visitor<A, S>>(locations: &[Location<A>], visitor: &V, state: &mut S)
-    ensures { state.new ≡ row_visited (V.visit visitor.now) state.old (in_row (map location_view locations.now)) }
+    ensures { state.new ≡ row_visited (V.visit visitor.now) state.old
+        (in_row (map location_view locations.now)) }
 {
     for location in locations {
         visit(location, visitor, state);

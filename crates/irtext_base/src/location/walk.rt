@@ -90,7 +90,8 @@ impl<'m, M: NewSources> Walk<'m, M> {
         state: &mut M::State,
     ) -> Result<Turn<'a, A>, AllocError>
         requires { IsTrue (taken (M.rule self.now.sources.now) state.old (location_view location.now)).known }
-        ensures on { IfOk result (λ t. Opens (M.rule self.now.sources.now) (location_view location.now) state.old t state.new) }
+        ensures on { IfOk result (λ t. Opens (M.rule self.now.sources.now)
+            (location_view location.now) state.old t state.new) }
         ensures reached { Reached (M.rule self.now.sources.now) state.old state.new }
         ensures less { IfOk result (λ t. turn_turns t ≤ turns (location_view location.now)) }
     {
@@ -169,7 +170,8 @@ impl<'m, M: NewSources> Walk<'m, M> {
         state: &mut M::State,
     ) -> Result<Location<A>, AllocError>
         requires { IsTrue (taken (M.rule self.now.sources.now) state.old (location_view location.now)).known }
-        ensures ok { IfOk result (λ l. Copies (M.rule self.now.sources.now) location.now state.old l state.new) }
+        ensures ok { IfOk result (λ l. Copies (M.rule self.now.sources.now) location.now
+            state.old l state.new) }
         ensures reached { Reached (M.rule self.now.sources.now) state.old state.new }
     {
         let mut turn = self.open(location, state)?;

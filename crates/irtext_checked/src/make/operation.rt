@@ -123,7 +123,8 @@ pub trait TryNewOperation {
         ensures made { IfOk result (λ op. MakesWithRegions num_regions ctx.old ctx.new op id result_types
             operands.now successors.now) }
         ensures live { IfOk result (λ op. IsSome (operation ctx.new op)) }
-        ensures used { OnOk result (AreContainedValues ctx.old operands.now × AreLiveBlocks ctx.old successors.now) }
+        ensures used { OnOk result (AreContainedValues ctx.old operands.now
+            × AreLiveBlocks ctx.old successors.now) }
         ensures registered { MakesRegistered id result ctx.old ctx.new }
         ensures refused { IfErr result (λ e. RefusesNew ctx.old id operands.now successors.now e.err) }
     {

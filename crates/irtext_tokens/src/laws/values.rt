@@ -17,8 +17,10 @@ use std::hash::Hash;
 
 /// Two attributes are equal exactly if `attr_view` gives the same for both, and two locations exactly if `location_view` does.
 pub fn equal_where_alike<A: AttrText<A>>()
-    ensures attributes { (x y : AttrObj A) → (⟦<AttrObj<A> as PartialEq>⟧.eq x y ≡ true) ↔ (attr_view x ≡ attr_view y) }
-    ensures locations { (k l : Location A) → (⟦<Location<A> as PartialEq>⟧.eq k l ≡ true) ↔ (location_view k ≡ location_view l) }
+    ensures attributes { (x y : AttrObj A) → (⟦<AttrObj<A> as PartialEq>⟧.eq x y ≡ true)
+        ↔ (attr_view x ≡ attr_view y) }
+    ensures locations { (k l : Location A) → (⟦<Location<A> as PartialEq>⟧.eq k l ≡ true)
+        ↔ (location_view k ≡ location_view l) }
 {}
 
 /// Two sources, attributes or locations that are equal feed the same to a hasher.
@@ -45,7 +47,8 @@ pub fn stable_hashes_agree<A: AttrText<A>>()
 /// The notation of a format denotes that format and no other, if the format has a notation: its literals are printable ASCII, its keys are
 /// identifiers, and its indices are less than 2^64. Each format that a text denotes has one, and nothing is left of the text.
 pub fn notations_come_back()
-    ensures back { (format : Format) → has_notation format ≡ true → notation_at (notation_text format) ≡ means format [] }
+    ensures back { (format : Format) → has_notation format ≡ true
+        → notation_at (notation_text format) ≡ means format [] }
     ensures whole { (text rest : List ℕ) (format : Format) → notation_at text ≡ means format rest →
         (has_notation format ≡ true) × (rest ≡ []) }
 {}

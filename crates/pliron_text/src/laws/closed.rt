@@ -109,7 +109,8 @@ pub fn read_root_is_closed<T: IrText<A>, A: AttrText<A>>()
         (held : Option (Built T A (Written A))) →
         let types = texts_of T.reading T.written in
         let owns = texts_of A.reading A.written in
-        reads (language types owns C.format_of) tree source following → failures_of isolated tree entries ≡ [] →
+        reads (language types owns C.format_of) tree source following
+        → failures_of isolated tree entries ≡ [] →
         Represents (resolved_root C isolated g) (build isolated before entries tree) →
         ((p : ℕ) → (locations A.written).is_position (first p) ≡ true) → C.same_own ≡ A.eq →
         IsTextOf types owns (attr_at A.reading) C isolated g width n None t →

@@ -41,7 +41,8 @@ pub fn labels_left_open<T, A>()
         let l = language types owns formats in
         region_read l (shown place) (block_readings l blocks) text rest → (begins (the 123) text ≡ true)
         × (place ≡ length text) }
-    ensures reported { (place : ℕ) (scopes : Scopes) (isolated : Bool) (body following : Script) (name : List ℕ)
+    ensures reported { (place : ℕ) (scopes : Scopes) (isolated : Bool) (body following : Script)
+        (name : List ℕ)
         (user : User) →
         In (uses name user) (facts body).labels → (IsDefined name (facts body).labels → ⊥) →
         In (record { cause = UnresolvedReference name; at = Some place })

@@ -61,7 +61,8 @@ pub trait Making<T: IrText<A>, A: AttrText<A>> {
         requires operands { AreDefinedValues (seen self.old) operands.now }
         requires successors { AreLiveBlocks (seen self.old) successors.now }
         ensures made { IfOk result (λ p. MakesOperation (seen self.old) (seen self.new) p
-            (record { id = id; attributes = attributes; loc = loc }) result_types operands.now successors.now) }
+            (record { id = id; attributes = attributes; loc = loc }) result_types operands.now
+            successors.now) }
         ensures err { OnErr result (seen self.new ≡ seen self.old) }
         ensures kept { (mark : ℕ) → mark ≤ (seen self.old).graph.made → KeepsOlder mark (seen self.old)
             (seen self.new) };
@@ -144,7 +145,8 @@ impl<T: IrText<A>, A: AttrText<A>> Making<T, A> for Context<T, A> {
         requires operands { AreDefinedValues self.old operands.now }
         requires successors { AreLiveBlocks self.old successors.now }
         ensures made { IfOk result (λ p. MakesOperation self.old self.new p
-            (record { id = id; attributes = attributes; loc = loc }) result_types operands.now successors.now) }
+            (record { id = id; attributes = attributes; loc = loc }) result_types operands.now
+            successors.now) }
         ensures err { OnErr result (self.new ≡ self.old) }
         ensures kept { (mark : ℕ) → mark ≤ self.old.graph.made → KeepsOlder mark self.old self.new }
     {

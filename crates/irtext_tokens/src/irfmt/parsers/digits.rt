@@ -106,7 +106,8 @@ pub fn take_digits<S: CharStream>(stream: &mut S, radix: Radix) -> Option<u64>
 pub fn out_of_range<S: CharStream, A>(stream: &mut S, place: Place) -> ParseFault<A>
     requires { HasPassed place (S.view stream.old) }
     ensures { SincePlace place (S.view stream.old) (λ passed taken.
-        RunsOutOrFails S.view S.at (NumberRange (encode_utf8_all taken)) passed stream.old result stream.new) }
+        RunsOutOrFails S.view S.at (NumberRange (encode_utf8_all taken)) passed stream.old
+        result stream.new) }
 {
     match String::from_str(stream.allocator(), stream.text_since(place)) {
         Ok(text) => refuse_at(stream, place, Cause::NumberRange(text)),

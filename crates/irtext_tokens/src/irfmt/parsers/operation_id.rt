@@ -14,7 +14,8 @@ use irtext_base::result::Expected;
 
 /// Parses `.` and an operation's name, after its dialect. Every error is committed.
 fn name_demanded<S: CharStream, A>(stream: &mut S) -> ParseResult<Identifier, A>
-    ensures { MustRead S.view S.at (λ name. name) (word (codes ".") ▷ identifier_at) stream.old result stream.new }
+    ensures { MustRead S.view S.at (λ name. name) (word (codes ".") ▷ identifier_at) stream.old
+        result stream.new }
 {
     text_demanded(stream, ".")?;
     identifier_demanded(stream)
