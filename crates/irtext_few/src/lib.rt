@@ -28,6 +28,7 @@ pub struct Few<X> {
 }
 
 impl<X: Drop> Drop for Few<X> {
+    #[inline(always)]
     fn drop(self) {
         let Few { items: _items } = self;
     }

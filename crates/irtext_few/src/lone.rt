@@ -21,6 +21,7 @@ pub struct Lone<X> {
 }
 
 impl<X: Drop> Drop for Lone<X> {
+    #[inline(always)]
     fn drop(self) {
         let Lone { items: _items } = self;
     }

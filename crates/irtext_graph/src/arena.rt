@@ -161,6 +161,7 @@ impl<X: Drop> Arena<X> {
     }
 
     /// Stores an object in a new slot. No freed slot can be used again.
+    #[inline(always)]
     fn insert_last<K>(&mut self, first: u32, born: u64, content: X) -> Result<Ptr<K>, AllocError>
         requires { free_place self.old ≡ None }
         ensures inserts { IfOk result (λ p. Inserts self.old self.new p

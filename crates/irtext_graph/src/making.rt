@@ -291,8 +291,7 @@ impl<O: Drop, B: Drop, T: Drop> Graph<O, B, T> {
         Ok(p)
     }
 
-    /// Makes an operation with this data, without a parent, regions, results, operands and successors. If an allocation fails or a counter
-    /// is at its limit, the graph is unchanged.
+    /// Makes an operation that has this data and nothing else. If an allocation fails or a counter is at its limit, the graph is unchanged.
     #[inline(never)]
     pub fn make_bare_operation(&mut self, value: O) -> Result<Ptr<Operation>, AllocError>
         ensures made { IfOk result (λ p. MakesOperation self.old self.new p value [] [] []) }

@@ -33,6 +33,7 @@ pub struct NameTracker<V, B> {
 }
 
 impl<V: Drop, B: Drop> Drop for NameTracker<V, B> {
+    #[inline(always)]
     fn drop(self) {
         let NameTracker {
             names: _names,

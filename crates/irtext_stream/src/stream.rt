@@ -24,6 +24,7 @@ pub struct TextStream {
 }
 
 impl Drop for TextStream {
+    #[inline(always)]
     fn drop(self) {
         let TextStream {
             alloc: _,

@@ -30,6 +30,7 @@ pub struct Identifier {
 }
 
 impl Drop for Identifier {
+    #[inline(always)]
     fn drop(self) {
         let Identifier { text: _text } = self;
     }

@@ -30,6 +30,7 @@ impl<A> ParseFault<A> {
 }
 
 impl<A: Drop> Drop for ParseFault<A> {
+    #[inline(always)]
     fn drop(self) {
         let _cause = self.into_cause();
     }

@@ -36,6 +36,7 @@ pub struct AttributeDict<A> {
 }
 
 impl<A: Drop> Drop for AttributeDict<A> {
+    #[inline(always)]
     fn drop(self) {
         let AttributeDict {
             given: _given,

@@ -18,6 +18,7 @@ pub struct Numbered<X> {
 }
 
 impl<X: Drop> Drop for Numbered<X> {
+    #[inline(always)]
     fn drop(self) {
         let Numbered {
             dense: _dense,
