@@ -82,10 +82,10 @@ def seconds(path, words):
 LOOPS = {"GLIBC_TUNABLES": ":".join("glibc.cpu.x86_rep_%sb_threshold=%d" % (it, 1 << 30) for it in ("movs", "stos"))}
 
 
-def counted(path, words, tool, count):
-    """The count of this tool of valgrind for a run, found in its output by a pattern."""
+def counted(path, words, tool, count, program=None):
+    """The count of this tool of valgrind for a run, of another program if one is named, found in its output by a pattern."""
     with open(path, "rb") as source:
-        run = subprocess.run(["valgrind"] + tool + [PROGRAM] + words, env={**os.environ, **LOOPS},
+        run = subprocess.run(["valgrind"] + tool + [program or PROGRAM] + words, env={**os.environ, **LOOPS},
                              stdin=source, stdout=subprocess.DEVNULL, stderr=subprocess.PIPE, check=True)
     return int(re.search(count, run.stderr).group(1).replace(b",", b""))
 

@@ -40,7 +40,8 @@ def run(command, path, is_input):
 def instructions(command, path, is_input):
     """The instructions of such a run."""
     words = command[1:] + ([] if is_input else [path])
-    return counted(path if is_input else os.devnull, words, command[0], ["--tool=callgrind", "--callgrind-out-file=/dev/null"], rb"Collected : (\d+)")
+    source = path if is_input else os.devnull
+    return counted(source, words, ["--tool=callgrind", "--callgrind-out-file=/dev/null"], rb"Collected : (\d+)", command[0])
 
 
 def seconds(command, path, is_input):
