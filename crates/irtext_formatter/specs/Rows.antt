@@ -28,6 +28,7 @@ use Rattle.irtext_stream.specs.Classes.{after_spaces}
 use Rattle.pliron_text.specs.Calls.{IsPrinted}
 use Rattle.irtext_formatter.specs.Lines.{then_root}
 use Rattle.irtext_formatter.specs.declared.fault.Fault as fault
+use Rattle.irtext_formatter.specs.declared.fault.Fault.TheVariants as of_fault
 use Rattle.irtext_formatter.specs.declared.layout.Layout.{Layout}
 
 -- how roots are printed: with two spaces for each indentation step, and all regions
@@ -89,6 +90,21 @@ module _ {T A : Type 0} (types : ir_text.Ghosts T A) (owns : ir_text.Ghosts A A)
     pub has : HasRoot at before op next shown
     pub prints : IsPrinted types owns attributes same shown op plain root
 
+  -- A root is parsed at this position, and not printed for this reason.
+  pub record StopsHere (at : StreamView) (before : ContextView T A) (reason : Refusal) : Type 0 where
+    pub op : Ptr Operation
+    pub next : StreamView
+    pub shown : ContextView T A
+    pub has : HasRoot at before op next shown
+    pub refuses : heads.RefusesUnder types owns attributes same shown op plain reason
+
+  -- why no root is printed at this position; out of memory is possible at any time
+  abbrev pub FailsHere : StreamView → ContextView T A → fault.Fault A → Type 0
+  FailsHere at before of_fault.Memory = Unit {0}
+  FailsHere at before (of_fault.Rejected f) = RefusesAt types owns before at f
+  FailsHere at before (of_fault.Misfit m) = StopsHere at before refusal.Misfit
+  FailsHere at before of_fault.TooDeep = StopsHere at before refusal.Depth
+
   module _ (text : List ℕ) (ctx : ContextView T A) where
     -- The roots of the text up to this place, each followed by another, are printed as these bytes. Each was erased: the context holds the
     -- objects that it held at first.
@@ -104,30 +120,16 @@ module _ {T A : Type 0} (types : ir_text.Ghosts T A) (owns : ir_text.Ghosts A A)
       roots : {so_far root : List ℕ} {at next : StreamView} {before shown : ContextView T A} → Rows so_far at before
           → GivesRoot (after_spaces at) before root next shown → follows next.rest ≡ false → Formats (then_root so_far root) shown
 
-    -- The roots of the text up to this place are fine, and the next one is rejected.
-    pub record Rejects (fault : ParseFault A) : Type 0 where
+    -- The roots of the text up to this place are fine, and the next one gives this fault.
+    pub record FailsAfter (f : fault.Fault A) : Type 0 where
       pub so_far : List ℕ
       pub at : StreamView
       pub before : ContextView T A
       pub rows : Rows so_far at before
       pub more : follows at.rest ≡ true
-      pub refuses : RefusesAt types owns before (after_spaces at) fault
+      pub fails : FailsHere (after_spaces at) before f
 
-    -- The roots of the text up to this place are fine, and the next one is parsed, and not printed for this reason.
-    pub record Stops (reason : Refusal) : Type 0 where
-      pub so_far : List ℕ
-      pub at : StreamView
-      pub before : ContextView T A
-      pub rows : Rows so_far at before
-      pub op : Ptr Operation
-      pub next : StreamView
-      pub shown : ContextView T A
-      pub has : HasRoot (after_spaces at) before op next shown
-      pub refuses : heads.RefusesUnder types owns attributes same shown op plain reason
-
-    -- why the roots are not printed; out of memory is possible at any time
+    -- why the roots of the text are not printed; out of memory is possible at any time
     abbrev pub Fails : fault.Fault A → Type 0
-    Fails fault.Memory = Unit {0}
-    Fails (fault.Rejected f) = Rejects f
-    Fails (fault.Misfit m) = Stops refusal.Misfit
-    Fails fault.TooDeep = Stops refusal.Depth
+    Fails of_fault.Memory = Unit {0}
+    Fails f = FailsAfter f

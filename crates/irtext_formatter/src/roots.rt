@@ -1,9 +1,12 @@
 //! The roots of a text, parsed one after the other on one stream.
-ghost use Rattle.std.specs.Prelude.{◌≡◌, true, IsSome, IfOk, IfErr, OnOk, OnErr};
+ghost use Rattle.std.specs.Prelude.{◌≡◌, ◌<◌, false, length, IsSome, IfOk, IfErr, OnOk, OnErr};
+ghost use Rattle.irtext_base.specs.Text.{Text};
 ghost use Rattle.irtext_base.specs.Places.{IsPlaceAfter};
 ghost use Rattle.irtext_context.specs.Context.{ContextView, operation};
 ghost use Rattle.irtext_context.specs.Made.{SameObjects};
 ghost use Rattle.irtext_graph.specs.Back.{IsClosedBelow};
+ghost use Rattle.irtext_graph.specs.Throughout.{IsNewInside};
+ghost use Rattle.irtext_graph.specs.declared.object.Object.TheVariants.{TheOperation};
 ghost use Rattle.irtext_grammar.specs.Promises.Root.{UnlessMemory};
 ghost use Rattle.irtext_stream.specs.Classes.{after_spaces};
 ghost use Rattle.irtext_formatter.specs.Rows.{follows, ReadsRoot, RefusesAt, LaysOut};
@@ -70,6 +73,10 @@ impl<'c, T: IrText<A>, A: AttrText<A>> Roots<'c, T, A> {
         ensures begin { OnOk result (Begins (place_of self.old).passed self.new) }
         ensures objects { OnErr result (SameObjects (held_by self.old) (held_by self.new)) }
         ensures back { IsReady self.old → OnOk result (CanTakeBack (held_by self.old) self.new) }
+        ensures inside { IsReady self.old → IfOk result (λ op. IsNewInside self.new.made (held_by self.new).graph
+            (TheOperation op)) }
+        ensures shorter { IsReady self.old → OnOk result (length (place_of self.new).rest < length
+            (place_of self.old).rest) }
     {
         self.made = self.stream.state.ctx.made();
         self.begin = self.stream.stream.position();
@@ -108,6 +115,14 @@ impl<'c, T: IrText<A>, A: AttrText<A>> Roots<'c, T, A> {
     /// Gives the last root the locations that this layout prints. `followed` says whether another root follows.
     pub(crate) fn lay_out(&mut self, root: Ptr<Operation>, layout: Layout, followed: bool)
         requires live { IsSome (operation (held_by self.old) root) }
+        ensures lent { self.new.stream.state.ctx.ghost_name ≡ self.old.stream.state.ctx.ghost_name }
+        ensures laid { (begin : Text) → Begins begin self.old → LaysOut layout followed begin root (held_by self.old)
+            (held_by self.new) }
+        ensures live { IsSome (operation (held_by self.new) root) }
+        ensures back { IsNewInside self.old.made (held_by self.old).graph (TheOperation root) → (before : ContextView T A)
+            → CanTakeBack before self.old → CanTakeBack before self.new }
+        ensures place { place_of self.new ≡ place_of self.old }
+        ensures ready { IsReady self.old → IsReady self.new }
     {
         let ctx = &mut *self.stream.state.ctx;
         if followed && root.num_regions(ctx) == 0 {
