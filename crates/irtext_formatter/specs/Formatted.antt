@@ -31,12 +31,16 @@ module _ {T A : Type 0} (types : ir_text.Ghosts T A) (owns : ir_text.Ghosts A A)
   FailsText _ = ⊥
 
 module _ {T A : Type 0} (types : ir_text.Ghosts T A) (owns : ir_text.Ghosts A A) (attributes : attr_text.Ghosts A A) (same : A → A → Bool) (layout : Layout) (dialects : List (Text × Table)) where
-  -- Why an input that had these bytes left, and has these now, is not written: it is no text; these bytes of it give a failure; or
-  -- writing what is printed of them failed.
+  -- Why an input that had these bytes left, and has these now, has no text that can be printed: it is no text, or these bytes of it give
+  -- a failure.
+  abbrev pub FailsRead : Option (List ℕ) → Option (List ℕ) → List ℕ → Failure A → Type 0
+  FailsRead before after bytes (failure.Input fault) = IsInputFault before after fault
+  FailsRead before after bytes f = FailsText types owns attributes same layout dialects bytes f
+
+  -- the same, or writing what is printed of these bytes failed
   abbrev pub FailsInput : Option (List ℕ) → Option (List ℕ) → List ℕ → Failure A → Type 0
-  FailsInput before after bytes (failure.Input fault) = IsInputFault before after fault
   FailsInput before after bytes (failure.Unwritable error) = (out : List ℕ) × Gives types owns attributes same layout dialects bytes out
-  FailsInput before after bytes f = FailsText types owns attributes same layout dialects bytes f
+  FailsInput before after bytes f = FailsRead before after bytes f
 
 -- the text is what the reader had left, if that is a text; otherwise it is as before
 abbrev pub IsRead : {A : Type 0} → Option (List ℕ) → List ℕ → List ℕ → Result (Unit {0}) (Failure A) → Type 0

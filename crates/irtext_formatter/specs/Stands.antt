@@ -1,5 +1,5 @@
 -- For callers: where the parsing of a text's roots stands. Between functions: what is known of the roots so far.
-use Rattle.std.specs.Prelude.{◌≡◌, ℕ, Bool, true, false, List}
+use Rattle.std.specs.Prelude.{◌≡◌, ◌++◌, ℕ, Bool, true, false, List}
 use Rattle.irtext_base.specs.Places.{IsPlaceAfter}
 use Rattle.irtext_base.specs.Stream.{StreamView}
 use Rattle.irtext_base.specs.Text.{Text}
@@ -30,9 +30,11 @@ module _ {T A : Type 0} where
     pub fresh : IsFresh r.stream
     pub source : r.stream.state.src ≡ InMemory
 
-  -- the last root begins after this text
-  abbrev pub Begins : Text → Roots T A → Type 0
-  Begins passed r = IsPlaceAfter r.begin passed
+  -- the last root begins after this text, with which the whole text begins
+  pub record Begins (begin : Text) (r : Roots T A) : Type 0 where
+    pub at : IsPlaceAfter r.begin begin
+    pub rest : Text
+    pub same : begin ++ rest ≡ (place_of r).passed ++ (place_of r).rest
 
   -- what was made since the last root began can be erased, and then the context holds what it held before
   pub record CanTakeBack (before : ContextView T A) (r : Roots T A) : Type 0 where

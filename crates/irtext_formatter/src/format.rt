@@ -3,8 +3,9 @@ ghost use Rattle.std.specs.Prelude.{◌≡◌, ◌<◌, ◌++◌, ◌∷◌, ℕ
 ghost use Rattle.irtext_base.specs.Faults.{fault_of};
 ghost use Rattle.irtext_context.specs.Context.{operation};
 ghost use Rattle.irtext_print_ops.specs.Heads as heads;
+ghost use Rattle.irtext_formatter.specs.Layouts.{plain};
 ghost use Rattle.irtext_formatter.specs.Lines.{lined, separated, then_root};
-ghost use Rattle.irtext_formatter.specs.Rows.{plain, beginning, follows, FailsHere, Formats, Fails};
+ghost use Rattle.irtext_formatter.specs.Rows.{beginning, FailsHere, Formats, Fails};
 ghost use Rattle.irtext_formatter.specs.Stands.{place_of, held_by, IsReady, GoesOn};
 ghost use Rattle.irtext_formatter.specs.Unprinted.{is_memory, IsRejected, IsReason, HasText};
 
@@ -48,14 +49,15 @@ fn unprinted<T: IrText<A>, A: AttrText<A>>(
     refusal: Refusal,
 ) -> Fault<A>
     requires live { IsSome (operation ctx.now root) }
-    ensures { IsReason refusal result }
+    requires refused { heads.RefusesUnder T.IrText.own A.IrText.own A.AttrText.own A.eq ctx.now root plain refusal }
+    ensures { IsReason T.IrText.own A.IrText.own A.AttrText.own A.eq ctx.now root refusal result }
 {
     match refusal {
         Refusal::Memory => Fault::Memory,
         Refusal::Depth => Fault::TooDeep,
         Refusal::Misfit => match first_misfit(ctx, root) {
-            Some(Ok(misfit)) => Fault::Misfit(misfit),
-            _ => Fault::Memory,
+            Ok(misfit) => Fault::Misfit(misfit),
+            Err(_) => Fault::Memory,
         },
     }
 }
@@ -177,4 +179,49 @@ pub fn format_text<T: IrText<A>, A: AttrText<A>>(
         Ok(()) => Ok(out),
         Err(fault) => Err(fault),
     }
+}
+
+/// Parses and prints all roots, one into the text of the other.
+fn check_all<T: IrText<A>, A: AttrText<A>>(
+    roots: &mut Roots<'_, T, A>,
+    layout: Layout,
+    out: &mut String,
+) -> Result<(), Fault<A>>
+    requires ready { IsReady roots.old }
+    ensures lent { roots.new.stream.state.ctx.ghost_name ≡ roots.old.stream.state.ctx.ghost_name }
+    ensures formats { (text : List ℕ) → place_of roots.old ≡ beginning text →
+        OnOk result ((printed : List ℕ) × Formats T.IrText.own A.IrText.own A.AttrText.own A.eq layout text
+        (held_by roots.old) printed (held_by roots.new)) }
+    ensures fails { (text : List ℕ) → place_of roots.old ≡ beginning text →
+        IfErr result (Fails T.IrText.own A.IrText.own A.AttrText.own A.eq layout text (held_by roots.old)) }
+{
+    let mut left = roots.is_left();
+    while left {
+        out.clear();
+        left = append_next(roots, layout, out)?;
+    }
+    Ok(())
+}
+
+/// Checks a text as [`format_text`] does, and returns no text: it succeeds exactly where that does, if there is memory enough, and fails
+/// for the same reason. The text of one root is in memory at a time.
+pub fn check_text<T: IrText<A>, A: AttrText<A>>(
+    ctx: &mut Context<T, A>,
+    text: &str,
+    layout: Layout,
+) -> Result<(), Fault<A>>
+    ensures formats { OnOk result ((printed : List ℕ) × Formats T.IrText.own A.IrText.own A.AttrText.own A.eq layout
+        text.now ctx.old printed ctx.new) }
+    ensures fails { IfErr result (Fails T.IrText.own A.IrText.own A.AttrText.own A.eq layout text.now ctx.old) }
+{
+    let alloc = ctx.allocator();
+    let stream = match TextStream::new(alloc, text) {
+        Ok(stream) => stream,
+        Err(_) => return Err(Fault::Memory),
+    };
+    let mut out = String::new(alloc);
+    let mut roots = Roots::new(ctx, stream);
+    let answer = check_all(&mut roots, layout, &mut out);
+    let _ctx = roots.into_context();
+    answer
 }

@@ -1,11 +1,11 @@
 //! An input, read to its end, formatted, and written to an output.
 ghost use Rattle.std.specs.Prelude.{◌≡◌, ℕ, List, [], IfOk, IfErr, OnOk, string_bytes};
 ghost use Rattle.std.specs.Io.KnownBytes.{Appends};
-ghost use Rattle.irtext_formatter.specs.Formatted.{Gives, FailsText, FailsInput, IsRead, Unwritten};
+ghost use Rattle.irtext_formatter.specs.Formatted.{Gives, FailsText, FailsRead, FailsInput, IsRead, Unwritten};
 
 use crate::dialects::Dialects;
 use crate::fault::Failure;
-use crate::format::format_text;
+use crate::format::{check_text, format_text};
 use crate::input::read_text;
 use crate::layout::Layout;
 use crate::output::write_text;
@@ -64,4 +64,46 @@ pub fn format_input<T: IrText<A>, A: AttrText<A>, D: Dialects<T, A>, R: Read, W:
         Ok(()) => Ok(()),
         Err(error) => Err(Failure::Unwritable(error)),
     }
+}
+
+/// Checks a text with these dialects in a new context.
+fn check_new<T: IrText<A>, A: AttrText<A>, D: Dialects<T, A>>(
+    alloc: Global,
+    text: &str,
+    layout: Layout,
+) -> Result<(), Failure<A>>
+    ensures gives { OnOk result ((out : List ℕ) × Gives T.IrText.own A.IrText.own A.AttrText.own A.eq layout
+        (D.registered []) text.now out) }
+    ensures fails { IfErr result (FailsText T.IrText.own A.IrText.own A.AttrText.own A.eq layout (D.registered [])
+        text.now) }
+{
+    let mut ctx = Context::new(alloc);
+    if let Err(error) = D::register(&mut ctx) {
+        return Err(Failure::Dialects(error));
+    }
+    match check_text(&mut ctx, text, layout) {
+        Ok(()) => Ok(()),
+        Err(fault) => Err(Failure::Text(fault)),
+    }
+}
+
+/// Reads the input to its end and checks its roots, as [`format_input`] does, and writes nothing: it succeeds exactly where that does, if
+/// there is memory enough and nothing is wrong with the output, and fails for the same reason.
+pub fn check_input<T: IrText<A>, A: AttrText<A>, D: Dialects<T, A>, R: Read>(
+    alloc: Global,
+    input: &mut R,
+    layout: Layout,
+    text: &mut String,
+) -> Result<(), Failure<A>>
+    ensures read { IsRead (R.remaining input.old) (string_bytes text.old) (string_bytes text.new) result }
+    ensures gives { OnOk result ((out : List ℕ) × Gives T.IrText.own A.IrText.own A.AttrText.own A.eq layout
+        (D.registered []) (string_bytes text.new) out) }
+    ensures fails { IfErr result (FailsRead T.IrText.own A.IrText.own A.AttrText.own A.eq layout (D.registered [])
+        (R.remaining input.old) (R.remaining input.new) (string_bytes text.new)) }
+{
+    match read_text(alloc, input) {
+        Ok(read) => *text = read,
+        Err(fault) => return Err(Failure::Input(fault)),
+    }
+    check_new::<T, A, D>(alloc, text.as_str(), layout)
 }
