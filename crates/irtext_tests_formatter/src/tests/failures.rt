@@ -37,7 +37,7 @@ fn write_in_room(rt: &impl Abort, alloc: Global, room: usize, outcome: Outcome) 
         room,
     };
     let mut read = String::new(alloc);
-    let mut input = "test.scope {}".as_bytes();
+    let mut input = "builtin.module @m {}".as_bytes();
     assert_eq!(rt;
         formatted(alloc, &mut input, false, &mut read, &mut output),
         outcome,
@@ -50,8 +50,8 @@ fn a_full_output_is_told(rt: HostRuntime) {
     for (room, outcome) in [
         (0, Outcome::Unwritable),
         (1, Outcome::Unwritable),
-        (17, Outcome::Unwritable),
-        (18, Outcome::Done),
+        (25, Outcome::Unwritable),
+        (26, Outcome::Done),
         (100, Outcome::Done),
     ] {
         write_in_room(&rt, rt.alloc(), room, outcome);

@@ -3,6 +3,7 @@ use std::io;
 use std::io::{Read, Write};
 
 /// A reader that gives at most so many bytes at a time, and at the end of them ends or fails.
+#[derive(Drop)]
 pub(crate) struct Bits<'t> {
     pub(crate) left: &'t [u8],
     pub(crate) size: usize,
@@ -23,6 +24,7 @@ impl Read for Bits<'_> {
 }
 
 /// A writer that keeps so many bytes more, at most three at a time, and then fails.
+#[derive(Drop)]
 pub(crate) struct Full {
     pub(crate) kept: Vec<u8>,
     pub(crate) room: usize,

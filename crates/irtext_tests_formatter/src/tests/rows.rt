@@ -22,22 +22,22 @@ const ROWS: &[Row] = &[
     ),
     ("test.nop", false, Outcome::Done, "test.nop\n"),
     (
-        "test.scope {}\ntest.nop",
+        "builtin.module @m {}\ntest.nop",
         false,
         Outcome::Done,
-        "test.scope \n{\n  \n}\n\ntest.nop\n",
+        "builtin.module @m \n{\n  \n}\n\ntest.nop\n",
     ),
     (
         "test.return !0\noutlined_attributes:\n!0 = @[<in-memory>: line: 7, column: 8], []\ntest.nop",
         false,
         Outcome::Done,
-        "test.return !0\n\noutlined_attributes:\n!0 = @[<in-memory>: line: 7, column: 8], []\n\ntest.nop\n",
+        "test.return  !0\n\noutlined_attributes:\n!0 = @[<in-memory>: line: 7, column: 8], []\n\ntest.nop\n",
     ),
     (
         "test.return !0\noutlined_attributes:\n!0 = @[?], []\ntest.nop",
         true,
         Outcome::Done,
-        "test.return !0\n\noutlined_attributes:\n!0 = @[<in-memory>: line: 1, column: 1], []\n\ntest.nop !0\n\noutlined_attributes:\n!0 = @[<in-memory>: line: 4, column: 1], []\n",
+        "test.return  !0\n\noutlined_attributes:\n!0 = @[<in-memory>: line: 1, column: 1], []\n\ntest.nop !0\n\noutlined_attributes:\n!0 = @[<in-memory>: line: 4, column: 1], []\n",
     ),
     ("test.nop }", true, Outcome::Rejected(1, 10), ""),
     (
@@ -47,7 +47,7 @@ const ROWS: &[Row] = &[
         "",
     ),
     ("what.is test.nop", false, Outcome::Rejected(1, 1), ""),
-    ("test.scope {", true, Outcome::Rejected(1, 13), ""),
+    ("builtin.module @m {", true, Outcome::Rejected(1, 20), ""),
 ];
 
 /// Formats and checks a row.
@@ -75,18 +75,23 @@ fn rows_are_formatted(rt: HostRuntime) {
     }
 }
 
-/// What is written of a text, as it is read again and written again, is the same.
+/// Three roots; a name is defined and used in the second.
+const THREE: &str =
+    "test.nop builtin.module @m {^b(): x = test.make: builtin.integer si64; test.use x} test.return";
+
+/// Formats a text.
+fn written(rt: &impl Abort, alloc: Global, text: &[u8], locations: bool) -> Vec<u8> {
+    let mut read = String::new(alloc);
+    let mut written: Vec<u8> = Vec::new(alloc);
+    let mut input = text;
+    let came = formatted(alloc, &mut input, locations, &mut read, &mut written);
+    assert_eq!(rt; came, Outcome::Done);
+    written
+}
+
 #[test]
-fn what_is_written_stays(rt: HostRuntime) {
-    let alloc = rt.alloc();
-    for locations in [true, false] {
-        let mut read = String::new(alloc);
-        let mut written: Vec<u8> = Vec::new(alloc);
-        let mut input =
-            "test.return test.return test.scope {^b(): x = test.make: builtin.integer si64; test.use x} test.return".as_bytes();
-        assert_eq!(rt;
-            formatted(alloc, &mut input, locations, &mut read, &mut written),
-            Outcome::Rejected(1, 13)
-        );
-    }
+fn what_was_written_is_written_again(rt: HostRuntime) {
+    let first = written(&rt, rt.alloc(), THREE.as_bytes(), true);
+    let second = written(&rt, rt.alloc(), first.as_slice(), true);
+    assert!(rt; first.as_slice() == second.as_slice());
 }
