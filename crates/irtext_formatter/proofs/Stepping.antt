@@ -1,5 +1,6 @@
 -- Between the steps over the roots of a text: what a step of a stream and of a context keeps, and why a step fails.
-use Rattle.std.proofs.Common.{◌≡◌, ◌∙◌, ◌++◌, ◌⊎◌, inl, inr, ℕ, Bool, true, false, true≢false, List, length, append_assoc, ◌<◌, arith, refl, sym, ap, subst}
+use Rattle.std.proofs.Common.{◌≡◌, ◌∙◌, ◌++◌, ◌⊎◌, inl, inr, ℕ, Bool, true, false, true≢false, List, Result, Ok, Err, length, append_assoc, ◌<◌, arith, refl, sym, ap, subst}
+use Rattle.std.specs.Prelude.{IfOk, IfErr, OnOk, OnErr}
 use Rattle.irtext_base.specs.Faults.{fault_of}
 use Rattle.irtext_base.specs.Stream.{StreamView}
 use Rattle.irtext_base.specs.Text.{Text, front, after}
@@ -21,7 +22,7 @@ use Rattle.irtext_stream.specs.Classes.{after_spaces, has}
 use Rattle.irtext_stream.specs.declared.class.Class.TheVariants.{WhiteSpace}
 use Rattle.irtext_formatter.specs.Layouts.{plain}
 use Rattle.irtext_formatter.specs.Rows.{follows, RefusesAt, ReadsRoot, LaysOut, HasRoot, StopsHere, FailsHere}
-use Rattle.irtext_formatter.specs.Stands.{place_of, held_by, IsReady, GoesOn}
+use Rattle.irtext_formatter.specs.Stands.{place_of, held_by, IsReady, CanTakeBack, NextRoot, GoesOn}
 use Rattle.irtext_formatter.specs.Unprinted.{is_memory, IsRejected, IsReason}
 use Rattle.irtext_formatter.specs.declared.fault.Fault as fault
 use Rattle.irtext_formatter.specs.declared.fault.Fault.TheVariants as of_fault
@@ -81,3 +82,17 @@ module _ {T A : Type 0} (types : ir_text.Ghosts T A) (owns : ir_text.Ghosts A A)
 -- and less of the text is left
 pub shorter_still : {T A : Type 0} (old parsed new : Roots T A) → place_of new ≡ after_spaces (place_of parsed) → length (place_of parsed).rest < length (place_of old).rest → length (place_of new).rest < length (place_of old).rest
 shorter_still old parsed new at less = let same = ap (λ v. length v.rest) at in let fewer = space_shorter (place_of parsed).rest in omega (arith, less, same, fewer)
+
+-- the root that follows white space
+module _ {T A : Type 0} (types : ir_text.Ghosts T A) (owns : ir_text.Ghosts A A) (old spaced new : Roots T A) (spaces : place_of spaced ≡ after_spaces (place_of old)) (state : spaced.stream.state ≡ old.stream.state) where
+  pub next_root : (r : Result (Ptr Operation) (ParseFault A)) → IfOk r (λ op. ReadsRoot types owns op (place_of spaced) (place_of new) (held_by spaced) (held_by new)) → IfErr r (UnlessMemory (RefusesAt types owns (held_by spaced) (place_of spaced)))
+      → OnOk r (IsReady new) → OnOk r (CanTakeBack (held_by spaced) new) → OnErr r (SameObjects (held_by spaced) (held_by new)) → NextRoot types owns old new r
+  next_root (Ok op) reads refuses ready back objects = (
+    subst (λ s. ReadsRoot types owns op (after_spaces (place_of old)) (place_of new) s.ctx.now (held_by new)) state (subst (λ v. ReadsRoot types owns op v (place_of new) (held_by spaced) (held_by new)) spaces reads),
+    ready,
+    subst (λ s. CanTakeBack s.ctx.now new) state back,
+  )
+  next_root (Err fault) reads refuses ready back objects = (
+    subst (λ s. UnlessMemory (RefusesAt types owns s.ctx.now (after_spaces (place_of old))) fault) state (subst (λ v. UnlessMemory (RefusesAt types owns (held_by spaced) v) fault) spaces refuses),
+    subst (λ s. SameObjects s.ctx.now (held_by new)) state objects,
+  )

@@ -1,5 +1,5 @@
 //! The roots of a text, parsed one after the other on one stream.
-ghost use Rattle.std.specs.Prelude.{◌≡◌, ◌<◌, ◌↔◌, ℕ, [], true, false, length, None, IsTrue, IsSome, IfSome, IfOk, IfErr, OnOk, OnErr};
+ghost use Rattle.std.specs.Prelude.{◌≡◌, ◌<◌, ◌↔◌, ℕ, [], true, false, length, None, IsTrue, IsSome, IfSome, IfNone, IfOk, IfErr, OnOk, OnErr};
 ghost use Rattle.irtext_base.specs.Text.{Text};
 ghost use Rattle.irtext_base.specs.Places.{IsPlaceAfter};
 ghost use Rattle.irtext_base.specs.Stream.{IsAt};
@@ -17,7 +17,7 @@ ghost use Rattle.irtext_graph.specs.declared.object.Operation.{Operation};
 ghost use Rattle.irtext_grammar.specs.Promises.Root.{UnlessMemory};
 ghost use Rattle.irtext_stream.specs.Classes.{after_spaces};
 ghost use Rattle.irtext_formatter.specs.Rows.{follows, ReadsRoot, RefusesAt, KeepsPlace, LaysOut};
-ghost use Rattle.irtext_formatter.specs.Stands.{place_of, held_by, IsReady, CanTakeBack, Begins};
+ghost use Rattle.irtext_formatter.specs.Stands.{place_of, held_by, IsReady, CanTakeBack, Begins, NextRoot};
 
 use crate::layout::Layout;
 use irtext_base::location::{Location, Source};
@@ -175,8 +175,14 @@ impl<'c, T: IrText<A>, A: AttrText<A>> Roots<'c, T, A> {
         outermost_parse(&mut self.stream, true)
     }
 
-    /// Parses the next root. `None` exactly if only white space is left of the text.
-    pub fn next_root(&mut self) -> Option<ParseResult<Ptr<Operation>, A>> {
+    /// Parses the next root, with its section. `None` exactly if only white space is left of the text. On an error the context holds the
+    /// objects that it held before. The last root stays in the context, unless it is erased (`erase`).
+    pub fn next_root(&mut self) -> Option<ParseResult<Ptr<Operation>, A>>
+        ensures lent { self.new.stream.state.ctx.ghost_name ≡ self.old.stream.state.ctx.ghost_name }
+        ensures some { IsSome result ↔ (follows (place_of self.old).rest ≡ true) }
+        ensures parses { IsReady self.old → IfSome result (NextRoot T.IrText.own A.IrText.own self.old self.new) }
+        ensures none { IfNone result (held_by self.new ≡ held_by self.old) }
+    {
         if !self.is_left() {
             return None;
         }
