@@ -1,6 +1,6 @@
 -- Excerpts of a text: its characters as they are shown, its lines, and the parts of a line.
-use Rattle.std.proofs.Common.{◌≡◌, ◌∙◌, ℕ, zero, suc, ◌+◌, ◌-◌, ◌<◌, ◌≤◌, Bool, true, false, cond, not, ◌&&◌, ◌||◌, ◌==◌, nat_lt, List, [], ◌∷◌, ◌++◌, length, take, drop, get_or, replicate, codes, refl, sym, ap, subst, arith, add-zero, add_assoc, length-append, length-drop, lit<, ◌⊎◌, inl, inr, ⊎_elim, eq-or-lt_of_le}
-use Rattle.std.specs.Prelude.{nat_eq, Some, None, ℤ, unwrap_or}
+use Rattle.std.proofs.Common.{◌≡◌, ◌∙◌, ℕ, zero, suc, ◌+◌, ◌-◌, ◌<◌, ◌≤◌, Bool, true, false, cond, not, ◌&&◌, ◌||◌, ◌==◌, nat_lt, List, [], ◌∷◌, ◌++◌, length, take, drop, get_or, replicate, codes, refl, sym, ap, subst, arith, add-zero, length-append, length-drop, lit<, ◌⊎◌, inl, inr, ⊎_elim, eq-or-lt_of_le}
+use Rattle.std.specs.Prelude.{nat_eq, Some, None, ℤ}
 use Rattle.std.proofs.lemmas.List.{append_assoc, append-nil, take-append-drop, take_more, replicate-append-replicate}
 use Rattle.std.proofs.lemmas.Bool.Decides.{nat_tests}
 use Rattle.std.proofs.lemmas.Str.{encodes-append, encodes-chars, scalars-chars, chars-encodes, chars-append, chars_past_char, chars_from_encodes, encode_ascii, length-encode, IsCharBoundary-at_seam, IsCharBoundary-before_ascii, IsUtf8-take, IsUtf8-drop}
@@ -14,7 +14,7 @@ use Rattle.unicode_width.specs.Width.{char_width}
 use Rattle.irtext_stream.specs.Text.{Text, front, after}
 use Rattle.irtext_stream.proofs.Ascii.{and_left, and_right}
 use lib.Utf8.{scalar}
-use Rattle.irtext_excerpt.specs.Excerpt.{Parts, preceding, without_return, excerpt_at, excerpt_bytes, place_in, after_newline, after_characters, InPlace, zeros, is_between, is_coded, code_of, glyph, columns_of, columns, shown_as, shown, blanks, dots, left_of, right_of, pointed, is_in_line, HasParts}
+use Rattle.irtext_excerpt.specs.Excerpt.{Parts, preceding, without_return, lead_at, lead_bytes, place_in, after_newline, after_characters, InPlace, zeros, is_between, is_coded, code_of, glyph, columns_of, columns, shown_as, shown, shown_lines, blanks, dots, left_of, right_of, pointed, is_in_line, HasParts}
 
 -- ---- characters that are shown by their codes
 abbrev all_from : ℕ → ℕ → (ℕ → Bool) → Bool
@@ -131,11 +131,10 @@ unfolding encode_utf8
 blanks-encoded zero = refl
 blanks-encoded (suc n) = ap (λ z. 32 ∷ z) (blanks-encoded n)
 
-pub pointed-bytes : (left right : Text) → encode_utf8_all left ++ (encode_utf8_all right ++ (codes "\n" ++ (blanks left ++ codes "^"))) ≡ encode_utf8_all (pointed left right)
+pub pointed-bytes : (left right : Text) → encode_utf8_all left ++ (encode_utf8_all right ++ (codes "\n" ++ blanks left)) ≡ encode_utf8_all (pointed left right)
 unfolding encode_utf8
 pointed-bytes left right =
-    let below : encode_utf8_all (blanks left ++ codes "^") ≡ blanks left ++ codes "^" = encodes-append (blanks left) (codes "^") ∙ ap (λ z. z ++ codes "^") (blanks-encoded (columns left)) in
-    sym (encodes-append left (right ++ (10 ∷ (blanks left ++ codes "^"))) ∙ ap (λ z. encode_utf8_all left ++ z) (encodes-append right (10 ∷ (blanks left ++ codes "^")) ∙ ap (λ z. encode_utf8_all right ++ (10 ∷ z)) below))
+    sym (encodes-append left (right ++ (10 ∷ blanks left)) ∙ ap (λ z. encode_utf8_all left ++ z) (encodes-append right (10 ∷ blanks left) ∙ ap (λ z. encode_utf8_all right ++ (10 ∷ z)) (blanks-encoded (columns left))))
 
 -- ---- a text, cut after so many characters
 encodes-one : (xs : Text) (c : ℕ) → length (encode_utf8_all (xs ++ (c ∷ []))) ≡ length (encode_utf8_all xs) + len_utf8 c
@@ -293,12 +292,21 @@ in_line text line m n c e = ap (λ m. place_in text m n) c ∙ ap (λ t. after_c
 pub in_place : (text : Text) (m n : ℕ) (parts : Parts) (first second : List ℕ) → place_in text m n ≡ parts → HasParts first second parts.before parts.rest → InPlace text m n first second
 in_place text m n parts first second e h = subst (λ p. HasParts first second p.before p.rest) (sym e) h
 
--- the whole excerpt, in bytes
-pub excerpt-bytes : (bs : List ℕ) (line column : ℤ) (m n : ℕ) (first second : List ℕ) → m ≡ preceding line → n ≡ preceding column → InPlace (chars bs) m n first second
-    → encode_utf8_all (left_of (chars first)) ++ (encode_utf8_all (right_of (chars second)) ++ (codes "\n" ++ (blanks (left_of (chars first)) ++ codes "^"))) ≡ excerpt_bytes bs line column
-excerpt-bytes bs line column m n first second p q h =
+-- the excerpt but for its caret, in bytes
+pub lead-bytes : (bs : List ℕ) (line column : ℤ) (m n : ℕ) (first second : List ℕ) → m ≡ preceding line → n ≡ preceding column → InPlace (chars bs) m n first second
+    → encode_utf8_all (left_of (chars first)) ++ (encode_utf8_all (right_of (chars second)) ++ (codes "\n" ++ blanks (left_of (chars first)))) ≡ lead_bytes bs line column
+lead-bytes bs line column m n first second p q h =
     pointed-bytes (left_of (chars first)) (right_of (chars second))
     ∙ ap (λ t. encode_utf8_all (pointed (left_of t) (right_of (chars second)))) h.first_is
     ∙ ap (λ t. encode_utf8_all (pointed (left_of (place_in (chars bs) m n).before) (right_of t))) h.second_is
-    ∙ ap (λ k. encode_utf8_all (excerpt_at (place_in (chars bs) k n))) p
-    ∙ ap (λ k. encode_utf8_all (excerpt_at (place_in (chars bs) (preceding line) k))) q
+    ∙ ap (λ k. encode_utf8_all (lead_at (place_in (chars bs) k n))) p
+    ∙ ap (λ k. encode_utf8_all (lead_at (place_in (chars bs) (preceding line) k))) q
+
+-- ---- several lines
+lines-append : (xs ys : Text) → shown_lines (xs ++ ys) ≡ shown_lines xs ++ shown_lines ys
+lines-append [] ys = refl
+lines-append (c ∷ xs) ys = ap (λ z. cond (c == 10) (c ∷ []) (shown_as c) ++ z) (lines-append xs ys) ∙ sym (append_assoc (cond (c == 10) (c ∷ []) (shown_as c)) (shown_lines xs) (shown_lines ys))
+
+-- one character more, in bytes
+pub lines-more : (xs : Text) (c : ℕ) → encode_utf8_all (shown_lines xs) ++ encode_utf8_all (shown_lines (c ∷ [])) ≡ encode_utf8_all (shown_lines (xs ++ (c ∷ [])))
+lines-more xs c = sym (encodes-append (shown_lines xs) (shown_lines (c ∷ []))) ∙ ap encode_utf8_all (sym (lines-append xs (c ∷ [])))

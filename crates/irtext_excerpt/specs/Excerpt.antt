@@ -1,5 +1,5 @@
 -- An excerpt of a text: the line of a position, and below it a caret under the position's character.
-use Rattle.std.specs.Prelude.{◌≡◌, ℕ, zero, suc, ◌+◌, ◌-◌, Bool, false, Option, unwrap_or, true, not, ◌&&◌, ◌||◌, ◌==◌, nat_lt, nat_le, cond, List, [], ◌∷◌, ◌++◌, length, take, drop, replicate, codes, ℤ, pos, negsuc}
+use Rattle.std.specs.Prelude.{◌≡◌, ℕ, zero, suc, ◌+◌, ◌-◌, Bool, false, unwrap_or, true, not, ◌&&◌, ◌||◌, ◌==◌, nat_lt, nat_le, cond, List, [], ◌∷◌, ◌++◌, length, take, drop, replicate, codes, ℤ, pos, negsuc}
 use Rattle.std.specs.Fmt.{digits}
 use Rattle.std.specs.Str.{chars, encode_utf8_all}
 use Rattle.unicode_width.specs.Width.{char_width}
@@ -35,6 +35,11 @@ shown_as c = cond (is_coded c) (codes "U+" ++ code_of c) (glyph c ∷ [])
 abbrev pub shown : Text → Text
 shown [] = []
 shown (c ∷ text) = shown_as c ++ shown text
+
+-- the same of several lines, with newlines as they are
+abbrev pub shown_lines : Text → Text
+shown_lines [] = []
+shown_lines (c ∷ text) = cond (is_newline c) (c ∷ []) (shown_as c) ++ shown_lines text
 
 -- the columns of a terminal that a character takes: one, two for a wide one, none for a mark that is combined with the one before
 abbrev pub columns_of : ℕ → ℕ
@@ -90,26 +95,30 @@ left_of before = dots (nat_lt 60 (length before)) ++ shown (drop (length before 
 abbrev pub right_of : Text → Text
 right_of rest = shown (take 60 rest) ++ dots (nat_lt 60 (length rest))
 
--- what is left of the caret and what is right of it in one line, and a caret in the next
+-- what is left of the caret and what is right of it in one line, and in the next the spaces up to the caret
 abbrev pub pointed : Text → Text → Text
-pointed left right = left ++ (right ++ (10 ∷ (blanks left ++ codes "^")))
+pointed left right = left ++ (right ++ (10 ∷ blanks left))
 
--- the excerpt at a place
-abbrev pub excerpt_at : Parts → Text
-excerpt_at parts = pointed (left_of parts.before) (right_of parts.rest)
+-- the excerpt at a place, but for its caret
+abbrev pub lead_at : Parts → Text
+lead_at parts = pointed (left_of parts.before) (right_of parts.rest)
 
 -- how many lines or columns come before the one with this number
 abbrev pub preceding : ℤ → ℕ
 preceding (pos n) = n - 1
 preceding (negsuc n) = 0
 
--- the excerpt of a text at a line and a column
-abbrev pub excerpt_text : Text → ℤ → ℤ → Text
-excerpt_text text line column = excerpt_at (place_in text (preceding line) (preceding column))
+-- the excerpt of a text at a line and a column, but for its caret
+abbrev pub lead_text : Text → ℤ → ℤ → Text
+lead_text text line column = lead_at (place_in text (preceding line) (preceding column))
 
 -- the same in bytes
+abbrev pub lead_bytes : List ℕ → ℤ → ℤ → List ℕ
+lead_bytes bytes line column = encode_utf8_all (lead_text (chars bytes) line column)
+
+-- the whole excerpt in bytes
 abbrev pub excerpt_bytes : List ℕ → ℤ → ℤ → List ℕ
-excerpt_bytes bytes line column = encode_utf8_all (excerpt_text (chars bytes) line column)
+excerpt_bytes bytes line column = lead_bytes bytes line column ++ codes "^"
 
 -- two byte strings are these texts
 pub record HasParts (first second : List ℕ) (xs ys : Text) : Type 0 where

@@ -2,16 +2,19 @@
 //! shown there, with no character that a terminal would take for a command.
 #![tactic(auto)]
 
-ghost use Rattle.std.specs.Prelude.{◌≡◌, ◌-◌, ◌≤◌, Some, take, drop, length, replicate};
+ghost use Rattle.std.specs.Prelude.{◌≡◌, ◌-◌, Some, drop, length};
 ghost use Rattle.std.specs.Fmt.{WritesOnOk};
 ghost use Rattle.std.specs.Str.{chars, encode_utf8_all};
-ghost use Rattle.irtext_stream.specs.Text.{front};
-ghost use Rattle.irtext_excerpt.specs.Excerpt.{is_coded, zeros, glyph, columns_of, shown_as, shown, blanks, dots, left_of, right_of};
-ghost use Rattle.irtext_excerpt.specs.Excerpt.{preceding, is_in_line, without_return, InPlace, HasParts, excerpt_bytes};
+ghost use Rattle.irtext_excerpt.specs.Excerpt.{blanks, dots, left_of, right_of, preceding, lead_bytes, excerpt_bytes};
 
+mod characters;
+mod lines;
+
+pub use characters::{Code, Shown, ShownLines, is_coded};
+use characters::{fmt_blanks, fmt_shown};
 use irtext_base::parsable::SourcePosition;
+use lines::{count, place_in, split_after};
 use std::fmt;
-use unicode_width::UnicodeWidthChar;
 
 /// How many characters of a line an excerpt shows at most before the caret, and as many from it on.
 const REACH: usize = 60;
@@ -48,34 +51,30 @@ impl fmt::Display for Excerpt<'_> {
     ghost output = { λ e. Some (excerpt_bytes e.text.now e.position.line e.position.column) };
 
     fn fmt<W: fmt::Write>(&self, f: &mut fmt::Formatter<W>) -> fmt::Result {
-        let lines = preceding(&self.position.line);
-        let characters = preceding(&self.position.column);
-        let (before, rest) = place_in(self.text, lines, characters);
-        fmt_left(before, f)?;
-        fmt_right(rest, f)?;
-        f.write_str("\n")?;
-        fmt_margin(before, f)?;
-        f.write_str("^")
+        let lead = Lead { excerpt: *self };
+        write!(f, "{lead}^")
     }
 }
 
-/// A text as an excerpt shows it, as a `Display`: a tab as one space, and a character that does not print by its code, as `U+001B`. So a
-/// terminal takes nothing in it for a command. A newline is shown by its code too.
-///
-/// ```
-/// format!(in alloc; "{}", Shown { text: "a\tb\u{7}" })?    // a bU+0007
-/// ```
+/// An excerpt without its caret, as a `Display`: up to where the caret stands. So a caller can print the caret in a colour.
 #[derive(Clone, Copy, Debug)]
-pub struct Shown<'a> {
-    /// The text.
-    pub text: &'a str,
+pub struct Lead<'a> {
+    /// The excerpt.
+    pub excerpt: Excerpt<'a>,
 }
 
-impl fmt::Display for Shown<'_> {
-    ghost output = { λ s. Some (encode_utf8_all (shown (chars s.text.now))) };
+impl fmt::Display for Lead<'_> {
+    ghost output = { λ l. Some (lead_bytes l.excerpt.text.now l.excerpt.position.line l.excerpt.position.column) };
 
     fn fmt<W: fmt::Write>(&self, f: &mut fmt::Formatter<W>) -> fmt::Result {
-        fmt_shown(self.text, f)
+        let Excerpt { text, position } = self.excerpt;
+        let lines = preceding(&position.line);
+        let characters = preceding(&position.column);
+        let (before, rest) = place_in(text, lines, characters);
+        fmt_left(before, f)?;
+        fmt_right(rest, f)?;
+        f.write_str("\n")?;
+        fmt_margin(before, f)
     }
 }
 
@@ -84,60 +83,6 @@ fn preceding(number: &i32) -> usize
     ensures { result ≡ preceding number.now }
 {
     if *number < 1 { 0 } else { *number as usize - 1 }
-}
-
-/// Returns the part of a line before a place, and the part from it on. The place is after so many line breaks, and then after so many
-/// characters. It is at the end of the last line if the text has fewer line breaks, and at the end of its line if that has fewer
-/// characters.
-fn place_in(text: &str, lines: usize, characters: usize) -> (&str, &str)
-    ensures { InPlace (chars text.now) lines characters result.0.now result.1.now }
-{
-    let mut rest = text;
-    for _line in 0..lines {
-        match rest.split_once('\n') {
-            Some((_, next)) => rest = next,
-            None => return (without_return(rest), ""),
-        }
-    }
-    split_after(without_return(first_line(rest)), characters)
-}
-
-/// Returns a text up to its first newline.
-fn first_line(text: &str) -> &str
-    ensures { chars result.now ≡ front is_in_line (chars text.now) }
-{
-    match text.split_once('\n') {
-        Some((line, _)) => line,
-        None => text,
-    }
-}
-
-/// Returns a line without the carriage return at its end, if there is one.
-fn without_return(line: &str) -> &str
-    ensures { chars result.now ≡ without_return (chars line.now) }
-{
-    match line.strip_suffix('\r') {
-        Some(text) => text,
-        None => line,
-    }
-}
-
-/// Returns the first `n` characters of a text, and those after them.
-fn split_after(text: &str, n: usize) -> (&str, &str)
-    ensures { HasParts result.0.now result.1.now (take n (chars text.now)) (drop n (chars text.now)) }
-{
-    let mut at = 0;
-    for c in text.chars().take(n) {
-        at += c.len_utf8();
-    }
-    text.split_at(at)
-}
-
-/// Returns the number of characters of a text.
-fn count(text: &str) -> usize
-    ensures { result ≡ length (chars text.now) }
-{
-    text.chars().count()
 }
 
 /// Returns the last `REACH` characters of a text, or all if it has fewer.
@@ -184,102 +129,4 @@ fn fmt_right<W: fmt::Write>(rest: &str, f: &mut fmt::Formatter<W>) -> fmt::Resul
     let (first, _) = split_after(rest, REACH);
     fmt_shown(first, f)?;
     f.write_str(dots(REACH < count(rest)))
-}
-
-/// Appends the characters of a text as they are shown.
-fn fmt_shown<W: fmt::Write>(text: &str, f: &mut fmt::Formatter<W>) -> fmt::Result
-    ensures { WritesOnOk W.write_str_gives f.old result (encode_utf8_all (shown (chars text.now))) f.new }
-{
-    for c in text.chars() {
-        fmt_character(c, f)?;
-    }
-    Ok(())
-}
-
-/// Appends as many spaces as what `fmt_shown` appends takes columns.
-fn fmt_blanks<W: fmt::Write>(text: &str, f: &mut fmt::Formatter<W>) -> fmt::Result
-    ensures { WritesOnOk W.write_str_gives f.old result (blanks (shown (chars text.now))) f.new }
-{
-    for c in text.chars() {
-        f.write_str(blanks_of(c))?;
-    }
-    Ok(())
-}
-
-/// Appends a character as it is shown.
-fn fmt_character<W: fmt::Write>(c: char, f: &mut fmt::Formatter<W>) -> fmt::Result
-    ensures { WritesOnOk W.write_str_gives f.old result (encode_utf8_all (shown_as c)) f.new }
-{
-    if is_coded(c) {
-        let code = c as u32;
-        let zeros = zeros(code);
-        return write!(f, "U+{zeros}{code:X}");
-    }
-    f.write_char(glyph(c))
-}
-
-/// Returns the character that is shown for one that is not shown by its code: a space for a tab.
-fn glyph(c: char) -> char
-    ensures { result ≡ glyph c }
-{
-    if c == '\t' { ' ' } else { c }
-}
-
-/// Returns the zeros before a code in hexadecimal that has fewer than four digits.
-fn zeros(code: u32) -> &'static str
-    ensures { result.now ≡ zeros code }
-{
-    match code {
-        0..=0xf => "000",
-        0x10..=0xff => "00",
-        0x100..=0xfff => "0",
-        _ => "",
-    }
-}
-
-/// Returns as many spaces as what `fmt_character` appends takes columns.
-fn blanks_of(c: char) -> &'static str
-    ensures { result.now ≡ blanks (shown_as c) }
-{
-    if is_coded(c) {
-        "      "
-    } else {
-        spaces(columns_of(glyph(c)))
-    }
-}
-
-/// Returns how many columns of a terminal a character takes: at most 3.
-fn columns_of(c: char) -> usize
-    ensures value { result ≡ columns_of c }
-    ensures bound { result ≤ 3 }
-{
-    match c.width() {
-        Some(columns) => columns,
-        None => 0,
-    }
-}
-
-/// Returns so many spaces, at most 3.
-fn spaces(n: usize) -> &'static str
-    requires { n ≤ 3 }
-    ensures { result.now ≡ replicate n 32 }
-{
-    match n {
-        0 => "",
-        1 => " ",
-        2 => "  ",
-        _ => "   ",
-    }
-}
-
-/// Whether a character is shown by its code: a control character but the tab, or a character without a glyph.
-fn is_coded(c: char) -> bool
-    ensures { result ≡ is_coded c }
-{
-    match c {
-        '\t' => false,
-        '\0'..='\x1f' | '\x7f'..='\u{9f}' | '\u{ad}' | '\u{feff}' => true,
-        '\u{200b}'..='\u{200f}' | '\u{2028}'..='\u{202e}' | '\u{2060}'..='\u{206f}' => true,
-        _ => false,
-    }
 }

@@ -3,7 +3,7 @@ use Rattle.std.proofs.lemmas.Iterator.{YieldsList-from_chars, YieldsList-from_ta
 use Rattle.std.proofs.lemmas.Iterator.Consumers.{YieldsList-so_far, YieldsList-turn, YieldsList-end}
 use Rattle.std.proofs.lemmas.List.{map-id}
 use Rattle.irtext_excerpt.proofs.Excerpts.{Advances, advances, boundary_at, parts_at}
-use Rattle.irtext_excerpt.proofs.split_after.Goals as goal
+use Rattle.irtext_excerpt.proofs.lines.split_after.Goals as goal
 
 pub loop-c-init : goal.loop-c-init
 loop-c-init c = refl

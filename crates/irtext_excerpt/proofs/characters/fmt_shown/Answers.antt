@@ -6,7 +6,7 @@ use Rattle.std.proofs.lemmas.List.{map-id}
 use Rattle.std.specs.Str.{encode_utf8_all}
 use Rattle.irtext_excerpt.specs.Excerpt.{shown}
 use Rattle.irtext_excerpt.proofs.Excerpts.{shown-more}
-use Rattle.irtext_excerpt.proofs.fmt_shown.Goals as goal
+use Rattle.irtext_excerpt.proofs.characters.fmt_shown.Goals as goal
 
 pub loop-c-preserved : goal.loop-c-preserved
 loop-c-preserved g c = λ plain.

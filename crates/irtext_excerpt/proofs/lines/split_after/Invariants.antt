@@ -1,6 +1,6 @@
 use Rattle.std.proofs.Common.{◌≡◌, length}
 use Rattle.std.specs.Str.{encode_utf8_all}
-use Rattle.irtext_excerpt.proofs.split_after.Given as goal
+use Rattle.irtext_excerpt.proofs.lines.split_after.Given as goal
 
 -- the offset is the number of bytes of the characters so far
 abbrev pub invariant-loop-c : goal.invariant-loop-c

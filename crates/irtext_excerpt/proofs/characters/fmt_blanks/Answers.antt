@@ -5,7 +5,7 @@ use Rattle.std.proofs.lemmas.Iterator.Consumers.{YieldsList-end}
 use Rattle.std.proofs.lemmas.List.{map-id}
 use Rattle.irtext_excerpt.specs.Excerpt.{shown, blanks}
 use Rattle.irtext_excerpt.proofs.Excerpts.{blanks-more}
-use Rattle.irtext_excerpt.proofs.fmt_blanks.Goals as goal
+use Rattle.irtext_excerpt.proofs.characters.fmt_blanks.Goals as goal
 
 pub loop-c-preserved : goal.loop-c-preserved
 loop-c-preserved g c = λ plain.

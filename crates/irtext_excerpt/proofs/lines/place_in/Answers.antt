@@ -4,7 +4,7 @@ use Rattle.std.specs.Str.{chars}
 use Rattle.irtext_stream.specs.Text.{front}
 use Rattle.irtext_excerpt.specs.Excerpt.{place_in, is_in_line, without_return}
 use Rattle.irtext_excerpt.proofs.Excerpts.{broken, unbroken, next_line, last_line, in_line, in_place}
-use Rattle.irtext_excerpt.proofs.place_in.Goals as goal
+use Rattle.irtext_excerpt.proofs.lines.place_in.Goals as goal
 
 pub loop-line-init : goal.loop-line-init
 loop-line-init c =

@@ -1,6 +1,6 @@
 use Rattle.std.specs.Fmt.{HasWritten, IsPlainFormatter}
 use Rattle.irtext_excerpt.specs.Excerpt.{shown, blanks}
-use Rattle.irtext_excerpt.proofs.fmt_blanks.Given as goal
+use Rattle.irtext_excerpt.proofs.characters.fmt_blanks.Given as goal
 
 -- as many spaces were appended as are shown for the characters so far
 abbrev pub invariant-loop-c : goal.invariant-loop-c

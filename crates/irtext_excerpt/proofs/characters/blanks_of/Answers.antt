@@ -1,7 +1,7 @@
 use Rattle.std.proofs.Common.{◌∙◌, sym, replicate, ap}
 use Rattle.irtext_excerpt.specs.Excerpt.{columns_of}
 use Rattle.irtext_excerpt.proofs.Excerpts.{coded_size, plain_size}
-use Rattle.irtext_excerpt.proofs.blanks_of.Goals as goal
+use Rattle.irtext_excerpt.proofs.characters.blanks_of.Goals as goal
 
 pub returns-then-is_coded : goal.returns-then-is_coded
 returns-then-is_coded c = sym (coded_size c.args.c (sym c.is_coded.ensures ∙ c.if-is_coded.true))

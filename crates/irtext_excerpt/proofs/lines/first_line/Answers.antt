@@ -1,6 +1,6 @@
 use Rattle.std.proofs.Common.{sym}
 use Rattle.irtext_excerpt.proofs.Excerpts.{broken, unbroken}
-use Rattle.irtext_excerpt.proofs.first_line.Goals as goal
+use Rattle.irtext_excerpt.proofs.lines.first_line.Goals as goal
 
 pub returns-in-Some : goal.returns-in-Some
 returns-in-Some c =
