@@ -1,10 +1,9 @@
-use Rattle.std.proofs.Common.{◌≡◌, ◌∙◌, ◌+◌, not, length, reverse, sym, ap, to_z, of_z, w32}
+use Rattle.std.proofs.Common.{◌∙◌, not, length, reverse, sym, ap, to_z, of_z, w32}
 use Rattle.std.specs.Prelude.{count_by}
 use Rattle.std.proofs.lemmas.Iterator.{YieldsList-from_chars}
 use Rattle.std.proofs.lemmas.Iterator.Consumers.{YieldsList-end}
 use Rattle.std.proofs.lemmas.List.{map-id}
 use Rattle.std.specs.List.{take_while}
-use Rattle.std.specs.Str.{chars}
 use Rattle.irtext_stream.specs.Stream.{cut}
 use Rattle.irtext_stream.specs.Text.{is_newline, line_after, column_after}
 use Rattle.irtext_diagnostics.proofs.Places.{stored}
