@@ -1,6 +1,7 @@
 -- What a context with the demo dialects is, and what the parse of a text in memory says.
 use Rattle.std.proofs.Common.{◌≡◌, ◌∙◌, ◌⊎◌, ℕ, Bool, true, false, List, [], Option, Some, None, option_map, IsSome, Result, Ok, Err, inl, inr, refl, sym, ap, subst}
 use Rattle.std.specs.Prelude.{IfOk, IfErr, ⊤}
+use Rattle.irtext_base.specs.Stream.{StreamView}
 use Rattle.irtext_base.specs.Text.{Text}
 use Rattle.irtext_base.specs.declared.parsable.fault.ParseFault.{ParseFault}
 use Rattle.irtext_base.specs.declared.result.Error.{Error}
@@ -10,11 +11,13 @@ use Rattle.irtext_graph.specs.Graph.{children, parent}
 use Rattle.irtext_graph.specs.Nested.{Nested}
 use Rattle.irtext_graph.specs.declared.arena.Ptr.{Ptr}
 use Rattle.irtext_graph.specs.declared.object.Operation.{Operation}
+use Rattle.irtext_grammar.specs.Contexts.Held.{whole}
 use Rattle.irtext_grammar.specs.Contexts.Nested.{pointers, seen_operation, seen_regions, seen_root}
 use Rattle.irtext_grammar.specs.Graphs.Graph.{Graph}
+use Rattle.irtext_grammar.specs.Names.Script.{Failure}
 use Rattle.irtext_grammar.specs.Promises.Root.{UnlessMemory}
 use Rattle.irtext_names.specs.OnlyNew.{OnlyNew}
-use Rattle.irtext_names.specs.Promises.{BuildsRoot, RefusesRoot}
+use Rattle.irtext_names.specs.Promises.{BuildsRoot, IsFirst, RefusesRoot}
 use Rattle.irtext_parse_root.specs.AnyState.{MissesAny}
 use Rattle.irtext_parse_root.specs.Parses.{AnswersOperation, texts, attr}
 use Rattle.irtext_parse_state.specs.FromText.{at_beginning, Begins, IsOutOfMemory, Passes}
@@ -65,11 +68,19 @@ module _ {T A : Type 0} (types : ir_text.Ghosts T A) (owns : ir_text.Ghosts A A)
     reads_from (Err f) builds (Ok y) passed = absurd passed
     reads_from (Err f) builds (Err e) passed = tt
 
+    never : (f : ParseFault A) → RefusesRoot (texts types) (texts owns) types.reading (attr owns) start.state.ctx.now.dialects start.stream f
+        → (op : Ptr Operation) (left : ContextView T A) → ReadsRoot types owns bytes ctx op left → ⊥
+    never f refuses op left read =
+        let there = read.builds in
+        let over = subst (λ (c : ContextView T A). RefusesRoot (texts types) (texts owns) types.reading (attr owns) c.dialects start.stream f) (begins.context ∙ sym read.begins.context) refuses in
+        let here = subst (λ (s : StreamView). RefusesRoot (texts types) (texts owns) types.reading (attr owns) read.old.state.ctx.now.dialects s f) (begins.stream_is ∙ sym read.begins.stream_is) over in
+        subst (λ (fs : List (Failure Text ℕ)). IsFirst (whole read.old.stream) fs f) there.resolves (here.first there.tree there.entries read.new.stream.rest there.reads)
+
     because : (f : ParseFault A) → UnlessMemory (MissesAny types.reading (attr owns) true start) f → UnlessMemory (RefusesRoot (texts types) (texts owns) types.reading (attr owns) start.state.ctx.now.dialects start.stream) f
         → UnlessMemory (RejectsText types owns bytes ctx) f
     because f (inl memory) refuses = inl memory
     because f (inr missed) (inl memory) = inl memory
-    because f (inr missed) (inr refuses) = inr (record { old = start; begins = begins; missed = missed; refuses = refuses })
+    because f (inr missed) (inr refuses) = inr (record { old = start; begins = begins; missed = missed; refuses = refuses; never = never f refuses })
 
     rejected_from : (answer : Result (Ptr Operation) (ParseFault A)) → IfErr answer (UnlessMemory (MissesAny types.reading (attr owns) true start))
         → IfErr answer (UnlessMemory (RefusesRoot (texts types) (texts owns) types.reading (attr owns) start.state.ctx.now.dialects start.stream))

@@ -54,8 +54,7 @@ module _ {T A : Type 0} (types : ir_text.Ghosts T A) (owns : ir_text.Ghosts A A)
     pub utf8 : IsUtf8 bytes
     pub error : Error A
     pub rejected : IsRejection types owns bytes demo_context error
-    pub paths : List (List ℕ)
-    pub says : said ≡ located_error owns.written paths error
+    pub says : said ≡ located_error owns.written [] error
 
   -- a root was parsed, but not printed, and this is the text of the error that says so
   pub record Unprints (form : Form) (bytes said : List ℕ) : Type 0 where

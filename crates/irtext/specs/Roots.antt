@@ -49,12 +49,13 @@ module _ {T A : Type 0} (types : ir_text.Ghosts T A) (owns : ir_text.Ghosts A A)
       pub ends : after ≡ new.state.ctx.now
 
     -- The text is rejected, over this context, with the first fault in the order in which it is parsed. Whatever root it begins with does
-    -- not resolve, and the fault is the first failure of that.
+    -- not resolve, and the fault is the first failure of that. So no root is parsed from it.
     pub record RejectsText (fault : ParseFault A) : Type 0 where
       pub old : StateStream T A ⊤
       pub begins : Begins (at_beginning bytes) ctx old
       pub missed : MissesAny types.reading (attr owns) true old fault
       pub refuses : RefusesRoot (texts types) (texts owns) types.reading (attr owns) old.state.ctx.now.dialects old.stream fault
+      pub never : (op : Ptr Operation) (after : ContextView T A) → ReadsRoot op after → ⊥
 
     -- an error is that of a text that is rejected, or of one for which the parser had no memory
     pub record IsRejection (error : Error A) : Type 0 where
