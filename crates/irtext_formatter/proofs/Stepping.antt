@@ -34,14 +34,6 @@ pub same_text : (v : StreamView) → (after_spaces v).passed ++ (after_spaces v)
 same_text v = append_assoc v.passed (front (has WhiteSpace) v.rest) (after (has WhiteSpace) v.rest) ∙ ap (λ z. v.passed ++ z) (front_after (has WhiteSpace) v.rest)
 
 module _ {T A : Type 0} (types : ir_text.Ghosts T A) (owns : ir_text.Ghosts A A) (attributes : attr_text.Ghosts A A) (same : A → A → Bool) (layout : Layout) where
-  -- a root was rejected
-  pub rejected_here : (at : StreamView) (before : ContextView T A) (f : ParseFault A) (r : fault.Fault A) → IsRejected f r → UnlessMemory (RefusesAt types owns before at) f → FailsHere types owns attributes same layout at before r
-  rejected_here at before f of_fault.Memory h u = tt
-  rejected_here at before f (of_fault.Rejected g) h (inl oom) = absurd (true≢false (sym (ap is_memory oom.because) ∙ h.1))
-  rejected_here at before f (of_fault.Rejected g) h (inr refuses) = subst (RefusesAt types owns before at) (sym h.0) refuses
-  rejected_here at before f (of_fault.Misfit m) h u = absurd h
-  rejected_here at before f of_fault.TooDeep h u = absurd h
-
   -- a root was not printed
   pub stopped_here : (at : StreamView) (before : ContextView T A) (op : Ptr Operation) (next : StreamView) (shown : ContextView T A) → HasRoot types owns attributes same layout at before op next shown
       → (reason : Refusal) → heads.RefusesUnder types owns attributes same shown op plain reason → (r : fault.Fault A) → IsReason types owns attributes same shown op reason r → FailsHere types owns attributes same layout at before r
