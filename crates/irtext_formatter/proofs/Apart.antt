@@ -23,7 +23,7 @@ use Rattle.irtext_grammar.specs.Contexts.Held.{whole}
 use Rattle.irtext_names.specs.Promises.{IsFirst}
 use Rattle.irtext_parse_root.specs.Parses.{texts, attr}
 use Rattle.irtext_stream.specs.Classes.{after_spaces}
-use Rattle.irtext_formatter.specs.Rows.{beginning, follows, ReadsRoot, RefusesAt, Rows, Rows.{none, more}, Formats, Formats.{empty, roots}, FailsAfter}
+use Rattle.irtext_formatter.specs.Rows.{follows, ReadsRoot, RefusesAt, Rows, Rows.{none, more}, Formats, Formats.{empty, roots}, FailsAfter}
 use Rattle.irtext_formatter.specs.declared.fault.Fault.TheVariants as of_fault
 use Rattle.irtext_formatter.specs.declared.layout.Layout.{Layout}
 
