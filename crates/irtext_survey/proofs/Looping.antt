@@ -1,10 +1,9 @@
 -- The loop over the open frames.
-use Rattle.std.proofs.Common.{◌≡◌, ◌∙◌, ◌<◌, ◌+◌, ◌*◌, ◌⊎◌, ℕ, suc, Bool, true, false, List, [], ◌∷◌, map, length, drop, Option, Some, None, Result, Ok, Err, refl, sym, ap, subst, arith, inl, inr}
+use Rattle.std.proofs.Common.{◌≡◌, ◌∙◌, ◌<◌, ◌+◌, ◌*◌, ◌⊎◌, ℕ, suc, true, false, List, [], ◌∷◌, map, length, drop, Option, Some, None, Result, Ok, Err, refl, sym, ap, subst, arith, inl, inr}
 use Rattle.irtext_base.specs.Text.{Text}
 use Rattle.irtext_base.specs.Format.{Id}
 use Rattle.irtext_base.specs.Answers.{Read}
-use Rattle.irtext_base.specs.Faults as causes
-use Rattle.irtext_base.specs.Faults.{Fault, id_of, fault_of}
+use Rattle.irtext_base.specs.Faults.{Fault}
 use Rattle.irtext_base.specs.Stream.{StreamView}
 use Rattle.irtext_base.specs.Locations.{AttrView}
 use Rattle.irtext_base.specs.declared.parsable.fault.ParseFault.{ParseFault}
@@ -14,10 +13,10 @@ use Rattle.irtext_tokens.specs.Infix.{Reader}
 use Rattle.irtext_scopes.specs.Names.{KeepsNames}
 use Rattle.irtext_grammar.specs.Contexts.Held.{whole}
 use Rattle.irtext_grammar.specs.Promises.Root.{UnlessMemory}
-use Rattle.irtext_grammar.specs.Promises.Section.{Moves, IsOutOfMemory}
+use Rattle.irtext_grammar.specs.Promises.Section.{Moves}
 use Rattle.irtext_grammar.specs.Grammar.Tree.{Name}
 use Rattle.irtext_grammar.specs.Heads.{front_steps, led_at}
-use Rattle.irtext_grammar.specs.Reached.{Advanced, Stopped, steps_in, operation_at}
+use Rattle.irtext_grammar.specs.Reached.{Advanced, steps_in}
 use Rattle.irtext_grammar.specs.Resume as theory
 use Rattle.irtext_grammar.specs.Resume.{OpenOperation, Open, front_at, begun, to_come, an_operation, a_region, a_block, Goes, StoppedAt, weight, weights, to_do, work, by_character}
 use Rattle.irtext_grammar.specs.Parsed.{Each}
@@ -27,8 +26,8 @@ use Rattle.irtext_grammar.proofs.Resume.Frames.{goes_trans, stuck_at}
 use Rattle.irtext_grammar.proofs.Resume.Front.{splits_piece, front_reads, front_misses}
 use Rattle.irtext_grammar.proofs.Resume.Turns.{operation_begins, no_lead, no_front}
 use Rattle.irtext_survey.specs.Notes.{Noted, nothing_noted, noter}
-use Rattle.irtext_survey.specs.Walk.{IsNote, IsNoted, IsHeld, IsOpen, IsNext, IsHere, IsReady, IsMissed, Begun, NotBegun, Arrives, Nearer, Proceeds, Stops}
-use Rattle.irtext_survey.specs.Root.{task_of, next_task, left_to_do, Rested, Rests, TreeNoted, PartNoted, Trees, NotesTree}
+use Rattle.irtext_survey.specs.Walk.{IsNote, IsNoted, IsOpen, IsNext, IsHere, IsReady, IsMissed, Begun, NotBegun, Arrives, Nearer, Proceeds, Stops}
+use Rattle.irtext_survey.specs.Root.{task_of, left_to_do, Rested, Rests, TreeNoted, PartNoted, Trees}
 use Rattle.irtext_survey.specs.declared.frames.Frame.{Frame}
 use Rattle.irtext_survey.specs.declared.frames.Frame.TheVariants as framed
 use Rattle.irtext_survey.specs.declared.frames.OpenOperation.{OpenOperation as Held}

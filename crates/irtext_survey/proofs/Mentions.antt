@@ -1,18 +1,13 @@
 -- Names that were parsed, and the notes of them.
 use Rattle.std.specs.Prelude.{OnOk}
-use Rattle.std.proofs.Common.{Result, Ok, Err, ◌≡◌, ◌∙◌, ◌<◌, ◌≤◌, ◌+◌, ℕ, zero, suc, Bool, true, false, List, [], ◌∷◌, ◌++◌, length, take, slice_get, Some, refl, sym, ap, subst, arith, append_assoc, append-nil, cond, map, flat_map}
+use Rattle.std.proofs.Common.{Result, Ok, Err, ◌≡◌, ◌∙◌, ◌<◌, ◌≤◌, ◌+◌, ℕ, zero, suc, Bool, true, false, List, [], ◌∷◌, ◌++◌, length, take, slice_get, Some, refl, sym, ap, subst, arith, append_assoc, append-nil, cond, map}
 use Rattle.std.specs.Str.{bytes_eq}
 use Rattle.irtext_base.specs.Text.{Text}
-use Rattle.irtext_stream.specs.declared.position.Place.{Place}
-use Rattle.irtext_scopes.specs.Names.{KeepsNames}
-use Rattle.irtext_grammar.specs.Found.{only_words, with_words}
-use Rattle.irtext_grammar.specs.Grammar.Tree as tree
-use Rattle.irtext_grammar.specs.Grammar.Tree.{Name, Piece, Part}
+use Rattle.irtext_grammar.specs.Grammar.Tree.{Name}
 use Rattle.irtext_grammar.specs.declared.parsed.ReadName.{ReadName}
 use Rattle.irtext_grammar.specs.declared.parsed.ReadPiece.{ReadPiece}
-use Rattle.irtext_grammar.specs.declared.parsed.ReadPiece.TheVariants as read
-use Rattle.irtext_grammar.specs.Parsed.{Leaves, Represents, Each, IsPiece, IsPart}
-use Rattle.irtext_survey.specs.Notes.{Noted, with_notes, notes_of, mentioned, piece_uses, part_uses}
+use Rattle.irtext_grammar.specs.Parsed.{Represents, Each}
+use Rattle.irtext_survey.specs.Notes.{Noted, with_notes, notes_of, mentioned}
 use Rattle.irtext_survey.specs.Walk.{IsNote, IsNoted, IsMention, AreNamed, Notes, read_as, read_uses, all_read, arguments_read}
 use Rattle.irtext_survey.specs.declared.notes.Mention.{Mention}
 use Rattle.irtext_survey.specs.declared.notes.Mention.TheVariants.{DefinesValue}
@@ -77,6 +72,12 @@ module _ (names : List Text) where
   named_last rs qs h = let z = each_split (IsMention names h.text) rs qs h.all h.are in record { text = h.text; all = z.1; are = z.4 }
 
 -- ---- one name
+within : {X : Type 0} (xs : List X) (i : ℕ) (x : X) → slice_get xs i ≡ Some x → i < length xs
+within [] zero x e = absurd (cc e)
+within [] (suc i) x e = absurd (cc e)
+within (y ∷ xs) zero x e = omega arith
+within (y ∷ xs) (suc i) x e = let k = within xs i x e in omega (arith, k)
+
 some_same : {X : Type 0} {x y : X} → Some x ≡ Some y → x ≡ y
 some_same e = cc
 

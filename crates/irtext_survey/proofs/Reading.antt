@@ -1,12 +1,11 @@
 -- What the parsers of parts found or missed, with what was noted.
-use Rattle.std.proofs.Common.{◌≡◌, ◌∙◌, ◌⊎◌, inl, inr, ℕ, Bool, true, false, Result, Ok, Err, IfOk, List, [], ◌∷◌, ◌++◌, codes, length, drop, slice_get, Option, Some, None, refl, sym, ap, subst, append_assoc, append-nil, is_some, ◌||◌, flat_map}
+use Rattle.std.proofs.Common.{◌≡◌, ◌∙◌, inl, inr, ℕ, Bool, true, false, Result, Ok, Err, IfOk, List, [], ◌∷◌, ◌++◌, codes, length, drop, Option, Some, None, refl, sym, ap, subst, is_some, ◌||◌, flat_map}
 use Rattle.std.specs.Char.{is_whitespace}
 use Rattle.irtext_base.specs.Text.{Text, front, after}
 use Rattle.irtext_base.specs.Stream.{StreamView}
-use Rattle.irtext_base.specs.Faults.{id_of, fault_of}
-use Rattle.irtext_base.specs.Format.{Id}
+use Rattle.irtext_base.specs.Faults.{id_of}
 use Rattle.irtext_base.specs.FormatViews.{format_of}
-use Rattle.irtext_base.specs.Answers.{Outcome, Read, Missing, Bad, Takes, SameStream, Refuses, RunsOut, RunsOutHere, FailsAfter, demanded, unless_failed}
+use Rattle.irtext_base.specs.Answers.{Outcome, Read, Missing, Bad, Takes, SameStream, Refuses, RunsOutHere, demanded, unless_failed}
 use Rattle.irtext_base.specs.Locations.{AttrView}
 use Rattle.irtext_base.specs.declared.base.identifier.OpId.{OpId}
 use Rattle.irtext_base.specs.declared.parsable.fault.ParseFault.{ParseFault}
@@ -19,33 +18,32 @@ use Rattle.irtext_tokens.specs.Tokens.{space_at, word}
 use Rattle.irtext_tokens.proofs.Steps.{alone, starts, spaced, last}
 use Rattle.irtext_scopes.specs.Names.{KeepsNames}
 use Rattle.irtext_grammar.specs.Contexts.Held.{whole}
-use Rattle.irtext_grammar.specs.Grammar.Tree.{Name, Mark, Piece, Part, Head}
-use Rattle.irtext_grammar.specs.Heads.{Step, steps_of, front_steps, region_steps, led_at, head_at, piece_at, mark_if_at, flat, types, one, all}
+use Rattle.irtext_grammar.specs.Grammar.Tree.{Name, Mark}
+use Rattle.irtext_grammar.specs.Heads.{Step, steps_of, front_steps, region_steps, led_at, piece_at, mark_if_at, flat, types, one, all}
 use Rattle.irtext_grammar.specs.Promises.Root.{UnlessMemory}
-use Rattle.irtext_grammar.specs.Promises.Section.{Moves, IsOutOfMemory}
+use Rattle.irtext_grammar.specs.Promises.Section.{Moves}
 use Rattle.irtext_grammar.specs.Reached.{steps_in}
 use Rattle.irtext_grammar.specs.Readers.Streams.{itself, replaced}
-use Rattle.irtext_grammar.specs.Resume.{begun, front_at}
+use Rattle.irtext_grammar.specs.Resume.{front_at}
 use Rattle.irtext_grammar.specs.declared.parsed.ReadMark.{ReadMark}
 use Rattle.irtext_grammar.specs.declared.parsed.ReadName.{ReadName}
 use Rattle.irtext_grammar.specs.declared.parsed.ReadPiece.{ReadPiece}
-use Rattle.irtext_grammar.specs.Parsed.{IsPart, IsPiece, IsMarkIf, Represents, Each, Leaves}
-use Rattle.irtext_grammar.proofs.Readers.Answered.{Answered, answered, may_answered, moves_none}
-use Rattle.irtext_parse_pieces.specs.Fronts.{MustFront, front_of}
-use Rattle.irtext_parse_pieces.specs.Headers.{IsHead, MustHead}
+use Rattle.irtext_grammar.specs.Parsed.{IsMarkIf, Represents, Each, Leaves}
+use Rattle.irtext_grammar.proofs.Readers.Answered.{Answered, answered, may_answered}
+use Rattle.irtext_parse_pieces.specs.Fronts.{MustFront}
+use Rattle.irtext_parse_pieces.specs.Headers.{MustHead}
 use Rattle.irtext_parse_pieces.specs.Arguments.{IsArgument}
 use Rattle.irtext_parse_pieces.specs.Ids.{IsLed, IsKnown}
-use Rattle.irtext_parse_pieces.specs.Named.{MayMean, MustMean, NamesRead}
+use Rattle.irtext_parse_pieces.specs.Named.{MayMean, MustMean}
 use Rattle.irtext_parse_pieces.specs.Pieces.{MustPiece}
 use Rattle.irtext_parse_pieces.specs.declared.headers.BlockHead.{BlockHead}
 use Rattle.irtext_parse_pieces.proofs.Meanings.{may_whole, passed_whole}
 use Rattle.irtext_parse_nested.specs.Beginning.{FrontComes}
 use Rattle.irtext_parse_nested.proofs.FrontRead.{front_comes, steps_are}
-use Rattle.irtext_survey.specs.Notes.{Noted, with_notes, with_mark, notes_of, noter, mentioned, piece_uses, part_uses, argument_names, head_names}
-use Rattle.irtext_survey.specs.Walk.{IsNote, IsNoted, IsMention, AreNamed, Notes, Does, read_as, read_uses, all_read, arguments_read, IsHeld, IsMissed, Unread, Begun, NotBegun, PieceRead, HeadRead, EndRead, EndUnread, Entered, NotEntered, Left}
+use Rattle.irtext_survey.specs.Notes.{Noted, with_notes, with_mark, notes_of, mentioned, piece_uses, part_uses, argument_names, head_names}
+use Rattle.irtext_survey.specs.Walk.{IsNote, IsNoted, IsMention, AreNamed, Notes, Does, read_as, read_uses, all_read, arguments_read, IsMissed, Unread, Begun, NotBegun, PieceRead, HeadRead, EndRead, EndUnread, Entered, NotEntered, Left}
 use Rattle.irtext_survey.specs.declared.frames.OpenOperation.{OpenOperation as Held}
 use Rattle.irtext_survey.specs.declared.frames.OpenRegion.{OpenRegion}
-use Rattle.irtext_survey.specs.declared.notes.Mention.{Mention}
 use Rattle.irtext_survey.specs.declared.notes.Mention.TheVariants.{DefinesValue, DefinesLabel}
 use Rattle.irtext_survey.specs.declared.notes.Note.{Note}
 use Rattle.irtext_survey.specs.declared.notes.Note.TheVariants as noted

@@ -1,15 +1,11 @@
 -- Notes in the code and in the definitions: what is found in them is the same place.
-use Rattle.std.proofs.Common.{◌≡◌, ◌∙◌, ◌+◌, ◌≤◌, ◌&&◌, ℕ, zero, suc, Bool, true, false, cond, List, [], ◌∷◌, drop, length, slice_get, Option, Some, None, is_some, refl, sym, ap, subst, arith}
+use Rattle.std.proofs.Common.{◌≡◌, ◌∙◌, ◌+◌, ◌≤◌, ℕ, zero, suc, Bool, true, false, cond, List, [], ◌∷◌, drop, length, slice_get, Option, Some, None, is_some, refl, sym, ap, subst, arith}
 use Rattle.irtext_base.specs.Text.{Text}
-use Rattle.irtext_base.specs.SameLocations.{same_position}
-use Rattle.irtext_stream.specs.Stream.{IsAt}
-use Rattle.irtext_stream.specs.Places.{AtOffset}
 use Rattle.irtext_stream.specs.declared.position.Place.{Place}
-use Rattle.irtext_stream.specs.declared.position.SourcePosition.{SourcePosition}
 use Rattle.irtext_grammar.specs.Parsed.{Leaves, Each, Optional}
-use Rattle.irtext_parse_nested.proofs.Faults.{place_is_there, each_there}
+use Rattle.irtext_parse_nested.proofs.Faults.{each_there}
 use Rattle.irtext_parse_root.proofs.Owns.{step_first}
-use Rattle.irtext_survey.specs.Notes.{same_mention, has_scope, defines, back_over, first_before, first_in_scope, first_unless, or_else, first_unresolved, ended_at, defined_at, first_seen, position_at, is_at, IsFound}
+use Rattle.irtext_survey.specs.Notes.{same_mention, has_scope, back_over, first_before, first_in_scope, first_unless, or_else, first_unresolved, first_seen}
 use Rattle.irtext_survey.specs.Walk.{IsNote}
 use Rattle.irtext_survey.specs.declared.notes.Mention.{Mention}
 use Rattle.irtext_survey.specs.declared.notes.Mention.TheVariants.{UsesValue, UsesLabel, DefinesValue, DefinesLabel}

@@ -1,11 +1,11 @@
 -- A step of the walk is a turn of the parse: what the frames and the notes represent afterwards, or where the parse is stuck.
-use Rattle.std.proofs.Common.{◌≡◌, ◌∙◌, ◌<◌, ◌≤◌, ◌+◌, ◌-◌, ℕ, Bool, true, false, cond, ◌⊎◌, inl, inr, List, [], ◌∷◌, ◌++◌, codes, length, drop, slice_get, option_to_list, Option, Some, None, is_some, refl, sym, ap, subst, arith, append-nil}
-use Rattle.irtext_base.specs.Text.{Text, begins, after_space}
+use Rattle.std.proofs.Common.{◌≡◌, ◌∙◌, ◌<◌, ◌+◌, ◌-◌, ℕ, Bool, true, false, cond, ◌⊎◌, inl, inr, List, [], ◌∷◌, ◌++◌, codes, length, drop, slice_get, Option, Some, None, refl, sym, ap, subst, arith, append-nil}
+use Rattle.irtext_base.specs.Text.{Text, after_space}
 use Rattle.irtext_base.specs.Reading.{the}
 use Rattle.irtext_base.specs.Faults.{Fault, id_of}
 use Rattle.irtext_base.specs.Format.{Id}
 use Rattle.irtext_base.specs.Stream.{StreamView}
-use Rattle.irtext_base.specs.Answers.{Outcome, Read, Bad, demanded}
+use Rattle.irtext_base.specs.Answers.{Read, Bad, demanded}
 use Rattle.irtext_tokens.proofs.Spelling.{begins_the}
 use Rattle.irtext_base.specs.Locations.{AttrView}
 use Rattle.irtext_base.specs.declared.parsable.fault.ParseFault.{ParseFault}
@@ -25,8 +25,7 @@ use Rattle.irtext_grammar.specs.Readers.Parts.{without_first}
 use Rattle.irtext_grammar.specs.Heads.{Step, one, all, front_steps, piece_at, head_at, led_at}
 use Rattle.irtext_grammar.specs.Reached.{Actions, begins_region, begins_block, steps_in}
 use Rattle.irtext_grammar.specs.Resume.{OpenOperation, with_steps, begun, is_flat, Open, to_come, an_operation, a_region, a_block, Pops, Goes, StoppedAt, front_at, work, by_character}
-use Rattle.irtext_grammar.specs.declared.parsed.ReadName.{ReadName}
-use Rattle.irtext_grammar.specs.Parsed.{Leaves, Represents, Each}
+use Rattle.irtext_grammar.specs.Parsed.{Leaves, Each}
 use Rattle.irtext_grammar.proofs.Joins.Answers.{Splits}
 use Rattle.irtext_grammar.proofs.Joins.Attributes.{splits_attr}
 use Rattle.irtext_grammar.proofs.Knot.Whole.{leaves_no_more}
@@ -36,7 +35,7 @@ use Rattle.irtext_grammar.proofs.Resume.Front.{splits_piece, front_reads, front_
 use Rattle.irtext_grammar.proofs.Resume.Unbounded.{Unbounded, unbounded}
 use Rattle.irtext_grammar.proofs.Resume.Turns.{operation_begins, no_lead, no_front, piece_reads, no_piece, operation_ends, no_end, first_operation, no_operation, region_begins, no_region, no_more_regions, another_region, block_begins, no_block, region_ends, no_brace, another_operation, no_more_operations}
 use Rattle.irtext_grammar.proofs.Resume.Weights.{steps_fewer, operation_nearer, step_nearer, region_nearer, another_nearer, block_nearer, first_nearer, other_nearer, end_nearer}
-use Rattle.irtext_parse_pieces.proofs.Meanings.{still_represents, takes_whole}
+use Rattle.irtext_parse_pieces.proofs.Meanings.{takes_whole}
 use Rattle.irtext_parse_pieces.specs.Coming.{IsStep}
 use Rattle.irtext_parse_pieces.specs.declared.coming.Coming.TheVariants as comes
 use Rattle.irtext_parse_nested.proofs.FrontRead.{each_on}
@@ -44,7 +43,7 @@ use Rattle.irtext_parse_root.specs.OperationFollows.{operation_follows, text_the
 use Rattle.irtext_parse_root.proofs.Nearer.{moves_fewer, some_character, front_fewer, head_fewer, led_fewer, led_some, brace_fewer, semicolon_fewer}
 use Rattle.irtext_parse_root.proofs.Owns.{step_first, step_none, region_comes, regions_come}
 use Rattle.irtext_survey.specs.Notes.{Noted, with_notes, notes_of, noter, mentioned, piece_uses}
-use Rattle.irtext_survey.specs.Walk.{IsNoted, IsHeld, IsOpen, IsNext, IsHere, IsMissed, Unread, Begun, NotBegun, PieceRead, HeadRead, EndRead, EndUnread, Entered, NotEntered, Left, Arrives, Nearer, Proceeds, Stops, TakesLast, IsReady, AreNamed, read_as}
+use Rattle.irtext_survey.specs.Walk.{IsNoted, IsHeld, IsOpen, IsNext, IsHere, IsMissed, Unread, Begun, NotBegun, PieceRead, HeadRead, EndRead, EndUnread, Entered, NotEntered, Left, Nearer, TakesLast, IsReady, AreNamed, read_as}
 use Rattle.irtext_survey.specs.declared.frames.Frame.{Frame}
 use Rattle.irtext_survey.specs.declared.frames.Frame.TheVariants as framed
 use Rattle.irtext_survey.specs.declared.frames.OpenOperation.{OpenOperation as Held}

@@ -2,16 +2,13 @@
 use Rattle.std.proofs.Common.{◌≡◌, ◌∙◌, ℕ, zero, suc, List, [], ◌∷◌, ◌++◌, refl, sym, ap, subst, map, flat_map}
 use Rattle.irtext_base.specs.Text.{Text}
 use Rattle.irtext_grammar.specs.Found.{only_words, with_words}
-use Rattle.irtext_grammar.specs.Grammar.Tree as tree
-use Rattle.irtext_grammar.specs.Grammar.Tree.{Name, Piece, Part}
-use Rattle.irtext_grammar.specs.declared.parsed.ReadName.{ReadName}
+use Rattle.irtext_grammar.specs.Grammar.Tree.{Piece, Part}
 use Rattle.irtext_grammar.specs.declared.parsed.ReadPiece.{ReadPiece}
 use Rattle.irtext_grammar.specs.declared.parsed.ReadPiece.TheVariants as read
-use Rattle.irtext_grammar.specs.Parsed.{Represents, Each, IsPiece, IsPart, seen_attribute}
-use Rattle.irtext_survey.specs.Notes.{mentioned, piece_uses, part_uses, argument_names}
+use Rattle.irtext_grammar.specs.Parsed.{Each, IsPiece, IsPart}
+use Rattle.irtext_survey.specs.Notes.{piece_uses, part_uses}
 use Rattle.irtext_survey.specs.Walk.{IsMention, read_as, read_uses, all_read}
-use Rattle.irtext_survey.specs.declared.notes.Mention.{Mention}
-use Rattle.irtext_survey.specs.declared.notes.Mention.TheVariants.{UsesValue, UsesLabel, DefinesValue}
+use Rattle.irtext_survey.specs.declared.notes.Mention.TheVariants.{UsesValue, UsesLabel}
 use Rattle.irtext_survey.proofs.Mentions.{each_join, named_as}
 
 module _ {T A : Type 0} (names : List Text) (text : Text) where

@@ -1,5 +1,5 @@
 -- Between functions: the walk over a whole root, and how much of it is left to do.
-use Rattle.std.specs.Prelude.{◌≡◌, ℕ, Bool, true, false, List, [], ◌∷◌, map, drop, Option, None, Some, Result, Ok, Err}
+use Rattle.std.specs.Prelude.{◌≡◌, ℕ, Bool, true, false, List, [], map, drop, Option, None, Some, Result, Ok, Err}
 use Rattle.irtext_base.specs.Text.{Text}
 use Rattle.irtext_base.specs.Faults.{Fault, id_of}
 use Rattle.irtext_base.specs.Locations.{AttrView}

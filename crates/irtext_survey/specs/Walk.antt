@@ -29,7 +29,7 @@ use Rattle.irtext_survey.specs.declared.frames.Frame.TheVariants as framed
 use Rattle.irtext_survey.specs.declared.frames.OpenOperation.{OpenOperation as Held}
 use Rattle.irtext_survey.specs.declared.frames.OpenRegion.{OpenRegion}
 use Rattle.irtext_survey.specs.declared.notes.Mention.{Mention}
-use Rattle.irtext_survey.specs.declared.notes.Mention.TheVariants.{UsesValue, UsesLabel, DefinesValue, DefinesLabel}
+use Rattle.irtext_survey.specs.declared.notes.Mention.TheVariants.{UsesValue, UsesLabel, DefinesValue}
 use Rattle.irtext_survey.specs.declared.notes.Note.{Note}
 use Rattle.irtext_survey.specs.declared.notes.Note.TheVariants as noted
 use Rattle.irtext_survey.specs.declared.opening.Notebook.{Notebook}

@@ -104,12 +104,7 @@ pub fn push_noted(
 }
 
 /// Says where the first root of a text ends.
-pub fn push_end(
-    alloc: Global,
-    ctx: &mut Ctx,
-    text: &str,
-    said: &mut String,
-) -> Result<(), Fail> {
+pub fn push_end(alloc: Global, ctx: &mut Ctx, text: &str, said: &mut String) -> Result<(), Fail> {
     let mut stream = TextStream::new(alloc, text)?;
     if skip_root(&mut stream, ctx)? {
         let end = stream.locate(stream.position());
