@@ -167,6 +167,7 @@ fn command<'a>(alloc: Global, about: &About<'a>) -> Result<Command<'a>, AllocErr
     let check = subcommand(alloc, "check", "Reports what is wrong with files", CHECK_HELP)?;
     let stats = subcommand(alloc, "stats", "Counts what is in files", STATS_HELP)?;
     Command::new(alloc, about.name)
+        .bin_name(about.name)?
         .version(about.version)
         .about("Formats and checks texts of IR.")
         .no_binary_name(true)
