@@ -1,7 +1,7 @@
 //! Excerpts of texts: the line of a position, with a caret below it.
 use crate::tests::must::same;
 use irtext_base::parsable::SourcePosition;
-use irtext_tokens::excerpt::Excerpt;
+use irtext_excerpt::Excerpt;
 use std::alloc::Global;
 use std::process::Abort;
 
