@@ -30,5 +30,9 @@ pub enum Form {
 
 /// Returns the style that is coloured or not.
 pub fn style_of(coloured: bool) -> Style {
-    if coloured { Style::Coloured } else { Style::Plain }
+    if coloured {
+        Style::Coloured
+    } else {
+        Style::Plain
+    }
 }

@@ -1,10 +1,9 @@
 //! The files of a program: opened, written, and replaced as a whole.
 
 use std::alloc::Global;
-use std::fs;
 use std::fs::{OpenFile, OpenOptions, Permissions};
-use std::io;
 use std::io::{Read, Write};
+use std::{fs, io};
 
 /// Where a program finds its files. A test stands in for it.
 pub trait Files {
@@ -41,10 +40,18 @@ struct NewFile<F: Drop> {
 }
 
 /// Makes a file beside the one at this path, under a name that no file has there.
-fn create_beside<R: fs::Files>(runtime: &R, alloc: Global, path: &str) -> io::Result<NewFile<R::File>> {
+fn create_beside<R: fs::Files>(
+    runtime: &R,
+    alloc: Global,
+    path: &str,
+) -> io::Result<NewFile<R::File>> {
     for number in 0..NAMES {
         let beside = format!(in alloc; "{path}.new-{number}")?;
-        match OpenOptions::new().write(true).create_new(true).open(runtime, beside.as_str()) {
+        match OpenOptions::new()
+            .write(true)
+            .create_new(true)
+            .open(runtime, beside.as_str())
+        {
             Ok(file) => return Ok(NewFile { path: beside, file }),
             Err(error) if error.kind() == io::ErrorKind::AlreadyExists => {}
             Err(error) => return Err(error),

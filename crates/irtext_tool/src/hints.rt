@@ -84,7 +84,11 @@ impl<T: IrText<A>, A: AttrText<A>> Names<'_, T, A> {
         edit: Edit,
     ) -> Result<Option<String>, AllocError> {
         let name = edited(alloc, word, index, edit)?;
-        Ok(if self.has(name.as_str()) { Some(name) } else { None })
+        Ok(if self.has(name.as_str()) {
+            Some(name)
+        } else {
+            None
+        })
     }
 
     /// Returns the word after an edit at this index, if that is registered.

@@ -22,7 +22,8 @@ use std::io::Write;
 pub const MOST_ERRORS: usize = 100;
 
 /// What is said after them.
-const LIMIT: &'static str = "these are the first 100 errors; the rest of the file was not looked at";
+const LIMIT: &'static str =
+    "these are the first 100 errors; the rest of the file was not looked at";
 
 /// What is said where the next root is not found.
 const UNREAD: &'static str = "the rest of the file was not looked at";
@@ -88,7 +89,8 @@ fn are_names(text: &str) -> bool {
 
 /// Whether a text is an identifier.
 fn is_name(text: &str) -> bool {
-    text.chars().all(|c| Class::Word.has(c)) && text.chars().take(1).any(|c| Class::Beginning.has(c))
+    text.chars().all(|c| Class::Word.has(c))
+        && text.chars().take(1).any(|c| Class::Beginning.has(c))
 }
 
 /// Returns the dotted word that a text begins with.
@@ -156,7 +158,9 @@ struct Notes {
 /// Whether only white space is below a line.
 fn is_blank_below(text: &str, line: i32) -> bool {
     let lines = if line < 0 { 0 } else { line as usize };
-    text.split('\n').skip(lines).all(|content| content.trim().is_empty())
+    text.split('\n')
+        .skip(lines)
+        .all(|content| content.trim().is_empty())
 }
 
 impl<'t> Rejected<'t> {
@@ -195,10 +199,16 @@ impl<'t> Rejected<'t> {
         let (root, at) = (rejection.root, rejection.fault.pos);
         let (found, what) = match innermost(&rejection.fault.cause) {
             Cause::UnresolvedReference(UnresolvedReference(name)) => {
-                (self.survey.first_use(ctx, root, name.as_str(), at)?, "used here")
+                (
+                    self.survey.first_use(ctx, root, name.as_str(), at)?,
+                    "used here",
+                )
             }
             Cause::ParserNameTrackerError(ParserNameTrackerError::MultipleDefinitions(name)) => {
-                (self.survey.first_definition(ctx, root, name.as_str(), at)?, "first defined here")
+                (
+                    self.survey.first_definition(ctx, root, name.as_str(), at)?,
+                    "first defined here",
+                )
             }
             _ => (None, ""),
         };

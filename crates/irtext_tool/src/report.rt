@@ -97,7 +97,12 @@ pub fn report_file<E: Write>(
     cause: &str,
     message: &str,
 ) {
-    write_report(alloc, errors, scene.form, &plain_report(scene.path, cause, message));
+    write_report(
+        alloc,
+        errors,
+        scene.form,
+        &plain_report(scene.path, cause, message),
+    );
 }
 
 /// Writes that memory ran out.
@@ -142,12 +147,7 @@ fn report_bytes<E: Write>(alloc: Global, errors: &mut E, scene: Scene<'_>, bytes
 }
 
 /// Writes why no text was read.
-pub fn report_input<E: Write>(
-    alloc: Global,
-    errors: &mut E,
-    scene: Scene<'_>,
-    fault: &InputFault,
-) {
+pub fn report_input<E: Write>(alloc: Global, errors: &mut E, scene: Scene<'_>, fault: &InputFault) {
     match fault {
         InputFault::Memory => report_memory(alloc, errors, scene),
         InputFault::Unreadable(error) => report_unreadable(alloc, errors, scene, error),
@@ -199,7 +199,10 @@ pub fn report_misfit<E: Write>(
 ) {
     let (Ok(name), Ok(message)) = (
         format!(in alloc; "{}", misfit.id),
-        format!(in alloc; "Operation {} does not fit its format: {}", misfit.id, misfit.reason),
+        format!(in alloc;
+            "Operation {} does not fit its format: {}",
+            misfit.id, misfit.reason
+        ),
     ) else {
         return report_memory(alloc, errors, scene);
     };

@@ -7,7 +7,7 @@ use crate::report::{
     Scene, report_file, report_input, report_made, report_memory, report_misfit, report_output,
     report_unwritable,
 };
-use crate::stats::{CountFault, count_text, counts_text};
+use crate::stats::{count_text, counts_text};
 use crate::status::{DONE, FAILED, REJECTED, WRONG_WORDS, status_of, status_of_input};
 use crate::words::{Answer, Request, Target, Task, request};
 use irtext_base::result;
@@ -72,19 +72,18 @@ fn report_text<T: IrText<A>, A: AttrText<A>, D: Dialects<T, A>, E: Write>(
     }
 }
 
-/// Writes why an input was not formatted, and returns the status for it.
+/// Writes why an input was not formatted whose text is this, as far as it was read, and returns the status for it.
 fn report_failure<T: IrText<A>, A: AttrText<A>, D: Dialects<T, A>, E: Write>(
     alloc: Global,
     errors: &mut E,
     scene: Scene<'_>,
+    text: &str,
     failure: &Failure<A>,
 ) -> u8 {
     match failure {
         Failure::Input(fault) => report_input(alloc, errors, scene, fault),
         Failure::Dialects(error) => report_dialects(alloc, errors, scene, error),
-        Failure::Text { text, fault } => {
-            report_text::<T, A, D, E>(alloc, errors, scene, text.as_str(), fault)
-        }
+        Failure::Text(fault) => report_text::<T, A, D, E>(alloc, errors, scene, text, fault),
         Failure::Unwritable(error) => report_output(alloc, errors, scene.form, error),
     }
     status_of(failure)
@@ -98,14 +97,15 @@ fn format_standard<T: IrText<A>, A: AttrText<A>, D: Dialects<T, A>, R: Read, W: 
     output: &mut W,
     errors: &mut E,
 ) -> u8 {
-    match format_input::<T, A, D, R, W>(alloc, input, WHOLE, output) {
+    let mut text = String::new(alloc);
+    match format_input::<T, A, D, R, W>(alloc, input, WHOLE, &mut text, output) {
         Ok(()) => DONE,
         Err(failure) => {
             let scene = Scene {
                 path: STANDARD_INPUT,
                 form,
             };
-            report_failure::<T, A, D, E>(alloc, errors, scene, &failure)
+            report_failure::<T, A, D, E>(alloc, errors, scene, text.as_str(), &failure)
         }
     }
 }
@@ -193,7 +193,13 @@ fn deliver<F: Files, W: Write, E: Write>(
         Target::InPlace | Target::Check if text == formatted => Done::Status(DONE),
         Target::InPlace => written(alloc, errors, scene, files.replace(scene.path, formatted)),
         Target::Check => {
-            report_file(alloc, errors, scene, "not_formatted", "the file is not formatted");
+            report_file(
+                alloc,
+                errors,
+                scene,
+                "not_formatted",
+                "the file is not formatted",
+            );
             Done::Status(REJECTED)
         }
         Target::File(path) => {
@@ -211,10 +217,12 @@ fn format_new<T: IrText<A>, A: AttrText<A>, D: Dialects<T, A>>(
     alloc: Global,
     text: &str,
     layout: Layout,
-) -> Result<Result<String, Fault<A>>, result::Error<A>> {
+) -> Result<String, Failure<A>> {
     let mut ctx = Context::new(alloc);
-    D::register(&mut ctx)?;
-    Ok(format_text(&mut ctx, text, layout))
+    if let Err(error) = D::register(&mut ctx) {
+        return Err(Failure::Dialects(error));
+    }
+    format_text(&mut ctx, text, layout).map_err(Failure::Text)
 }
 
 /// Counts what is in a text in a new context, and returns the lines that say so.
@@ -222,14 +230,13 @@ fn count_new<T: IrText<A>, A: AttrText<A>, D: Dialects<T, A>>(
     alloc: Global,
     path: &str,
     text: &str,
-) -> Result<Result<String, Fault<A>>, result::Error<A>> {
+) -> Result<String, Failure<A>> {
     let mut ctx = Context::new(alloc);
-    D::register(&mut ctx)?;
-    Ok(match count_text(&mut ctx, text) {
-        Ok(counts) => counts_text(alloc, path, &counts).map_err(|_| Fault::Memory),
-        Err(CountFault::Memory) => Err(Fault::Memory),
-        Err(CountFault::Rejected(fault)) => Err(Fault::Rejected(fault)),
-    })
+    if let Err(error) = D::register(&mut ctx) {
+        return Err(Failure::Dialects(error));
+    }
+    let counts = count_text(&mut ctx, text).map_err(Failure::Text)?;
+    counts_text(alloc, path, &counts).map_err(|_| Failure::Text(Fault::Memory))
 }
 
 /// Does the task with the text of a file, and returns what is to be written.
@@ -238,7 +245,7 @@ fn result_of<T: IrText<A>, A: AttrText<A>, D: Dialects<T, A>>(
     path: &str,
     text: &str,
     task: Task<'_>,
-) -> Result<Result<String, Fault<A>>, result::Error<A>> {
+) -> Result<String, Failure<A>> {
     match task {
         Task::Format(layout, _) => format_new::<T, A, D>(alloc, text, layout),
         Task::Check => format_new::<T, A, D>(alloc, text, WHOLE),
@@ -251,26 +258,29 @@ fn work_on_text<T: IrText<A>, A: AttrText<A>, D: Dialects<T, A>, F: Files, W: Wr
     alloc: Global,
     scene: Scene<'_>,
     task: Task<'_>,
-    text: String,
+    text: &str,
     files: &F,
     output: &mut W,
     errors: &mut E,
 ) -> Done {
-    let made = match result_of::<T, A, D>(alloc, scene.path, text.as_str(), task) {
-        Ok(Ok(made)) => made,
-        Ok(Err(fault)) => {
-            let failure = Failure::Text { text, fault };
-            return Done::Status(report_failure::<T, A, D, E>(alloc, errors, scene, &failure));
-        }
-        Err(error) => {
-            let failure = Failure::Dialects(error);
-            return Done::Status(report_failure::<T, A, D, E>(alloc, errors, scene, &failure));
+    let made = match result_of::<T, A, D>(alloc, scene.path, text, task) {
+        Ok(made) => made,
+        Err(failure) => {
+            let status = report_failure::<T, A, D, E>(alloc, errors, scene, text, &failure);
+            return Done::Status(status);
         }
     };
     match task {
         Task::Format(_, target) => {
-            let texts = (text.as_str(), made.as_str());
-            deliver(alloc, scene, target, texts, files, output, errors)
+            deliver(
+                alloc,
+                scene,
+                target,
+                (text, made.as_str()),
+                files,
+                output,
+                errors,
+            )
         }
         Task::Check => Done::Status(DONE),
         Task::Stats => put(alloc, scene.form, made.as_str(), DONE, output, errors),
@@ -307,11 +317,23 @@ fn work_on_file<
         path: if path == "-" { STANDARD_INPUT } else { path },
         form: request.form,
     };
-    let text = if path == "-" { read_text(alloc, input) } else { read_file(alloc, files, path) };
+    let text = if path == "-" {
+        read_text(alloc, input)
+    } else {
+        read_file(alloc, files, path)
+    };
     match text {
         Ok(text) => {
             let task = request.task;
-            work_on_text::<T, A, D, F, W, E>(alloc, scene, task, text, files, output, errors)
+            work_on_text::<T, A, D, F, W, E>(
+                alloc,
+                scene,
+                task,
+                text.as_str(),
+                files,
+                output,
+                errors,
+            )
         }
         Err(fault) => {
             report_input(alloc, errors, scene, &fault);
@@ -321,15 +343,7 @@ fn work_on_file<
 }
 
 /// Does what is asked for with each file, up to one whose output cannot be written. Returns the greatest status.
-fn work<
-    T: IrText<A>,
-    A: AttrText<A>,
-    D: Dialects<T, A>,
-    F: Files,
-    R: Read,
-    W: Write,
-    E: Write,
->(
+fn work<T: IrText<A>, A: AttrText<A>, D: Dialects<T, A>, F: Files, R: Read, W: Write, E: Write>(
     alloc: Global,
     request: &Request<'_>,
     files: &F,
@@ -383,15 +397,7 @@ fn answer<W: Write, E: Write>(
 ///
 /// With the one word `fmt`, or with `fmt -`, it formats standard input to standard output as `format_input` does: the status is 0 exactly
 /// if that succeeds, and nothing else is written to the output.
-pub fn run<
-    T: IrText<A>,
-    A: AttrText<A>,
-    D: Dialects<T, A>,
-    F: Files,
-    R: Read,
-    W: Write,
-    E: Write,
->(
+pub fn run<T: IrText<A>, A: AttrText<A>, D: Dialects<T, A>, F: Files, R: Read, W: Write, E: Write>(
     alloc: Global,
     about: &About<'_>,
     words: &[&str],

@@ -1,8 +1,10 @@
 //! What is in the roots of a text, counted.
 
-use irtext_base::parsable::ParseFault;
+use irtext_base::parsable::{ParseFault, TextStream};
+use irtext_base::result::Cause;
 use irtext_base::text::{AttrText, IrText};
 use irtext_context::base::{Context, Operation, OperationAccess, Ptr};
+use irtext_formatter::fault::Fault;
 use irtext_formatter::roots::Roots;
 use irtext_graph_queries::block::BlockParts;
 use irtext_graph_queries::nested::NestedOperations;
@@ -22,21 +24,6 @@ pub struct Counts {
     pub operands: usize,
     /// The operations of each id.
     pub ids: BTreeMap<String, usize>,
-}
-
-/// Why what is in a text was not counted.
-#[derive(Drop)]
-pub enum CountFault<A> {
-    /// A root was rejected.
-    Rejected(ParseFault<A>),
-    /// Out of memory.
-    Memory,
-}
-
-impl<A> From<AllocError> for CountFault<A> {
-    fn from(_: AllocError) -> CountFault<A> {
-        CountFault::Memory
-    }
 }
 
 impl Counts {
@@ -84,18 +71,28 @@ impl Counts {
     }
 }
 
+/// Returns the fault for a root that was rejected.
+fn rejected<A: Drop>(fault: ParseFault<A>) -> Fault<A> {
+    match fault.cause {
+        Cause::Memory => Fault::Memory,
+        _ => Fault::Rejected(fault),
+    }
+}
+
 /// Counts the roots that are left. Each is erased before the next is parsed.
 fn add_roots<T: IrText<A>, A: AttrText<A>>(
     counts: &mut Counts,
     roots: &mut Roots<'_, T, A>,
-) -> Result<(), CountFault<A>> {
+) -> Result<(), Fault<A>> {
     for _ in 0..u64::MAX {
         match roots.next_root() {
-            Some(Ok(root)) => counts.add_root(roots.context(), root)?,
-            Some(Err(fault)) => return Err(CountFault::Rejected(fault)),
+            Some(Ok(root)) => match counts.add_root(roots.context(), root) {
+                Ok(()) => roots.erase(),
+                Err(AllocError) => return Err(Fault::Memory),
+            },
+            Some(Err(fault)) => return Err(rejected(fault)),
             None => break,
         }
-        roots.erase();
     }
     Ok(())
 }
@@ -104,9 +101,12 @@ fn add_roots<T: IrText<A>, A: AttrText<A>>(
 pub fn count_text<T: IrText<A>, A: AttrText<A>>(
     ctx: &mut Context<T, A>,
     text: &str,
-) -> Result<Counts, CountFault<A>> {
+) -> Result<Counts, Fault<A>> {
     let mut counts = Counts::new(ctx.allocator());
-    let mut roots = Roots::new(ctx, text)?;
+    let Ok(stream) = TextStream::new(ctx.allocator(), text) else {
+        return Err(Fault::Memory);
+    };
+    let mut roots = Roots::new(ctx, stream);
     let answer = add_roots(&mut counts, &mut roots);
     let _ctx = roots.into_context();
     match answer {

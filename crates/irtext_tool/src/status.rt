@@ -35,7 +35,7 @@ pub fn status_of_text<A>(fault: &Fault<A>) -> u8 {
 pub fn status_of<A>(failure: &Failure<A>) -> u8 {
     match failure {
         Failure::Input(fault) => status_of_input(fault),
-        Failure::Text { fault, .. } => status_of_text(fault),
+        Failure::Text(fault) => status_of_text(fault),
         Failure::Dialects(_) | Failure::Unwritable(_) => FAILED,
     }
 }

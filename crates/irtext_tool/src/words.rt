@@ -129,7 +129,13 @@ fn subcommand<'a>(
         FORMATS.as_slice(),
         "How errors are written",
     );
-    let colour = choice(alloc, "color", "WHEN", COLOURS.as_slice(), "When errors are coloured");
+    let colour = choice(
+        alloc,
+        "color",
+        "WHEN",
+        COLOURS.as_slice(),
+        "When errors are coloured",
+    );
     Command::new(alloc, name)
         .about(about)
         .after_help(more)
@@ -143,17 +149,24 @@ fn format_command<'a>(alloc: Global) -> Result<Command<'a>, AllocError> {
     let in_place = flag(alloc, "in-place", "Write each file anew, if it changes")
         .short('i')
         .conflicts_with_all(&["check", "diff", "output"])?;
-    let check = flag(alloc, "check", "Name the files that would change, and write nothing")
-        .conflicts_with_all(&["diff", "output"])?;
-    let diff = flag(alloc, "diff", "Show the lines that would change")
-        .conflicts_with("output")?;
+    let check = flag(
+        alloc,
+        "check",
+        "Name the files that would change, and write nothing",
+    )
+    .conflicts_with_all(&["diff", "output"])?;
+    let diff = flag(alloc, "diff", "Show the lines that would change").conflicts_with("output")?;
     let output = Arg::new(alloc, "output")
         .short('o')
         .long("output")
         .value_name("FILE")
         .action(ArgAction::Set)
         .help("Write the formatted text to this file");
-    let bare = flag(alloc, "no-locations", "Leave out the locations of operations and blocks");
+    let bare = flag(
+        alloc,
+        "no-locations",
+        "Leave out the locations of operations and blocks",
+    );
     subcommand(alloc, "fmt", "Formats the texts of files", FORMAT_HELP)?
         .arg(in_place)?
         .arg(check)?
@@ -164,7 +177,12 @@ fn format_command<'a>(alloc: Global) -> Result<Command<'a>, AllocError> {
 
 /// Returns the command line of a program.
 fn command<'a>(alloc: Global, about: &About<'a>) -> Result<Command<'a>, AllocError> {
-    let check = subcommand(alloc, "check", "Reports what is wrong with files", CHECK_HELP)?;
+    let check = subcommand(
+        alloc,
+        "check",
+        "Reports what is wrong with files",
+        CHECK_HELP,
+    )?;
     let stats = subcommand(alloc, "stats", "Counts what is in files", STATS_HELP)?;
     Command::new(alloc, about.name)
         .bin_name(about.name)?
