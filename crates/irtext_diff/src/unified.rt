@@ -1,7 +1,7 @@
 //! The text of a unified diff.
 
-use crate::hunks::{CONTEXT, Change, changes, hunk_len};
-use crate::steps::script;
+use crate::changes::{Change, find_changes};
+use crate::hunks::{CONTEXT, hunk_len};
 use std::alloc::{AllocError, Global};
 use std::fmt::Write;
 
@@ -110,8 +110,7 @@ pub fn write_unified(
         old: old.as_slice(),
         new: new.as_slice(),
     };
-    let steps = script(alloc, texts.old, texts.new)?;
-    let changes = changes(alloc, steps.as_slice())?;
+    let changes = find_changes(alloc, texts.old, texts.new)?;
     let (old_name, new_name) = names;
     write!(out, "--- {old_name}\n+++ {new_name}\n")?;
     write_hunks(out, texts, changes.as_slice())?;

@@ -1,23 +1,13 @@
-//! Anchors of a comparison: lines that occur once in each of two lists, as many of them as have the same order in both.
+//! Pairs of lines: lines that occur once in each of two lists, as many of them as have the same order in both.
 
 use std::alloc::{AllocError, Global};
 use std::collections::BTreeMap;
 
 /// A line of the old list, and the line of the new list that it is kept as, by their indices.
 #[derive(Clone, Copy, Debug, PartialEq, Eq)]
-pub struct Anchor {
+pub struct Pair {
     pub old: usize,
     pub new: usize,
-}
-
-impl Anchor {
-    /// The same lines, in lists that have so many lines more in front.
-    pub fn moved(self, by: usize) -> Anchor {
-        Anchor {
-            old: self.old.saturating_add(by),
-            new: self.new.saturating_add(by),
-        }
-    }
 }
 
 /// Where a line occurs in a list.
@@ -69,7 +59,7 @@ fn find_places<'t>(
 }
 
 /// Returns the lines that occur once in each list, in the order of the old one.
-fn unique_lines(alloc: Global, old: &[&str], new: &[&str]) -> Result<Vec<Anchor>, AllocError> {
+fn unique_lines(alloc: Global, old: &[&str], new: &[&str]) -> Result<Vec<Pair>, AllocError> {
     let places = find_places(alloc, old, new)?;
     let mut found = Vec::new(alloc);
     for line in old {
@@ -80,7 +70,7 @@ fn unique_lines(alloc: Global, old: &[&str], new: &[&str]) -> Result<Vec<Anchor>
             },
         ) = places.get(line)
         {
-            found.push(Anchor {
+            found.push(Pair {
                 old: *old,
                 new: *new,
             })?;
@@ -89,25 +79,22 @@ fn unique_lines(alloc: Global, old: &[&str], new: &[&str]) -> Result<Vec<Anchor>
     Ok(found)
 }
 
-/// A row of anchors in the order of both lists, by its last one.
+/// A row of pairs in the order of both lists, by its last one.
 #[derive(Clone, Copy)]
 struct Row {
-    /// The index of the last anchor.
+    /// The index of the last pair.
     last: usize,
     /// Its line in the new list.
     new: usize,
 }
 
-/// Returns for each anchor the one before it in a longest row that ends with it, and the last anchor of a longest row of all. The rows of
+/// Returns for each pair the one before it in a longest row that ends with it, and the last pair of a longest row of all. The rows of
 /// each length that are kept are those that end first in the new list.
-fn rows(
-    alloc: Global,
-    found: &[Anchor],
-) -> Result<(Vec<Option<usize>>, Option<usize>), AllocError> {
+fn rows(alloc: Global, found: &[Pair]) -> Result<(Vec<Option<usize>>, Option<usize>), AllocError> {
     let mut best: Vec<Row> = Vec::new(alloc);
     let mut before = Vec::new(alloc);
-    for (index, anchor) in found.iter().enumerate() {
-        let longer = best.partition_point(|row| row.new < anchor.new);
+    for (index, pair) in found.iter().enumerate() {
+        let longer = best.partition_point(|row| row.new < pair.new);
         before.push(
             longer
                 .checked_sub(1)
@@ -116,7 +103,7 @@ fn rows(
         )?;
         let row = Row {
             last: index,
-            new: anchor.new,
+            new: pair.new,
         };
         match best.get_mut(longer) {
             Some(place) => *place = row,
@@ -129,7 +116,7 @@ fn rows(
 
 /// Returns a longest row of the lines that occur once in each list, in the order of both. Fails only if an allocation fails. The time is
 /// `n log n` in the number of lines.
-pub fn anchors(alloc: Global, old: &[&str], new: &[&str]) -> Result<Vec<Anchor>, AllocError> {
+pub fn unique_pairs(alloc: Global, old: &[&str], new: &[&str]) -> Result<Vec<Pair>, AllocError> {
     let found = unique_lines(alloc, old, new)?;
     let (before, mut last) = rows(alloc, found.as_slice())?;
     let mut row = Vec::new(alloc);
@@ -137,8 +124,8 @@ pub fn anchors(alloc: Global, old: &[&str], new: &[&str]) -> Result<Vec<Anchor>,
         let Some(index) = last else {
             break;
         };
-        if let Some(anchor) = found.get(index) {
-            row.push(*anchor)?;
+        if let Some(pair) = found.get(index) {
+            row.push(*pair)?;
         }
         last = before.get(index).copied().flatten();
     }

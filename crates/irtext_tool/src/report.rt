@@ -127,7 +127,7 @@ pub fn report_made<E: Write>(
 /// Writes that bytes are not UTF-8, and where.
 fn report_bytes<E: Write>(alloc: Global, errors: &mut E, scene: Scene<'_>, bytes: &[u8]) {
     let Some(found) = invalid_utf8(bytes) else {
-        return report_file(alloc, errors, scene, "not_utf8", "the text is not UTF-8");
+        return report_file(alloc, errors, scene, "not-utf8", "the text is not UTF-8");
     };
     let byte = found.byte;
     let Ok(message) = format!(in alloc; "the text is not UTF-8: byte 0x{byte:02x}") else {
@@ -139,7 +139,7 @@ fn report_bytes<E: Write>(alloc: Global, errors: &mut E, scene: Scene<'_>, bytes
     };
     let report = Report {
         diagnostic: diagnostic(Severity::Error, scene.path, Some(place), message.as_str()),
-        cause: "not_utf8",
+        cause: "not-utf8",
         name: None,
         notes: &[],
     };

@@ -9,7 +9,7 @@ use crate::report::{
 };
 use crate::stats::{count_text, counts_text};
 use crate::status::{DONE, FAILED, REJECTED, WRONG_WORDS, status_of, status_of_input};
-use crate::words::{Answer, Request, Target, Task, request};
+use crate::words::{Answer, Request, Target, Task, parse_words};
 use irtext_base::result;
 use irtext_base::text::{AttrText, IrText};
 use irtext_context::base::Context;
@@ -67,7 +67,7 @@ fn report_text<T: IrText<A>, A: AttrText<A>, D: Dialects<T, A>, E: Write>(
         Fault::Misfit(misfit) => report_misfit(alloc, errors, scene, text, misfit),
         Fault::TooDeep => {
             let message = "regions are nested too deep: an indentation does not fit 16 bits";
-            report_file(alloc, errors, scene, "too_deep", message)
+            report_file(alloc, errors, scene, "too-deep", message)
         }
     }
 }
@@ -197,7 +197,7 @@ fn deliver<F: Files, W: Write, E: Write>(
                 alloc,
                 errors,
                 scene,
-                "not_formatted",
+                "not-formatted",
                 "the file is not formatted",
             );
             Done::Status(REJECTED)
@@ -364,7 +364,7 @@ fn work<T: IrText<A>, A: AttrText<A>, D: Dialects<T, A>, F: Files, R: Read, W: W
 }
 
 /// Says why nothing is done: help or the version to the output, and what is wrong with the words to the errors. Returns the status.
-fn answer<W: Write, E: Write>(
+fn say<W: Write, E: Write>(
     alloc: Global,
     about: &About<'_>,
     answer: &Answer,
@@ -410,8 +410,8 @@ pub fn run<T: IrText<A>, A: AttrText<A>, D: Dialects<T, A>, F: Files, R: Read, W
         let form = Form::Text(style_of(about.coloured));
         return format_standard::<T, A, D, R, W, E>(alloc, form, input, output, errors);
     }
-    match request(alloc, about, words) {
+    match parse_words(alloc, about, words) {
         Ok(request) => work::<T, A, D, F, R, W, E>(alloc, &request, files, input, output, errors),
-        Err(other) => answer(alloc, about, &other, output, errors),
+        Err(other) => say(alloc, about, &other, output, errors),
     }
 }

@@ -282,7 +282,7 @@ fn mistake(request: &Request<'_>) -> Option<&'static str> {
 
 /// Returns what the words ask for, without the program's name. Otherwise what is said instead: help, the version, or how the words are
 /// wrong, with the word that may have been meant.
-pub fn request<'a>(
+pub fn parse_words<'a>(
     alloc: Global,
     about: &About<'a>,
     words: &'a [&'a str],
