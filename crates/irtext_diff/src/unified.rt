@@ -35,7 +35,7 @@ fn write_range(out: &mut String, mark: char, from: usize, to: usize) -> Result<(
 }
 
 /// Returns a part of a list, or nothing if the list has no such part.
-fn part<'t, 's>(lines: &'s [&'t str], from: usize, to: usize) -> &'s [&'t str] {
+fn part<'t>(lines: &'t [&'t str], from: usize, to: usize) -> &'t [&'t str] {
     lines.get(from..to).unwrap_or(&[])
 }
 

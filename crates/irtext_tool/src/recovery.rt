@@ -2,19 +2,17 @@
 
 use crate::hints::hint_for;
 use crate::report::{Report, Scene, diagnostic, report_memory, write_report};
-use irtext_base::location::Source;
 use irtext_base::parsable::{
     ParseFault, ParserNameTrackerError, Place, SourcePosition, TextStream, UnresolvedReference,
 };
 use irtext_base::result::Cause;
 use irtext_base::text::{AttrText, IrText};
-use irtext_context::base::{Context, Operation, OperationAccess};
+use irtext_context::base::Context;
 use irtext_diagnostics::{Diagnostic, Severity, cause_name, cause_word, innermost};
 use irtext_excerpt::Excerpt;
-use irtext_parse_state::parsable::{State, StateStream};
+use irtext_formatter::roots::Roots;
 use irtext_stream::class::Class;
 use irtext_survey::Survey;
-use pliron_text::ir::OperationText;
 use std::alloc::{AllocError, Global};
 use std::io::Write;
 
@@ -63,23 +61,29 @@ fn stream_at(alloc: Global, text: &str, at: SourcePosition) -> Result<TextStream
     Ok(stream)
 }
 
-/// Parses the roots of a stream up to one that is rejected. Each is erased before the next is parsed.
+/// Parses roots up to one that is rejected. Each is erased before the next is parsed.
+fn rejection_of<T: IrText<A>, A: AttrText<A>>(roots: &mut Roots<'_, T, A>) -> Option<Rejection<A>> {
+    for _ in 0..u64::MAX {
+        match roots.next_root()? {
+            Ok(_) => roots.erase(),
+            Err(fault) => {
+                let root = roots.begin();
+                return Some(Rejection { root, fault });
+            }
+        }
+    }
+    None
+}
+
+/// Parses the roots of a stream up to one that is rejected.
 fn next_rejection<T: IrText<A>, A: AttrText<A>>(
     ctx: &mut Context<T, A>,
     stream: TextStream,
 ) -> Option<Rejection<A>> {
-    let state = State::new(ctx, Source::InMemory, ());
-    let mut stream = StateStream { stream, state };
-    for _ in 0..u64::MAX {
-        stream.stream.skip(Class::WhiteSpace);
-        stream.stream.peek()?;
-        let root = stream.stream.position();
-        match Operation::top_level_parse(&mut stream) {
-            Ok(op) => op.erase(stream.state.ctx),
-            Err(fault) => return Some(Rejection { root, fault }),
-        }
-    }
-    None
+    let mut roots = Roots::new(ctx, stream);
+    let found = rejection_of(&mut roots);
+    let _ctx = roots.into_context();
+    found
 }
 
 /// Whether a text is names with commas between, as stand before the `=` of an operation.

@@ -148,13 +148,16 @@ fn subcommand<'a>(
 fn format_command<'a>(alloc: Global) -> Result<Command<'a>, AllocError> {
     let in_place = flag(alloc, "in-place", "Write each file anew, if it changes")
         .short('i')
-        .conflicts_with_all(&["check", "diff", "output"])?;
+        .conflicts_with("check")?
+        .conflicts_with("diff")?
+        .conflicts_with("output")?;
     let check = flag(
         alloc,
         "check",
         "Name the files that would change, and write nothing",
     )
-    .conflicts_with_all(&["diff", "output"])?;
+    .conflicts_with("diff")?
+    .conflicts_with("output")?;
     let diff = flag(alloc, "diff", "Show the lines that would change").conflicts_with("output")?;
     let output = Arg::new(alloc, "output")
         .short('o')
