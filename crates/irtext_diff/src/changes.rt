@@ -1,5 +1,5 @@
 //! The changes that turn one list of lines into another.
-ghost use Rattle.std.specs.Prelude.{◌≡◌, ◌+◌, ◌-◌, ◌≤◌, ◌<◌, ◌^◌, IfOk, OnOk, length};
+ghost use Rattle.std.specs.Prelude.{◌≡◌, ◌↔◌, ◌+◌, ◌-◌, ◌≤◌, ◌<◌, ◌^◌, IfOk, OnOk, IsTrue, length};
 ghost use Rattle.irtext_diff.specs.Changes.{AreChanges, Leads, Line, SameLines};
 ghost use Rattle.std.specs.Prelude.{List};
 ghost use Rattle.std.specs.Borrow.{Bor};
@@ -16,6 +16,15 @@ pub struct Change {
     pub added: usize,
 }
 
+/// Whether the lines with these indices are the same.
+fn is_same(old: &[&str], new: &[&str], at: Pair) -> bool
+    requires of_old { at.old < length old.now }
+    requires of_new { at.new < length new.now }
+    ensures { IsTrue result ↔ SameLines old.now new.now at.old at.new 1 }
+{
+    old[at.old] == new[at.new]
+}
+
 /// Returns how many lines from these indices on are the same in both lists, at most so many.
 fn common_front(old: &[&str], new: &[&str], from: Pair, most: usize) -> usize
     requires of_old { from.old + most ≤ length old.now }
@@ -24,7 +33,11 @@ fn common_front(old: &[&str], new: &[&str], from: Pair, most: usize) -> usize
     ensures same { SameLines old.now new.now from.old from.new result }
 {
     for count in 0..most {
-        if old[from.old + count] != new[from.new + count] {
+        let at = Pair {
+            old: from.old + count,
+            new: from.new + count,
+        };
+        if !is_same(old, new, at) {
             return count;
         }
     }
@@ -41,7 +54,11 @@ fn common_back(old: &[&str], new: &[&str], to: Pair, most: usize) -> usize
     ensures same { SameLines old.now new.now (to.old - result) (to.new - result) result }
 {
     for count in 0..most {
-        if old[to.old - count - 1] != new[to.new - count - 1] {
+        let at = Pair {
+            old: to.old - count - 1,
+            new: to.new - count - 1,
+        };
+        if !is_same(old, new, at) {
             return count;
         }
     }
@@ -71,28 +88,26 @@ impl Walk {
         };
     }
 
-    /// Passes lines of which none is kept.
-    fn replace(&mut self, removed: usize, added: usize) -> Result<(), AllocError>
-        requires fits_old { self.old.at.old + removed < 2 ^ 64 }
-        requires fits_new { self.old.at.new + added < 2 ^ 64 }
-        ensures at { OnOk result (self.new.at ≡ record { old = self.old.at.old + removed; new = self.old.at.new + added }) }
+    /// Passes lines up to these indices, of which none is kept.
+    fn replace(&mut self, to: Pair) -> Result<(), AllocError>
+        requires after_old { self.old.at.old ≤ to.old }
+        requires after_new { self.old.at.new ≤ to.new }
+        ensures at { OnOk result (self.new.at ≡ to) }
         ensures leads { OnOk result ((old new : List (Bor Line))
             → Leads old new 0 0 self.old.changes.items self.old.at.old self.old.at.new
             → Leads old new 0 0 self.new.changes.items self.new.at.old self.new.at.new) }
     {
         let at = self.at;
-        if removed != 0 || added != 0 {
-            self.changes.push(Change {
-                old_at: at.old,
-                removed,
-                new_at: at.new,
-                added,
-            })?;
+        if at == to {
+            return Ok(());
         }
-        self.at = Pair {
-            old: at.old + removed,
-            new: at.new + added,
-        };
+        self.changes.push(Change {
+            old_at: at.old,
+            removed: to.old - at.old,
+            new_at: at.new,
+            added: to.new - at.new,
+        })?;
+        self.at = to;
         Ok(())
     }
 
@@ -110,7 +125,10 @@ impl Walk {
         let front = common_front(old, new, self.at, most);
         self.keep(front);
         let back = common_back(old, new, to, most - front);
-        self.replace(to.old - back - self.at.old, to.new - back - self.at.new)?;
+        self.replace(Pair {
+            old: to.old - back,
+            new: to.new - back,
+        })?;
         self.keep(back);
         Ok(())
     }
@@ -128,7 +146,7 @@ impl Walk {
         if !is_ahead || old.len() <= pair.old || new.len() <= pair.new {
             return Ok(());
         }
-        if common_front(old, new, pair, 1) == 0 {
+        if !is_same(old, new, pair) {
             return Ok(());
         }
         self.pass(old, new, pair)?;
