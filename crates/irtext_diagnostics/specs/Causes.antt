@@ -1,5 +1,5 @@
 -- A stable word for each cause of an error, and the name that it is about.
-use Rattle.std.specs.Prelude.{ℕ, ◌+◌, suc, List, codes, Option, Some, None}
+use Rattle.std.specs.Prelude.{ℕ, suc, List, codes, Option, Some, None}
 use Rattle.irtext_base.specs.Causes.{id_text}
 use Rattle.irtext_base.specs.declared.result.Cause.{Cause, Memory, StreamFailed, Unexpected, NumberRange, BadEscape, BadUnicodeEscape, EmptyItem, BadSeparator, UnregisteredDialect, UnregisteredOp, ResultCount, NoActiveScope, UnresolvedReference, ParserNameTrackerError, DuplicateIndex, UnknownIndex, UnknownPrintOnce, ReservedKey, OwnText, FormatFault, Text, Fmt, Nested', Parse', WrongDialect}
 use Rattle.irtext_base.specs.declared.parsable.names.ParserNameTrackerError as tracker

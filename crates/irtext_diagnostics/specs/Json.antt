@@ -1,5 +1,6 @@
 -- A message about a text as a line of JSON, in bytes.
-use Rattle.std.specs.Prelude.{ℕ, Bool, ◌||◌, ◌==◌, cond, List, [], ◌∷◌, ◌++◌, codes, Option, Some, None, Bor}
+use Rattle.std.specs.Prelude.{ℕ, ◌||◌, ◌==◌, cond, List, [], ◌∷◌, ◌++◌, codes, Option, Some, None}
+use Rattle.std.specs.Borrow.{Bor}
 use Rattle.std.specs.Char.{encode_utf8}
 use Rattle.std.specs.Fmt.{signed_decimal}
 use Rattle.std.specs.Str.{chars}
@@ -36,6 +37,10 @@ abbrev pub json_head : Severity → List ℕ → Option Excerpt → List ℕ
 json_head severity path place =
     codes "{\"file\":" ++ (json_text path ++ (json_place place ++ (codes ",\"severity\":\"" ++ (word_of severity ++ codes "\""))))
 
+-- the members for a cause and a message
+abbrev pub json_said : List ℕ → List ℕ → List ℕ
+json_said cause message = codes ",\"cause\":" ++ (json_text cause ++ (codes ",\"message\":" ++ json_text (without_newline message)))
+
 -- the member for a name
 abbrev pub json_name : Option (Bor (List ℕ)) → List ℕ
 json_name None = []
@@ -58,4 +63,4 @@ json_notes (note ∷ notes) = json_note note ++ more_notes notes
 -- the object for a message, and a newline
 abbrev pub json_line : Severity → List ℕ → Option Excerpt → List ℕ → List ℕ → Option (Bor (List ℕ)) → List Diagnostic → List ℕ
 json_line severity path place message cause name notes =
-    json_head severity path place ++ (codes ",\"cause\":" ++ (json_text cause ++ (codes ",\"message\":" ++ (json_text (without_newline message) ++ (json_name name ++ (codes ",\"notes\":[" ++ (json_notes notes ++ codes "]}\n")))))))
+    json_head severity path place ++ (json_said cause message ++ (json_name name ++ (codes ",\"notes\":[" ++ (json_notes notes ++ codes "]}\n"))))

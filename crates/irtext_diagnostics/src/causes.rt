@@ -62,12 +62,12 @@ fn tracker_word(error: &ParserNameTrackerError) -> &'static str
 pub fn innermost<A>(cause: &Cause<A>) -> &Cause<A>
     ensures { result.now ≡ innermost cause.now }
 {
-    let mut cause = cause;
+    let mut inner = cause;
     loop {
-        cause = match cause {
+        inner = match inner {
             Cause::Nested(error) => &error.err,
             Cause::Parse { cause, .. } => cause,
-            _ => return cause,
+            _ => return inner,
         };
     }
 }

@@ -1,8 +1,8 @@
 //! A message about a text as a line of JSON.
-ghost use Rattle.std.specs.Prelude.{Some};
+ghost use Rattle.std.specs.Prelude.{Some, ◌∷◌};
 ghost use Rattle.std.specs.Fmt.{WritesOnOk};
 ghost use Rattle.std.specs.Str.{chars};
-ghost use Rattle.irtext_diagnostics.specs.Json.{json_plain, json_character, json_characters, json_text, json_place, json_head, json_name};
+ghost use Rattle.irtext_diagnostics.specs.Json.{json_plain, json_character, json_characters, json_text, json_place, json_head, json_said, json_name};
 ghost use Rattle.irtext_diagnostics.specs.Json.{json_note, more_notes, json_notes, json_line};
 
 use crate::messages::{Diagnostic, without_newline};
@@ -42,14 +42,32 @@ impl fmt::Display for JsonLine<'_> {
         let head = Head {
             diagnostic: self.diagnostic,
         };
-        let cause = Text { text: self.cause };
-        let message = Text {
-            text: without_newline(self.diagnostic.message),
+        let said = Said {
+            cause: self.cause,
+            message: self.diagnostic.message,
         };
         let name = Name { name: self.name };
         let notes = Notes { notes: self.notes };
-        write!(f, "{head},\"cause\":{cause},\"message\":{message}")?;
-        write!(f, "{name},\"notes\":[{notes}]}}\n")
+        write!(f, "{head}{said}{name},\"notes\":[{notes}]}}\n")
+    }
+}
+
+/// The members for a cause and a message.
+#[derive(Drop)]
+struct Said<'a> {
+    cause: &'a str,
+    message: &'a str,
+}
+
+impl fmt::Display for Said<'_> {
+    ghost output = { λ s. Some (json_said s.cause.now s.message.now) };
+
+    fn fmt<W: fmt::Write>(&self, f: &mut fmt::Formatter<W>) -> fmt::Result {
+        let cause = Text { text: self.cause };
+        let message = Text {
+            text: without_newline(self.message),
+        };
+        write!(f, ",\"cause\":{cause},\"message\":{message}")
     }
 }
 
@@ -210,8 +228,15 @@ fn fmt_more<W: fmt::Write>(notes: &[Diagnostic<'_>], f: &mut fmt::Formatter<W>) 
     ensures { WritesOnOk W.write_str_gives f.old result (more_notes notes.now) f.new }
 {
     for note in notes {
-        let note = Note { diagnostic: *note };
-        write!(f, ",{note}")?;
+        fmt_next(note, f)?;
     }
     Ok(())
+}
+
+/// Appends a note after a comma.
+fn fmt_next<W: fmt::Write>(note: &Diagnostic<'_>, f: &mut fmt::Formatter<W>) -> fmt::Result
+    ensures { WritesOnOk W.write_str_gives f.old result (44 ∷ json_note note.now) f.new }
+{
+    let note = Note { diagnostic: *note };
+    write!(f, ",{note}")
 }

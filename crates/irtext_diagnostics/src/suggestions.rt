@@ -1,5 +1,5 @@
 //! The name that a wrong one was perhaps meant to be.
-ghost use Rattle.std.specs.Prelude.{◌≡◌, IfOk, map, option_copied};
+ghost use Rattle.std.specs.Prelude.{◌≡◌, ◌<◌, ◌^◌, IfOk, map, option_copied};
 ghost use Rattle.irtext_diagnostics.specs.Suggestions.{limit, closest};
 
 use std::alloc::{AllocError, Global};
@@ -33,7 +33,8 @@ pub fn closest<'a>(
 
 /// Returns how far a candidate may be from the word.
 fn limit(word: &str) -> usize
-    ensures { result ≡ limit word.now }
+    ensures value { result ≡ limit word.now }
+    ensures bound { result < 2 ^ 63 }
 {
     word.chars().count().max(3) / 3
 }
