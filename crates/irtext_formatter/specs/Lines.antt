@@ -1,11 +1,9 @@
 -- For callers: lines of a text in bytes.
-use Rattle.std.specs.Prelude.{ℕ, Bool, true, false, cond, ◌==◌, List, [], ◌∷◌, ◌++◌}
+use Rattle.std.specs.Prelude.{ℕ, Bool, cond, ◌==◌, ◌-◌, List, [], ◌∷◌, ◌++◌, length, slice_index}
 
--- the text ends with a newline
+-- the last byte of the text is a newline
 abbrev pub ends_line : List ℕ → Bool
-ends_line [] = false
-ends_line (b ∷ []) = b == 10
-ends_line (b ∷ c ∷ bs) = ends_line (c ∷ bs)
+ends_line bs = slice_index bs (length bs - 1) == 10
 
 -- the text, and a newline if it does not end with one
 abbrev pub lined : List ℕ → List ℕ
@@ -18,4 +16,4 @@ separated (b ∷ bs) = (b ∷ bs) ++ 10 ∷ []
 
 -- a text of lines, and after it the text of one more root: an empty line is between the two, and the whole ends with a newline
 abbrev pub then_root : List ℕ → List ℕ → List ℕ
-then_root texts root = lined (separated texts ++ root)
+then_root so_far root = lined (separated so_far ++ root)

@@ -18,21 +18,16 @@ use Rattle.irtext_names.specs.Promises.{BuildsRoot, RefusesRoot}
 use Rattle.irtext_parse_root.specs.Parses.{texts, attr}
 use Rattle.irtext_parse_state.specs.States.{LocatesAt}
 use Rattle.irtext_parse_state.specs.declared.parsable.state.StateStream.{StateStream}
-use Rattle.irtext_print.specs.Printers.Appended.{fresh}
-use Rattle.irtext_print.specs.Printers.Shown.{Shown}
-use Rattle.irtext_print.specs.declared.printable.refusal.Refusal.{Refusal}
-use Rattle.irtext_print.specs.declared.printable.refusal.Refusal.TheVariants as refusal
-use Rattle.irtext_print.specs.declared.printable.state.RegionPrintDepthLimit.TheVariants.{Unlimited}
 use Rattle.irtext_print_ops.specs.Heads as heads
 use Rattle.irtext_stream.specs.Classes.{after_spaces}
 use Rattle.pliron_text.specs.Calls.{IsPrinted}
+use Rattle.irtext_formatter.specs.Layouts.{plain}
+use Rattle.irtext_formatter.specs.Misfits.{IsMisfitOf}
 use Rattle.irtext_formatter.specs.Lines.{then_root}
 use Rattle.irtext_formatter.specs.declared.fault.Fault as fault
+use Rattle.irtext_formatter.specs.declared.fault.Fault.TheVariants as of_fault
 use Rattle.irtext_formatter.specs.declared.layout.Layout.{Layout}
-
--- how roots are printed: with two spaces for each indentation step, and all regions
-abbrev pub plain : Shown (Unit {0})
-plain = fresh 2 0 Unlimited
+use Rattle.irtext_formatter.specs.declared.misfit.Misfit.{Misfit}
 
 -- a stream at the beginning of a text
 abbrev pub beginning : List ℕ → StreamView
@@ -89,6 +84,29 @@ module _ {T A : Type 0} (types : ir_text.Ghosts T A) (owns : ir_text.Ghosts A A)
     pub has : HasRoot at before op next shown
     pub prints : IsPrinted types owns attributes same shown op plain root
 
+  -- A root is parsed at this position, and this holds of the context and the root.
+  pub record StopsHere (at : StreamView) (before : ContextView T A) (Why : ContextView T A → Ptr Operation → Type 0) : Type 0 where
+    pub op : Ptr Operation
+    pub next : StreamView
+    pub shown : ContextView T A
+    pub has : HasRoot at before op next shown
+    pub why : Why shown op
+
+  -- the root, or an operation inside it, does not fit its format; the misfit describes the first such operation
+  abbrev pub Misfits : Misfit → ContextView T A → Ptr Operation → Type 0
+  Misfits misfit shown op = heads.MisfitsUnder types owns attributes same shown op plain × IsMisfitOf owns.written attributes same shown op misfit
+
+  -- an indentation inside the root does not fit 16 bits
+  abbrev pub IsTooDeep : ContextView T A → Ptr Operation → Type 0
+  IsTooDeep shown op = heads.IsTooDeepUnder types owns attributes same shown op plain
+
+  -- why no root is printed at this position; out of memory is possible at any time
+  abbrev pub FailsHere : StreamView → ContextView T A → fault.Fault A → Type 0
+  FailsHere at before of_fault.Memory = Unit {0}
+  FailsHere at before (of_fault.Rejected f) = RefusesAt types owns before at f
+  FailsHere at before (of_fault.Misfit misfit) = StopsHere at before (Misfits misfit)
+  FailsHere at before of_fault.TooDeep = StopsHere at before IsTooDeep
+
   module _ (text : List ℕ) (ctx : ContextView T A) where
     -- The roots of the text up to this place, each followed by another, are printed as these bytes. Each was erased: the context holds the
     -- objects that it held at first.
@@ -104,30 +122,16 @@ module _ {T A : Type 0} (types : ir_text.Ghosts T A) (owns : ir_text.Ghosts A A)
       roots : {so_far root : List ℕ} {at next : StreamView} {before shown : ContextView T A} → Rows so_far at before
           → GivesRoot (after_spaces at) before root next shown → follows next.rest ≡ false → Formats (then_root so_far root) shown
 
-    -- The roots of the text up to this place are fine, and the next one is rejected.
-    pub record Rejects (fault : ParseFault A) : Type 0 where
+    -- The roots of the text up to this place are fine, and the next one gives this fault.
+    pub record FailsAfter (f : fault.Fault A) : Type 0 where
       pub so_far : List ℕ
       pub at : StreamView
       pub before : ContextView T A
       pub rows : Rows so_far at before
       pub more : follows at.rest ≡ true
-      pub refuses : RefusesAt types owns before (after_spaces at) fault
+      pub fails : FailsHere (after_spaces at) before f
 
-    -- The roots of the text up to this place are fine, and the next one is parsed, and not printed for this reason.
-    pub record Stops (reason : Refusal) : Type 0 where
-      pub so_far : List ℕ
-      pub at : StreamView
-      pub before : ContextView T A
-      pub rows : Rows so_far at before
-      pub op : Ptr Operation
-      pub next : StreamView
-      pub shown : ContextView T A
-      pub has : HasRoot (after_spaces at) before op next shown
-      pub refuses : heads.RefusesUnder types owns attributes same shown op plain reason
-
-    -- why the roots are not printed; out of memory is possible at any time
+    -- why the roots of the text are not printed; out of memory is possible at any time
     abbrev pub Fails : fault.Fault A → Type 0
-    Fails fault.Memory = Unit {0}
-    Fails (fault.Rejected f) = Rejects f
-    Fails (fault.Misfit m) = Stops refusal.Misfit
-    Fails fault.TooDeep = Stops refusal.Depth
+    Fails of_fault.Memory = Unit {0}
+    Fails f = FailsAfter f

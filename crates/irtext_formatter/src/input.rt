@@ -1,5 +1,5 @@
 //! A text is read from any reader.
-ghost use Rattle.std.specs.Prelude.{◌≡◌, OnOk, IfOk, IfErr, IfSome, string_bytes};
+ghost use Rattle.std.specs.Prelude.{◌≡◌, ℕ, List, Option, OnOk, IfOk, IfErr, IfSome, string_bytes};
 ghost use Rattle.std.specs.Io.KnownBytes.{IsAtEnd};
 ghost use Rattle.irtext_formatter.specs.Input.{IsInputFault};
 
@@ -22,7 +22,9 @@ pub enum InputFault {
 }
 
 /// Returns the fault for an error of a reader.
-fn unread(error: io::Error) -> InputFault {
+fn unread(error: io::Error) -> InputFault
+    ensures { (before after : Option (List ℕ)) → IsInputFault before after result }
+{
     if error.kind() == io::ErrorKind::OutOfMemory {
         InputFault::Memory
     } else {

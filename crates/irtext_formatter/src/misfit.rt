@@ -1,8 +1,14 @@
 //! The first operation of a root that does not fit its format.
-ghost use Rattle.std.specs.Prelude.{◌≡◌, IsSome};
+ghost use Rattle.std.specs.Prelude.{◌≡◌, ◌↔◌, IsTrue, IsSome, IfSome, IfNone, IfOk};
 ghost use Rattle.irtext_context.specs.Context.{operation};
+ghost use Rattle.irtext_graph.specs.Graph.{IsLive};
+ghost use Rattle.irtext_graph.specs.declared.object.Object.TheVariants.{TheOperation};
+ghost use Rattle.irtext_print_ops.specs.Fits as fits;
+ghost use Rattle.irtext_print_ops.specs.Heads as heads;
+ghost use Rattle.irtext_formatter.specs.Layouts.{plain};
+ghost use Rattle.irtext_formatter.specs.Misfits.{position_in, Describes, FitsThere, IsMisfitOf};
 
-use irtext_base::base::{Identifier, OpId};
+use irtext_base::base::OpId;
 use irtext_base::location::{Location, Source};
 use irtext_base::parsable::SourcePosition;
 use irtext_base::text::{AttrText, IrText};
@@ -10,7 +16,7 @@ use irtext_context::base::{Context, Operation, OperationAccess, Ptr};
 use irtext_graph::held::HasGraph;
 use irtext_graph::object::Object;
 use irtext_print_ops::fits::{FitFault, check_fits};
-use std::alloc::{AllocError, Global};
+use std::alloc::AllocError;
 
 /// An operation that does not fit its format.
 #[derive(Drop)]
@@ -23,15 +29,34 @@ pub struct Misfit {
     pub reason: String,
 }
 
+/// Whether a source is the text in memory.
+fn is_in_memory(source: Source) -> bool
+    ensures { IsTrue result ↔ (source ≡ Source.InMemory) }
+{
+    match source {
+        Source::InMemory => true,
+        _ => false,
+    }
+}
+
 /// Returns the position that a location gives, if that is one in a text in memory.
-pub fn position_in_memory<A>(location: &Location<A>) -> Option<SourcePosition> {
+pub fn position_in_memory<A>(location: &Location<A>) -> Option<SourcePosition>
+    ensures { result ≡ position_in location.now }
+{
     match location {
-        Location::SrcPos {
-            src: Source::InMemory,
-            pos,
-        } => Some(*pos),
+        Location::SrcPos { src, pos } => { if is_in_memory(*src) { Some(*pos) } else { None } }
         _ => None,
     }
+}
+
+/// Returns a copy of an id.
+fn id_copied(id: &OpId) -> Result<OpId, AllocError>
+    ensures { IfOk result (λ copy. copy ≡ id.now) }
+{
+    Ok(OpId {
+        dialect: id.dialect.clone()?,
+        name: id.name.clone()?,
+    })
 }
 
 /// Describes an operation that does not fit its format for this reason.
@@ -40,37 +65,60 @@ fn described<T: IrText<A>, A: AttrText<A>>(
     op: Ptr<Operation>,
     fault: FitFault<'_>,
 ) -> Result<Misfit, AllocError>
-    requires { IsSome (operation ctx.now op) }
+    requires live { IsSome (operation ctx.now op) }
+    ensures { IfOk result (λ misfit. IfSome (operation ctx.now op) (λ seen. Describes seen fault misfit)) }
 {
-    let alloc = ctx.allocator();
-    let reason = format!(in alloc; "{fault}")?;
-    let id = op.get_opid(ctx);
+    let id = id_copied(op.get_opid(ctx))?;
+    let position = position_in_memory(op.loc(ctx));
+    let reason = format!(in ctx.allocator(); "{fault}")?;
     Ok(Misfit {
-        id: OpId {
-            dialect: id.dialect.clone()?,
-            name: id.name.clone()?,
-        },
-        position: position_in_memory(op.loc(ctx)),
+        id,
+        position,
         reason,
     })
 }
 
-/// Returns the first operation, in the order of the text, that does not fit its format.
-pub(crate) fn first_misfit<T: IrText<A>, A: AttrText<A>>(
+/// Returns the operation that an object is, if it does not fit its format, and why not.
+fn misfit_at<'c, T: IrText<A>, A: AttrText<A>>(
+    ctx: &'c Context<T, A>,
+    object: Object,
+) -> Option<(Ptr<Operation>, FitFault<'c>)>
+    ensures fits { IfNone result (FitsThere A.IrText.written A.AttrText.own A.eq ctx.now object) }
+    ensures is { IfSome result (λ found. object ≡ TheOperation found.0) }
+    ensures live { IfSome result (λ found. IsSome (operation ctx.now found.0)) }
+    ensures reason { IfSome result (λ found. fits.IsFirstReasonIn A.IrText.written A.AttrText.own A.eq ctx.now
+        found.0 found.1) }
+{
+    let Object::TheOperation(op) = object else {
+        return None;
+    };
+    if !ctx.contains_operation(op) {
+        return None;
+    }
+    match check_fits(ctx, op) {
+        Ok(()) => None,
+        Err(fault) => Some((op, fault)),
+    }
+}
+
+/// Returns the first operation, in the order of the text, that does not fit its format: the root, or one that is nested in it.
+pub fn first_misfit<T: IrText<A>, A: AttrText<A>>(
     ctx: &Context<T, A>,
     root: Ptr<Operation>,
-) -> Option<Result<Misfit, AllocError>>
-    requires { IsSome (operation ctx.now root) }
+) -> Result<Misfit, AllocError>
+    requires live { IsSome (operation ctx.now root) }
+    requires misfits { heads.MisfitsUnder T.IrText.own A.IrText.own A.AttrText.own A.eq ctx.now root plain }
+    ensures { IfOk result (IsMisfitOf A.IrText.written A.AttrText.own A.eq ctx.now root) }
 {
+    let graph = ctx.graph();
+    graph.keeps_nesting();
     let top = Object::TheOperation(root);
     let mut at = Some(top);
     while let Some(object) = at {
-        if let Object::TheOperation(op) = object {
-            if let Err(fault) = check_fits(ctx, op) {
-                return Some(described(ctx, op, fault));
-            }
+        match misfit_at(ctx, object) {
+            Some((op, fault)) => return described(ctx, op, fault),
+            None => at = graph.next_inside(top, object),
         }
-        at = ctx.graph().next_inside(top, object);
     }
-    None
+    unreachable!()
 }

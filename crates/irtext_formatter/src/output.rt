@@ -10,7 +10,10 @@ use std::io::Write;
 pub(crate) fn ends_line(text: &str) -> bool
     ensures { result ≡ ends_line text.now }
 {
-    text.as_bytes().last() == Some(&b'\n')
+    match text.as_bytes().last() {
+        Some(last) => *last == b'\n',
+        None => false,
+    }
 }
 
 /// Writes a text, and flushes. If it fails, a part of the text may have been written.

@@ -1,10 +1,9 @@
 //! The text of a root.
 ghost use Rattle.std.specs.Prelude.{◌≡◌, ◌++◌, ℕ, List, IsSome, IfOk, IfErr, OnOk, string_bytes};
 ghost use Rattle.irtext_context.specs.Context.{operation};
-ghost use Rattle.irtext_print.specs.Printers.Appended.{fresh};
 ghost use Rattle.irtext_print_ops.specs.Heads as heads;
 ghost use Rattle.pliron_text.specs.Calls.{IsPrinted};
-ghost use Rattle.irtext_formatter.specs.Rows.{plain};
+ghost use Rattle.irtext_formatter.specs.Layouts.{plain};
 
 use irtext_base::text::{AttrText, IrText};
 use irtext_context::base::{Context, Operation, Ptr};
