@@ -1,5 +1,8 @@
+pub mod Covered
 pub mod Live
+pub mod Misfitting
 pub mod Newer
+pub mod Printing
 pub mod Rooted
 pub mod Shorter
 pub mod Standing

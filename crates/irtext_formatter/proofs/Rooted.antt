@@ -1,11 +1,11 @@
 -- What is known of the roots after one is parsed.
-use Rattle.std.proofs.Common.{◌≡◌, ◌∙◌, ◌<◌, true, Result, Ok, Err, ◌++◌, length, append_assoc, refl, sym, ap, subst}
-use Rattle.std.specs.Prelude.{IfOk, OnOk}
+use Rattle.std.proofs.Common.{◌≡◌, ◌∙◌, ◌<◌, true, Result, Ok, Err, IsSome, ◌++◌, length, append_assoc, refl, sym, ap, subst}
+use Rattle.std.specs.Prelude.{IfOk, OnOk, is_some}
 use Rattle.irtext_base.specs.Places.{IsPlaceAfter}
 use Rattle.irtext_base.specs.declared.parsable.fault.ParseFault.{ParseFault}
 use Rattle.irtext_base.specs.declared.text.IrText as ir_text
-use Rattle.irtext_context.proofs.Kept.{kept_closed}
-use Rattle.irtext_context.specs.Context.{KeepsOlder}
+use Rattle.irtext_context.proofs.Kept.{kept_closed, kept_trans}
+use Rattle.irtext_context.specs.Context.{ContextView, operation, KeepsOlder}
 use Rattle.irtext_graph.specs.Back.{AllOlder, IsClosedBelow}
 use Rattle.irtext_graph.specs.Throughout.{IsNewInside}
 use Rattle.irtext_graph.specs.declared.arena.Ptr.{Ptr}
@@ -26,6 +26,10 @@ module _ {T A : Type 0} (types : ir_text.Ghosts T A) (owns : ir_text.Ghosts A A)
       → IfOk r (λ op. ReadsRoot types owns op (place_of old) (place_of new) (held_by old) (held_by new))
   reads ready (Ok op) b = record { old = old.stream; new = new.stream; from = refl; to = refl; source = ready.source; context = refl; left = refl; builds = b }
   reads ready (Err fault) b = tt
+
+  pub is_live : (r : Result (Ptr Operation) (ParseFault A)) → IfOk r (λ op. BuildsRoot (texts types) (texts owns) (attr owns) op old.stream new.stream) → IfOk r (λ op. IsSome (operation (held_by new) op))
+  is_live (Ok op) b = ap is_some b.is_whole.0.is
+  is_live (Err fault) b = tt
 
   pub ready_still : IsReady old → KeepsRest old.stream.state new.stream.state → (r : Result (Ptr Operation) (ParseFault A)) → IfOk r (λ op. BuildsRoot (texts types) (texts owns) (attr owns) op old.stream new.stream)
       → OnOk r (IsReady new)
@@ -55,3 +59,13 @@ module _ {T A : Type 0} (types : ir_text.Ghosts T A) (owns : ir_text.Ghosts A A)
   pub shorter : (r : Result (Ptr Operation) (ParseFault A)) → IfOk r (λ op. ReadsAny types.reading (attr owns) true op old.stream new.stream) → OnOk r (length (place_of new).rest < length (place_of old).rest)
   shorter (Ok op) h = root_shorter types.reading (attr owns) op old.stream new.stream h
   shorter (Err fault) h = tt
+
+-- what was made since can still be erased after a change that keeps what is older
+pub back_still : {T A : Type 0} (old new : Roots T A) (before : ContextView T A) → new.made ≡ old.made → KeepsOlder old.made (held_by old) (held_by new) → CanTakeBack before old → CanTakeBack before new
+back_still old new before same kept can =
+    let k : KeepsOlder new.made (held_by old) (held_by new) = subst (λ m. KeepsOlder m (held_by old) (held_by new)) (sym same) kept in
+    record {
+      older = subst (λ m. AllOlder m before.graph) (sym same) can.older;
+      kept = kept_trans (subst (λ m. KeepsOlder m before (held_by old)) (sym same) can.kept) k;
+      closed = kept_closed (subst (λ m. IsClosedBelow m (held_by old).graph) (sym same) can.closed) k;
+    }

@@ -1,18 +1,22 @@
 -- For callers: where the parsing of a text's roots stands. Between functions: what is known of the roots so far.
-use Rattle.std.specs.Prelude.{◌≡◌, ◌++◌, ℕ, Bool, true, false, List}
+use Rattle.std.specs.Prelude.{◌≡◌, ◌++◌, ℕ, Bool, true, false, List, Result, Ok, Err}
 use Rattle.irtext_base.specs.Places.{IsPlaceAfter}
 use Rattle.irtext_base.specs.Stream.{StreamView}
 use Rattle.irtext_base.specs.Text.{Text}
 use Rattle.irtext_base.specs.declared.location.Source.TheVariants.{InMemory}
+use Rattle.irtext_base.specs.declared.parsable.fault.ParseFault.{ParseFault}
 use Rattle.irtext_base.specs.declared.text.AttrText as attr_text
 use Rattle.irtext_base.specs.declared.text.IrText as ir_text
 use Rattle.irtext_context.specs.Context.{ContextView, KeepsOlder}
 use Rattle.irtext_context.specs.Made.{SameObjects}
 use Rattle.irtext_graph.specs.Back.{AllOlder, IsClosedBelow}
+use Rattle.irtext_graph.specs.declared.arena.Ptr.{Ptr}
+use Rattle.irtext_graph.specs.declared.object.Operation.{Operation}
+use Rattle.irtext_grammar.specs.Promises.Root.{UnlessMemory}
 use Rattle.irtext_parse_state.specs.States.{IsFresh}
 use Rattle.irtext_stream.specs.Classes.{after_spaces}
 use Rattle.irtext_formatter.specs.Lines.{then_root}
-use Rattle.irtext_formatter.specs.Rows.{follows, GivesRoot, Rows, Formats}
+use Rattle.irtext_formatter.specs.Rows.{follows, ReadsRoot, RefusesAt, GivesRoot, Rows, Formats}
 use Rattle.irtext_formatter.specs.declared.layout.Layout.{Layout}
 use Rattle.irtext_formatter.specs.declared.roots.Roots.{Roots}
 
@@ -41,6 +45,12 @@ module _ {T A : Type 0} where
     pub older : AllOlder r.made before.graph
     pub kept : KeepsOlder r.made before (held_by r)
     pub closed : IsClosedBelow r.made (held_by r).graph
+
+module _ {T A : Type 0} (types : ir_text.Ghosts T A) (owns : ir_text.Ghosts A A) (old new : Roots T A) where
+  -- the root that follows the white space was parsed, and can be erased; or it was rejected, and the context holds what it held before
+  abbrev pub NextRoot : Result (Ptr Operation) (ParseFault A) → Type 0
+  NextRoot (Ok op) = ReadsRoot types owns op (after_spaces (place_of old)) (place_of new) (held_by old) (held_by new) × IsReady new × CanTakeBack (held_by old) new
+  NextRoot (Err fault) = UnlessMemory (RefusesAt types owns (held_by old) (after_spaces (place_of old))) fault × SameObjects (held_by old) (held_by new)
 
 module _ {T A : Type 0} (types : ir_text.Ghosts T A) (owns : ir_text.Ghosts A A) (attributes : attr_text.Ghosts A A) (same : A → A → Bool) (layout : Layout) where
   -- A root was parsed, and these bytes are its text. The stream is at what follows. If that is another root, this one was erased.

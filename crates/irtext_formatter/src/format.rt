@@ -124,9 +124,7 @@ fn append_next<T: IrText<A>, A: AttrText<A>>(
         Ok(()) => {}
         Err(refusal) => return Err(unprinted(roots.context(), root, refusal)),
     }
-    if followed {
-        roots.erase();
-    }
+    roots.erase_followed(followed);
     Ok(followed)
 }
 
@@ -146,7 +144,10 @@ fn append_all<T: IrText<A>, A: AttrText<A>>(
 {
     let mut left = roots.is_left();
     while left {
-        left = append_next(roots, layout, out)?;
+        match append_next(roots, layout, out) {
+            Ok(followed) => left = followed,
+            Err(fault) => return Err(fault),
+        }
     }
     Ok(())
 }
@@ -198,7 +199,10 @@ fn check_all<T: IrText<A>, A: AttrText<A>>(
     let mut left = roots.is_left();
     while left {
         out.clear();
-        left = append_next(roots, layout, out)?;
+        match append_next(roots, layout, out) {
+            Ok(followed) => left = followed,
+            Err(fault) => return Err(fault),
+        }
     }
     Ok(())
 }

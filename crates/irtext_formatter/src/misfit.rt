@@ -1,7 +1,10 @@
 //! The first operation of a root that does not fit its format.
-ghost use Rattle.std.specs.Prelude.{◌≡◌, ◌↔◌, IsTrue, IsSome, IfSome, IfNone, IfOk};
+ghost use Rattle.std.specs.Prelude.{◌≡◌, ◌↔◌, ◌∷◌, Some, IsTrue, IsSome, IfSome, IfNone, IfOk};
 ghost use Rattle.irtext_context.specs.Context.{operation};
-ghost use Rattle.irtext_graph.specs.Graph.{IsLive};
+ghost use Rattle.irtext_graph.specs.Chained.{Among};
+ghost use Rattle.irtext_graph.specs.Graph.{children, parent, IsInside, IsLive};
+ghost use Rattle.irtext_graph.specs.Nested.{Nested};
+ghost use Rattle.irtext_graph.specs.Throughout.{all_from};
 ghost use Rattle.irtext_graph.specs.declared.object.Object.TheVariants.{TheOperation};
 ghost use Rattle.irtext_print_ops.specs.Fits as fits;
 ghost use Rattle.irtext_print_ops.specs.Heads as heads;
@@ -66,7 +69,7 @@ fn described<T: IrText<A>, A: AttrText<A>>(
     fault: FitFault<'_>,
 ) -> Result<Misfit, AllocError>
     requires live { IsSome (operation ctx.now op) }
-    ensures { IfOk result (λ misfit. IfSome (operation ctx.now op) (λ seen. Describes seen fault misfit)) }
+    ensures { IfOk result (λ misfit. IfSome (operation ctx.now op) (λ seen. Describes seen fault.entry misfit)) }
 {
     let id = id_copied(op.get_opid(ctx))?;
     let position = position_in_memory(op.loc(ctx));
@@ -101,6 +104,29 @@ fn misfit_at<'c, T: IrText<A>, A: AttrText<A>>(
     }
 }
 
+/// The nesting of objects is a forest, and `next_inside` visits all that is nested in an object. Does nothing: the contract hands that out.
+fn keeps_order<T: IrText<A>, A: AttrText<A>>(ctx: &Context<T, A>)
+    ensures forest { Nested (children ctx.now.graph) (parent ctx.now.graph) }
+    ensures all { (o q : _) → IsInside ctx.now.graph o q → Among q (all_from ctx.now.graph o (Some o)) }
+{
+    ctx.graph().keeps_nesting();
+}
+
+/// Returns the object after this one in the order of the text, of those nested in `top`.
+fn next_inside<T: IrText<A>, A: AttrText<A>>(
+    ctx: &Context<T, A>,
+    top: Object,
+    object: Object,
+) -> Option<Object>
+    requires alive { IsLive ctx.now.graph object }
+    requires within { IsInside ctx.now.graph top object }
+    ensures next { all_from ctx.now.graph top (Some object) ≡ object ∷ all_from ctx.now.graph top result }
+    ensures inside { IfSome result (λ r. IsInside ctx.now.graph top r) }
+    ensures there { IfSome result (λ r. IsLive ctx.now.graph r) }
+{
+    ctx.graph().next_inside(top, object)
+}
+
 /// Returns the first operation, in the order of the text, that does not fit its format: the root, or one that is nested in it.
 pub fn first_misfit<T: IrText<A>, A: AttrText<A>>(
     ctx: &Context<T, A>,
@@ -110,14 +136,13 @@ pub fn first_misfit<T: IrText<A>, A: AttrText<A>>(
     requires misfits { heads.MisfitsUnder T.IrText.own A.IrText.own A.AttrText.own A.eq ctx.now root plain }
     ensures { IfOk result (IsMisfitOf A.IrText.written A.AttrText.own A.eq ctx.now root) }
 {
-    let graph = ctx.graph();
-    graph.keeps_nesting();
+    keeps_order(ctx);
     let top = Object::TheOperation(root);
     let mut at = Some(top);
     while let Some(object) = at {
         match misfit_at(ctx, object) {
-            Some((op, fault)) => return described(ctx, op, fault),
-            None => at = graph.next_inside(top, object),
+            Some(found) => return described(ctx, found.0, found.1),
+            None => at = next_inside(ctx, top, object),
         }
     }
     unreachable!()

@@ -1,5 +1,5 @@
 //! The roots of a text, parsed one after the other on one stream.
-ghost use Rattle.std.specs.Prelude.{◌≡◌, ◌<◌, ◌↔◌, ℕ, [], false, length, None, IsTrue, IsSome, IfSome, IfOk, IfErr, OnOk, OnErr};
+ghost use Rattle.std.specs.Prelude.{◌≡◌, ◌<◌, ◌↔◌, ℕ, [], true, false, length, None, IsTrue, IsSome, IfSome, IfNone, IfOk, IfErr, OnOk, OnErr};
 ghost use Rattle.irtext_base.specs.Text.{Text};
 ghost use Rattle.irtext_base.specs.Places.{IsPlaceAfter};
 ghost use Rattle.irtext_base.specs.Stream.{IsAt};
@@ -11,11 +11,13 @@ ghost use Rattle.irtext_graph.specs.Back.{AllOlder, IsClosedBelow};
 ghost use Rattle.irtext_graph.specs.Parts.{regions};
 ghost use Rattle.irtext_graph.specs.Store.{before};
 ghost use Rattle.irtext_graph.specs.Throughout.{IsNewInside};
+ghost use Rattle.irtext_graph.specs.declared.arena.Ptr.{Ptr};
 ghost use Rattle.irtext_graph.specs.declared.object.Object.TheVariants.{TheOperation};
+ghost use Rattle.irtext_graph.specs.declared.object.Operation.{Operation};
 ghost use Rattle.irtext_grammar.specs.Promises.Root.{UnlessMemory};
 ghost use Rattle.irtext_stream.specs.Classes.{after_spaces};
 ghost use Rattle.irtext_formatter.specs.Rows.{follows, ReadsRoot, RefusesAt, KeepsPlace, LaysOut};
-ghost use Rattle.irtext_formatter.specs.Stands.{place_of, held_by, IsReady, CanTakeBack, Begins};
+ghost use Rattle.irtext_formatter.specs.Stands.{place_of, held_by, IsReady, CanTakeBack, Begins, NextRoot};
 
 use crate::layout::Layout;
 use irtext_base::location::{Location, Source};
@@ -142,6 +144,8 @@ impl<'c, T: IrText<A>, A: AttrText<A>> Roots<'c, T, A> {
         ensures last { (self.new.made ≡ self.old.made) × (self.new.begin ≡ self.old.begin) }
         ensures begin { (begin : Text) → Begins begin self.old → Begins begin self.new }
         ensures back { (before : ContextView T A) → CanTakeBack before self.old → CanTakeBack before self.new }
+        ensures inside { (op : Ptr Operation) → IsNewInside self.old.made (held_by self.old).graph (TheOperation op)
+            → IsNewInside self.new.made (held_by self.new).graph (TheOperation op) }
         ensures ready { IsReady self.old → IsReady self.new }
     {
         self.stream.stream.skip(Class::WhiteSpace);
@@ -156,6 +160,7 @@ impl<'c, T: IrText<A>, A: AttrText<A>> Roots<'c, T, A> {
             (place_of self.new) (held_by self.old) (held_by self.new)) }
         ensures refuses { IsReady self.old → IfErr result (UnlessMemory (RefusesAt T.IrText.own A.IrText.own
             (held_by self.old) (place_of self.old))) }
+        ensures live { IsReady self.old → IfOk result (λ op. IsSome (operation (held_by self.new) op)) }
         ensures ready { IsReady self.old → OnOk result (IsReady self.new) }
         ensures begin { IsReady self.old → OnOk result (Begins (place_of self.old).passed self.new) }
         ensures objects { OnErr result (SameObjects (held_by self.old) (held_by self.new)) }
@@ -170,8 +175,14 @@ impl<'c, T: IrText<A>, A: AttrText<A>> Roots<'c, T, A> {
         outermost_parse(&mut self.stream, true)
     }
 
-    /// Parses the next root. `None` exactly if only white space is left of the text.
-    pub fn next_root(&mut self) -> Option<ParseResult<Ptr<Operation>, A>> {
+    /// Parses the next root, with its section. `None` exactly if only white space is left of the text. On an error the context holds the
+    /// objects that it held before. The last root stays in the context, unless it is erased (`erase`).
+    pub fn next_root(&mut self) -> Option<ParseResult<Ptr<Operation>, A>>
+        ensures lent { self.new.stream.state.ctx.ghost_name ≡ self.old.stream.state.ctx.ghost_name }
+        ensures some { IsSome result ↔ (follows (place_of self.old).rest ≡ true) }
+        ensures parses { IsReady self.old → IfSome result (NextRoot T.IrText.own A.IrText.own self.old self.new) }
+        ensures none { IfNone result (held_by self.new ≡ held_by self.old) }
+    {
         if !self.is_left() {
             return None;
         }
@@ -230,6 +241,21 @@ impl<'c, T: IrText<A>, A: AttrText<A>> Roots<'c, T, A> {
         ensures ready { IsReady self.old → IsReady self.new }
     {
         take_back(&mut self.stream.state, self.made);
+    }
+
+    /// Erases the root that was parsed last, if another one follows.
+    pub(crate) fn erase_followed(&mut self, followed: bool)
+        requires closed { IsClosedBelow self.old.made (held_by self.old).graph }
+        ensures lent { self.new.stream.state.ctx.ghost_name ≡ self.old.stream.state.ctx.ghost_name }
+        ensures back { followed ≡ true → (before : ContextView T A) → CanTakeBack before self.old → SameObjects before
+            (held_by self.new) }
+        ensures last { followed ≡ false → held_by self.new ≡ held_by self.old }
+        ensures place { place_of self.new ≡ place_of self.old }
+        ensures ready { IsReady self.old → IsReady self.new }
+    {
+        if followed {
+            self.erase();
+        }
     }
 
     /// Returns the context.
