@@ -9,6 +9,7 @@ pub mod host;
 pub mod recovery;
 pub mod report;
 pub mod run;
+pub mod second_look;
 pub mod stats;
 pub mod status;
 pub mod words;

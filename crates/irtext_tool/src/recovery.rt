@@ -1,9 +1,12 @@
 //! All rejected roots of a text: each is reported once, and the root after it is sought.
+ghost use Rattle.std.specs.Prelude.{◌≡◌};
+ghost use Rattle.irtext_formatter.specs.Stands.{IsReady};
 
 use crate::hints::hint_for;
 use crate::report::{Report, Scene, diagnostic, report_memory, write_report};
+use crate::second_look::{RejectedRoot, stream_at};
 use irtext_base::parsable::{
-    ParseFault, ParserNameTrackerError, Place, SourcePosition, TextStream, UnresolvedReference,
+    ParseFault, ParserNameTrackerError, Place, SourcePosition, UnresolvedReference,
 };
 use irtext_base::result::Cause;
 use irtext_base::text::{AttrText, IrText};
@@ -12,7 +15,6 @@ use irtext_diagnostics::{Diagnostic, Severity, cause_name, cause_word, innermost
 use irtext_excerpt::Excerpt;
 use irtext_formatter::roots::Roots;
 use irtext_stream::class::Class;
-use irtext_survey::Survey;
 use std::alloc::{AllocError, Global};
 use std::io::Write;
 
@@ -30,7 +32,7 @@ const UNREAD: &'static str = "the rest of the file was not looked at";
 #[derive(Drop)]
 struct Rejection<A> {
     /// Where it begins.
-    root: Place,
+    begin: SourcePosition,
     fault: ParseFault<A>,
 }
 
@@ -43,47 +45,38 @@ enum Next {
     Unknown,
 }
 
-/// Returns a stream over a text, at a position of it.
-fn stream_at(alloc: Global, text: &str, at: SourcePosition) -> Result<TextStream, AllocError> {
-    let mut stream = TextStream::new(alloc, text)?;
-    let (mut line, mut column) = (1i32, 1i32);
-    for _ in 0..text.len() {
-        if line > at.line || line == at.line && column >= at.column {
-            break;
-        }
-        if stream.take() == Some('\n') {
-            line = line.saturating_add(1);
-            column = 1;
-        } else {
-            column = column.saturating_add(1);
-        }
-    }
-    Ok(stream)
-}
-
-/// Parses roots up to one that is rejected. Each is erased before the next is parsed.
-fn rejection_of<T: IrText<A>, A: AttrText<A>>(roots: &mut Roots<'_, T, A>) -> Option<Rejection<A>> {
+/// Parses roots up to one that is rejected, and returns where that begins, and why it is rejected. Each root is erased before the next is
+/// parsed.
+fn rejection_of<T: IrText<A>, A: AttrText<A>>(
+    roots: &mut Roots<'_, T, A>,
+) -> Option<(Place, ParseFault<A>)>
+    requires { IsReady roots.old }
+    ensures lent { roots.new.stream.state.ctx.ghost_name ≡ roots.old.stream.state.ctx.ghost_name }
+{
     for _ in 0..u64::MAX {
         match roots.next_root()? {
             Ok(_) => roots.erase(),
-            Err(fault) => {
-                let root = roots.begin();
-                return Some(Rejection { root, fault });
-            }
+            Err(fault) => return Some((roots.begin(), fault)),
         }
     }
     None
 }
 
-/// Parses the roots of a stream up to one that is rejected.
+/// Parses the roots of a text from a position on, up to one that is rejected.
 fn next_rejection<T: IrText<A>, A: AttrText<A>>(
     ctx: &mut Context<T, A>,
-    stream: TextStream,
-) -> Option<Rejection<A>> {
+    text: &str,
+    from: SourcePosition,
+) -> Result<Option<Rejection<A>>, AllocError> {
+    let places = stream_at(ctx.allocator(), text, from)?;
+    let stream = stream_at(ctx.allocator(), text, from)?;
     let mut roots = Roots::new(ctx, stream);
     let found = rejection_of(&mut roots);
     let _ctx = roots.into_context();
-    found
+    Ok(found.map(|(begin, fault)| Rejection {
+        begin: places.locate(begin),
+        fault,
+    }))
 }
 
 /// Whether a text is names with commas between, as stand before the `=` of an operation.
@@ -139,15 +132,6 @@ fn line_below<T: IrText<A>, A: AttrText<A>>(
     None
 }
 
-/// A text that was rejected, and a second look at it.
-#[derive(Drop)]
-struct Rejected<'t> {
-    text: &'t str,
-    // where lines and columns are found
-    places: TextStream,
-    survey: Survey<'t>,
-}
-
 /// The notes of an error.
 #[derive(Drop)]
 struct Notes {
@@ -167,104 +151,92 @@ fn is_blank_below(text: &str, line: i32) -> bool {
         .all(|content| content.trim().is_empty())
 }
 
-impl<'t> Rejected<'t> {
-    /// Returns a text for a second look at it. Fails only if an allocation fails.
-    fn new(alloc: Global, text: &'t str) -> Result<Rejected<'t>, AllocError> {
-        Ok(Rejected {
-            text,
-            places: TextStream::new(alloc, text)?,
-            survey: Survey::new(alloc, text)?,
-        })
+/// Returns where the root after a rejected one may begin: where the rejected one ends, if nothing is wrong with its syntax; otherwise the
+/// next line below the error that begins a root.
+fn next_after<T: IrText<A>, A: AttrText<A>>(
+    ctx: &Context<T, A>,
+    text: &str,
+    rejection: &Rejection<A>,
+) -> Result<Next, AllocError> {
+    let begin = rejection.begin;
+    if let Some(end) = (RejectedRoot { text, begin }).end(ctx)? {
+        return Ok(Next::From(end));
     }
+    Ok(match line_below(ctx, text, rejection.fault.pos.line) {
+        Some(position) => Next::From(position),
+        None => Next::Unknown,
+    })
+}
 
-    /// Returns where the root after a rejected one may begin: where the rejected one ends, if nothing is wrong with its syntax; otherwise
-    /// the next line below the error that begins a root.
-    fn next<T: IrText<A>, A: AttrText<A>>(
-        &mut self,
-        ctx: &Context<T, A>,
-        rejection: &Rejection<A>,
-    ) -> Result<Next, AllocError> {
-        if let Some(end) = self.survey.end_of_root(ctx, rejection.root)? {
-            return Ok(Next::From(self.places.locate(end)));
+/// Returns the other place that an error is about: the first use of a name that is not defined, or the first definition of one that is
+/// defined twice.
+fn other_place<T: IrText<A>, A: AttrText<A>>(
+    ctx: &Context<T, A>,
+    text: &str,
+    rejection: &Rejection<A>,
+) -> Result<Option<(SourcePosition, &'static str)>, AllocError> {
+    let (begin, at) = (rejection.begin, rejection.fault.pos);
+    let root = RejectedRoot { text, begin };
+    let (found, what) = match innermost(&rejection.fault.cause) {
+        Cause::UnresolvedReference(UnresolvedReference(name)) => {
+            (root.first_use(ctx, name.as_str(), at)?, "used here")
         }
-        Ok(match line_below(ctx, self.text, rejection.fault.pos.line) {
-            Some(position) => Next::From(position),
-            None => Next::Unknown,
-        })
-    }
+        Cause::ParserNameTrackerError(ParserNameTrackerError::MultipleDefinitions(name)) => {
+            (
+                root.first_definition(ctx, name.as_str(), at)?,
+                "first defined here",
+            )
+        }
+        _ => (None, ""),
+    };
+    Ok(found.map(|position| (position, what)))
+}
 
-    /// Returns the other place that an error is about: the first use of a name that is not defined, or the first definition of one that
-    /// is defined twice.
-    fn other_place<T: IrText<A>, A: AttrText<A>>(
-        &mut self,
-        ctx: &Context<T, A>,
-        rejection: &Rejection<A>,
-    ) -> Result<Option<(SourcePosition, &'static str)>, AllocError> {
-        let (root, at) = (rejection.root, rejection.fault.pos);
-        let (found, what) = match innermost(&rejection.fault.cause) {
-            Cause::UnresolvedReference(UnresolvedReference(name)) => {
-                (
-                    self.survey.first_use(ctx, root, name.as_str(), at)?,
-                    "used here",
-                )
-            }
-            Cause::ParserNameTrackerError(ParserNameTrackerError::MultipleDefinitions(name)) => {
-                (
-                    self.survey.first_definition(ctx, root, name.as_str(), at)?,
-                    "first defined here",
-                )
-            }
-            _ => (None, ""),
-        };
-        Ok(found.map(|position| (position, what)))
-    }
+/// Returns the notes of an error, after which the next root begins there.
+fn notes_of<T: IrText<A>, A: AttrText<A>>(
+    ctx: &Context<T, A>,
+    text: &str,
+    rejection: &Rejection<A>,
+    next: Next,
+) -> Result<Notes, AllocError> {
+    let unread = match next {
+        Next::From(_) => false,
+        Next::Unknown => !is_blank_below(text, rejection.fault.pos.line),
+    };
+    Ok(Notes {
+        place: other_place(ctx, text, rejection)?,
+        hint: hint_for(ctx, &rejection.fault.cause)?,
+        unread,
+    })
+}
 
-    /// Returns the notes of an error, after which the next root begins there.
-    fn notes<T: IrText<A>, A: AttrText<A>>(
-        &mut self,
-        ctx: &Context<T, A>,
-        rejection: &Rejection<A>,
-        next: Next,
-    ) -> Result<Notes, AllocError> {
-        let unread = match next {
-            Next::From(_) => false,
-            Next::Unknown => !is_blank_below(self.text, rejection.fault.pos.line),
-        };
-        Ok(Notes {
-            place: self.other_place(ctx, rejection)?,
-            hint: hint_for(ctx, &rejection.fault.cause)?,
-            unread,
-        })
-    }
-
-    /// Writes the error of a rejected root, after which the next one begins there.
-    fn report<T: IrText<A>, A: AttrText<A>, E: Write>(
-        &mut self,
-        ctx: &Context<T, A>,
-        errors: &mut E,
-        scene: Scene<'_>,
-        rejection: &Rejection<A>,
-        next: Next,
-    ) -> Result<(), AllocError> {
-        let alloc = ctx.allocator();
-        let cause = innermost(&rejection.fault.cause);
-        let notes = self.notes(ctx, rejection, next)?;
-        let message = format!(in alloc; "{cause}")?;
-        let name = cause_name(alloc, cause)?;
-        let said = noted(alloc, self.text, scene, &notes)?;
-        let place = Excerpt {
-            text: self.text,
-            position: rejection.fault.pos,
-        };
-        let report = Report {
-            diagnostic: diagnostic(Severity::Error, scene.path, Some(place), message.as_str()),
-            cause: cause_word(cause),
-            name: name.as_ref().map(|name| name.as_str()),
-            notes: said.as_slice(),
-        };
-        write_report(alloc, errors, scene.form, &report);
-        Ok(())
-    }
+/// Writes the error of a rejected root, after which the next one begins there.
+fn report_root<T: IrText<A>, A: AttrText<A>, E: Write>(
+    ctx: &Context<T, A>,
+    errors: &mut E,
+    scene: Scene<'_>,
+    text: &str,
+    rejection: &Rejection<A>,
+    next: Next,
+) -> Result<(), AllocError> {
+    let alloc = ctx.allocator();
+    let cause = innermost(&rejection.fault.cause);
+    let notes = notes_of(ctx, text, rejection, next)?;
+    let message = format!(in alloc; "{cause}")?;
+    let name = cause_name(alloc, cause)?;
+    let said = noted(alloc, text, scene, &notes)?;
+    let place = Excerpt {
+        text,
+        position: rejection.fault.pos,
+    };
+    let report = Report {
+        diagnostic: diagnostic(Severity::Error, scene.path, Some(place), message.as_str()),
+        cause: cause_word(cause),
+        name: name.as_ref().map(|name| name.as_str()),
+        notes: said.as_slice(),
+    };
+    write_report(alloc, errors, scene.form, &report);
+    Ok(())
 }
 
 /// Returns notes as they are written.
@@ -307,14 +279,13 @@ fn try_report<T: IrText<A>, A: AttrText<A>, E: Write>(
     text: &str,
 ) -> Result<(), AllocError> {
     let alloc = ctx.allocator();
-    let mut rejected = Rejected::new(alloc, text)?;
     let mut from = SourcePosition::default();
     for _ in 0..MOST_ERRORS {
-        let Some(rejection) = next_rejection(ctx, stream_at(alloc, text, from)?) else {
+        let Some(rejection) = next_rejection(ctx, text, from)? else {
             return Ok(());
         };
-        let next = rejected.next(ctx, &rejection)?;
-        rejected.report(ctx, errors, scene, &rejection, next)?;
+        let next = next_after(ctx, text, &rejection)?;
+        report_root(ctx, errors, scene, text, &rejection, next)?;
         match next {
             Next::From(position) => from = position,
             Next::Unknown => return Ok(()),

@@ -1,4 +1,7 @@
 //! The body of the program: from its words, its files and its streams to its exit status.
+ghost use Rattle.std.specs.Prelude.{◌≡◌, ◌≤◌, [], map, true};
+ghost use Rattle.irtext_tool.specs.Standard.{asks_for_standard, Standard};
+ghost use Rattle.irtext_tool.specs.Statuses.{failure_status, IsStatus};
 
 use crate::about::{About, Form, STANDARD_INPUT, style_of};
 use crate::files::Files;
@@ -79,7 +82,9 @@ fn report_failure<T: IrText<A>, A: AttrText<A>, D: Dialects<T, A>, E: Write>(
     scene: Scene<'_>,
     text: &str,
     failure: &Failure<A>,
-) -> u8 {
+) -> u8
+    ensures { result ≡ failure_status failure.now }
+{
     match failure {
         Failure::Input(fault) => report_input(alloc, errors, scene, fault),
         Failure::Dialects(error) => report_dialects(alloc, errors, scene, error),
@@ -96,7 +101,10 @@ fn format_standard<T: IrText<A>, A: AttrText<A>, D: Dialects<T, A>, R: Read, W: 
     input: &mut R,
     output: &mut W,
     errors: &mut E,
-) -> u8 {
+) -> u8
+    ensures { Standard T.IrText.own A.IrText.own A.AttrText.own A.eq (D.registered []) (R.remaining input.old)
+        (R.remaining input.new) (W.contents output.old) (W.contents output.new) (output.new ≡ output.old) result }
+{
     let mut text = String::new(alloc);
     match format_input::<T, A, D, R, W>(alloc, input, WHOLE, &mut text, output) {
         Ok(()) => DONE,
@@ -107,6 +115,17 @@ fn format_standard<T: IrText<A>, A: AttrText<A>, D: Dialects<T, A>, R: Read, W: 
             };
             report_failure::<T, A, D, E>(alloc, errors, scene, text.as_str(), &failure)
         }
+    }
+}
+
+/// Whether the words ask for standard input to be formatted: `fmt`, alone or with `-`.
+fn asks_for_standard(words: &[&str]) -> bool
+    ensures { result ≡ asks_for_standard (map (λ word. word.now) words.now) }
+{
+    match words {
+        [word] => *word == "fmt",
+        [word, file] => *word == "fmt" && *file == "-",
+        _ => false,
     }
 }
 
@@ -127,7 +146,10 @@ fn put<W: Write, E: Write>(
     status: u8,
     output: &mut W,
     errors: &mut E,
-) -> Done {
+) -> Done
+    requires { status ≤ 3 }
+    ensures { IsStatus result }
+{
     match write_text(output, text) {
         Ok(()) => Done::Status(status),
         Err(error) => {
@@ -138,7 +160,9 @@ fn put<W: Write, E: Write>(
 }
 
 /// Writes that memory ran out, and returns the status for that.
-fn out_of_memory<E: Write>(alloc: Global, errors: &mut E, scene: Scene<'_>) -> Done {
+fn out_of_memory<E: Write>(alloc: Global, errors: &mut E, scene: Scene<'_>) -> Done
+    ensures { IsStatus result }
+{
     report_memory(alloc, errors, scene);
     Done::Status(FAILED)
 }
@@ -149,7 +173,9 @@ fn written<E: Write>(
     errors: &mut E,
     scene: Scene<'_>,
     answer: std::io::Result<()>,
-) -> Done {
+) -> Done
+    ensures { IsStatus result }
+{
     match answer {
         Ok(()) => Done::Status(DONE),
         Err(error) => {
@@ -167,7 +193,9 @@ fn show_diff<W: Write, E: Write>(
     formatted: &str,
     output: &mut W,
     errors: &mut E,
-) -> Done {
+) -> Done
+    ensures { IsStatus result }
+{
     let mut lines = String::new(alloc);
     match write_unified(alloc, (scene.path, scene.path), text, formatted, &mut lines) {
         Ok(false) => Done::Status(DONE),
@@ -185,7 +213,9 @@ fn deliver<F: Files, W: Write, E: Write>(
     files: &F,
     output: &mut W,
     errors: &mut E,
-) -> Done {
+) -> Done
+    ensures { IsStatus result }
+{
     let (text, formatted) = texts;
     match target {
         Target::Output => put(alloc, scene.form, formatted, DONE, output, errors),
@@ -262,7 +292,9 @@ fn work_on_text<T: IrText<A>, A: AttrText<A>, D: Dialects<T, A>, F: Files, W: Wr
     files: &F,
     output: &mut W,
     errors: &mut E,
-) -> Done {
+) -> Done
+    ensures { IsStatus result }
+{
     let made = match result_of::<T, A, D>(alloc, scene.path, text, task) {
         Ok(made) => made,
         Err(failure) => {
@@ -312,7 +344,9 @@ fn work_on_file<
     input: &mut R,
     output: &mut W,
     errors: &mut E,
-) -> Done {
+) -> Done
+    ensures { IsStatus result }
+{
     let scene = Scene {
         path: if path == "-" { STANDARD_INPUT } else { path },
         form: request.form,
@@ -350,7 +384,9 @@ fn work<T: IrText<A>, A: AttrText<A>, D: Dialects<T, A>, F: Files, R: Read, W: W
     input: &mut R,
     output: &mut W,
     errors: &mut E,
-) -> u8 {
+) -> u8
+    ensures { result ≤ 3 }
+{
     let mut status = DONE;
     for path in request.files.iter() {
         match work_on_file::<T, A, D, F, R, W, E>(
@@ -370,7 +406,9 @@ fn say<W: Write, E: Write>(
     answer: &Answer,
     output: &mut W,
     errors: &mut E,
-) -> u8 {
+) -> u8
+    ensures { result ≤ 3 }
+{
     let form = Form::Text(style_of(about.coloured));
     match answer {
         Answer::Shown(text) => match put(alloc, form, text.as_str(), DONE, output, errors) {
@@ -405,8 +443,12 @@ pub fn run<T: IrText<A>, A: AttrText<A>, D: Dialects<T, A>, F: Files, R: Read, W
     input: &mut R,
     output: &mut W,
     errors: &mut E,
-) -> u8 {
-    if let ["fmt"] | ["fmt", "-"] = words {
+) -> u8
+    ensures standard { asks_for_standard (map (λ word. word.now) words.now) ≡ true → Standard T.IrText.own A.IrText.own
+        A.AttrText.own A.eq (D.registered []) (R.remaining input.old) (R.remaining input.new) (W.contents output.old)
+        (W.contents output.new) (output.new ≡ output.old) result }
+{
+    if asks_for_standard(words) {
         let form = Form::Text(style_of(about.coloured));
         return format_standard::<T, A, D, R, W, E>(alloc, form, input, output, errors);
     }

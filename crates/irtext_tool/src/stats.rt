@@ -1,4 +1,7 @@
 //! What is in the roots of a text, counted.
+ghost use Rattle.std.specs.Prelude.{◌≡◌, IsSome};
+ghost use Rattle.irtext_context.specs.Context.{operation};
+ghost use Rattle.irtext_formatter.specs.Stands.{IsReady};
 
 use irtext_base::parsable::{ParseFault, TextStream};
 use irtext_base::result::Cause;
@@ -40,16 +43,21 @@ impl Counts {
     }
 
     /// Counts an operation, without what is nested in it but its blocks.
+    #[tactic(auto, using(irtext_context::proofs::Parts::seen_is_live))]
     fn add_operation<T: IrText<A>, A: AttrText<A>>(
         &mut self,
         ctx: &Context<T, A>,
         op: Ptr<Operation>,
-    ) -> Result<(), AllocError> {
+    ) -> Result<(), AllocError>
+        requires { IsSome (operation ctx.now op) }
+    {
         self.operations = self.operations.saturating_add(1);
         self.results = self.results.saturating_add(op.get_num_results(ctx));
         self.operands = self.operands.saturating_add(op.get_num_operands(ctx));
         for region in op.regions(ctx)? {
-            self.blocks = self.blocks.saturating_add(region.blocks(ctx)?.len());
+            if ctx.contains_region(region) {
+                self.blocks = self.blocks.saturating_add(region.blocks(ctx)?.len());
+            }
         }
         let id = format!(in ctx.allocator(); "{}", op.get_opid(ctx))?;
         let count = self.ids.entry(id)?.or_insert(0);
@@ -58,14 +66,19 @@ impl Counts {
     }
 
     /// Counts a root with everything nested in it.
+    #[tactic(auto, using(irtext_context::proofs::Parts::seen_is_live))]
     fn add_root<T: IrText<A>, A: AttrText<A>>(
         &mut self,
         ctx: &Context<T, A>,
         root: Ptr<Operation>,
-    ) -> Result<(), AllocError> {
+    ) -> Result<(), AllocError>
+        requires { IsSome (operation ctx.now root) }
+    {
         self.roots = self.roots.saturating_add(1);
         for op in root.all_operations(ctx)? {
-            self.add_operation(ctx, op)?;
+            if ctx.contains_operation(op) {
+                self.add_operation(ctx, op)?;
+            }
         }
         Ok(())
     }
@@ -83,13 +96,18 @@ fn rejected<A: Drop>(fault: ParseFault<A>) -> Fault<A> {
 fn add_roots<T: IrText<A>, A: AttrText<A>>(
     counts: &mut Counts,
     roots: &mut Roots<'_, T, A>,
-) -> Result<(), Fault<A>> {
+) -> Result<(), Fault<A>>
+    requires { IsReady roots.old }
+    ensures lent { roots.new.stream.state.ctx.ghost_name ≡ roots.old.stream.state.ctx.ghost_name }
+{
     for _ in 0..u64::MAX {
         match roots.next_root() {
-            Some(Ok(root)) => match counts.add_root(roots.context(), root) {
-                Ok(()) => roots.erase(),
-                Err(AllocError) => return Err(Fault::Memory),
-            },
+            Some(Ok(root)) => {
+                if counts.add_root(roots.context(), root).is_err() {
+                    return Err(Fault::Memory);
+                }
+                roots.erase();
+            }
             Some(Err(fault)) => return Err(rejected(fault)),
             None => break,
         }

@@ -1,4 +1,6 @@
 //! Exit statuses.
+ghost use Rattle.std.specs.Prelude.{◌≡◌};
+ghost use Rattle.irtext_tool.specs.Statuses.{input_status, text_status, failure_status};
 
 use irtext_formatter::fault::{Failure, Fault};
 use irtext_formatter::input::InputFault;
@@ -16,7 +18,9 @@ pub const WRONG_WORDS: u8 = 2;
 pub const FAILED: u8 = 3;
 
 /// Returns the status for an input that was not read.
-pub fn status_of_input(fault: &InputFault) -> u8 {
+pub fn status_of_input(fault: &InputFault) -> u8
+    ensures { result ≡ input_status fault.now }
+{
     match fault {
         InputFault::NotUtf8 { .. } => REJECTED,
         InputFault::Memory | InputFault::Unreadable(_) => FAILED,
@@ -24,7 +28,9 @@ pub fn status_of_input(fault: &InputFault) -> u8 {
 }
 
 /// Returns the status for a text whose roots were not printed.
-pub fn status_of_text<A>(fault: &Fault<A>) -> u8 {
+pub fn status_of_text<A>(fault: &Fault<A>) -> u8
+    ensures { result ≡ text_status fault.now }
+{
     match fault {
         Fault::Memory => FAILED,
         Fault::Rejected(_) | Fault::Misfit(_) | Fault::TooDeep => REJECTED,
@@ -32,7 +38,9 @@ pub fn status_of_text<A>(fault: &Fault<A>) -> u8 {
 }
 
 /// Returns the status for an input that was not formatted.
-pub fn status_of<A>(failure: &Failure<A>) -> u8 {
+pub fn status_of<A>(failure: &Failure<A>) -> u8
+    ensures { result ≡ failure_status failure.now }
+{
     match failure {
         Failure::Input(fault) => status_of_input(fault),
         Failure::Text(fault) => status_of_text(fault),
