@@ -53,8 +53,11 @@ fn rejection_of<T: IrText<A>, A: AttrText<A>>(
     requires { IsReady roots.old }
     ensures lent { roots.new.stream.state.ctx.ghost_name ≡ roots.old.stream.state.ctx.ghost_name }
 {
-    for _ in 0..u64::MAX {
-        match roots.next_root()? {
+    for _turn in 0..u64::MAX {
+        if !roots.is_left() {
+            return None;
+        }
+        match roots.parse_root() {
             Ok(_) => roots.erase(),
             Err(fault) => return Some((roots.begin(), fault)),
         }

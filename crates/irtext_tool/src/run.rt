@@ -1,7 +1,7 @@
 //! The body of the program: from its words, its files and its streams to its exit status.
 ghost use Rattle.std.specs.Prelude.{◌≡◌, ◌≤◌, [], map, true};
 ghost use Rattle.irtext_tool.specs.Standard.{asks_for_standard, Standard};
-ghost use Rattle.irtext_tool.specs.Statuses.{failure_status, IsStatus};
+ghost use Rattle.irtext_tool.specs.Statuses.{IsStatus};
 
 use crate::about::{About, Form, STANDARD_INPUT, style_of};
 use crate::files::Files;
@@ -11,7 +11,9 @@ use crate::report::{
     report_unwritable,
 };
 use crate::stats::{count_text, counts_text};
-use crate::status::{DONE, FAILED, REJECTED, WRONG_WORDS, status_of, status_of_input};
+use crate::status::{
+    DONE, FAILED, REJECTED, WRONG_WORDS, status_of, status_of_answer, status_of_input,
+};
 use crate::words::{Answer, Request, Target, Task, parse_words};
 use irtext_base::result;
 use irtext_base::text::{AttrText, IrText};
@@ -75,23 +77,20 @@ fn report_text<T: IrText<A>, A: AttrText<A>, D: Dialects<T, A>, E: Write>(
     }
 }
 
-/// Writes why an input was not formatted whose text is this, as far as it was read, and returns the status for it.
+/// Writes why an input was not formatted whose text is this, as far as it was read.
 fn report_failure<T: IrText<A>, A: AttrText<A>, D: Dialects<T, A>, E: Write>(
     alloc: Global,
     errors: &mut E,
     scene: Scene<'_>,
     text: &str,
     failure: &Failure<A>,
-) -> u8
-    ensures { result ≡ failure_status failure.now }
-{
+) {
     match failure {
         Failure::Input(fault) => report_input(alloc, errors, scene, fault),
         Failure::Dialects(error) => report_dialects(alloc, errors, scene, error),
         Failure::Text(fault) => report_text::<T, A, D, E>(alloc, errors, scene, text, fault),
         Failure::Unwritable(error) => report_output(alloc, errors, scene.form, error),
     }
-    status_of(failure)
 }
 
 /// Formats standard input to standard output.
@@ -106,16 +105,15 @@ fn format_standard<T: IrText<A>, A: AttrText<A>, D: Dialects<T, A>, R: Read, W: 
         (R.remaining input.new) (W.contents output.old) (W.contents output.new) (output.new ≡ output.old) result }
 {
     let mut text = String::new(alloc);
-    match format_input::<T, A, D, R, W>(alloc, input, WHOLE, &mut text, output) {
-        Ok(()) => DONE,
-        Err(failure) => {
-            let scene = Scene {
-                path: STANDARD_INPUT,
-                form,
-            };
-            report_failure::<T, A, D, E>(alloc, errors, scene, text.as_str(), &failure)
-        }
+    let answer = format_input::<T, A, D, R, W>(alloc, input, WHOLE, &mut text, output);
+    if let Err(failure) = &answer {
+        let scene = Scene {
+            path: STANDARD_INPUT,
+            form,
+        };
+        report_failure::<T, A, D, E>(alloc, errors, scene, text.as_str(), failure);
     }
+    status_of_answer(&answer)
 }
 
 /// Whether the words ask for standard input to be formatted: `fmt`, alone or with `-`.
@@ -298,8 +296,8 @@ fn work_on_text<T: IrText<A>, A: AttrText<A>, D: Dialects<T, A>, F: Files, W: Wr
     let made = match result_of::<T, A, D>(alloc, scene.path, text, task) {
         Ok(made) => made,
         Err(failure) => {
-            let status = report_failure::<T, A, D, E>(alloc, errors, scene, text, &failure);
-            return Done::Status(status);
+            report_failure::<T, A, D, E>(alloc, errors, scene, text, &failure);
+            return Done::Status(status_of(&failure));
         }
     };
     match task {

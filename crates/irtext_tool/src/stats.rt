@@ -100,17 +100,18 @@ fn add_roots<T: IrText<A>, A: AttrText<A>>(
     requires { IsReady roots.old }
     ensures lent { roots.new.stream.state.ctx.ghost_name ≡ roots.old.stream.state.ctx.ghost_name }
 {
-    for _ in 0..u64::MAX {
-        match roots.next_root() {
-            Some(Ok(root)) => {
-                if counts.add_root(roots.context(), root).is_err() {
-                    return Err(Fault::Memory);
-                }
-                roots.erase();
-            }
-            Some(Err(fault)) => return Err(rejected(fault)),
-            None => break,
+    for _turn in 0..u64::MAX {
+        if !roots.is_left() {
+            break;
         }
+        let root = match roots.parse_root() {
+            Ok(root) => root,
+            Err(fault) => return Err(rejected(fault)),
+        };
+        if counts.add_root(roots.context(), root).is_err() {
+            return Err(Fault::Memory);
+        }
+        roots.erase();
     }
     Ok(())
 }

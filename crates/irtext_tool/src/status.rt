@@ -1,6 +1,6 @@
 //! Exit statuses.
 ghost use Rattle.std.specs.Prelude.{◌≡◌};
-ghost use Rattle.irtext_tool.specs.Statuses.{input_status, text_status, failure_status};
+ghost use Rattle.irtext_tool.specs.Statuses.{answer_status, failure_status, input_status, text_status};
 
 use irtext_formatter::fault::{Failure, Fault};
 use irtext_formatter::input::InputFault;
@@ -45,5 +45,15 @@ pub fn status_of<A>(failure: &Failure<A>) -> u8
         Failure::Input(fault) => status_of_input(fault),
         Failure::Text(fault) => status_of_text(fault),
         Failure::Dialects(_) | Failure::Unwritable(_) => FAILED,
+    }
+}
+
+/// Returns the status for an answer: `DONE` if all went well.
+pub fn status_of_answer<A>(answer: &Result<(), Failure<A>>) -> u8
+    ensures { result ≡ answer_status answer.now }
+{
+    match answer {
+        Ok(()) => DONE,
+        Err(failure) => status_of(failure),
     }
 }
