@@ -17,7 +17,7 @@
 //!   objects.
 //! - `[after]` TEXT TEXT TEXT: an operation whose mark stays recorded, and then two whole texts. Said of each: the same, and the location of
 //!   the operation.
-//! - `[noted N]` TEXT: a root after N others. Said: its error, and the position that a survey notes beside it: the first use, or the first
+//! - `[noted N]` TEXT: a root after N others. Said: its error, and the position that a second look finds for it: the first use, or the first
 //!   definition. `[end_of_root]` TEXT: the position where the first root ends, whatever its names, or `none`.
 //! - `[value]`, `[label]` TEXT: used as a value or a label outside of every region. Said: the error.
 //! - `[operand]` ROOT PATH INDEX PATH INDEX: an operand, and the value that it has to be. Said: its name, and the number of its uses.
@@ -48,7 +48,6 @@ mod printing;
 mod row;
 mod said;
 mod streams;
-mod surveys;
 mod uses;
 
 use crate::rows::file::{next, without_comments};

@@ -1,22 +1,17 @@
-//! What a walk over a root is ended by, and values that end beside a result.
-ghost use Rattle.std.specs.Prelude.{◌≡◌};
+//! What ends a walk over a root.
+ghost use Rattle.std.specs.Prelude.{◌≡◌, OnOk};
+ghost use Rattle.irtext_base.specs.Faults.{fault_of, Memory};
 
 use irtext_base::parsable::ParseFault;
 use irtext_base::result::Cause;
 use std::alloc::AllocError;
 
-/// Ends a value, and returns what was made with it.
-#[inline(always)]
-pub(crate) fn ended<X: Drop, Y>(answer: Y, _value: X) -> Y
-    ensures { result ≡ answer }
-{
-    answer
-}
-
 /// Ends an error of a parser. Fails if it is that of an allocation that failed.
-pub(crate) fn unless_memory<A: Drop>(fault: ParseFault<A>) -> Result<(), AllocError> {
-    if matches!(&fault.cause, Cause::Memory) {
-        return ended(Err(AllocError), fault);
+pub(crate) fn unless_memory<A: Drop>(error: ParseFault<A>) -> Result<(), AllocError>
+    ensures { OnOk result (fault_of error.cause ≡ Memory → ⊥) }
+{
+    match &error.cause {
+        Cause::Memory => Err(AllocError),
+        _ => Ok(()),
     }
-    ended(Ok(()), fault)
 }

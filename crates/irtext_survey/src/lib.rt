@@ -3,12 +3,13 @@
 #![tactic(auto)]
 
 mod beside;
-mod frames;
+pub mod frames;
 pub mod notes;
-mod opening;
+pub mod opening;
+mod parts;
 mod root;
 mod section;
 mod steps;
 pub mod survey;
 
-pub use crate::survey::Survey;
+pub use crate::survey::{first_definition, first_use, skip_root};

@@ -1,6 +1,6 @@
 //! What is noted of one name while a root is parsed once more, and what the notes say of the scopes of the name.
-
-use std::alloc::{AllocError, Global};
+ghost use Rattle.std.specs.Prelude.{◌≡◌, ◌+◌, ◌<◌, ◌≤◌, ◌^◌, Some, length, slice_get, IfSome};
+ghost use Rattle.irtext_survey.specs.Notes.{back_over, first_in_scope, first_unless, first_unresolved, defines};
 
 /// How a name is mentioned.
 #[derive(Clone, Copy, PartialEq, Eq)]
@@ -27,69 +27,141 @@ pub enum Note<P> {
 }
 
 impl Mention {
+    ghost use Rattle.irtext_survey.specs.Notes.{has_scope, same_mention};
+
     /// Whether a region has a scope of its own for such a mention: one of labels always, and one of values if its operation is isolated
     /// from above.
-    fn has_scope_in(self, isolated: bool) -> bool {
+    fn has_scope_in(self, isolated: bool) -> bool
+        ensures { result ≡ has_scope self isolated }
+    {
         match self {
             Mention::UsesValue | Mention::DefinesValue => isolated,
             Mention::UsesLabel | Mention::DefinesLabel => true,
         }
     }
+
+    /// Whether both mentions are of the same kind.
+    fn is_like(self, other: Mention) -> bool
+        ensures { result ≡ same_mention self other }
+    {
+        match self {
+            Mention::UsesValue => matches!(other, Mention::UsesValue),
+            Mention::UsesLabel => matches!(other, Mention::UsesLabel),
+            Mention::DefinesValue => matches!(other, Mention::DefinesValue),
+            Mention::DefinesLabel => matches!(other, Mention::DefinesLabel),
+        }
+    }
 }
 
-/// Returns the place of the first such mention in the scope that is open after these notes, in their order. The notes of a scope inside
-/// of it are passed over.
-fn first_in_scope<P: Copy>(notes: &[Note<P>], mention: Mention) -> Option<P> {
-    let mut first = None;
-    // how many scopes inside of this one the notes before are in
+/// Goes back over a note. `inner` says in how many scopes inside of the one that is looked at the note is, and `found` is the first
+/// mention that was found after it. Returns both as they are before the note, or `None` if the scope begins there.
+fn go_back<P: Copy>(
+    mention: Mention,
+    note: Note<P>,
+    inner: usize,
+    found: Option<P>,
+) -> Option<(usize, Option<P>)>
+    requires { inner + 1 < 2 ^ 64 }
+    ensures gives { result ≡ back_over mention note (inner, found) }
+    ensures within { IfSome result (λ r. r.0 ≤ inner + 1) }
+{
+    match note {
+        Note::Mentions(other, at) => {
+            if inner == 0 && other.is_like(mention) {
+                return Some((inner, Some(at)));
+            }
+            Some((inner, found))
+        }
+        Note::Leaves(isolated, _) => {
+            if mention.has_scope_in(isolated) {
+                return Some((inner + 1, found));
+            }
+            Some((inner, found))
+        }
+        Note::Enters(isolated) => {
+            if !mention.has_scope_in(isolated) {
+                return Some((inner, found));
+            }
+            if inner == 0 {
+                return None;
+            }
+            Some((inner - 1, found))
+        }
+    }
+}
+
+/// Returns the note at an index.
+pub(crate) fn note_at<P: Copy>(notes: &[Note<P>], index: usize) -> Note<P>
+    requires { index < length notes.now }
+    ensures { slice_get notes.now index ≡ Some result }
+{
+    notes[index]
+}
+
+/// Returns the first such mention in the scope that is open before the note at this index. Those in scopes inside of it are passed over.
+fn in_scope<P: Copy>(notes: &[Note<P>], index: usize, mention: Mention) -> Option<P>
+    requires { index ≤ length notes.now }
+    ensures { result ≡ first_in_scope mention index notes.now }
+{
+    let mut left = index;
     let mut inner: usize = 0;
-    for note in notes.iter().rev() {
-        match *note {
-            Note::Mentions(other, at) => {
-                if inner == 0 && other == mention {
-                    first = Some(at);
-                }
+    let mut found = None;
+    while left > 0 {
+        left -= 1;
+        match go_back(mention, note_at(notes, left), inner, found) {
+            Some((outer, first)) => {
+                inner = outer;
+                found = first;
             }
-            Note::Leaves(isolated, _) => {
-                if mention.has_scope_in(isolated) {
-                    inner += 1;
-                }
-            }
-            Note::Enters(isolated) => {
-                if mention.has_scope_in(isolated) {
-                    if inner == 0 {
-                        return first;
-                    }
-                    inner -= 1;
-                }
-            }
+            None => return found,
         }
     }
-    first
+    found
 }
 
-/// Returns the place of the first mention of the one kind in the scope that is open after these notes, unless the scope has one of the
-/// other kind.
-fn first_unless<P: Copy>(notes: &[Note<P>], mention: Mention, other: Mention) -> Option<P> {
-    match first_in_scope(notes, other) {
+/// Returns the first mention of one kind in the scope, unless it has one of the other kind.
+fn unless_in_scope<P: Copy>(
+    notes: &[Note<P>],
+    index: usize,
+    mention: Mention,
+    other: Mention,
+) -> Option<P>
+    requires { index ≤ length notes.now }
+    ensures { result ≡ first_unless mention other index notes.now }
+{
+    match in_scope(notes, index, other) {
         Some(_) => None,
-        None => first_in_scope(notes, mention),
+        None => in_scope(notes, index, mention),
     }
 }
 
-/// Returns the place of the first use of the name that has no definition in the scopes that end with a region, after these notes: of a
-/// value, if the region's operation is isolated from above, and otherwise of a label.
-pub(crate) fn first_unresolved<P: Copy>(notes: &[Note<P>], isolated: bool) -> Option<P> {
-    if isolated {
-        let value = first_unless(notes, Mention::UsesValue, Mention::DefinesValue);
-        if value.is_some() {
-            return value;
-        }
+/// Returns the first use that has no definition in the scopes that end with a region, at the note with this index: of a value, if the
+/// region's operation is isolated from above, and otherwise of a label.
+pub(crate) fn unresolved<P: Copy>(notes: &[Note<P>], index: usize, isolated: bool) -> Option<P>
+    requires { index ≤ length notes.now }
+    ensures { result ≡ first_unresolved isolated index notes.now }
+{
+    let label = unless_in_scope(notes, index, Mention::UsesLabel, Mention::DefinesLabel);
+    if !isolated {
+        return label;
     }
-    first_unless(notes, Mention::UsesLabel, Mention::DefinesLabel)
+    match unless_in_scope(notes, index, Mention::UsesValue, Mention::DefinesValue) {
+        Some(at) => Some(at),
+        None => label,
+    }
 }
 
-/// Returns the place of the first definition in the scope that is open after these notes, of the same kind as this one.
-pub(crate) fn first_defined<P: Copy>(notes: &[Note<P>], mention: Mention) -> Option<P> {
-    first_in_scope(notes, mention)
+/// Returns the first definition, of the same kind, in the scope that is open before the note with this index.
+pub(crate) fn defined<P: Copy>(notes: &[Note<P>], index: usize, mention: Mention) -> Option<P>
+    requires { index ≤ length notes.now }
+    ensures { result ≡ first_in_scope mention index notes.now }
+{
+    in_scope(notes, index, mention)
+}
+
+/// Whether a mention defines the name.
+pub(crate) fn is_definition(mention: Mention) -> bool
+    ensures { result ≡ defines mention }
+{
+    matches!(mention, Mention::DefinesValue | Mention::DefinesLabel)
 }

@@ -1,24 +1,15 @@
 //! What is noted of the name: in the pieces of an operation, at its end, and in the header of a block.
+ghost use Rattle.std.specs.Prelude.{◌≡◌, ◌<◌, ◌++◌, ◌∷◌, [], length, map, slice_get, Some, OnOk, is_some, ◌||◌};
+ghost use Rattle.irtext_survey.specs.Walk.{AreNamed, Notes, read_as, read_uses, all_read, arguments_read};
+ghost use Rattle.irtext_survey.specs.declared.notes.Mention.TheVariants as mention;
 
-use crate::beside::ended;
-use crate::frames::OpenOperation;
 use crate::notes::{Mention, Note};
-use irtext_base::parsable::{CharStream, ParseResult, Place, TextStream};
-use irtext_base::text::{AttrText, IrText};
-use irtext_context::base::Context;
+use irtext_base::parsable::Place;
 use irtext_few::Few;
 use irtext_grammar::found::{Form, Pieces};
-use irtext_grammar::parsed::{ReadName, ReadPiece};
-use irtext_parse_pieces::fronts::front_parse;
-use irtext_parse_pieces::headers::{BlockHead, block_head_parse};
-use irtext_parse_pieces::ids::results_and_id_parse;
-use irtext_parse_pieces::keys::Keys;
-use irtext_parse_pieces::marks::mark_parse;
-use irtext_parse_pieces::pieces::step_parse;
-use irtext_parse_pieces::steps::FormatStep;
+use irtext_grammar::parsed::{ReadMark, ReadName, ReadPiece};
+use irtext_parse_pieces::headers::BlockHead;
 use irtext_scopes::tracker::NameTracker;
-use irtext_tokens::irfmt::faults::out_of_memory;
-use irtext_tokens::irfmt::parsers::skip_white_space;
 use std::alloc::AllocError;
 
 /// The names of a walk, by number. No scope is ever opened.
@@ -26,167 +17,186 @@ pub(crate) type Names = NameTracker<(), ()>;
 
 /// What is noted of one name.
 #[derive(Drop)]
-pub(crate) struct Notebook<'n> {
-    /// The name.
-    pub name: &'n str,
+pub struct Notebook {
     pub notes: Vec<Note<Place>>,
     /// Whether an operation or a block carries a mark.
     pub marked: bool,
 }
 
-impl Notebook<'_> {
-    /// Notes a name of the text, if it is the one.
-    fn name(&mut self, names: &Names, mention: Mention, read: ReadName) -> Result<(), AllocError> {
-        if names.name(read.name) != self.name {
-            return Ok(());
-        }
-        self.notes.push(Note::Mentions(mention, read.at))?;
-        Ok(())
-    }
-
-    /// Notes names of the text that are the one.
-    fn names(
-        &mut self,
-        names: &Names,
-        mention: Mention,
-        read: &Few<ReadName>,
-    ) -> Result<(), AllocError> {
-        for index in 0..read.len() {
-            self.name(names, mention, read[index])?;
-        }
-        Ok(())
-    }
-
-    /// Notes the names that a piece uses.
-    fn piece<T: Drop, A: Drop>(
-        &mut self,
-        names: &Names,
-        piece: &ReadPiece<T, A>,
-    ) -> Result<(), AllocError> {
-        match piece {
-            ReadPiece::Operand(_, name) => self.name(names, Mention::UsesValue, *name),
-            ReadPiece::Operands(used) => self.names(names, Mention::UsesValue, used),
-            ReadPiece::Successor(_, label) => self.name(names, Mention::UsesLabel, *label),
-            ReadPiece::Successors(used) => self.names(names, Mention::UsesLabel, used),
-            _ => Ok(()),
-        }
-    }
-
-    /// Notes the names that an operation's pieces use.
-    fn pieces<T: Drop, A: Drop>(
-        &mut self,
-        names: &Names,
-        pieces: Pieces<T, A>,
-    ) -> Result<(), AllocError> {
-        match pieces.into_form() {
-            Form::Canonical(pieces) => {
-                self.names(names, Mention::UsesValue, &pieces.operands)?;
-                self.names(names, Mention::UsesLabel, &pieces.successors)
-            }
-            Form::Custom(pieces) => {
-                for found in pieces.into_found() {
-                    let (_, piece) = found;
-                    self.piece(names, &piece)?;
-                }
-                Ok(())
-            }
-        }
-    }
-
-    /// Notes the names of a block's arguments, and then its label.
-    fn head<T: Drop, A: Drop>(
-        &mut self,
-        names: &Names,
-        head: &BlockHead<T, A>,
-    ) -> Result<(), AllocError> {
-        for index in 0..head.arguments.len() {
-            self.name(names, Mention::DefinesValue, head.arguments[index].0)?;
-        }
-        self.name(names, Mention::DefinesLabel, head.label)
+/// Notes a mark, if there is one.
+pub(crate) fn mark_noted(book: &mut Notebook, mark: &Option<ReadMark>)
+    ensures notes { book.new.notes ≡ book.old.notes }
+    ensures marked { book.new.marked ≡ (book.old.marked || is_some mark.now) }
+{
+    if mark.is_some() {
+        book.marked = true;
     }
 }
 
-/// Parses what precedes an operation's first region, and notes the names that it uses.
-pub(crate) fn operation_begin<'c, T: IrText<A>, A: AttrText<A>>(
-    stream: &mut TextStream,
-    ctx: &'c Context<T, A>,
-    names: &mut Names,
-    keys: &mut Keys,
-    book: &mut Notebook<'_>,
-) -> ParseResult<OpenOperation<'c>, A> {
-    let (results, id, info) = match results_and_id_parse(stream, ctx, names) {
-        Ok(led) => led,
-        Err(fault) => return Err(fault),
-    };
-    drop(id);
-    let pieces: Pieces<T, A> = match front_parse(stream, names, &info.format, true, keys) {
-        Ok(pieces) => pieces,
-        Err(fault) => return ended(Err(fault), results),
-    };
-    let step = pieces.len();
-    if book.pieces(names, pieces).is_err() {
-        return ended(Err(out_of_memory(stream)), results);
-    }
-    Ok(OpenOperation {
-        names: results,
-        format: &info.format,
-        isolated: info.isolated,
-        step,
-    })
-}
-
-/// Parses a piece after a region, with white space before it, and notes the names that it uses.
-pub(crate) fn piece_parse<T: IrText<A>, A: AttrText<A>>(
-    stream: &mut TextStream,
-    names: &mut Names,
-    keys: &mut Keys,
-    book: &mut Notebook<'_>,
-    step: FormatStep<'_>,
-) -> ParseResult<(), A> {
-    skip_white_space(stream);
-    let piece: ReadPiece<T, A> = match step_parse(stream, names, step, true, keys) {
-        Ok(piece) => piece,
-        Err(fault) => return Err(fault),
-    };
-    if book.piece(names, &piece).is_err() {
-        return ended(Err(out_of_memory(stream)), piece);
-    }
-    ended(Ok(()), piece)
-}
-
-/// Notes the names of an operation's results, and parses its mark, if one comes next, with white space before it.
-pub(crate) fn operation_end<A>(
-    stream: &mut TextStream,
+/// Notes a name of the text, if it is the one.
+fn name_noted(
+    book: &mut Notebook,
     names: &Names,
-    book: &mut Notebook<'_>,
-    results: &Few<ReadName>,
-) -> ParseResult<(), A> {
-    if book.names(names, Mention::DefinesValue, results).is_err() {
-        return Err(out_of_memory(stream));
+    name: &str,
+    mention: Mention,
+    read: ReadName,
+) -> Result<(), AllocError>
+    requires { AreNamed names.now.names ((mention, read) ∷ []) }
+    ensures { OnOk result (Notes names.now.names name.now ((mention, read) ∷ []) book.old book.new) }
+{
+    if names.name(read.name) != name {
+        return Ok(());
     }
-    skip_white_space(stream);
-    match mark_parse(stream) {
-        Ok(mark) => {
-            book.marked = book.marked || mark.is_some();
-            Ok(())
-        }
-        Err(fault) => Err(fault),
+    match book.notes.push(Note::Mentions(mention, read.at)) {
+        Ok(()) => Ok(()),
+        Err(_) => Err(AllocError),
     }
 }
 
-/// Parses the header of a block, and notes the names that it defines.
-pub(crate) fn block_begin<T: IrText<A>, A: AttrText<A>>(
-    stream: &mut TextStream,
-    names: &mut Names,
-    book: &mut Notebook<'_>,
-) -> ParseResult<(), A> {
-    let head: BlockHead<T, A> = match block_head_parse(stream, names) {
-        Ok(head) => head,
-        Err(fault) => return Err(fault),
-    };
-    book.marked = book.marked || head.mark.is_some();
-    if book.head(names, &head).is_err() {
-        return ended(Err(out_of_memory(stream)), head);
+/// Returns one of the names.
+fn name_at(names: &Few<ReadName>, index: usize) -> ReadName
+    requires { index < length names.now }
+    ensures { slice_get names.now index ≡ Some result }
+{
+    names[index]
+}
+
+/// Returns the name of one of the arguments.
+fn argument_at<T>(arguments: &Few<(ReadName, T)>, index: usize) -> ReadName
+    requires { index < length arguments.now }
+    ensures { slice_get (map (λ a. a.0) arguments.now) index ≡ Some result }
+{
+    arguments[index].0
+}
+
+/// Notes names of the text that are the one.
+pub(crate) fn names_noted(
+    book: &mut Notebook,
+    names: &Names,
+    name: &str,
+    mention: Mention,
+    read: &Few<ReadName>,
+) -> Result<(), AllocError>
+    requires { AreNamed names.now.names (read_as mention read.now) }
+    ensures { OnOk result (Notes names.now.names name.now (read_as mention read.now) book.old book.new) }
+{
+    for index in 0..read.len() {
+        if let Err(error) = name_noted(book, names, name, mention, name_at(read, index)) {
+            return Err(error);
+        }
     }
-    ended(Ok(()), head)
+    Ok(())
+}
+
+/// Notes the names that a piece uses.
+pub(crate) fn piece_noted<T: Drop, A: Drop>(
+    book: &mut Notebook,
+    names: &Names,
+    name: &str,
+    piece: &ReadPiece<T, A>,
+) -> Result<(), AllocError>
+    requires { AreNamed names.now.names (read_uses piece.now) }
+    ensures { OnOk result (Notes names.now.names name.now (read_uses piece.now) book.old book.new) }
+{
+    match piece {
+        ReadPiece::Operand(_, read) => name_noted(book, names, name, Mention::UsesValue, *read),
+        ReadPiece::Operands(read) => names_noted(book, names, name, Mention::UsesValue, read),
+        ReadPiece::Successor(_, read) => name_noted(book, names, name, Mention::UsesLabel, *read),
+        ReadPiece::Successors(read) => names_noted(book, names, name, Mention::UsesLabel, read),
+        ReadPiece::Word
+        | ReadPiece::Attr(_, _)
+        | ReadPiece::Dictionary(_)
+        | ReadPiece::ResultType(_, _)
+        | ReadPiece::Header(_)
+        | ReadPiece::Types(_) => Ok(()),
+    }
+}
+
+/// Returns one of the pieces.
+fn piece_at<T, A>(pieces: &[(usize, ReadPiece<T, A>)], index: usize) -> &ReadPiece<T, A>
+    requires { index < length pieces.now }
+    ensures { slice_get (map (λ f. f.1) pieces.now) index ≡ Some result.now }
+{
+    &pieces[index].1
+}
+
+/// Notes the names that these pieces use, one after another. Words are only counted.
+fn found_noted<T: Drop, A: Drop>(
+    book: &mut Notebook,
+    names: &Names,
+    name: &str,
+    pieces: &[(usize, ReadPiece<T, A>)],
+) -> Result<(), AllocError>
+    requires { AreNamed names.now.names (all_read (map (λ f. f.1) pieces.now)) }
+    ensures { OnOk result (Notes names.now.names name.now (all_read (map (λ f. f.1) pieces.now)) book.old
+        book.new) }
+{
+    for index in 0..pieces.len() {
+        if let Err(error) = piece_noted(book, names, name, piece_at(pieces, index)) {
+            return Err(error);
+        }
+    }
+    Ok(())
+}
+
+/// Notes the names that an operation's pieces use.
+pub(crate) fn pieces_noted<T: Drop, A: Drop>(
+    book: &mut Notebook,
+    names: &Names,
+    name: &str,
+    pieces: Pieces<T, A>,
+) -> Result<(), AllocError>
+    requires { AreNamed names.now.names (all_read pieces) }
+    ensures { OnOk result (Notes names.now.names name.now (all_read pieces) book.old book.new) }
+{
+    match pieces.into_form() {
+        Form::Canonical(pieces) => {
+            let operands = &pieces.operands;
+            if let Err(error) = names_noted(book, names, name, Mention::UsesValue, operands) {
+                return Err(error);
+            }
+            names_noted(book, names, name, Mention::UsesLabel, &pieces.successors)
+        }
+        Form::Custom(pieces) => {
+            let found = pieces.into_found();
+            let answer = found_noted(book, names, name, &found);
+            answer
+        }
+    }
+}
+
+/// Notes the names of a block's arguments.
+fn arguments_noted<T: Drop>(
+    book: &mut Notebook,
+    names: &Names,
+    name: &str,
+    arguments: &Few<(ReadName, T)>,
+) -> Result<(), AllocError>
+    requires { AreNamed names.now.names (arguments_read arguments.now) }
+    ensures { OnOk result (Notes names.now.names name.now (arguments_read arguments.now) book.old book.new) }
+{
+    for index in 0..arguments.len() {
+        let read = argument_at(arguments, index);
+        if let Err(error) = name_noted(book, names, name, Mention::DefinesValue, read) {
+            return Err(error);
+        }
+    }
+    Ok(())
+}
+
+/// Notes the names of a block's arguments, and then its label.
+pub(crate) fn head_noted<T: Drop, A: Drop>(
+    book: &mut Notebook,
+    names: &Names,
+    name: &str,
+    head: &BlockHead<T, A>,
+) -> Result<(), AllocError>
+    requires { AreNamed names.now.names (arguments_read head.now.arguments ++ (mention.DefinesLabel, head.now.label) ∷ []) }
+    ensures { OnOk result (Notes names.now.names name.now
+        (arguments_read head.now.arguments ++ (mention.DefinesLabel, head.now.label) ∷ []) book.old book.new) }
+{
+    if let Err(error) = arguments_noted(book, names, name, &head.arguments) {
+        return Err(error);
+    }
+    name_noted(book, names, name, Mention::DefinesLabel, head.label)
 }

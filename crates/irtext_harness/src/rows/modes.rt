@@ -5,10 +5,10 @@ use crate::rows::broken::Break;
 use crate::rows::row::{Given, Row};
 use crate::rows::said::{if_said, require};
 use crate::rows::streams::Asked;
-use crate::rows::surveys::{push_end, push_noted};
 use crate::rows::uses::{of_operand, of_successor};
 use crate::rows::{broken, counters, formats, names};
 use irtext_tests_common::contexts::with_counters;
+use irtext_tests_survey::{push_end, push_noted};
 use std::alloc::Global;
 use std::test::Fail;
 
