@@ -4,16 +4,14 @@ ghost use Rattle.std.specs.Prelude.{◌≡◌, false, IfOk};
 use irtext_base::parsable::{SourcePosition, TextStream};
 use irtext_base::text::{AttrText, IrText};
 use irtext_context::base::Context;
-use irtext_survey::survey;
 use std::alloc::{AllocError, Global};
 
-/// Returns a stream over a text, at a position of it, or at the first place behind it if the text has no such position.
-pub fn stream_at(alloc: Global, text: &str, at: SourcePosition) -> Result<TextStream, AllocError>
-    ensures { IfOk result (λ stream. stream.failed ≡ false) }
+/// Moves a stream from the beginning of its text to a position of it, or to the end of the text if it has no such position.
+fn advance(stream: &mut TextStream, at: SourcePosition, most: usize)
+    ensures { stream.new.failed ≡ stream.old.failed }
 {
-    let mut stream = TextStream::new(alloc, text)?;
     let (mut line, mut column) = (1i32, 1i32);
-    for _ in 0..text.len() {
+    for _turn in 0..most {
         if line > at.line || line == at.line && column >= at.column {
             break;
         }
@@ -24,6 +22,14 @@ pub fn stream_at(alloc: Global, text: &str, at: SourcePosition) -> Result<TextSt
             column = column.saturating_add(1);
         }
     }
+}
+
+/// Returns a stream over a text, at a position of it, or at its end if it has no such position.
+pub fn stream_at(alloc: Global, text: &str, at: SourcePosition) -> Result<TextStream, AllocError>
+    ensures { IfOk result (λ stream. stream.failed ≡ false) }
+{
+    let mut stream = TextStream::new(alloc, text)?;
+    advance(&mut stream, at, text.len());
     Ok(stream)
 }
 
@@ -43,8 +49,7 @@ impl RejectedRoot<'_> {
         region: SourcePosition,
     ) -> Result<Option<SourcePosition>, AllocError> {
         let mut stream = stream_at(ctx.allocator(), self.text, self.begin)?;
-        let root = stream.position();
-        survey::first_use(&mut stream, ctx, root, name, region)
+        irtext_survey::first_use(&mut stream, ctx, name, region)
     }
 
     /// Returns where a name is first defined that is defined again at this position.
@@ -55,8 +60,7 @@ impl RejectedRoot<'_> {
         second: SourcePosition,
     ) -> Result<Option<SourcePosition>, AllocError> {
         let mut stream = stream_at(ctx.allocator(), self.text, self.begin)?;
-        let root = stream.position();
-        survey::first_definition(&mut stream, ctx, root, name, second)
+        irtext_survey::first_definition(&mut stream, ctx, name, second)
     }
 
     /// Returns where the root ends, if nothing is wrong with its syntax.
@@ -65,10 +69,9 @@ impl RejectedRoot<'_> {
         ctx: &Context<T, A>,
     ) -> Result<Option<SourcePosition>, AllocError> {
         let mut stream = stream_at(ctx.allocator(), self.text, self.begin)?;
-        let root = stream.position();
-        match survey::end_of_root(&mut stream, ctx, root)? {
-            Some(end) => Ok(Some(stream.locate(end))),
-            None => Ok(None),
+        if irtext_survey::skip_root::<T, A>(&mut stream, ctx)? {
+            return Ok(Some(stream.locate(stream.position())));
         }
+        Ok(None)
     }
 }
