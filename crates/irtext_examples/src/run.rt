@@ -5,9 +5,11 @@ ghost use Rattle.irtext_context.specs.Context.{operation};
 use crate::both::{AnyAttr, Both};
 use crate::ir::{Answer, Ir, register};
 use crate::{both, front, pass};
+use irtext_formatter::input::{InputFault, read_text};
+use irtext_formatter::misfit::position_in_memory;
+use irtext_formatter::output::write_text;
 use pliron_text::base::{Context, Operation, Ptr};
 use pliron_text::ir::OperationText;
-use pliron_text::location::{Location, Source, SourcePosition};
 use pliron_text::parsable::parse_from_str;
 use pliron_text::printable::Disp;
 use pliron_text::result;
@@ -62,17 +64,6 @@ impl Task {
     }
 }
 
-/// Returns the position in the input that an error is about, if there is one.
-fn position<A>(error: &Error<A>) -> Option<SourcePosition> {
-    match &error.loc {
-        Location::SrcPos {
-            src: Source::InMemory,
-            pos,
-        } => Some(*pos),
-        _ => None,
-    }
-}
-
 /// Returns the text of an error, and the line of the input that it is about with a caret below the place.
 fn error_text<T: IrText<A>, A: AttrText<A>>(
     alloc: Global,
@@ -81,7 +72,7 @@ fn error_text<T: IrText<A>, A: AttrText<A>>(
     error: &Error<A>,
 ) -> Result<String, AllocError> {
     let mut text = format!(in alloc; "{}", error.disp(ctx))?;
-    let Some(position) = position(error) else {
+    let Some(position) = position_in_memory(&error.loc) else {
         return Ok(text);
     };
     if !text.as_str().ends_with('\n') {
@@ -194,9 +185,9 @@ fn output_of(alloc: Global, task: Task, input: &str) -> Result<String, Fault> {
 
 /// Reads the input, does the task, and returns the root's text.
 fn done(alloc: Global, task: Task, input: &mut impl Read) -> Result<String, Fault> {
-    let mut text = String::new(alloc);
-    match input.read_to_string(&mut text) {
-        Ok(_) => output_of(alloc, task, text.as_str()),
+    match read_text(alloc, input) {
+        Ok(text) => output_of(alloc, task, text.as_str()),
+        Err(InputFault::Memory) => Err(Fault::Memory(AllocError)),
         Err(_) => Err(Fault::Unreadable),
     }
 }
@@ -209,10 +200,7 @@ fn try_run(
     output: &mut impl Write,
 ) -> Result<(), Fault> {
     let printed = done(alloc, task, input)?;
-    match output.write_all(printed.as_bytes()) {
-        Ok(()) => Ok(()),
-        Err(_) => Err(Fault::Unwritable),
-    }
+    write_text(output, printed.as_str()).map_err(|_| Fault::Unwritable)
 }
 
 /// Does the task that the program's arguments ask for, and returns the exit status: 0, or 1 if the task failed, or 2 if they ask for

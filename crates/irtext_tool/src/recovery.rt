@@ -1,0 +1,315 @@
+//! All rejected roots of a text: each is reported once, and the root after it is sought.
+ghost use Rattle.std.specs.Prelude.{◌≡◌};
+ghost use Rattle.irtext_formatter.specs.Stands.{IsReady};
+
+use crate::hints::hint_for;
+use crate::report::{Report, Scene, diagnostic, report_memory, write_report};
+use crate::second_look::{RejectedRoot, stream_at};
+use irtext_base::parsable::{
+    ParseFault, ParserNameTrackerError, Place, SourcePosition, UnresolvedReference,
+};
+use irtext_base::result::Cause;
+use irtext_base::text::{AttrText, IrText};
+use irtext_context::base::Context;
+use irtext_diagnostics::{Diagnostic, Severity, cause_name, cause_word, innermost};
+use irtext_excerpt::Excerpt;
+use irtext_formatter::roots::Roots;
+use irtext_stream::class::Class;
+use std::alloc::{AllocError, Global};
+use std::io::Write;
+
+/// How many errors are reported of a file at most.
+pub const MOST_ERRORS: usize = 100;
+
+/// What is said after them.
+const LIMIT: &'static str =
+    "these are the first 100 errors; the rest of the file was not looked at";
+
+/// What is said where the next root is not found.
+const UNREAD: &'static str = "the rest of the file was not looked at";
+
+/// A root that was rejected.
+#[derive(Drop)]
+struct Rejection<A> {
+    /// Where it begins.
+    begin: SourcePosition,
+    fault: ParseFault<A>,
+}
+
+/// Where the root after a rejected one begins.
+#[derive(Clone, Copy)]
+enum Next {
+    /// Not before this position.
+    From(SourcePosition),
+    /// That is not known.
+    Unknown,
+}
+
+/// Parses roots up to one that is rejected, and returns where that begins, and why it is rejected. Each root is erased before the next is
+/// parsed.
+fn rejection_of<T: IrText<A>, A: AttrText<A>>(
+    roots: &mut Roots<'_, T, A>,
+) -> Option<(Place, ParseFault<A>)>
+    requires { IsReady roots.old }
+    ensures lent { roots.new.stream.state.ctx.ghost_name ≡ roots.old.stream.state.ctx.ghost_name }
+{
+    for _turn in 0..u64::MAX {
+        if !roots.is_left() {
+            return None;
+        }
+        match roots.parse_root() {
+            Ok(_) => roots.erase(),
+            Err(fault) => return Some((roots.begin(), fault)),
+        }
+    }
+    None
+}
+
+/// Parses the roots of a text from a position on, up to one that is rejected.
+fn next_rejection<T: IrText<A>, A: AttrText<A>>(
+    ctx: &mut Context<T, A>,
+    text: &str,
+    from: SourcePosition,
+) -> Result<Option<Rejection<A>>, AllocError> {
+    let places = stream_at(ctx.allocator(), text, from)?;
+    let stream = stream_at(ctx.allocator(), text, from)?;
+    let mut roots = Roots::new(ctx, stream);
+    let found = rejection_of(&mut roots);
+    let _ctx = roots.into_context();
+    Ok(found.map(|(begin, fault)| Rejection {
+        begin: places.locate(begin),
+        fault,
+    }))
+}
+
+/// Whether a text is names with commas between, as stand before the `=` of an operation.
+fn are_names(text: &str) -> bool {
+    text.split(',').all(|name| is_name(name.trim()))
+}
+
+/// Whether a text is an identifier.
+fn is_name(text: &str) -> bool {
+    text.chars().all(|c| Class::Word.has(c))
+        && text.chars().take(1).any(|c| Class::Beginning.has(c))
+}
+
+/// Returns the dotted word that a text begins with.
+fn first_word(text: &str) -> &str {
+    match text.split_once(|c: char| !Class::Dotted.has(c)) {
+        Some((word, _)) => word,
+        None => text,
+    }
+}
+
+/// Whether a line begins in its first column with the id of a registered operation, or with names and `=` before one.
+fn begins_root<T: IrText<A>, A: AttrText<A>>(ctx: &Context<T, A>, line: &str) -> bool {
+    let id = match line.split_once('=') {
+        Some((names, rest)) if are_names(names) && !line.starts_with(' ') => rest.trim_start(),
+        _ => line,
+    };
+    let Some((dialect, name)) = first_word(id).split_once('.') else {
+        return false;
+    };
+    match ctx.dialect_named(dialect) {
+        Some((_, found)) => found.op_named(dialect, name).is_some(),
+        None => false,
+    }
+}
+
+/// Returns the first line below this one that begins a root.
+fn line_below<T: IrText<A>, A: AttrText<A>>(
+    ctx: &Context<T, A>,
+    text: &str,
+    line: i32,
+) -> Option<SourcePosition> {
+    let mut number = 1i32;
+    for content in text.split('\n') {
+        if number > line && begins_root(ctx, content) {
+            return Some(SourcePosition {
+                line: number,
+                column: 1,
+            });
+        }
+        number = number.saturating_add(1);
+    }
+    None
+}
+
+/// The notes of an error.
+#[derive(Drop)]
+struct Notes {
+    /// Another place of the text, and what it is.
+    place: Option<(SourcePosition, &'static str)>,
+    /// What helps.
+    hint: Option<String>,
+    /// Whether something after the error is not looked at.
+    unread: bool,
+}
+
+/// Whether only white space is below a line.
+fn is_blank_below(text: &str, line: i32) -> bool {
+    let lines = if line < 0 { 0 } else { line as usize };
+    text.split('\n')
+        .skip(lines)
+        .all(|content| content.trim().is_empty())
+}
+
+/// Returns where the root after a rejected one may begin: where the rejected one ends, if nothing is wrong with its syntax; otherwise the
+/// next line below the error that begins a root.
+fn next_after<T: IrText<A>, A: AttrText<A>>(
+    ctx: &Context<T, A>,
+    text: &str,
+    rejection: &Rejection<A>,
+) -> Result<Next, AllocError> {
+    let begin = rejection.begin;
+    if let Some(end) = (RejectedRoot { text, begin }).end(ctx)? {
+        return Ok(Next::From(end));
+    }
+    Ok(match line_below(ctx, text, rejection.fault.pos.line) {
+        Some(position) => Next::From(position),
+        None => Next::Unknown,
+    })
+}
+
+/// Returns the other place that an error is about: the first use of a name that is not defined, or the first definition of one that is
+/// defined twice.
+fn other_place<T: IrText<A>, A: AttrText<A>>(
+    ctx: &Context<T, A>,
+    text: &str,
+    rejection: &Rejection<A>,
+) -> Result<Option<(SourcePosition, &'static str)>, AllocError> {
+    let (begin, at) = (rejection.begin, rejection.fault.pos);
+    let root = RejectedRoot { text, begin };
+    let (found, what) = match innermost(&rejection.fault.cause) {
+        Cause::UnresolvedReference(UnresolvedReference(name)) => {
+            (root.first_use(ctx, name.as_str(), at)?, "used here")
+        }
+        Cause::ParserNameTrackerError(ParserNameTrackerError::MultipleDefinitions(name)) => {
+            (
+                root.first_definition(ctx, name.as_str(), at)?,
+                "first defined here",
+            )
+        }
+        _ => (None, ""),
+    };
+    Ok(found.map(|position| (position, what)))
+}
+
+/// Returns the notes of an error, after which the next root begins there.
+fn notes_of<T: IrText<A>, A: AttrText<A>>(
+    ctx: &Context<T, A>,
+    text: &str,
+    rejection: &Rejection<A>,
+    next: Next,
+) -> Result<Notes, AllocError> {
+    let unread = match next {
+        Next::From(_) => false,
+        Next::Unknown => !is_blank_below(text, rejection.fault.pos.line),
+    };
+    Ok(Notes {
+        place: other_place(ctx, text, rejection)?,
+        hint: hint_for(ctx, &rejection.fault.cause)?,
+        unread,
+    })
+}
+
+/// Writes the error of a rejected root, after which the next one begins there.
+fn report_root<T: IrText<A>, A: AttrText<A>, E: Write>(
+    ctx: &Context<T, A>,
+    errors: &mut E,
+    scene: Scene<'_>,
+    text: &str,
+    rejection: &Rejection<A>,
+    next: Next,
+) -> Result<(), AllocError> {
+    let alloc = ctx.allocator();
+    let cause = innermost(&rejection.fault.cause);
+    let notes = notes_of(ctx, text, rejection, next)?;
+    let message = format!(in alloc; "{cause}")?;
+    let name = cause_name(alloc, cause)?;
+    let said = noted(alloc, text, scene, &notes)?;
+    let place = Excerpt {
+        text,
+        position: rejection.fault.pos,
+    };
+    let report = Report {
+        diagnostic: diagnostic(Severity::Error, scene.path, Some(place), message.as_str()),
+        cause: cause_word(cause),
+        name: name.as_ref().map(|name| name.as_str()),
+        notes: said.as_slice(),
+    };
+    write_report(alloc, errors, scene.form, &report);
+    Ok(())
+}
+
+/// Returns notes as they are written.
+fn noted<'a>(
+    alloc: Global,
+    text: &'a str,
+    scene: Scene<'a>,
+    notes: &'a Notes,
+) -> Result<Vec<Diagnostic<'a>>, AllocError> {
+    let mut said = Vec::new(alloc);
+    if let Some((position, what)) = notes.place {
+        let place = Excerpt { text, position };
+        said.push(diagnostic(Severity::Note, scene.path, Some(place), what))?;
+    }
+    if let Some(hint) = &notes.hint {
+        said.push(diagnostic(Severity::Note, scene.path, None, hint.as_str()))?;
+    }
+    if notes.unread {
+        said.push(diagnostic(Severity::Note, scene.path, None, UNREAD))?;
+    }
+    Ok(said)
+}
+
+/// Writes that there may be more errors than are reported.
+fn report_limit<E: Write>(alloc: Global, errors: &mut E, scene: Scene<'_>) {
+    let report = Report {
+        diagnostic: diagnostic(Severity::Note, scene.path, None, LIMIT),
+        cause: "limit",
+        name: None,
+        notes: &[],
+    };
+    write_report(alloc, errors, scene.form, &report);
+}
+
+/// Writes the errors of all rejected roots of a text, as `report_rejections` does.
+fn try_report<T: IrText<A>, A: AttrText<A>, E: Write>(
+    ctx: &mut Context<T, A>,
+    errors: &mut E,
+    scene: Scene<'_>,
+    text: &str,
+) -> Result<(), AllocError> {
+    let alloc = ctx.allocator();
+    let mut from = SourcePosition::default();
+    for _ in 0..MOST_ERRORS {
+        let Some(rejection) = next_rejection(ctx, text, from)? else {
+            return Ok(());
+        };
+        let next = next_after(ctx, text, &rejection)?;
+        report_root(ctx, errors, scene, text, &rejection, next)?;
+        match next {
+            Next::From(position) => from = position,
+            Next::Unknown => return Ok(()),
+        }
+    }
+    report_limit(alloc, errors, scene);
+    Ok(())
+}
+
+/// Writes the errors of all rejected roots of a text, one for each, with its notes. After a root whose syntax is right the next one begins
+/// where it ends. After an error of syntax the next one is sought at the lines below the error: at the first that begins in its first
+/// column with the id of a registered operation, or with names and `=` before one. If there is none, the rest of the text is not looked
+/// at, and a note says so. After 100 errors a last line says that there may be more.
+pub fn report_rejections<T: IrText<A>, A: AttrText<A>, E: Write>(
+    ctx: &mut Context<T, A>,
+    errors: &mut E,
+    scene: Scene<'_>,
+    text: &str,
+) {
+    let alloc = ctx.allocator();
+    if try_report(ctx, errors, scene, text).is_err() {
+        report_memory(alloc, errors, scene);
+    }
+}
