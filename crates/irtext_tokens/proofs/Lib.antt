@@ -25,4 +25,3 @@ pub mod ListsAsOutcomes
 pub mod ListReads
 pub mod QuotedText
 pub mod Decimals
-pub mod Excerpts

@@ -17,4 +17,3 @@ pub mod EitherWords
 pub mod Eithers
 pub mod EitherLaws
 pub mod BeginningWords
-pub mod Excerpt

@@ -3,7 +3,6 @@
 #![tactic(auto)]
 
 pub mod either;
-pub mod excerpt;
 pub mod irfmt;
 pub mod laws;
 pub mod parsable;

@@ -1,5 +1,4 @@
 //! The tests, a file for each subject.
-mod excerpt;
 mod lists;
 mod numbers;
 mod quoted;

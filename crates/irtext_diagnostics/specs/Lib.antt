@@ -1,0 +1,5 @@
+pub mod Messages
+pub mod Json
+pub mod Causes
+pub mod Utf8
+pub mod Suggestions

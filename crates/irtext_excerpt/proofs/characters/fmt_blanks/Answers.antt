@@ -1,0 +1,18 @@
+use Rattle.std.proofs.Common.{◌∙◌, ◌++◌, true, sym, ap, refl}
+use Rattle.std.proofs.Output.{has_written_append, has_written_of_eq}
+use Rattle.std.proofs.lemmas.Iterator.{YieldsList-from_chars}
+use Rattle.std.proofs.lemmas.Iterator.Consumers.{YieldsList-end}
+use Rattle.std.proofs.lemmas.List.{map-id}
+use Rattle.irtext_excerpt.specs.Excerpt.{shown, blanks}
+use Rattle.irtext_excerpt.proofs.Excerpts.{blanks-more}
+use Rattle.irtext_excerpt.proofs.characters.fmt_blanks.Goals as goal
+
+pub loop-c-preserved : goal.loop-c-preserved
+loop-c-preserved g c = λ plain.
+    let so_far = c.loop-c.invariant plain in
+    has_written_of_eq _ _ _ _ _ (ap (λ z. blanks (shown c.loop-c.yielded) ++ z) c.blanks_of.ensures ∙ blanks-more c.loop-c.yielded c.in-Some.c) (has_written_append _ _ _ _ _ _ so_far (c.in_ok-write_str.ensures.writes so_far.plain (refl {a = true})))
+
+pub returns : goal.returns
+returns g c = λ plain ok.
+    let all = YieldsList-end (YieldsList-from_chars c.args.text.now c.utf8.text cc) c.loop-c.yielded _ c.loop-c.yielded_by _ _ c.in-None.is c.next.ensures.steps in
+    has_written_of_eq _ _ _ _ _ (ap (λ t. blanks (shown t)) (sym (map-id c.loop-c.yielded) ∙ all.0)) (c.loop-c.invariant plain)
