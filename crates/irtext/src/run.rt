@@ -1,196 +1,109 @@
-//! The body of the program: from its arguments, its input and its outputs to its exit status.
-ghost use Rattle.std.specs.Prelude.{◌≤◌, ◌≡◌, IsSome};
-ghost use Rattle.irtext_context.specs.Context.{operation};
+//! The body of the program: from its words, its input and its outputs to its exit status.
+ghost use Rattle.std.specs.Prelude.{◌≡◌, None, OnOk, IfOk, IfErr, map, string_bytes};
+ghost use Rattle.irtext.specs.Faults.{text_of, status_of};
+ghost use Rattle.irtext.specs.Lines.{Says};
+ghost use Rattle.irtext.specs.Program.{form_named, form_of, Makes, Unmade, Answers, Runs};
 
-use irtext_demo::dialects::register_demo;
+use crate::fault::Fault;
+use crate::formatting::formatted;
+use crate::input::read_text;
+use crate::output::write_line;
+use crate::root::Form;
 use irtext_demo::{DemoAttr, DemoType};
-use pliron_text::base::{Context, Operation, Ptr};
-use pliron_text::ir::{OperationText, print_dbg};
-use pliron_text::parsable::parse_from_str;
-use pliron_text::printable::Disp;
-use pliron_text::result::{Cause, Error, ErrorKind};
-use std::alloc::{AllocError, Global};
-use std::fmt;
+use pliron_text::base::Context;
+use std::alloc::Global;
+use std::io;
 use std::io::{Read, Write};
-use thiserror::Error;
 
-/// Why the program failed. Its text goes to the error output. `Usage`: the arguments are not the one word `fmt` or `dbg`. `Unreadable`:
-/// reading the input failed. `NotUtf8`: the input is not UTF-8. `Memory`: out of memory. `Refused`: the text was rejected, or its root
-/// could not be printed, with the error's text. `Unwritable`: writing the output failed; no text follows.
-#[derive(Debug, Drop, Error)]
-pub enum Fault {
-    #[error("usage: irtext fmt|dbg")]
-    Usage,
-    #[error("cannot read standard input")]
-    Unreadable,
-    #[error("input is not UTF-8")]
-    NotUtf8,
-    #[error("Out of memory")]
-    Memory(#[from(alloc)] AllocError),
-    #[error("{0}")]
-    Refused(String),
-    #[error("cannot write")]
-    Unwritable,
-}
-
-impl Fault {
-    /// Returns the exit status for this fault: 2 for `Usage`, otherwise 1.
-    fn status(&self) -> u8
-        ensures { result ≤ 2 }
-    {
-        match self {
-            Fault::Usage => 2,
-            _ => 1,
-        }
-    }
-}
-
-/// How a root is printed.
-#[derive(Clone, Copy)]
-enum Form {
-    /// The whole text, with its mark and the section.
-    Whole,
-    /// The concrete text, with its regions elided.
-    Elided,
-}
-
-/// Returns the form that the arguments ask for: one word, `fmt` or `dbg`. Any other arguments are `Usage`.
-fn form_of(args: &[&str]) -> Result<Form, Fault> {
-    let [word] = args else {
-        return Err(Fault::Usage);
-    };
-    match *word {
-        "fmt" => Ok(Form::Whole),
-        "dbg" => Ok(Form::Elided),
-        _ => Err(Fault::Usage),
-    }
-}
-
-/// Reads the input to its end, as text.
-fn read_text(alloc: Global, input: &mut impl Read) -> Result<String, Fault> {
-    let mut bytes = Vec::new(alloc);
-    if let Err(e) = input.read_to_end(&mut bytes) {
-        return Err(if e.kind() == std::io::ErrorKind::OutOfMemory {
-            Fault::Memory(AllocError)
-        } else {
-            Fault::Unreadable
-        });
-    }
-    String::from_utf8(bytes).map_err(|_| Fault::NotUtf8)
-}
-
-/// A context of the demo types and attributes.
-type Ctx = Context<DemoType, DemoAttr>;
-
-/// Returns the fault for an error: the error's text. It is `Memory` if there is no memory for that text, or if memory ran out before
-/// anything was parsed.
-fn refusal(alloc: Global, ctx: &Ctx, error: &Error<DemoAttr>) -> Fault {
-    if let (Cause::Memory, ErrorKind::InvalidArgument) = (&error.err, error.kind) {
-        return Fault::Memory(AllocError);
-    }
-    match format!(in alloc; "{}", error.disp(ctx)) {
-        Ok(text) => Fault::Refused(text),
-        Err(AllocError) => Fault::Memory(AllocError),
-    }
-}
-
-/// Appends the root's text in this form.
-fn write_root(ctx: &Ctx, root: Ptr<Operation>, form: Form, printed: &mut String) -> fmt::Result
-    requires { IsSome (operation ctx.now root) }
+/// Returns the form that a word asks for, `fmt` or `dbg`.
+fn form_named(word: &str) -> Option<Form>
+    ensures { result ≡ form_named word.now }
 {
-    match form {
-        Form::Whole => {
-            write!(printed, "{}", root.disp(ctx))?;
-            Ok(())
-        }
-        Form::Elided => print_dbg(ctx, root, printed),
+    match word {
+        "fmt" => Some(Form::Whole),
+        "dbg" => Some(Form::Elided),
+        _ => None,
     }
 }
 
-/// Returns the root's text in this form.
-fn printed(alloc: Global, ctx: &Ctx, root: Ptr<Operation>, form: Form) -> Result<String, Fault>
-    requires { IsSome (operation ctx.now root) }
+/// Returns the form that the arguments ask for: one word, `fmt` or `dbg`.
+fn form_of(args: &[&str]) -> Option<Form>
+    ensures { result ≡ form_of (map (λ arg. arg.now) args.now) }
 {
-    let mut text = String::new(alloc);
-    match write_root(ctx, root, form, &mut text) {
-        Ok(()) => Ok(text),
-        Err(_) => Err(refusal(alloc, ctx, &Error::from(fmt::Error))),
+    match args {
+        [word] => form_named(word),
+        _ => None,
     }
 }
 
-/// Registers the demo dialects with this context, parses `text`, and returns the root's text in this form.
-fn registered(alloc: Global, ctx: &mut Ctx, form: Form, text: &str) -> Result<String, Fault> {
-    if let Err(error) = register_demo(ctx) {
-        return Err(refusal(alloc, ctx, &error));
-    }
-    match parse_from_str(|stream| Operation::top_level_parse(stream), ctx, text) {
-        Ok(root) => printed(alloc, ctx, root, form),
-        Err(error) => Err(refusal(alloc, ctx, &error)),
-    }
-}
-
-/// Parses `text` with a new context, and returns the root's text in this form.
-fn formatted(alloc: Global, form: Form, text: &str) -> Result<String, Fault> {
-    let mut ctx = Context::new(alloc);
-    registered(alloc, &mut ctx, form, text)
-}
-
-/// Writes `text`, and a newline if it does not end with one.
-fn write_line(out: &mut impl Write, text: &str) -> std::io::Result<()> {
-    out.write_all(text.as_bytes())?;
-    if !text.ends_with('\n') {
-        out.write_all(b"\n")?;
-    }
-    out.flush()
-}
-
-/// Parses `text`, and writes the root's text in this form.
-fn write_formatted(
-    alloc: Global,
-    form: Form,
-    text: &str,
-    output: &mut impl Write,
-) -> Result<(), Fault> {
-    let printed = formatted(alloc, form, text)?;
-    write_line(output, printed.as_str()).map_err(|_| Fault::Unwritable)
+/// Reads the input to its end, and returns the text of its root in this form.
+fn make_text<R: Read>(alloc: Global, form: Form, input: &mut R) -> Result<String, Fault>
+    ensures text { IfOk result (λ text. Makes (R.remaining input.old) (R.remaining input.new) form (string_bytes text)) }
+    ensures fault { IfErr result (Unmade (R.remaining input.old) (R.remaining input.new) form) }
+{
+    let text = read_text(alloc, input)?;
+    let mut ctx: Context<DemoType, DemoAttr> = Context::new(alloc);
+    formatted(&mut ctx, form, text.as_str())
 }
 
 /// Does the work of `run`, and returns the fault if there is one.
-fn try_run(
+fn try_run<R: Read, W: Write>(
     alloc: Global,
     args: &[&str],
-    input: &mut impl Read,
-    output: &mut impl Write,
-) -> Result<(), Fault> {
-    let form = form_of(args)?;
-    let text = read_text(alloc, input)?;
-    write_formatted(alloc, form, text.as_str(), output)
+    input: &mut R,
+    output: &mut W,
+) -> Result<(), Fault>
+    ensures { Answers R.remaining W.contents
+        (map (λ arg. arg.now) args.now) input.old input.new output.old output.new result }
+{
+    let Some(form) = form_of(args) else {
+        return Err(Fault::Usage);
+    };
+    let text = make_text(alloc, form, input)?;
+    match write_line(output, text.as_str()) {
+        Ok(()) => Ok(()),
+        Err(_) => Err(Fault::Unwritable),
+    }
 }
 
-/// Writes the fault's text. Allocates nothing.
-fn tell(errors: &mut impl Write, fault: &Fault) -> std::io::Result<()> {
-    match fault {
-        Fault::Unwritable => Ok(()),
-        Fault::Refused(text) => write_line(errors, text.as_str()),
-        _ => writeln!(errors, "{fault}"),
+/// Writes the text of a fault, if there is one. Allocates nothing.
+fn tell<W: Write>(errors: &mut W, answer: &Result<(), Fault>) -> io::Result<()>
+    ensures told { OnOk result (Says W.contents errors.old errors.new (text_of answer.now)) }
+    ensures silent { text_of answer.now ≡ None → errors.new ≡ errors.old }
+{
+    match answer {
+        Ok(()) => Ok(()),
+        Err(fault) => match fault.text() {
+            Some(text) => write_line(errors, text),
+            None => Ok(()),
+        },
+    }
+}
+
+/// Returns the exit status of an answer.
+fn status(answer: &Result<(), Fault>) -> u8
+    ensures { result ≡ status_of answer.now }
+{
+    match answer {
+        Ok(()) => 0,
+        Err(fault) => fault.status(),
     }
 }
 
 /// Runs the program, and returns its exit status: 0, or the status of the fault, whose text goes to `errors`. With the argument `fmt`
 /// it parses the input and prints its root in the canonical form, with marks and the section. With `dbg` it prints the root's concrete
 /// text with its regions elided: of `builtin.module @m {}` that is `builtin.module @m {..}`.
-pub fn run(
+pub fn run<R: Read, W: Write, E: Write>(
     alloc: Global,
     args: &[&str],
-    input: &mut impl Read,
-    output: &mut impl Write,
-    errors: &mut impl Write,
+    input: &mut R,
+    output: &mut W,
+    errors: &mut E,
 ) -> u8
-    ensures { result ≤ 2 }
+    ensures { Runs R.remaining W.contents
+        (map (λ arg. arg.now) args.now) input.old input.new output.old output.new E.contents errors.old errors.new result }
 {
-    let Err(fault) = try_run(alloc, args, input, output) else {
-        return 0;
-    };
-    let _ = tell(errors, &fault);
-    fault.status()
+    let answer = try_run(alloc, args, input, output);
+    let _told = tell(errors, &answer);
+    status(&answer)
 }

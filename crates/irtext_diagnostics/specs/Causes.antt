@@ -1,5 +1,5 @@
 -- A stable word for each cause of an error, and the name that it is about.
-use Rattle.std.specs.Prelude.{ℕ, suc, List, codes, Option, Some, None}
+use Rattle.std.specs.Prelude.{ℕ, List, codes, Option, Some, None}
 use Rattle.irtext_base.specs.Causes.{id_text}
 use Rattle.irtext_base.specs.declared.result.Cause.{Cause, Memory, StreamFailed, Unexpected, NumberRange, BadEscape, BadUnicodeEscape, EmptyItem, BadSeparator, UnregisteredDialect, UnregisteredOp, ResultCount, NoActiveScope, UnresolvedReference, ParserNameTrackerError, DuplicateIndex, UnknownIndex, UnknownPrintOnce, ReservedKey, OwnText, FormatFault, Text, Fmt, Nested', Parse', WrongDialect}
 use Rattle.irtext_base.specs.declared.parsable.names.ParserNameTrackerError as tracker
@@ -43,12 +43,6 @@ abbrev pub innermost : {A : Type 0} → Cause A → Cause A
 innermost (Nested' p kind err loc) = innermost err
 innermost (Parse' at p cause) = innermost cause
 innermost cause = cause
-
--- how many of those there are around it
-abbrev pub layers : {A : Type 0} → Cause A → ℕ
-layers (Nested' p kind err loc) = suc (layers err)
-layers (Parse' at p cause) = suc (layers cause)
-layers cause = 0
 
 -- the name that a cause is about
 abbrev pub cause_name : {A : Type 0} → Cause A → Option (List ℕ)

@@ -7,9 +7,9 @@ use Rattle.strsim.specs.Edits.{levenshtein_row}
 abbrev pub distance : List ℕ → List ℕ → ℕ
 distance word other = levenshtein_row nat_eq (chars word) (chars other) (length (chars other))
 
--- the largest distance of a suggestion: a third of the number of characters, and 1 for fewer than three
-abbrev pub limit : List ℕ → ℕ
-limit word = max (length (chars word)) 3 / 3
+-- the largest distance from a word of so many characters: a third of them, and 1 for fewer than three
+abbrev pub limit : ℕ → ℕ
+limit n = max n 3 / 3
 
 -- the first of the candidates with the least distance below a bound, or else the one found before
 abbrev pub nearest : List ℕ → ℕ → Option (List ℕ) → List (List ℕ) → Option (List ℕ)
@@ -17,6 +17,8 @@ nearest word bound found [] = found
 nearest word bound found (candidate ∷ candidates) =
     cond (nat_lt (distance word candidate) bound) (nearest word (distance word candidate) (Some candidate) candidates) (nearest word bound found candidates)
 
--- the first of the candidates with the least distance, if that is not too large
+-- the first of the candidates with the least distance, if neither that nor the word is too long
 abbrev pub closest : List ℕ → List (List ℕ) → Option (List ℕ)
-closest word candidates = nearest word (suc (limit word)) None candidates
+closest word candidates =
+    let n = length (chars word) in
+    cond (nat_lt 64 n) None (nearest word (suc (limit n)) None candidates)

@@ -68,17 +68,6 @@ coded_bytes c e =
     let t = and_left (bytes_eq (encode_utf8_all own) own) (nat_eq (columns own) 6) (coded_holds c e) in
     sym (ap (λ b. encode_utf8_all (cond b own (glyph c ∷ []))) e ∙ (bytes_decides (encode_utf8_all own) own).0 t)
 
-pub coded_size : (c : ℕ) → is_coded c ≡ true → blanks (shown_as c) ≡ codes "      "
-unfolding coded_test
-coded_size c e =
-    let own = codes "U+" ++ code_of c in
-    let t : nat_eq (columns own) 6 ≡ true = and_right (bytes_eq (encode_utf8_all own) own) (nat_eq (columns own) 6) (coded_holds c e) in
-    let s : columns own ≡ 6 = grind (arith, nat_tests) in
-    ap (λ b. blanks (cond b own (glyph c ∷ []))) e ∙ ap (λ k. replicate k 32) s
-
-pub plain_size : (c : ℕ) → is_coded c ≡ false → blanks (shown_as c) ≡ replicate (columns_of (glyph c)) 32
-plain_size c e = ap (λ b. blanks (cond b (codes "U+" ++ code_of c) (glyph c ∷ []))) e ∙ ap (λ k. replicate k 32) (add-zero (columns_of (glyph c)))
-
 -- ---- characters as they are shown
 shown-append : (xs ys : Text) → shown (xs ++ ys) ≡ shown xs ++ shown ys
 shown-append [] ys = refl
@@ -113,18 +102,14 @@ unfolding encode_utf8
 dots-encoded true = refl
 dots-encoded false = refl
 
-pub left-bytes : (xs : Text) → dots (nat_lt 60 (length xs)) ++ encode_utf8_all (shown (drop (length xs - 60) xs)) ≡ encode_utf8_all (left_of xs)
-left-bytes xs =
-    let last = shown (drop (length xs - 60) xs) in
-    ap (λ z. z ++ encode_utf8_all last) (sym (dots-encoded (nat_lt 60 (length xs)))) ∙ sym (encodes-append (dots (nat_lt 60 (length xs))) last)
+pub left-bytes : (b : Bool) (xs : Text) → dots b ++ encode_utf8_all (shown xs) ≡ encode_utf8_all (dots b ++ shown xs)
+left-bytes b xs = ap (λ z. z ++ encode_utf8_all (shown xs)) (sym (dots-encoded b)) ∙ sym (encodes-append (dots b) (shown xs))
 
-pub right-bytes : (xs : Text) → encode_utf8_all (shown (take 60 xs)) ++ dots (nat_lt 60 (length xs)) ≡ encode_utf8_all (right_of xs)
-right-bytes xs =
-    let first = shown (take 60 xs) in
-    ap (λ z. encode_utf8_all first ++ z) (sym (dots-encoded (nat_lt 60 (length xs)))) ∙ sym (encodes-append first (dots (nat_lt 60 (length xs))))
+pub right-bytes : (xs : Text) (b : Bool) → encode_utf8_all (shown xs) ++ dots b ≡ encode_utf8_all (shown xs ++ dots b)
+right-bytes xs b = ap (λ z. encode_utf8_all (shown xs) ++ z) (sym (dots-encoded b)) ∙ sym (encodes-append (shown xs) (dots b))
 
-pub margin-bytes : (xs : Text) → blanks (dots (nat_lt 60 (length xs))) ++ blanks (shown (drop (length xs - 60) xs)) ≡ blanks (left_of xs)
-margin-bytes xs = blanks-append (dots (nat_lt 60 (length xs))) (shown (drop (length xs - 60) xs))
+pub margin-bytes : (b : Bool) (xs : Text) → blanks (dots b) ++ blanks (shown xs) ≡ blanks (dots b ++ shown xs)
+margin-bytes b xs = blanks-append (dots b) (shown xs)
 
 blanks-encoded : (n : ℕ) → encode_utf8_all (replicate n 32) ≡ replicate n 32
 unfolding encode_utf8
@@ -135,6 +120,26 @@ pub pointed-bytes : (left right : Text) → encode_utf8_all left ++ (encode_utf8
 unfolding encode_utf8
 pointed-bytes left right =
     sym (encodes-append left (right ++ (10 ∷ blanks left)) ∙ ap (λ z. encode_utf8_all left ++ z) (encodes-append right (10 ∷ blanks left) ∙ ap (λ z. encode_utf8_all right ++ (10 ∷ z)) (blanks-encoded (columns left))))
+
+-- ---- the columns of a text as it is shown
+pub coded_columns : (c : ℕ) → is_coded c ≡ true → columns (shown_as c) ≡ 6
+unfolding coded_test
+coded_columns c e =
+    let own = codes "U+" ++ code_of c in
+    let t : nat_eq (columns own) 6 ≡ true = and_right (bytes_eq (encode_utf8_all own) own) (nat_eq (columns own) 6) (coded_holds c e) in
+    let s : columns own ≡ 6 = grind (arith, nat_tests) in
+    ap (λ b. columns (cond b own (glyph c ∷ []))) e ∙ s
+
+pub plain_columns : (c : ℕ) → is_coded c ≡ false → columns (shown_as c) ≡ columns_of (glyph c)
+plain_columns c e = ap (λ b. columns (cond b (codes "U+" ++ code_of c) (glyph c ∷ []))) e ∙ add-zero (columns_of (glyph c))
+
+-- one character more
+pub width-more : (xs : Text) (c : ℕ) → columns (shown xs) + columns (shown_as c) ≡ columns (shown (xs ++ c ∷ []))
+width-more xs c = sym (columns-append (shown xs) (shown_as c)) ∙ ap columns (sym (shown-one xs c))
+
+-- one character fewer
+pub width-fewer : (c : ℕ) (xs : Text) → columns (shown (c ∷ xs)) ≡ columns (shown_as c) + columns (shown xs)
+width-fewer c xs = columns-append (shown_as c) (shown xs)
 
 -- ---- a text, cut after so many characters
 encodes-one : (xs : Text) (c : ℕ) → length (encode_utf8_all (xs ++ (c ∷ []))) ≡ length (encode_utf8_all xs) + len_utf8 c

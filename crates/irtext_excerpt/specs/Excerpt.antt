@@ -87,13 +87,31 @@ place_in text (suc lines) characters = after_newline text (after is_in_line text
 abbrev pub dots : Bool → Text
 dots is_cut = cond is_cut (codes "..") []
 
--- the last 60 characters before the caret, after `..` if there are more
-abbrev pub left_of : Text → Text
-left_of before = dots (nat_lt 60 (length before)) ++ shown (drop (length before - 60) before)
+-- the longest beginning of a text that fits into so many columns as it is shown
+abbrev pub beginning : ℕ → Text → Text
+beginning room [] = []
+beginning room (c ∷ text) = cond (nat_lt room (columns (shown_as c))) [] (c ∷ beginning (room - columns (shown_as c)) text)
 
--- the first 60 characters from the caret on, with `..` after them if there are more
+-- the longest end of a text that fits into 60 columns as it is shown
+abbrev pub ending : Text → Text
+ending [] = []
+ending (c ∷ text) = cond (nat_lt 60 (columns (shown (c ∷ text)))) (ending text) (c ∷ text)
+
+-- what is shown of a line before the caret: at most 60 characters, and at most 60 columns
+abbrev pub last_shown : Text → Text
+last_shown before = ending (drop (length before - 60) before)
+
+-- what is shown of it from the caret on
+abbrev pub first_shown : Text → Text
+first_shown rest = beginning 60 (take 60 rest)
+
+-- that in characters as they are shown, after `..` if something was cut
+abbrev pub left_of : Text → Text
+left_of before = let last = last_shown before in dots (nat_lt (length last) (length before)) ++ shown last
+
+-- the same from the caret on, with `..` after it
 abbrev pub right_of : Text → Text
-right_of rest = shown (take 60 rest) ++ dots (nat_lt 60 (length rest))
+right_of rest = let first = first_shown rest in shown first ++ dots (nat_lt (length first) (length rest))
 
 -- what is left of the caret and what is right of it in one line, and in the next the spaces up to the caret
 abbrev pub pointed : Text → Text → Text

@@ -2,7 +2,7 @@
 ghost use Rattle.std.specs.Prelude.{◌≡◌, ◌≤◌, [], ◌∷◌, Some, replicate};
 ghost use Rattle.std.specs.Fmt.{WritesOnOk};
 ghost use Rattle.std.specs.Str.{chars, encode_utf8_all};
-ghost use Rattle.irtext_excerpt.specs.Excerpt.{is_coded, zeros, code_of, glyph, columns_of, shown_as, shown, shown_lines, blanks};
+ghost use Rattle.irtext_excerpt.specs.Excerpt.{is_coded, zeros, code_of, glyph, columns_of, shown_as, shown, shown_lines, columns, blanks};
 
 use std::fmt;
 use unicode_width::UnicodeWidthChar;
@@ -138,6 +138,14 @@ fn blanks_of(c: char) -> &'static str
     } else {
         spaces(columns_of(glyph(c)))
     }
+}
+
+/// Returns how many columns of a terminal a character takes as it is shown: at most 6.
+pub(crate) fn shown_columns(c: char) -> usize
+    ensures value { result ≡ columns (shown_as c) }
+    ensures bound { result ≤ 6 }
+{
+    if is_coded(c) { 6 } else { columns_of(glyph(c)) }
 }
 
 /// Returns how many columns of a terminal a character takes: at most 3.

@@ -2,22 +2,21 @@
 //! shown there, with no character that a terminal would take for a command.
 #![tactic(auto)]
 
-ghost use Rattle.std.specs.Prelude.{◌≡◌, ◌-◌, Some, drop, length};
+ghost use Rattle.std.specs.Prelude.{◌≡◌, Some};
 ghost use Rattle.std.specs.Fmt.{WritesOnOk};
 ghost use Rattle.std.specs.Str.{chars, encode_utf8_all};
 ghost use Rattle.irtext_excerpt.specs.Excerpt.{blanks, dots, left_of, right_of, preceding, lead_bytes, excerpt_bytes};
 
 mod characters;
+mod cuts;
 mod lines;
 
 pub use characters::{Code, Shown, ShownLines, is_coded};
 use characters::{fmt_blanks, fmt_shown};
+use cuts::{first_shown, is_cut, last_shown};
 use irtext_base::parsable::SourcePosition;
-use lines::{count, place_in, split_after};
+use lines::place_in;
 use std::fmt;
-
-/// How many characters of a line an excerpt shows at most before the caret, and as many from it on.
-const REACH: usize = 60;
 
 /// The line of a position in a text, and below it a caret under the position's character, as a `Display`. For line 2 and column 10 of
 /// a text whose second line is `  %1 = op;` it prints
@@ -37,8 +36,11 @@ const REACH: usize = 60;
 /// character of that: control characters, the soft hyphen, spaces and joiners without width, separators of lines and paragraphs, marks of
 /// direction, invisible operators, and the byte order mark. Any other character is shown as itself.
 ///
-/// At most 60 characters before the caret are shown, and as many from it on; `..` marks where the line was cut. The time is linear in the
-/// text.
+/// The caret is below its character in a terminal: a character takes the columns that `unicode_width` gives it, none for a mark that is
+/// combined with the character before it, and two for a wide one as `漢`. (The caret of such a mark is one column after its base.)
+///
+/// At most 60 characters before the caret are shown, which take at most 60 columns, and as many from it on; `..` marks where the line was
+/// cut. The time is linear in the text.
 #[derive(Clone, Copy, Debug)]
 pub struct Excerpt<'a> {
     /// The whole text.
@@ -85,13 +87,6 @@ fn preceding(number: &i32) -> usize
     if *number < 1 { 0 } else { *number as usize - 1 }
 }
 
-/// Returns the last `REACH` characters of a text, or all if it has fewer.
-fn last_of(text: &str) -> &str
-    ensures { chars result.now ≡ drop (length (chars text.now) - 60) (chars text.now) }
-{
-    split_after(text, count(text).saturating_sub(REACH)).1
-}
-
 /// Returns the mark of a cut where there is one.
 fn dots(is_cut: bool) -> &'static str
     ensures { result.now ≡ dots is_cut }
@@ -110,23 +105,25 @@ fn blank_dots(is_cut: bool) -> &'static str
 fn fmt_left<W: fmt::Write>(before: &str, f: &mut fmt::Formatter<W>) -> fmt::Result
     ensures { WritesOnOk W.write_str_gives f.old result (encode_utf8_all (left_of (chars before.now))) f.new }
 {
-    f.write_str(dots(REACH < count(before)))?;
-    fmt_shown(last_of(before), f)
+    let last = last_shown(before);
+    f.write_str(dots(is_cut(last, before)))?;
+    fmt_shown(last, f)
 }
 
 /// Appends as many spaces as what `fmt_left` appends takes columns.
 fn fmt_margin<W: fmt::Write>(before: &str, f: &mut fmt::Formatter<W>) -> fmt::Result
     ensures { WritesOnOk W.write_str_gives f.old result (blanks (left_of (chars before.now))) f.new }
 {
-    f.write_str(blank_dots(REACH < count(before)))?;
-    fmt_blanks(last_of(before), f)
+    let last = last_shown(before);
+    f.write_str(blank_dots(is_cut(last, before)))?;
+    fmt_blanks(last, f)
 }
 
 /// Appends the part of a line from the caret on.
 fn fmt_right<W: fmt::Write>(rest: &str, f: &mut fmt::Formatter<W>) -> fmt::Result
     ensures { WritesOnOk W.write_str_gives f.old result (encode_utf8_all (right_of (chars rest.now))) f.new }
 {
-    let (first, _) = split_after(rest, REACH);
+    let first = first_shown(rest);
     fmt_shown(first, f)?;
-    f.write_str(dots(REACH < count(rest)))
+    f.write_str(dots(is_cut(first, rest)))
 }

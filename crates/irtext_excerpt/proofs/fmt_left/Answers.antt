@@ -1,7 +1,7 @@
 use Rattle.std.proofs.Common.{◌∙◌, ◌++◌, nat_lt, length, true, ap, refl}
 use Rattle.std.proofs.Output.{has_written_append, has_written_of_eq}
 use Rattle.std.specs.Str.{chars, encode_utf8_all}
-use Rattle.irtext_excerpt.specs.Excerpt.{dots, shown}
+use Rattle.irtext_excerpt.specs.Excerpt.{dots, shown, last_shown}
 use Rattle.irtext_excerpt.proofs.Excerpts.{left-bytes}
 use Rattle.irtext_excerpt.proofs.fmt_left.Goals as goal
 
@@ -9,6 +9,6 @@ pub returns : goal.returns
 returns g c = λ plain ok.
     let text = chars c.args.before.now in
     let first = c.in_ok-write_str.ensures.writes plain (refl {a = true}) in
-    let cut = c.dots.ensures ∙ ap (λ n. dots (nat_lt 60 n)) c.count.ensures in
-    let same = ap (λ z. z ++ encode_utf8_all (shown (chars c.last_of.result.now))) cut ∙ ap (λ t. dots (nat_lt 60 (length text)) ++ encode_utf8_all (shown t)) c.last_of.ensures ∙ left-bytes text in
+    let cut = c.dots.ensures ∙ ap dots c.is_cut.ensures in
+    let same = ap (λ z. z ++ encode_utf8_all (shown (chars c.last_shown-last.result.now))) cut ∙ ap (λ t. dots (nat_lt (length t) (length text)) ++ encode_utf8_all (shown t)) c.last_shown-last.ensures ∙ left-bytes _ (last_shown text) in
     has_written_of_eq _ _ _ _ _ same (has_written_append _ _ _ _ _ _ first (c.fmt_shown.ensures first.plain ok))

@@ -100,6 +100,32 @@ fn long_lines_are_cut(rt: HostRuntime) {
     }
 }
 
+/// Lines of wide characters, of codes and of marks, which are cut at 60 columns before they have 60 characters, and the excerpt at a column.
+const CUT_AT_COLUMNS: &[(&str, i32, &str)] = &[
+    (
+        "漢漢漢漢漢漢漢漢漢漢漢漢漢漢漢漢漢漢漢漢漢漢漢漢漢漢漢漢漢漢x漢漢漢漢漢漢漢漢漢漢漢漢漢漢漢漢漢漢漢漢漢漢漢漢漢漢漢漢漢漢",
+        31,
+        "漢漢漢漢漢漢漢漢漢漢漢漢漢漢漢漢漢漢漢漢漢漢漢漢漢漢漢漢漢漢x漢漢漢漢漢漢漢漢漢漢漢漢漢漢漢漢漢漢漢漢漢漢漢漢漢漢漢漢漢..\n                                                            ^",
+    ),
+    (
+        "漢漢漢漢漢漢漢漢漢漢漢漢漢漢漢漢漢漢漢漢漢漢漢漢漢漢漢漢漢漢x=",
+        32,
+        "..漢漢漢漢漢漢漢漢漢漢漢漢漢漢漢漢漢漢漢漢漢漢漢漢漢漢漢漢漢x=\n                                                             ^",
+    ),
+    (
+        "\u{1}\u{1}\u{1}\u{1}\u{1}\u{1}\u{1}\u{1}\u{1}\u{1}\u{1}=",
+        12,
+        "..U+0001U+0001U+0001U+0001U+0001U+0001U+0001U+0001U+0001U+0001=\n                                                              ^",
+    ),
+];
+
+#[test]
+fn wide_lines_are_cut(rt: HostRuntime) {
+    for row in CUT_AT_COLUMNS {
+        prints(&rt, rt.alloc(), excerpt(row.0, 1, row.1), row.2);
+    }
+}
+
 /// Texts, and what is shown of them in one line and in several.
 const SHOWN: &[(&str, &str, &str)] = &[
     ("", "", ""),

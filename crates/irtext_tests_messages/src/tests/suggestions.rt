@@ -33,3 +33,17 @@ fn near_names_are_found(rt: HostRuntime) {
     let none = closest(rt.alloc(), "use", &[]).expect(&rt, "out of memory");
     assert!(rt; none.is_none());
 }
+
+/// A word of 64 characters, and one of 65.
+const LONG: &[&str] = &[
+    "0123456789abcdef0123456789abcdef0123456789abcdef0123456789abcdef",
+    "0123456789abcdef0123456789abcdef0123456789abcdef0123456789abcdef_",
+];
+
+#[test]
+fn long_words_are_near_nothing(rt: HostRuntime) {
+    let found = closest(rt.alloc(), LONG[0], LONG).expect(&rt, "out of memory");
+    assert!(rt; found.is_some());
+    let found = closest(rt.alloc(), LONG[1], LONG).expect(&rt, "out of memory");
+    assert!(rt; found.is_none());
+}

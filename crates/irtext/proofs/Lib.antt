@@ -1,0 +1,3 @@
+mod Answering
+mod Printing
+mod Reading

@@ -1,0 +1,5 @@
+pub mod Faults
+pub mod Formatting
+pub mod Lines
+pub mod Program
+pub mod Roots

@@ -1,0 +1,9 @@
+pub mod Covered
+pub mod Live
+pub mod Misfitting
+pub mod Newer
+pub mod Printing
+pub mod Rooted
+pub mod Shorter
+pub mod Standing
+pub mod Stepping

@@ -1,0 +1,54 @@
+-- For callers: what is said of the first operation of a root that does not fit its format.
+use Rattle.std.specs.Prelude.{◌≡◌, ◌⊎◌, Bool, Option, Some, None, IsSome, string_bytes}
+use Rattle.irtext_base.specs.Text.{Text}
+use Rattle.irtext_base.specs.declared.location.Location.{Location, SrcPos}
+use Rattle.irtext_base.specs.declared.location.Source.{Source}
+use Rattle.irtext_base.specs.declared.location.Source.TheVariants.{InMemory}
+use Rattle.irtext_base.specs.declared.text.AttrText as attr_text
+use Rattle.irtext_context.specs.Context.{ContextView, OperationView, operation}
+use Rattle.irtext_graph.specs.Chained.{Among}
+use Rattle.irtext_graph.specs.Graph.{IsInside}
+use Rattle.irtext_graph.specs.Throughout.{all_from}
+use Rattle.irtext_graph.specs.declared.arena.Ptr.{Ptr}
+use Rattle.irtext_graph.specs.declared.object.Object.{Object}
+use Rattle.irtext_graph.specs.declared.object.Object.TheVariants.{TheOperation}
+use Rattle.irtext_graph.specs.declared.object.Operation.{Operation}
+use Rattle.irtext_print_ops.specs.Fits.{fault_text, FitsIn, IsFirstReasonIn}
+use Rattle.irtext_print_ops.specs.declared.fits.FitFault.{FitFault}
+use Rattle.irtext_stream.specs.declared.position.SourcePosition.{SourcePosition}
+use Rattle.irtext_formatter.specs.declared.misfit.Misfit.{Misfit}
+
+-- the position, if it is one in a text in memory
+abbrev pub position_of : Source → SourcePosition → Option SourcePosition
+position_of InMemory at = Some at
+position_of _ at = None
+
+-- the position in a text in memory that a location gives, if it gives one
+abbrev pub position_in : {A : Type 0} → Location A → Option SourcePosition
+position_in (SrcPos source at) = position_of source at
+position_in _ = None
+
+module _ {T A : Type 0} where
+  -- a misfit names this operation and this reason
+  pub record Describes (seen : OperationView T A) (reason : FitFault) (misfit : Misfit) : Type 0 where
+    pub id : misfit.id ≡ seen.id
+    pub position : misfit.position ≡ position_in seen.loc
+    pub says : string_bytes misfit.reason ≡ fault_text reason
+
+module _ {T A : Type 0} (written : A → Text) (attributes : attr_text.Ghosts A A) (same : A → A → Bool) (ctx : ContextView T A) where
+  -- if the object is an operation of the context, that fits its format
+  abbrev pub FitsThere : Object → Type 0
+  FitsThere (TheOperation p) = IsSome (operation ctx p) → FitsIn written attributes same ctx p
+  FitsThere _ = Unit {0}
+
+  -- A misfit describes an operation that is the root or nested in it, with the first reason why it does not fit its format. Each operation
+  -- before it in the order of the text fits.
+  pub record IsMisfitOf (root : Ptr Operation) (misfit : Misfit) : Type 0 where
+    pub op : Ptr Operation
+    pub seen : OperationView T A
+    pub is : operation ctx op ≡ Some seen
+    pub reason : FitFault
+    pub describes : Describes seen reason misfit
+    pub inside : IsInside ctx.graph (TheOperation root) (TheOperation op)
+    pub unfit : IsFirstReasonIn written attributes same ctx op reason
+    pub first : (q : Object) → IsInside ctx.graph (TheOperation root) q → Among q (all_from ctx.graph (TheOperation root) (Some (TheOperation op))) ⊎ FitsThere q
