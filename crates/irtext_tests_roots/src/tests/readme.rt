@@ -11,7 +11,7 @@ use std::io;
 fn formatted(ctx: &mut Context<DemoType, DemoAttr>, text: &str) -> Answer<String, DemoAttr> {
     register_demo(ctx)?;
     let root = parse_from_str(|s| Operation::top_level_parse(s), ctx, text)?;
-    let ctx = &*ctx;
+    let ctx: &Context<DemoType, DemoAttr> = ctx;
     Ok(format!(in ctx.allocator(); "{}", root.disp(ctx))?)
 }
 
