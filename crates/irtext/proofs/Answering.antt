@@ -1,5 +1,5 @@
 -- What the answer of the program says.
-use Rattle.std.proofs.Common.{◌≡◌, ◌∙◌, ◌⊎◌, ℕ, Bool, false, List, [], ◌++◌, Option, Some, Result, Ok, Err, codes, inl, inr, refl, sym, ap, ap₂, subst, string_bytes}
+use Rattle.std.proofs.Common.{◌≡◌, ◌∙◌, ℕ, Bool, false, List, [], ◌++◌, Option, Some, Result, Ok, Err, codes, inl, inr, refl, sym, ap, ap₂, subst}
 use Rattle.std.specs.Prelude.{OnOk, is_err}
 use Rattle.std.specs.Str.{IsUtf8}
 use Rattle.irtext_base.proofs.LocationViews.{seen-src_pos}

@@ -1,5 +1,5 @@
 -- What a state of printing that is new prints of a root.
-use Rattle.std.proofs.Common.{◌≡◌, ℕ, Bool, List, [], Result, Ok, Err, refl, sym, subst, string_bytes}
+use Rattle.std.proofs.Common.{◌≡◌, Bool, Result, Ok, Err, refl, subst, string_bytes}
 use Rattle.std.specs.Prelude.{OnOk, IfErr, ⊤}
 use Rattle.std.specs.Str.{encode_utf8_all}
 use Rattle.std.specs.declared.string.String.{String}

@@ -1,5 +1,5 @@
 -- For callers: a text in memory that is parsed as a root, or rejected; and the text of a root.
-use Rattle.std.specs.Prelude.{◌≡◌, ◌⊎◌, ℕ, Bool, true, List, [], ◌++◌, Some, None, IsSome, ⊤}
+use Rattle.std.specs.Prelude.{◌≡◌, ◌⊎◌, ℕ, Bool, true, List, ◌++◌, Some, None, IsSome, ⊤}
 use Rattle.std.specs.Str.{encode_utf8_all}
 use Rattle.irtext_base.specs.Text.{Text}
 use Rattle.irtext_base.specs.declared.location.Location.{Unknown}
@@ -21,7 +21,6 @@ use Rattle.irtext_parse_root.specs.AnyState.{MissesAny}
 use Rattle.irtext_parse_root.specs.Parses.{texts, attr}
 use Rattle.irtext_parse_state.specs.FromText.{at_beginning, Begins, IsErrorOf, IsMemory}
 use Rattle.irtext_parse_state.specs.declared.parsable.state.StateStream.{StateStream}
-use Rattle.irtext_print.specs.Errors.Located.{located_error}
 use Rattle.irtext_print.specs.Printers.Appended.{fresh}
 use Rattle.irtext_print.specs.Printers.PrintedOperation.{levels}
 use Rattle.irtext_print.specs.Printers.Shown.{Shown}

@@ -10,7 +10,6 @@ use pliron_text::ir::{OperationText, print_concrete, print_root};
 use pliron_text::parsable::parse_from_str;
 use pliron_text::printable::{Refusal, RegionPrintDepthLimit, State};
 use pliron_text::result::Result as Answer;
-use std::alloc::Global;
 
 /// How a root is printed.
 #[derive(Clone, Copy)]

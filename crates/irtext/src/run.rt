@@ -90,9 +90,14 @@ fn status(answer: &Result<(), Fault>) -> u8
     }
 }
 
-/// Runs the program, and returns its exit status: 0, or the status of the fault, whose text goes to `errors`. With the argument `fmt`
-/// it parses the input and prints its root in the canonical form, with marks and the section. With `dbg` it prints the root's concrete
-/// text with its regions elided: of `builtin.module @m {}` that is `builtin.module @m {..}`.
+/// Runs the program, and returns its exit status. With the argument `fmt` it parses a root from the beginning of the input and prints it
+/// in the canonical form, with marks and the section. With `dbg` it prints the root's concrete text with its regions elided: of
+/// `builtin.module @m {}` that is `builtin.module @m {..}`.
+///
+/// The status is 0 if the text was written to `output`, as a line. It is 2 if the arguments are others: then nothing was read. Otherwise
+/// it is 1: the input could not be read, or is not UTF-8; its text was rejected; its root was not printed; memory ran out; or the output
+/// could not be written. Unless that is the reason, nothing was written to `output`. The text of the reason goes to `errors`, as a line;
+/// if they fail the status is the same.
 pub fn run<R: Read, W: Write, E: Write>(
     alloc: Global,
     args: &[&str],

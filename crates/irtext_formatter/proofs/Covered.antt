@@ -1,12 +1,12 @@
 -- Where each operation of a root fits its format, printing the root does not fail for a misfit.
-use Rattle.std.proofs.Common.{◌≡◌, ◌∙◌, ◌⊎◌, inl, inr, ℕ, suc, ◌+◌, Bool, false, List, [], ◌∷◌, length, slice_get, map, Option, Some, None, IsSome, refl, sym, ap, subst}
+use Rattle.std.proofs.Common.{◌≡◌, ◌∙◌, inl, inr, ℕ, suc, ◌+◌, Bool, List, [], ◌∷◌, length, slice_get, Option, Some, None, IsSome, refl, sym, ap, subst}
 use Rattle.std.specs.Option.{option_map}
 use Rattle.std.specs.Prelude.{⊤, IfSome, is_some}
 use Rattle.std.proofs.lemmas.Option.{slice_get-map}
 use Rattle.irtext_base.specs.declared.text.AttrText as attr_text
 use Rattle.irtext_base.specs.declared.text.IrText as ir_text
 use Rattle.irtext_context.specs.Context.{ContextView, OperationView, BlockView, operation, block}
-use Rattle.irtext_graph.specs.Graph.{GraphView, parent, children, IsInside}
+use Rattle.irtext_graph.specs.Graph.{parent, children, IsInside}
 use Rattle.irtext_graph.specs.Nested.{climb, Nested}
 use Rattle.irtext_graph.specs.Parts.{regions, blocks, operations_in}
 use Rattle.irtext_graph.specs.declared.arena.Ptr.{Ptr}
@@ -16,12 +16,11 @@ use Rattle.irtext_graph.specs.declared.object.Object.TheVariants.{TheOperation, 
 use Rattle.irtext_graph.specs.declared.object.Operation.{Operation}
 use Rattle.irtext_graph.specs.declared.object.Region.{Region}
 use Rattle.irtext_grammar.specs.Contexts.Formats.{isolated}
-use Rattle.irtext_grammar.specs.Contexts.Nested.{operations_by, blocks_by, regions_by, seen_operation, seen_block, seen_own, seen_operations, seen_blocks, seen_regions}
+use Rattle.irtext_grammar.specs.Contexts.Nested.{operations_by, blocks_by, regions_by, seen_operation, seen_block, seen_operations, seen_blocks, seen_regions}
 use Rattle.irtext_grammar.specs.Grammar.Forest as forest
 use Rattle.irtext_grammar.specs.Grammar.Forest.{Regions, no_regions, region, Blocks, no_blocks, Operations, no_operations}
-use Rattle.irtext_grammar.specs.Graphs.Closed.{FitsOp, FitsFormat}
+use Rattle.irtext_grammar.specs.Graphs.Closed.{FitsOp}
 use Rattle.irtext_grammar.specs.Graphs.Graph.{GraphOp, GraphBlock, Limit, inside}
-use Rattle.irtext_print.specs.Printers.PrintedOperation.{levels}
 use Rattle.irtext_print.specs.declared.printable.refusal.Refusal.TheVariants.{Misfit}
 use Rattle.irtext_print_ops.proofs.Depths.{inside_is}
 use Rattle.irtext_print_ops.proofs.Refused.{fits_seen}

@@ -1,3 +1,4 @@
+pub mod Apart
 pub mod Covered
 pub mod Live
 pub mod Misfitting

@@ -1,8 +1,8 @@
 -- An operation stays live where only locations change.
-use Rattle.std.proofs.Common.{◌≡◌, ◌∙◌, ℕ, Option, None, Some, IsSome, refl, sym, ap, subst}
+use Rattle.std.proofs.Common.{◌≡◌, ℕ, Option, None, Some, IsSome, refl, sym, ap, subst}
 use Rattle.std.specs.Option.{option_map}
-use Rattle.std.specs.Prelude.{is_some, option_and_then}
-use Rattle.irtext_base.specs.declared.location.Location.{Location, Unknown}
+use Rattle.std.specs.Prelude.{option_and_then}
+use Rattle.irtext_base.specs.declared.location.Location.{Unknown}
 use Rattle.irtext_graph.specs.Content.{Content, Content.{AnOperation, ABlock, ARegion}, OperationContent}
 use Rattle.irtext_graph.specs.Data.{with_data}
 use Rattle.irtext_graph.specs.Graph.{content_of, IsLive}

@@ -1,12 +1,11 @@
 -- What is known of the roots so far: at first, after each root, and where one fails.
-use Rattle.std.proofs.Common.{◌≡◌, ◌∙◌, ℕ, Bool, true, false, List, [], refl, sym, ap, subst}
-use Rattle.irtext_base.specs.Stream.{StreamView}
+use Rattle.std.proofs.Common.{◌≡◌, ◌∙◌, ℕ, Bool, List, [], sym, subst}
 use Rattle.irtext_base.specs.declared.text.AttrText as attr_text
 use Rattle.irtext_base.specs.declared.text.IrText as ir_text
 use Rattle.irtext_context.specs.Context.{ContextView}
 use Rattle.irtext_stream.specs.Classes.{after_spaces}
 use Rattle.irtext_formatter.specs.Lines.{then_root}
-use Rattle.irtext_formatter.specs.Rows.{beginning, follows, GivesRoot, FailsHere, Rows, Rows.{none, more}, Formats, Formats.{empty, roots}, Fails}
+use Rattle.irtext_formatter.specs.Rows.{beginning, follows, GivesRoot, FailsHere, Rows, Rows.{none, more}, Formats, Formats.{empty, roots}, FailsWith}
 use Rattle.irtext_formatter.specs.Stands.{place_of, held_by, GoesOn, IsGoing, Stands}
 use Rattle.irtext_formatter.specs.declared.fault.Fault as fault
 use Rattle.irtext_formatter.specs.declared.fault.Fault.TheVariants as of_fault
@@ -35,17 +34,17 @@ module _ {T A : Type 0} (types : ir_text.Ghosts T A) (owns : ir_text.Ghosts A A)
       record {
         going = λ e. record {
           at = g.next;
-          rows = subst (λ o. Rows types owns attributes same layout text ctx o g.next (held_by new)) (sym is) (more going.rows gives (sym g.is_followed ∙ e) (g.left e).0);
+          rows = subst (λ o. Rows types owns attributes same layout text ctx o g.next (held_by new)) (sym is) (more going.rows going.more gives (sym g.is_followed ∙ e) (g.left e).0);
           place = g.place;
           more = sym g.is_followed ∙ e;
         };
         done = λ e. subst (λ o. Formats types owns attributes same layout text ctx o (held_by new)) (sym is)
-            (subst (Formats types owns attributes same layout text ctx (then_root so_far root)) (sym (g.last e)) (roots going.rows gives (sym g.is_followed ∙ e)));
+            (subst (Formats types owns attributes same layout text ctx (then_root so_far root)) (sym (g.last e)) (roots going.rows going.more gives (sym g.is_followed ∙ e)));
       }
 
   -- the next root fails
   pub failed : (old : Roots T A) (so_far : List ℕ) (f : fault.Fault A) → IsGoing types owns attributes same layout text ctx so_far old → FailsHere types owns attributes same layout (place_of old) (held_by old) f
-      → Fails types owns attributes same layout text ctx f
+      → FailsWith types owns attributes same layout text ctx f
   failed old so_far of_fault.Memory going h = tt
   failed old so_far (of_fault.Rejected g) going h = record { so_far = so_far; at = going.at; before = held_by old; rows = going.rows; more = going.more; fails = subst (λ v. FailsHere types owns attributes same layout v (held_by old) (of_fault.Rejected g)) going.place h }
   failed old so_far (of_fault.Misfit m) going h = record { so_far = so_far; at = going.at; before = held_by old; rows = going.rows; more = going.more; fails = subst (λ v. FailsHere types owns attributes same layout v (held_by old) (of_fault.Misfit m)) going.place h }

@@ -8,7 +8,7 @@ use Rattle.irtext_context.specs.Context.{ContextView}
 use Rattle.irtext_context.specs.Dialects.{Table}
 use Rattle.irtext_graph.specs.Graph.{empty}
 use Rattle.irtext_formatter.specs.Input.{IsInputFault}
-use Rattle.irtext_formatter.specs.Rows.{Formats, Fails}
+use Rattle.irtext_formatter.specs.Rows.{Formats, FailsWith}
 use Rattle.irtext_formatter.specs.declared.fault.Failure.{Failure}
 use Rattle.irtext_formatter.specs.declared.fault.Failure.TheVariants as failure
 use Rattle.irtext_formatter.specs.declared.layout.Layout.{Layout}
@@ -27,7 +27,7 @@ module _ {T A : Type 0} (types : ir_text.Ghosts T A) (owns : ir_text.Ghosts A A)
   -- Why nothing is printed of the bytes: the dialects are not registered, or the text's roots are not printed.
   abbrev pub FailsText : Failure A → Type 0
   FailsText (failure.Dialects error) = Unit {0}
-  FailsText (failure.Text fault) = Fails types owns attributes same layout bytes (new_context dialects) fault
+  FailsText (failure.Text fault) = FailsWith types owns attributes same layout bytes (new_context dialects) fault
   FailsText _ = ⊥
 
 module _ {T A : Type 0} (types : ir_text.Ghosts T A) (owns : ir_text.Ghosts A A) (attributes : attr_text.Ghosts A A) (same : A → A → Bool) (layout : Layout) (dialects : List (Text × Table)) where

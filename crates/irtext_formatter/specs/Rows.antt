@@ -112,14 +112,14 @@ module _ {T A : Type 0} (types : ir_text.Ghosts T A) (owns : ir_text.Ghosts A A)
     -- objects that it held at first.
     pub data Rows : List ℕ → StreamView → ContextView T A → Type 0 where
       none : Rows [] (beginning text) ctx
-      more : {so_far root : List ℕ} {at next : StreamView} {before shown left : ContextView T A} → Rows so_far at before
+      more : {so_far root : List ℕ} {at next : StreamView} {before shown left : ContextView T A} → Rows so_far at before → follows at.rest ≡ true
           → GivesRoot (after_spaces at) before root next shown → follows next.rest ≡ true → SameObjects before left
           → Rows (then_root so_far root) next left
 
     -- The text is a row of roots up to white space, and these bytes are printed of them. The last one, if there is one, is in the context.
     pub data Formats : List ℕ → ContextView T A → Type 0 where
       empty : follows (chars text) ≡ false → Formats [] ctx
-      roots : {so_far root : List ℕ} {at next : StreamView} {before shown : ContextView T A} → Rows so_far at before
+      roots : {so_far root : List ℕ} {at next : StreamView} {before shown : ContextView T A} → Rows so_far at before → follows at.rest ≡ true
           → GivesRoot (after_spaces at) before root next shown → follows next.rest ≡ false → Formats (then_root so_far root) shown
 
     -- The roots of the text up to this place are fine, and the next one gives this fault.
@@ -132,6 +132,6 @@ module _ {T A : Type 0} (types : ir_text.Ghosts T A) (owns : ir_text.Ghosts A A)
       pub fails : FailsHere (after_spaces at) before f
 
     -- why the roots of the text are not printed; out of memory is possible at any time
-    abbrev pub Fails : fault.Fault A → Type 0
-    Fails of_fault.Memory = Unit {0}
-    Fails f = FailsAfter f
+    abbrev pub FailsWith : fault.Fault A → Type 0
+    FailsWith of_fault.Memory = Unit {0}
+    FailsWith f = FailsAfter f

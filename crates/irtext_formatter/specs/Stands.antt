@@ -15,7 +15,6 @@ use Rattle.irtext_graph.specs.declared.object.Operation.{Operation}
 use Rattle.irtext_grammar.specs.Promises.Root.{UnlessMemory}
 use Rattle.irtext_parse_state.specs.States.{IsFresh}
 use Rattle.irtext_stream.specs.Classes.{after_spaces}
-use Rattle.irtext_formatter.specs.Lines.{then_root}
 use Rattle.irtext_formatter.specs.Rows.{follows, ReadsRoot, RefusesAt, GivesRoot, Rows, Formats}
 use Rattle.irtext_formatter.specs.declared.layout.Layout.{Layout}
 use Rattle.irtext_formatter.specs.declared.roots.Roots.{Roots}

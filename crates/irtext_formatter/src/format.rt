@@ -4,8 +4,8 @@ ghost use Rattle.irtext_base.specs.Faults.{fault_of};
 ghost use Rattle.irtext_context.specs.Context.{operation};
 ghost use Rattle.irtext_print_ops.specs.Heads as heads;
 ghost use Rattle.irtext_formatter.specs.Layouts.{plain};
-ghost use Rattle.irtext_formatter.specs.Lines.{lined, separated, then_root};
-ghost use Rattle.irtext_formatter.specs.Rows.{beginning, FailsHere, Formats, Fails};
+ghost use Rattle.irtext_formatter.specs.Lines.{lined, with_gap, then_root};
+ghost use Rattle.irtext_formatter.specs.Rows.{beginning, FailsHere, Formats, FailsWith};
 ghost use Rattle.irtext_formatter.specs.Stands.{place_of, held_by, IsReady, GoesOn};
 ghost use Rattle.irtext_formatter.specs.Unprinted.{is_memory, IsRejected, IsReason, HasText};
 
@@ -64,7 +64,7 @@ fn unprinted<T: IrText<A>, A: AttrText<A>>(
 
 /// Appends a newline unless the text is empty.
 fn separate(text: &mut String) -> Result<(), AllocError>
-    ensures { OnOk result (string_bytes text.new ≡ separated (string_bytes text.old)) }
+    ensures { OnOk result (string_bytes text.new ≡ with_gap (string_bytes text.old)) }
 {
     if text.is_empty() {
         return Ok(());
@@ -140,7 +140,7 @@ fn append_all<T: IrText<A>, A: AttrText<A>>(
         OnOk result (Formats T.IrText.own A.IrText.own A.AttrText.own A.eq layout text (held_by roots.old)
         (string_bytes out.new) (held_by roots.new)) }
     ensures fails { (text : List ℕ) → place_of roots.old ≡ beginning text → string_bytes out.old ≡ [] →
-        IfErr result (Fails T.IrText.own A.IrText.own A.AttrText.own A.eq layout text (held_by roots.old)) }
+        IfErr result (FailsWith T.IrText.own A.IrText.own A.AttrText.own A.eq layout text (held_by roots.old)) }
 {
     let mut left = roots.is_left();
     while left {
@@ -165,7 +165,7 @@ pub fn format_text<T: IrText<A>, A: AttrText<A>>(
 ) -> Result<String, Fault<A>>
     ensures formats { IfOk result (λ out. Formats T.IrText.own A.IrText.own A.AttrText.own A.eq layout text.now
         ctx.old (string_bytes out) ctx.new) }
-    ensures fails { IfErr result (Fails T.IrText.own A.IrText.own A.AttrText.own A.eq layout text.now ctx.old) }
+    ensures fails { IfErr result (FailsWith T.IrText.own A.IrText.own A.AttrText.own A.eq layout text.now ctx.old) }
 {
     let alloc = ctx.allocator();
     let stream = match TextStream::new(alloc, text) {
@@ -194,7 +194,7 @@ fn check_all<T: IrText<A>, A: AttrText<A>>(
         OnOk result ((printed : List ℕ) × Formats T.IrText.own A.IrText.own A.AttrText.own A.eq layout text
         (held_by roots.old) printed (held_by roots.new)) }
     ensures fails { (text : List ℕ) → place_of roots.old ≡ beginning text →
-        IfErr result (Fails T.IrText.own A.IrText.own A.AttrText.own A.eq layout text (held_by roots.old)) }
+        IfErr result (FailsWith T.IrText.own A.IrText.own A.AttrText.own A.eq layout text (held_by roots.old)) }
 {
     let mut left = roots.is_left();
     while left {
@@ -216,7 +216,7 @@ pub fn check_text<T: IrText<A>, A: AttrText<A>>(
 ) -> Result<(), Fault<A>>
     ensures formats { OnOk result ((printed : List ℕ) × Formats T.IrText.own A.IrText.own A.AttrText.own A.eq layout
         text.now ctx.old printed ctx.new) }
-    ensures fails { IfErr result (Fails T.IrText.own A.IrText.own A.AttrText.own A.eq layout text.now ctx.old) }
+    ensures fails { IfErr result (FailsWith T.IrText.own A.IrText.own A.AttrText.own A.eq layout text.now ctx.old) }
 {
     let alloc = ctx.allocator();
     let stream = match TextStream::new(alloc, text) {

@@ -1,9 +1,8 @@
-use Rattle.std.proofs.Common.{◌≡◌, ◌∙◌, ℕ, Bool, true, false, cond, List, Option, Some, None, sym, ap, codes}
+use Rattle.std.proofs.Common.{◌≡◌, ◌∙◌, ℕ, false, cond, List, Some, None, sym, ap, codes}
 use Rattle.std.specs.Str.{bytes_eq}
 use Rattle.std.proofs.lemmas.Bool.{false_from_ne_true}
 use Rattle.std.proofs.lemmas.Slice.Eq.{bytes_eq-Decides}
 use Rattle.irtext.specs.Program.{form_named}
-use Rattle.irtext.specs.declared.root.Form.{Form}
 use Rattle.irtext.specs.declared.root.Form.TheVariants.{Whole, Elided}
 use Rattle.irtext.proofs.run.form_named.Goals as goal
 

@@ -1,6 +1,6 @@
 use Rattle.std.proofs.Common.{◌∙◌, inl, refl, ap, subst}
 use Rattle.std.specs.Prelude.{IfSome}
-use Rattle.irtext_graph.specs.Graph.{IsInside, IsLive}
+use Rattle.irtext_graph.specs.Graph.{IsInside}
 use Rattle.irtext_graph.specs.Throughout.{all_from}
 use Rattle.irtext_graph.specs.declared.object.Object.TheVariants.{TheOperation}
 use Rattle.irtext_formatter.proofs.Covered.{none_misfits}
