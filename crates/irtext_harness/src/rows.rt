@@ -17,6 +17,8 @@
 //!   objects.
 //! - `[after]` TEXT TEXT TEXT: an operation whose mark stays recorded, and then two whole texts. Said of each: the same, and the location of
 //!   the operation.
+//! - `[noted N]` TEXT: a root after N others. Said: its error, and the position that a second look finds for it: the first use, or the first
+//!   definition. `[end_of_root]` TEXT: the position where the first root ends, whatever its names, or `none`.
 //! - `[value]`, `[label]` TEXT: used as a value or a label outside of every region. Said: the error.
 //! - `[operand]` ROOT PATH INDEX PATH INDEX: an operand, and the value that it has to be. Said: its name, and the number of its uses.
 //! - `[successor]` ROOT PATH INDEX PATH: a successor, and the block that it has to be. Said: the number of its uses. A path is a list of

@@ -8,6 +8,7 @@ use crate::rows::streams::Asked;
 use crate::rows::uses::{of_operand, of_successor};
 use crate::rows::{broken, counters, formats, names};
 use irtext_tests_common::contexts::with_counters;
+use irtext_tests_survey::{push_end, push_noted};
 use std::alloc::Global;
 use std::test::Fail;
 
@@ -95,6 +96,8 @@ fn in_demo(alloc: Global, ctx: &mut Ctx, given: Given<'_>, said: &mut String) ->
             let asked = Asked::After(row.text(1), row.text(2));
             asked.of(text).say(alloc, ctx, said)
         }
+        "noted" => push_noted(alloc, ctx, text, given.group.number(0), said),
+        "end_of_root" => push_end(alloc, ctx, text, said),
         "operand" => of_operand(ctx, row, said),
         "successor" => of_successor(ctx, row, said),
         _ => given.say(alloc, ctx, said),

@@ -1,0 +1,77 @@
+-- What is found in the notes of a root is what the definitions say of the text.
+use Rattle.std.proofs.Common.{◌≡◌, ◌∙◌, ℕ, Bool, true, false, true≢false, List, [], Option, Result, Ok, Err, IfOk, refl, sym, ap, subst}
+use Rattle.std.specs.Prelude.{⊤}
+use Rattle.irtext_base.specs.Text.{Text}
+use Rattle.irtext_base.specs.Stream.{StreamView}
+use Rattle.irtext_base.specs.Locations.{AttrView}
+use Rattle.irtext_stream.specs.declared.position.Place.{Place}
+use Rattle.irtext_stream.specs.declared.position.SourcePosition.{SourcePosition}
+use Rattle.irtext_context.specs.Dialects.{Table}
+use Rattle.irtext_tokens.specs.Infix.{Reader}
+use Rattle.irtext_grammar.specs.Contexts.Held.{whole}
+use Rattle.irtext_grammar.specs.Parsed.{Leaves, Each, Optional}
+use Rattle.irtext_grammar.specs.Reached.{Reached, Advanced, Stopped}
+use Rattle.irtext_survey.specs.Notes.{Noted, noted_in, state_of, IsFound}
+use Rattle.irtext_survey.specs.Walk.{IsNote, IsNoted}
+use Rattle.irtext_survey.specs.Root.{NotesTree}
+use Rattle.irtext_survey.specs.Found.{Finds, Skips}
+use Rattle.irtext_survey.specs.declared.notes.Note.{Note}
+use Rattle.irtext_survey.specs.declared.opening.Notebook.{Notebook}
+use Rattle.irtext_survey.proofs.Stepping.{moved_whole}
+
+module _ {T A : Type 0} (types_at : Reader T) (attr : Reader (AttrView A)) (dialects : List (Text × Table)) (name : Text) (old : StreamView) (book : Notebook) (new : StreamView) where
+  -- whether or not the text has an error
+  pub noted_there : (is_whole : Bool) → NotesTree types_at attr dialects name old is_whole book new → IsNoted (whole old) book (noted_in dialects types_at attr name old.rest) × (whole new ≡ whole old)
+  noted_there true r = (subst (IsNoted (whole old) book) (ap state_of (sym r.read)) r.noted, moved_whole old new r.moves)
+  noted_there false r = (subst (IsNoted (whole old) book) (ap state_of (sym r.read)) r.noted, r.same)
+
+  module _ (looked : Text → List (Note ℕ) → Option ℕ) (is_whole : Bool) (noted : NotesTree types_at attr dialects name old is_whole book new) where
+    pub found_by : (place : Option Place) → ((seen : List (Note ℕ)) → Each (IsNote (whole new)) book.notes.items seen → Optional (Leaves (whole new)) place (looked (whole new) seen))
+        → (found : Option SourcePosition) → ((left : Option ℕ) → Optional (Leaves (whole new)) place left → IsFound (whole new) left found) → Finds types_at attr dialects name looked old found
+    found_by place looks found located =
+        let n = noted_there is_whole noted in
+        let s : Noted = noted_in dialects types_at attr name old.rest in
+        let there : IsFound (whole new) (looked (whole new) s.notes) found = located (looked (whole new) s.notes) (looks s.notes (subst (λ t. IsNoted t book s) (sym n.1) n.0).notes) in
+        subst (λ t. IsFound t (looked t s.notes) found) n.1 there
+
+    pub text_stays : whole new ≡ whole old
+    text_stays = (noted_there is_whole noted).1
+
+-- ---- a root that is consumed
+abbrev marked_of : Reached Unit Noted → Bool
+marked_of (Advanced x s rest) = s.marked
+marked_of (Stopped s cause place) = s.marked
+
+abbrev left_of : Reached Unit Noted → Text
+left_of (Advanced x s rest) = rest
+left_of (Stopped s cause place) = []
+
+abbrev Goes_on : Reached Unit Noted → Type 0
+Goes_on (Advanced x s rest) = ⊤
+Goes_on (Stopped s cause place) = ⊥
+
+module _ {T A : Type 0} (types_at : Reader T) (attr : Reader (AttrView A)) (dialects : List (Text × Table)) (old : StreamView) (book : Notebook) where
+  -- one without a mark
+  pub skips_plain : (new : StreamView) → NotesTree types_at attr dialects [] old true book new → book.marked ≡ false → Skips types_at attr dialects old true new
+  skips_plain new r m = record {
+    ends = λ s left e n. (refl, r.moves, ap left_of (sym r.read ∙ e));
+    begins = λ i. (r.s, new.rest, r.read);
+  }
+
+  -- one with a mark
+  pub skips_marked : (mid : StreamView) → NotesTree types_at attr dialects [] old true book mid → book.marked ≡ true → (there : Bool) (new : StreamView) → Skips types_at attr dialects old there new
+  skips_marked mid r m there new = record {
+    ends = λ s left e n. absurd (true≢false (sym m ∙ (r.noted.marked ∙ (ap marked_of (sym r.read ∙ e) ∙ n))));
+    begins = λ i. (r.s, mid.rest, r.read);
+  }
+
+  pub skips_marked_ok : {E : Type 0} (mid : StreamView) → NotesTree types_at attr dialects [] old true book mid → book.marked ≡ true → (new : StreamView) (result : Result Bool E) → IfOk result (λ there. Skips types_at attr dialects old there new)
+  skips_marked_ok mid r m new (Ok there) = skips_marked mid r m there new
+  skips_marked_ok mid r m new (Err error) = tt
+
+  -- none
+  pub skips_none : (new : StreamView) → NotesTree types_at attr dialects [] old false book new → Skips types_at attr dialects old false new
+  skips_none new r = record {
+    ends = λ s left e n. absurd (subst Goes_on (sym e ∙ r.read) tt);
+    begins = λ i. absurd (true≢false (sym i));
+  }

@@ -1,0 +1,4 @@
+pub mod Found
+pub mod Notes
+pub mod Root
+pub mod Walk
