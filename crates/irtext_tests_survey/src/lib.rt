@@ -1,6 +1,8 @@
 //! What the rows of a second look are tried with: what it finds for a root that is rejected for a name, and where a root ends.
 #![tactic(auto)]
 
+ghost use Rattle.std.specs.Prelude.{◌≡◌, false, IfOk};
+
 use irtext_demo::DemoAttr;
 use irtext_survey::{first_definition, first_use, skip_root};
 use irtext_tests_common::contexts::Ctx;
@@ -46,15 +48,24 @@ fn last_fault(
     }
 }
 
-/// Returns a stream over a text that is at this line and column of it, or at its end.
-fn stream_at(alloc: Global, text: &str, at: SourcePosition) -> Result<TextStream, Fail> {
-    let mut stream = TextStream::new(alloc, text)?;
-    for _ in 0..text.len() {
+/// Moves a stream from the beginning of its text to this line and column, or to the end of the text.
+fn advance(stream: &mut TextStream, at: SourcePosition, most: usize)
+    ensures { stream.new.failed ≡ stream.old.failed }
+{
+    for _ in 0..most {
         if stream.locate(stream.position()) == at {
             break;
         }
         let _ = stream.take();
     }
+}
+
+/// Returns a stream over a text that is at this line and column of it, or at its end.
+fn stream_at(alloc: Global, text: &str, at: SourcePosition) -> Result<TextStream, Fail>
+    ensures { IfOk result (λ stream. stream.failed ≡ false) }
+{
+    let mut stream = TextStream::new(alloc, text)?;
+    advance(&mut stream, at, text.len());
     Ok(stream)
 }
 
@@ -71,7 +82,9 @@ fn noted(
     ctx: &Ctx,
     stream: &mut TextStream,
     fault: &ParseFault<DemoAttr>,
-) -> Result<Option<SourcePosition>, Fail> {
+) -> Result<Option<SourcePosition>, Fail>
+    requires { stream.old.failed ≡ false }
+{
     match &fault.cause {
         Cause::UnresolvedReference(UnresolvedReference(name)) => {
             Ok(first_use(stream, ctx, name.as_str(), fault.pos)?)
