@@ -52,11 +52,17 @@ fn last_fault(
 fn advance(stream: &mut TextStream, at: SourcePosition, most: usize)
     ensures { stream.new.failed ≡ stream.old.failed }
 {
-    for _ in 0..most {
-        if stream.locate(stream.position()) == at {
+    let (mut line, mut column) = (1i32, 1i32);
+    for _turn in 0..most {
+        if line > at.line || line == at.line && column >= at.column {
             break;
         }
-        let _ = stream.take();
+        if stream.take() == Some('\n') {
+            line = line.saturating_add(1);
+            column = 1;
+        } else {
+            column = column.saturating_add(1);
+        }
     }
 }
 
