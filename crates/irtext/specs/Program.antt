@@ -102,12 +102,11 @@ module _ {R W : Type 0} (remaining : R → Option (List ℕ)) (contents : W → 
   Answers (Err Usage) = AsksNothing
   Answers (Err fault) = WritesNothing fault
 
-  -- The program ran and ended with this status. Its answer is as stated. The text of a fault was written to the errors, if these took it, as a
-  -- line; where there is no text the errors are unchanged. (No contract can say when a writer takes what it is given.)
-  pub record Runs {E : Type 0} (said : E → Option (List ℕ)) (errors errors' : E) (ended : ℕ) : Type 0 where
+  -- The program ran and ended with this status. Its answer is as stated. If the errors took it, the text of a fault was written to them, as a
+  -- line; where there is no text the errors are unchanged.
+  pub record Runs {E : Type 0} (said : E → Option (List ℕ)) (errors errors' : E) (took : Bool) (ended : ℕ) : Type 0 where
     pub answer : Result ⊤ Fault
     pub answers : Answers answer
     pub status : ended ≡ status_of answer
-    pub took : Bool
     pub told : IsTrue took → Says said errors errors' (text_of answer)
     pub silent : text_of answer ≡ None → errors' ≡ errors

@@ -1,5 +1,5 @@
 //! The body of the program: from its words, its input and its outputs to its exit status.
-ghost use Rattle.std.specs.Prelude.{◌≡◌, None, OnOk, IfOk, IfErr, map, string_bytes};
+ghost use Rattle.std.specs.Prelude.{◌≡◌, Bool, None, OnOk, IfOk, IfErr, map, string_bytes};
 ghost use Rattle.irtext.specs.Faults.{text_of, status_of};
 ghost use Rattle.irtext.specs.Lines.{Says};
 ghost use Rattle.irtext.specs.Program.{form_named, form_of, Makes, Unmade, Answers, Runs};
@@ -90,6 +90,35 @@ fn status(answer: &Result<(), Fault>) -> u8
     }
 }
 
+/// How the program ended.
+#[derive(Clone, Copy, Debug)]
+pub struct Ended {
+    /// The exit status.
+    pub status: u8,
+    /// Whether the errors took the text of the fault, if there was one.
+    pub took: bool,
+}
+
+/// Does what `run` does, and returns in addition whether the errors took what was written to them.
+pub fn run_to_end<R: Read, W: Write, E: Write>(
+    alloc: Global,
+    args: &[&str],
+    input: &mut R,
+    output: &mut W,
+    errors: &mut E,
+) -> Ended
+    ensures { Runs R.remaining W.contents
+        (map (λ arg. arg.now) args.now) input.old input.new output.old output.new E.contents errors.old errors.new
+        result.took result.status }
+{
+    let answer = try_run(alloc, args, input, output);
+    let took = tell(errors, &answer).is_ok();
+    Ended {
+        status: status(&answer),
+        took,
+    }
+}
+
 /// Runs the program, and returns its exit status. With the argument `fmt` it parses a root from the beginning of the input and prints it
 /// in the canonical form, with marks and the section. With `dbg` it prints the root's concrete text with its regions elided: of
 /// `builtin.module @m {}` that is `builtin.module @m {..}`.
@@ -105,10 +134,9 @@ pub fn run<R: Read, W: Write, E: Write>(
     output: &mut W,
     errors: &mut E,
 ) -> u8
-    ensures { Runs R.remaining W.contents
-        (map (λ arg. arg.now) args.now) input.old input.new output.old output.new E.contents errors.old errors.new result }
+    ensures { (took : Bool) × Runs R.remaining W.contents
+        (map (λ arg. arg.now) args.now) input.old input.new output.old output.new E.contents errors.old errors.new
+        took result }
 {
-    let answer = try_run(alloc, args, input, output);
-    let _told = tell(errors, &answer);
-    status(&answer)
+    run_to_end(alloc, args, input, output, errors).status
 }
