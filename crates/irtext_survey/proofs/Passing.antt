@@ -69,14 +69,14 @@ module _ {Y A : Type 0} (attr : Text → Outcome (AttrView A)) {Means : Y → Na
   pair_there {y = y} h = record {
     meant = λ _. h.meant y;
     means = tt;
-    read = record { answers = subst (λ o. Answers {Y = Unit {0}} {A = A} itself replaced (λ _. h.meant y) (unless_failed old.failed o) old (Ok tt) new) (sym (kept_all (pair_at attr old.rest))) h.read.answers };
+    read = record { answers = let r : Result (Unit {0}) (ParseFault A) = Ok tt in subst (λ o. Answers itself replaced (λ (u : Unit {0}). h.meant y) (unless_failed old.failed o) old r new) (sym (kept_all (pair_at attr old.rest))) h.read.answers };
   }
 
   pub pair_missed : {fault : ParseFault A} → MayMean itself replaced Means (pair_at attr) old (Err fault) new → MayPass (pair_in attr) old (Err fault) new
   pair_missed {fault = fault} h = record {
     meant = λ _. a_pair;
     means = tt;
-    read = record { answers = subst (λ o. Answers {Y = Unit {0}} itself replaced (λ _. a_pair) (unless_failed old.failed o) old (Err fault) new) (sym (kept_all (pair_at attr old.rest))) h.read.answers };
+    read = record { answers = let r : Result (Unit {0}) (ParseFault A) = Err fault in subst (λ o. Answers itself replaced (λ (u : Unit {0}). a_pair) (unless_failed old.failed o) old r new) (sym (kept_all (pair_at attr old.rest))) h.read.answers };
   }
 
 -- the items that were passed after the first ones
@@ -99,13 +99,14 @@ module _ {X : Type 0} (item : Text → Outcome X) where
       pub passing_refused : {answer : Result (Unit {0}) (ParseFault A)} {fault : ParseFault A} {next new : StreamView} → MayPass item later answer next → DemandsOf itself replaced answer next (Err fault) new → MustPass (λ t. items_after 44 item (length t) begun t) old (Err fault) new
       passing_refused {answer = answer} {fault = fault} h d = must_refuse alone (listing_refused alone item b t k p.listing (λ (u : Unit {0}). []) (insisted_mean alone answer (Err fault) h d).read)
 
-      module _ {answer : Result (Unit {0}) (ParseFault A)} {next ready new : StreamView} (h : MayPass item later answer next) (d : DemandsOf {A = A} itself replaced answer next (Ok tt) ready) (s : Takes itself replaced (front is_whitespace ready.rest) (after is_whitespace ready.rest) ready new) where
-        -- it was passed
-        pub passing_more : Passing item begun old new
-        passing_more = record { passed = p.passed ++ tt ∷ []; listing = listing_more alone item b t k p.listing (λ y x i. i) (insisted_mean alone answer (Ok tt) h d) s }
+      -- it was passed
+      pub passing_more : {answer : Result (Unit {0}) (ParseFault A)} {next ready new : StreamView} → MayPass item later answer next → DemandsOf itself replaced answer next (Ok tt) ready → Takes itself replaced (front is_whitespace ready.rest) (after is_whitespace ready.rest) ready new → Passing item begun old new
+      passing_more {answer = answer} h d s = record { passed = p.passed ++ tt ∷ []; listing = listing_more alone item b t k p.listing (λ y x i. i) (insisted_mean alone answer (Ok tt) h d) s }
 
-        pub passing_falls : length new.rest < length now.rest
-        passing_falls = item_falls alone item {A = A} b t k (insisted_mean alone answer (Ok tt) h d).read s
+  -- the next one consumes at least one character
+  pub passing_falls : {A : Type 0} {now mid later next ready new : StreamView} {answer : Result (Unit {0}) (ParseFault A)} → begins (the 44) now.rest ≡ true → mid ≡ advanced now → Takes itself replaced (front is_whitespace mid.rest) (after is_whitespace mid.rest) mid later
+      → MayPass item later answer next → DemandsOf itself replaced answer next (Ok tt) ready → Takes itself replaced (front is_whitespace ready.rest) (after is_whitespace ready.rest) ready new → length new.rest < length now.rest
+  passing_falls {A = A} {answer = answer} b t k h d s = item_falls alone item {A = A} b t k (insisted_mean alone answer (Ok tt) h d).read s
 
   -- the first one was passed, and what follows it
   pub passes_list : {A : Type 0} {old mid new end : StreamView} {r : Result (Unit {0}) (ParseFault A)} → MayPass {A = A} item old (Ok tt) mid → Takes itself replaced (front is_whitespace mid.rest) (after is_whitespace mid.rest) mid new → PassesMore item new r end → MustPass (separated_at 44 item) old r end
@@ -229,15 +230,15 @@ module _ {A : Type 0} (attr : Text → Outcome (AttrView A)) where
   after_entry n found e t = followed (space_at t) (λ _ u. entries_in attr n (found ++ e ∷ []) u)
 
   -- the entries that were passed
-  pub record Entered (old now : StreamView) : Type 0 where
+  pub record EntriesPassed (old now : StreamView) : Type 0 where
     pub found : List (Entry ℕ A (Written A))
     pub room : ℕ
     pub enough : length now.rest ≤ room
     pub passed : Passed alone all_at (entries_in attr room found) old now
 
   -- none yet
-  pub entered_none : (old : StreamView) → old.failed ≡ false → Entered old old
-  entered_none old fine = record { found = []; room = length old.rest; enough = omega arith; passed = starts alone all_at (entries_in attr (length old.rest) []) old fine refl }
+  pub entries_begin : (old : StreamView) → old.failed ≡ false → EntriesPassed old old
+  entries_begin old fine = record { found = []; room = length old.rest; enough = omega arith; passed = starts alone all_at (entries_in attr (length old.rest) []) old fine refl }
 
   entries_end : (n : ℕ) (found : List (Entry ℕ A (Written A))) (text : Text) → begins (the 33) text ≡ false → entries_in attr n found text ≡ Read found [] text
   entries_end zero found text e = refl
@@ -251,10 +252,10 @@ module _ {A : Type 0} (attr : Text → Outcome (AttrView A)) where
   entries_go_on : (n : ℕ) (found : List (Entry ℕ A (Written A))) (text : Text) → begins (the 33) text ≡ true → entries_in attr (suc n) found text ≡ followed (entry_in attr text) (after_entry n found)
   entries_go_on n found text e = rw e refl
 
-  module _ {old now : StreamView} (p : Entered old now) where
+  module _ {old now : StreamView} (p : EntriesPassed old now) where
     -- these are all
-    pub entered_all : begins (the 33) now.rest ≡ false → MustPass {A = A} all_at old (Ok tt) now
-    entered_all stop = record {
+    pub entries_all : begins (the 33) now.rest ≡ false → MustPass {A = A} all_at old (Ok tt) now
+    entries_all stop = record {
       meant = λ _. p.found;
       means = tt;
       read = ends alone (λ (u : Unit {0}). p.found) tt (turned alone (λ t. Read p.found [] t) (entries_end p.room p.found now.rest stop) p.passed);
@@ -269,19 +270,19 @@ module _ {A : Type 0} (attr : Text → Outcome (AttrView A)) where
           (ap (λ n. entries_in attr n p.found now.rest) room_left.1 ∙ entries_go_on room_left.0 p.found now.rest go) p.passed
 
       -- the next one is an error
-      pub entered_refused : {new : StreamView} {fault : ParseFault A} → MustPass (entry_in attr) now (Err fault) new → MustPass all_at old (Err fault) new
-      entered_refused m = must_refuse alone (refuses alone {sees = λ (u : Unit {0}). []} (after_entry room_left.0 p.found) to_entry m.read)
+      pub entries_refused : {new : StreamView} {fault : ParseFault A} → MustPass (entry_in attr) now (Err fault) new → MustPass all_at old (Err fault) new
+      entries_refused m = must_refuse alone (refuses alone {sees = λ (u : Unit {0}). []} (after_entry room_left.0 p.found) to_entry m.read)
 
       module _ {mid new : StreamView} (m : MustPass {A = A} (entry_in attr) now (Ok tt) mid) (s : Takes itself replaced (front is_whitespace mid.rest) (after is_whitespace mid.rest) mid new) where
-        pub entered_falls : length new.rest < length now.rest
-        entered_falls = entry_shorter attr [] (λ i. any_rule) {E = A} any_index m.read s
+        pub entries_fall : length new.rest < length now.rest
+        entries_fall = entry_shorter attr [] (λ i. any_rule) {E = A} any_index m.read s
 
         -- it was passed, and the white space after it
-        pub entered_more : Entered old new
-        entered_more = record {
+        pub entries_more : EntriesPassed old new
+        entries_more = record {
           found = p.found ++ m.meant tt ∷ [];
           room = room_left.0;
-          enough = omega (arith, entered_falls, p.enough, room_left.1);
+          enough = omega (arith, entries_fall, p.enough, room_left.1);
           passed = spaced alone (λ _ u. entries_in attr room_left.0 (p.found ++ m.meant tt ∷ []) u) (more alone (after_entry room_left.0 p.found) to_entry m.read) s;
         }
 

@@ -72,6 +72,10 @@ module _ {T A : Type 0} {types : ir_text.Ghosts T A} {owns : ir_text.Ghosts A A}
     has_mark : marked read_as.0 ≡ book.marked
     has_mark = sym (r.noted.marked ∙ (ap (λ (s : Noted). s.marked) read_as.2 ∙ says_marked read_as.0 mid.rest read_as.1))
 
+    -- the stream has not failed there
+    pub still_fine : old.failed ≡ false → mid.failed ≡ false
+    still_fine fine = ap (λ (v : StreamView). v.failed) r.moves.takes.is ∙ fine
+
     -- a root without a mark was consumed
     pub skips_plain : book.marked ≡ false → Skips types owns dialects old true mid
     skips_plain none = record {

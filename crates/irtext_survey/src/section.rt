@@ -92,7 +92,7 @@ fn given_passed<T: IrText<A>, A: AttrText<A>>(
 ) -> ParseResult<(), A>
     ensures { MustPass (given_at (attr_at A.IrText.reading) any_rule) stream.old result stream.new }
 {
-    let _location = entry_location(stream, paths)?;
+    drop(entry_location(stream, paths)?);
     pairs_passed(stream, keys)
 }
 
@@ -104,7 +104,7 @@ fn entry_passed<T: IrText<A>, A: AttrText<A>>(
 ) -> ParseResult<(), A>
     ensures { MustPass (entry_in (attr_at A.IrText.reading)) stream.old result stream.new }
 {
-    let _mark = index_parse(stream)?;
+    index_parse(stream)?;
     if begins_given(stream) {
         return given_passed(stream, paths, keys);
     }
