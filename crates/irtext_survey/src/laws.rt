@@ -17,7 +17,7 @@ use irtext_base::text::{AttrText, IrText};
 pub fn a_found_use_is_the_name<T: IrText<A>, A: AttrText<A>>()
     ensures { (dialects : List (List ℕ × Table)) (name : List ℕ) (v : StreamView) (region found : SourcePosition)
         → Finds T.IrText.reading (attr_at A.IrText.reading) dialects name (λ text notes. first_use text
-            region notes) v (Some found)
+        region notes) v (Some found)
         → IsUsedAt (whole v) name found }
 {}
 
@@ -27,6 +27,6 @@ pub fn a_found_use_is_the_name<T: IrText<A>, A: AttrText<A>>()
 pub fn a_found_definition_is_the_name<T: IrText<A>, A: AttrText<A>>()
     ensures { (dialects : List (List ℕ × Table)) (name : List ℕ) (v : StreamView) (second found : SourcePosition)
         → Finds T.IrText.reading (attr_at A.IrText.reading) dialects name (λ text notes. first_definition text
-            second notes) v (Some found)
+        second notes) v (Some found)
         → IsDefinedAt (whole v) name found }
 {}

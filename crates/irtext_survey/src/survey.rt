@@ -163,16 +163,16 @@ pub fn first_definition<T: IrText<A>, A: AttrText<A>>(
     Ok(located(stream, found))
 }
 
-/// Consumes a root, and returns whether one of the grammar comes next, with the section after it if the root has a mark: then the section is
-/// required, and otherwise it is no part of the root. Only the syntax is parsed. Names need not be defined, and labels and marks need not
-/// differ. In the section an entry may have any index, whether or not an item carries it or an earlier entry has it, any attribute may be
-/// under any key, and a reference may be to any index.
+/// Consumes a root and the white space after it, and returns whether one of the grammar comes next. The section belongs to a root exactly if
+/// something in the root has a mark; then it is required. Only the syntax is parsed. Names need not be defined, and labels and marks need
+/// not differ. In the section an entry may have any index, whether or not an item carries it or an earlier entry has it, any attribute may
+/// be under any key, and a reference may be to any index.
 ///
 /// If there is a root, the stream is at its end. Otherwise the position is unspecified, and the stream may have failed. Fails only if an
 /// allocation fails. The stream must not have failed before.
 ///
-/// For `test.return undefined` and a newline it returns true, and the newline is left; for `test.constant !0` alone, without the section of
-/// the mark, it returns false.
+/// Before `builtin.module @m {} test.nop` it returns true, and `test.nop` is left. Before `builtin.module @m {} !0 test.nop` it returns
+/// false, since the section of the mark is missing.
 pub fn skip_root<T: IrText<A>, A: AttrText<A>>(
     stream: &mut TextStream,
     ctx: &Context<T, A>,

@@ -1,10 +1,9 @@
 //! A second look at a rejected root: what an error does not say is found by parsing the root once more, from where it begins.
 
-pub use irtext_survey::stream_at;
-
 use irtext_base::parsable::SourcePosition;
 use irtext_base::text::{AttrText, IrText};
 use irtext_context::base::Context;
+pub use irtext_survey::stream_at;
 use std::alloc::AllocError;
 
 /// A rejected root: the text that it is in, and where it begins.
