@@ -38,9 +38,9 @@ pub(crate) struct EntryHead {
     pub item: Option<Item>,
 }
 
-/// Whether an item's entry continues here, and not a print-once attribute.
+/// Whether an item's entry continues here, and not a print-once attribute: `@` or `[` comes next. Nothing is consumed.
 #[inline(always)]
-fn begins_given(stream: &TextStream) -> bool
+pub fn begins_given(stream: &TextStream) -> bool
     ensures { result ≡ begins_given stream.now.rest }
 {
     match stream.peek() {
@@ -107,9 +107,10 @@ fn equals_read<A>(stream: &mut TextStream) -> ParseResult<(), A>
     equals_missed(stream)
 }
 
-/// Parses an index, and `=` with optional white space around it. Every error is committed.
+/// Parses the head of an entry: `!` and an index, and `=` with optional white space around it, as `!0 = `. Returns the index and the place of
+/// the `!`. Every error is committed, and leaves the stream failed.
 #[inline(always)]
-fn index_parse<A>(stream: &mut TextStream) -> ParseResult<ReadMark, A>
+pub fn index_parse<A>(stream: &mut TextStream) -> ParseResult<ReadMark, A>
     ensures read { MustMean itself replaced (IsMark (whole stream.old)) entry_head_at stream.old result
         stream.new }
     ensures at { IfOk result (λ mark. IsPlaceAfter mark.at stream.old.passed) }

@@ -51,9 +51,10 @@ fn location_ended<A>(stream: &mut TextStream) -> ParseResult<(), A>
     end_missed(stream)
 }
 
-/// Parses the location of an entry, if it gives one.
+/// Parses the location of an item's entry, and what separates it from the pairs, as `@[?], `. If no `@` comes next, returns `None` and consumes
+/// nothing. The context keeps the paths of the location's files, also on an error. Every error is committed, and leaves the stream failed.
 #[inline(always)]
-fn entry_location<T: IrText<A>, A: AttrText<A>>(
+pub fn entry_location<T: IrText<A>, A: AttrText<A>>(
     stream: &mut TextStream,
     ctx: &mut Context<T, A>,
 ) -> ParseResult<Option<Location<A>>, A>

@@ -3,8 +3,8 @@
 #![tactic(auto)]
 
 mod entries;
-mod entry;
-mod given;
-mod pairs;
+pub mod entry;
+pub mod given;
+pub mod pairs;
 pub mod section;
 mod whole;

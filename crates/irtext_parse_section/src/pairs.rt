@@ -38,9 +38,10 @@ fn item_parse<A: AttrText<A>>(stream: &mut TextStream) -> ParseResult<GivenAttr<
     Ok(GivenAttr::Direct(attr))
 }
 
-/// Parses the pair at this place of an entry: a key, `=`, and what is given under the key. If no key comes next, the error is uncommitted
-/// and the stream is unchanged.
-fn pair_parse<A: AttrText<A>>(
+/// Parses the pair at this place of an entry: a key, `=`, and what is given under the key, as `key = !1`. The key may share its text with the
+/// one that is kept at the place. Whether the attribute is allowed under the key is not tested. If no key comes next, the error is uncommitted
+/// and the stream is unchanged. Every other error is committed, and leaves the stream failed.
+pub fn pair_parse<A: AttrText<A>>(
     stream: &mut TextStream,
     keys: &mut Keys,
     index: usize,

@@ -14,7 +14,7 @@ use Rattle.irtext_grammar.specs.Reached.{Reached, Advanced, Stopped}
 use Rattle.irtext_survey.specs.Notes.{Noted, noted_in, state_of, IsFound}
 use Rattle.irtext_survey.specs.Walk.{IsNote, IsNoted}
 use Rattle.irtext_survey.specs.Root.{NotesTree}
-use Rattle.irtext_survey.specs.Found.{Finds, Skips}
+use Rattle.irtext_survey.specs.Found.{Finds}
 use Rattle.irtext_survey.specs.declared.notes.Note.{Note}
 use Rattle.irtext_survey.specs.declared.opening.Notebook.{Notebook}
 use Rattle.irtext_survey.proofs.Stepping.{moved_whole}
@@ -36,42 +36,3 @@ module _ {T A : Type 0} (types_at : Reader T) (attr : Reader (AttrView A)) (dial
 
     pub text_stays : whole new ≡ whole old
     text_stays = (noted_there is_whole noted).1
-
--- ---- a root that is consumed
-abbrev marked_of : Reached Unit Noted → Bool
-marked_of (Advanced x s rest) = s.marked
-marked_of (Stopped s cause place) = s.marked
-
-abbrev left_of : Reached Unit Noted → Text
-left_of (Advanced x s rest) = rest
-left_of (Stopped s cause place) = []
-
-abbrev Goes_on : Reached Unit Noted → Type 0
-Goes_on (Advanced x s rest) = ⊤
-Goes_on (Stopped s cause place) = ⊥
-
-module _ {T A : Type 0} (types_at : Reader T) (attr : Reader (AttrView A)) (dialects : List (Text × Table)) (old : StreamView) (book : Notebook) where
-  -- one without a mark
-  pub skips_plain : (new : StreamView) → NotesTree types_at attr dialects [] old true book new → book.marked ≡ false → Skips types_at attr dialects old true new
-  skips_plain new r m = record {
-    ends = λ s left e n. (refl, r.moves, ap left_of (sym r.read ∙ e));
-    begins = λ i. (r.s, new.rest, r.read);
-  }
-
-  -- one with a mark
-  pub skips_marked : (mid : StreamView) → NotesTree types_at attr dialects [] old true book mid → book.marked ≡ true → (there : Bool) (new : StreamView) → Skips types_at attr dialects old there new
-  skips_marked mid r m there new = record {
-    ends = λ s left e n. absurd (true≢false (sym m ∙ (r.noted.marked ∙ (ap marked_of (sym r.read ∙ e) ∙ n))));
-    begins = λ i. (r.s, mid.rest, r.read);
-  }
-
-  pub skips_marked_ok : {E : Type 0} (mid : StreamView) → NotesTree types_at attr dialects [] old true book mid → book.marked ≡ true → (new : StreamView) (result : Result Bool E) → IfOk result (λ there. Skips types_at attr dialects old there new)
-  skips_marked_ok mid r m new (Ok there) = skips_marked mid r m there new
-  skips_marked_ok mid r m new (Err error) = tt
-
-  -- none
-  pub skips_none : (new : StreamView) → NotesTree types_at attr dialects [] old false book new → Skips types_at attr dialects old false new
-  skips_none new r = record {
-    ends = λ s left e n. absurd (subst Goes_on (sym e ∙ r.read) tt);
-    begins = λ i. absurd (true≢false (sym i));
-  }

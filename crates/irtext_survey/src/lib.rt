@@ -4,12 +4,15 @@
 
 mod beside;
 pub mod frames;
+pub mod laws;
 pub mod notes;
 pub mod opening;
 mod parts;
 mod root;
 mod section;
+pub mod standing;
 mod steps;
 pub mod survey;
 
+pub use crate::standing::stream_at;
 pub use crate::survey::{first_definition, first_use, skip_root};

@@ -163,22 +163,31 @@ pub fn first_definition<T: IrText<A>, A: AttrText<A>>(
     Ok(located(stream, found))
 }
 
-/// Consumes a root, its section included, and returns whether one of the grammar comes next, whatever its names, marks, keys and references
-/// are. The stream is where the root begins. The section belongs to a root exactly if the root has a mark. Fails only if an allocation
-/// fails. The stream must not have failed before. Unless there is a root, its position is unspecified afterwards, and it may have failed.
+/// Consumes a root and the white space after it, and returns whether one of the grammar comes next. The section belongs to a root exactly if
+/// something in the root has a mark; then it is required. Only the syntax is parsed. Names need not be defined, and labels and marks need
+/// not differ. In the section an entry may have any index, whether or not an item carries it or an earlier entry has it, any attribute may
+/// be under any key, and a reference may be to any index.
+///
+/// If there is a root, the stream is at its end. Otherwise the position is unspecified, and the stream may have failed. Fails only if an
+/// allocation fails. The stream must not have failed before.
+///
+/// Before `builtin.module @m {} test.nop` it returns true, and `test.nop` is left. Before `builtin.module @m {} !0 test.nop` it returns
+/// false, since the section of the mark is missing.
 pub fn skip_root<T: IrText<A>, A: AttrText<A>>(
     stream: &mut TextStream,
     ctx: &Context<T, A>,
 ) -> Result<bool, AllocError>
     requires fine { stream.old.failed ≡ false }
-    ensures { IfOk result (λ there. Skips T.IrText.reading (attr_at A.IrText.reading) ctx.now.dialects
-        stream.old there stream.new) }
+    ensures skips { IfOk result (λ there. Skips T.IrText.own A.IrText.own ctx.now.dialects stream.old there
+        stream.new) }
+    ensures same { OnOk result (whole stream.new ≡ whole stream.old) }
 {
     let mut book = nothing_noted(stream.allocator());
     let whole = match tree_noted(stream, ctx, "", &mut book) {
         Ok(whole) => whole,
         Err(error) => return Err(error),
     };
+    ctx.keeps_formats();
     if !whole {
         return Ok(false);
     }

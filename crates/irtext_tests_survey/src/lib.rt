@@ -1,10 +1,10 @@
 //! What the rows of a second look are tried with: what it finds for a root that is rejected for a name, and where a root ends.
 #![tactic(auto)]
 
-ghost use Rattle.std.specs.Prelude.{◌≡◌, false, IfOk};
+ghost use Rattle.std.specs.Prelude.{◌≡◌, false};
 
 use irtext_demo::DemoAttr;
-use irtext_survey::{first_definition, first_use, skip_root};
+use irtext_survey::{first_definition, first_use, skip_root, stream_at};
 use irtext_tests_common::contexts::Ctx;
 use pliron_text::base::Operation;
 use pliron_text::ir::OperationText;
@@ -46,33 +46,6 @@ fn last_fault(
         Ok(_) => Ok(None),
         Err(fault) => Ok(Some((root, fault))),
     }
-}
-
-/// Moves a stream from the beginning of its text to this line and column, or to the end of the text.
-fn advance(stream: &mut TextStream, at: SourcePosition, most: usize)
-    ensures { stream.new.failed ≡ stream.old.failed }
-{
-    let (mut line, mut column) = (1i32, 1i32);
-    for _turn in 0..most {
-        if line > at.line || line == at.line && column >= at.column {
-            break;
-        }
-        if stream.take() == Some('\n') {
-            line = line.saturating_add(1);
-            column = 1;
-        } else {
-            column = column.saturating_add(1);
-        }
-    }
-}
-
-/// Returns a stream over a text that is at this line and column of it, or at its end.
-fn stream_at(alloc: Global, text: &str, at: SourcePosition) -> Result<TextStream, Fail>
-    ensures { IfOk result (λ stream. stream.failed ≡ false) }
-{
-    let mut stream = TextStream::new(alloc, text)?;
-    advance(&mut stream, at, text.len());
-    Ok(stream)
 }
 
 /// Says a position, or that there is none.

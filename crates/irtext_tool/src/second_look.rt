@@ -1,37 +1,10 @@
 //! A second look at a rejected root: what an error does not say is found by parsing the root once more, from where it begins.
-ghost use Rattle.std.specs.Prelude.{◌≡◌, false, IfOk};
 
-use irtext_base::parsable::{SourcePosition, TextStream};
+use irtext_base::parsable::SourcePosition;
 use irtext_base::text::{AttrText, IrText};
 use irtext_context::base::Context;
-use std::alloc::{AllocError, Global};
-
-/// Moves a stream from the beginning of its text to a position of it, or to the end of the text if it has no such position.
-fn advance(stream: &mut TextStream, at: SourcePosition, most: usize)
-    ensures { stream.new.failed ≡ stream.old.failed }
-{
-    let (mut line, mut column) = (1i32, 1i32);
-    for _turn in 0..most {
-        if line > at.line || line == at.line && column >= at.column {
-            break;
-        }
-        if stream.take() == Some('\n') {
-            line = line.saturating_add(1);
-            column = 1;
-        } else {
-            column = column.saturating_add(1);
-        }
-    }
-}
-
-/// Returns a stream over a text, at a position of it, or at its end if it has no such position.
-pub fn stream_at(alloc: Global, text: &str, at: SourcePosition) -> Result<TextStream, AllocError>
-    ensures { IfOk result (λ stream. stream.failed ≡ false) }
-{
-    let mut stream = TextStream::new(alloc, text)?;
-    advance(&mut stream, at, text.len());
-    Ok(stream)
-}
+pub use irtext_survey::stream_at;
+use std::alloc::AllocError;
 
 /// A rejected root: the text that it is in, and where it begins.
 #[derive(Clone, Copy)]
