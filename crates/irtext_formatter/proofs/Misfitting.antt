@@ -48,7 +48,7 @@ module _ {T A : Type 0} (written : A → Text) (attributes : attr_text.Ghosts A 
   -- this one does not fit
   pub is_misfit : (at : Option Object) (object : Object) (op : Ptr Operation) (reason : FitFault) → at ≡ Some object → object ≡ TheOperation op → ((q : Object) → IsInside ctx.graph (TheOperation root) q → ComesOrFits at q)
       → IsInside ctx.graph (TheOperation root) object → IsSome (operation ctx op) → IsFirstReasonIn written attributes same ctx op reason
-      → (r : Result Misfit AllocError) → IfOk r (λ m. IfSome (operation ctx op) (λ seen. Describes seen reason m)) → IfOk r (IsMisfitOf written attributes same ctx root)
+      → (r : Result Misfit AllocError) → IfOk r (λ m. IfSome (operation ctx op) (λ seen. Describes ctx.dialects seen reason m)) → IfOk r (IsMisfitOf written attributes same ctx root)
   is_misfit at object op reason at_is is so_far inside live unfit (Err error) d = tt
   is_misfit at object op reason at_is is so_far inside live unfit (Ok m) d =
       let seen = some_of (operation ctx op) live in
@@ -57,7 +57,7 @@ module _ {T A : Type 0} (written : A → Text) (attributes : attr_text.Ghosts A 
         seen = seen.0;
         is = seen.1;
         reason = reason;
-        describes = subst (λ o. IfSome o (λ v. Describes v reason m)) seen.1 d;
+        describes = subst (λ o. IfSome o (λ v. Describes ctx.dialects v reason m)) seen.1 d;
         inside = subst (IsInside ctx.graph (TheOperation root)) is inside;
         unfit = unfit;
         first = λ q w. subst (λ o. ComesOrFits o q) (at_is ∙ ap Some is) (so_far q w);

@@ -1,14 +1,16 @@
 -- What is known of the roots so far: at first, after each root, and where one fails.
-use Rattle.std.proofs.Common.{◌≡◌, ◌∙◌, ℕ, Bool, List, [], sym, subst}
+use Rattle.std.proofs.Common.{◌≡◌, ◌∙◌, ℕ, Bool, List, [], refl, sym, ap, subst}
 use Rattle.irtext_base.specs.declared.text.AttrText as attr_text
 use Rattle.irtext_base.specs.declared.text.IrText as ir_text
 use Rattle.irtext_context.specs.Context.{ContextView}
 use Rattle.irtext_stream.specs.Classes.{after_spaces}
 use Rattle.irtext_formatter.specs.Lines.{then_root}
 use Rattle.irtext_formatter.specs.Rows.{beginning, follows, GivesRoot, FailsHere, Rows, Rows.{none, more}, Formats, Formats.{empty, roots}, FailsWith}
-use Rattle.irtext_formatter.specs.Stands.{place_of, held_by, GoesOn, IsGoing, Stands}
+use Rattle.irtext_formatter.specs.Stands.{place_of, held_by, GoesOn, IsGoing, IsKept, Stands}
 use Rattle.irtext_formatter.specs.declared.fault.Fault as fault
 use Rattle.irtext_formatter.specs.declared.fault.Fault.TheVariants as of_fault
+use Rattle.irtext_formatter.specs.declared.format.Kept.{Kept}
+use Rattle.irtext_formatter.specs.declared.format.Kept.TheVariants.{All, Last}
 use Rattle.irtext_formatter.specs.declared.layout.Layout.{Layout}
 use Rattle.irtext_formatter.specs.declared.roots.Roots.{Roots}
 
@@ -49,3 +51,13 @@ module _ {T A : Type 0} (types : ir_text.Ghosts T A) (owns : ir_text.Ghosts A A)
   failed old so_far (of_fault.Rejected g) going h = record { so_far = so_far; at = going.at; before = held_by old; rows = going.rows; more = going.more; fails = subst (λ v. FailsHere types owns attributes same layout v (held_by old) (of_fault.Rejected g)) going.place h }
   failed old so_far (of_fault.Misfit m) going h = record { so_far = so_far; at = going.at; before = held_by old; rows = going.rows; more = going.more; fails = subst (λ v. FailsHere types owns attributes same layout v (held_by old) (of_fault.Misfit m)) going.place h }
   failed old so_far of_fault.TooDeep going h = record { so_far = so_far; at = going.at; before = held_by old; rows = going.rows; more = going.more; fails = subst (λ v. FailsHere types owns attributes same layout v (held_by old) of_fault.TooDeep) going.place h }
+
+-- a text is kept as itself
+pub kept_first : (kept : Kept) (text : List ℕ) → IsKept kept text text
+kept_first All text = refl
+kept_first Last text = tt
+
+-- after one more root, the texts are still kept
+pub kept_on : (kept : Kept) (printed old room root new : List ℕ) → IsKept kept printed old → IsKept kept old room → new ≡ then_root room root → IsKept kept (then_root printed root) new
+kept_on All printed old room root new before cleared is = is ∙ ap (λ text. then_root text root) (cleared ∙ before)
+kept_on Last printed old room root new before cleared is = tt

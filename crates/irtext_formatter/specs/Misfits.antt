@@ -1,11 +1,14 @@
 -- For callers: what is said of the first operation of a root that does not fit its format.
-use Rattle.std.specs.Prelude.{◌≡◌, ◌⊎◌, Bool, Option, Some, None, IsSome, string_bytes}
+use Rattle.std.specs.Prelude.{◌≡◌, ◌⊎◌, Bool, List, Option, Some, None, IsSome, string_bytes}
+use Rattle.std.specs.Option.{option_map, option_and_then}
+use Rattle.irtext_base.specs.Faults.{id_of}
 use Rattle.irtext_base.specs.Text.{Text}
 use Rattle.irtext_base.specs.declared.location.Location.{Location, SrcPos}
 use Rattle.irtext_base.specs.declared.location.Source.{Source}
 use Rattle.irtext_base.specs.declared.location.Source.TheVariants.{InMemory}
 use Rattle.irtext_base.specs.declared.text.AttrText as attr_text
 use Rattle.irtext_context.specs.Context.{ContextView, OperationView, operation}
+use Rattle.irtext_context.specs.Dialects.{Table}
 use Rattle.irtext_graph.specs.Chained.{Among}
 use Rattle.irtext_graph.specs.Graph.{IsInside}
 use Rattle.irtext_graph.specs.Throughout.{all_from}
@@ -13,9 +16,11 @@ use Rattle.irtext_graph.specs.declared.arena.Ptr.{Ptr}
 use Rattle.irtext_graph.specs.declared.object.Object.{Object}
 use Rattle.irtext_graph.specs.declared.object.Object.TheVariants.{TheOperation}
 use Rattle.irtext_graph.specs.declared.object.Operation.{Operation}
+use Rattle.irtext_grammar.specs.Contexts.Formats.{format_of}
 use Rattle.irtext_print_ops.specs.Fits.{fault_text, FitsIn, IsFirstReasonIn}
 use Rattle.irtext_print_ops.specs.declared.fits.FitFault.{FitFault}
 use Rattle.irtext_stream.specs.declared.position.SourcePosition.{SourcePosition}
+use Rattle.irtext_formatter.specs.Keys.{mistaken_key, texts_of}
 use Rattle.irtext_formatter.specs.declared.misfit.Misfit.{Misfit}
 
 -- the position, if it is one in a text in memory
@@ -28,12 +33,17 @@ abbrev pub position_in : {A : Type 0} → Location A → Option SourcePosition
 position_in (SrcPos source at) = position_of source at
 position_in _ = None
 
-module _ {T A : Type 0} where
+module _ {T A : Type 0} (dialects : List (Text × Table)) (seen : OperationView T A) where
+  -- the key of the operation's attribute that was perhaps meant to be one that its format prints, with that one
+  abbrev pub mistaken_in : FitFault → Option (Text × Text)
+  mistaken_in reason = option_and_then (λ format. mistaken_key format seen.attributes reason) (format_of dialects (id_of seen.id))
+
   -- a misfit names this operation and this reason
-  pub record Describes (seen : OperationView T A) (reason : FitFault) (misfit : Misfit) : Type 0 where
+  pub record Describes (reason : FitFault) (misfit : Misfit) : Type 0 where
     pub id : misfit.id ≡ seen.id
     pub position : misfit.position ≡ position_in seen.loc
     pub says : string_bytes misfit.reason ≡ fault_text reason
+    pub mistaken : option_map texts_of misfit.mistaken ≡ mistaken_in reason
 
 module _ {T A : Type 0} (written : A → Text) (attributes : attr_text.Ghosts A A) (same : A → A → Bool) (ctx : ContextView T A) where
   -- if the object is an operation of the context, that fits its format
@@ -48,7 +58,7 @@ module _ {T A : Type 0} (written : A → Text) (attributes : attr_text.Ghosts A 
     pub seen : OperationView T A
     pub is : operation ctx op ≡ Some seen
     pub reason : FitFault
-    pub describes : Describes seen reason misfit
+    pub describes : Describes ctx.dialects seen reason misfit
     pub inside : IsInside ctx.graph (TheOperation root) (TheOperation op)
     pub unfit : IsFirstReasonIn written attributes same ctx op reason
     pub first : (q : Object) → IsInside ctx.graph (TheOperation root) q → Among q (all_from ctx.graph (TheOperation root) (Some (TheOperation op))) ⊎ FitsThere q

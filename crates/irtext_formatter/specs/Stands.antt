@@ -16,8 +16,15 @@ use Rattle.irtext_grammar.specs.Promises.Root.{UnlessMemory}
 use Rattle.irtext_parse_state.specs.States.{IsFresh}
 use Rattle.irtext_stream.specs.Classes.{after_spaces}
 use Rattle.irtext_formatter.specs.Rows.{follows, ReadsRoot, RefusesAt, GivesRoot, Rows, Formats}
+use Rattle.irtext_formatter.specs.declared.format.Kept.{Kept}
+use Rattle.irtext_formatter.specs.declared.format.Kept.TheVariants.{All, Last}
 use Rattle.irtext_formatter.specs.declared.layout.Layout.{Layout}
 use Rattle.irtext_formatter.specs.declared.roots.Roots.{Roots}
+
+-- where all texts are kept, those that were printed are there
+abbrev pub IsKept : Kept → List ℕ → List ℕ → Type 0
+IsKept All printed kept = kept ≡ printed
+IsKept Last printed kept = Unit {0}
 
 module _ {T A : Type 0} where
   -- the position on the stream

@@ -1,9 +1,11 @@
 //! A family of dialects: what a program registers before it parses a text.
-ghost use Rattle.std.specs.Prelude.{◌≡◌, List, OnOk};
+ghost use Rattle.std.specs.Prelude.{◌≡◌, List, [], IfOk, OnOk};
+ghost use Rattle.irtext_formatter.specs.Formatted.{new_context};
 
 use irtext_base::result;
 use irtext_base::text::{AttrText, IrText};
 use irtext_context::base::Context;
+use std::alloc::Global;
 
 /// The dialects of a program, over its types `T` and its attributes `A`. An impl is a type without values:
 ///
@@ -30,4 +32,17 @@ pub trait Dialects<T: IrText<A>, A: AttrText<A>> {
     fn register(ctx: &mut Context<T, A>) -> result::Result<(), A>
         ensures ok { OnOk result (ctx.new.dialects ≡ registered ctx.old.dialects) }
         ensures rest { ctx.new ≡ record ctx.old { dialects = ctx.new.dialects } };
+}
+
+/// Makes a context that has these dialects, and nothing else. The error is that of [`Dialects::register`].
+pub fn new_context<T: IrText<A>, A: AttrText<A>, D: Dialects<T, A>>(
+    alloc: Global,
+) -> result::Result<Context<T, A>, A>
+    ensures { IfOk result (λ ctx. ctx ≡ new_context (D.registered [])) }
+{
+    let mut ctx = Context::new(alloc);
+    match D::register(&mut ctx) {
+        Ok(()) => Ok(ctx),
+        Err(error) => Err(error),
+    }
 }

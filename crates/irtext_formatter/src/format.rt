@@ -6,7 +6,7 @@ ghost use Rattle.irtext_print_ops.specs.Heads as heads;
 ghost use Rattle.irtext_formatter.specs.Layouts.{plain};
 ghost use Rattle.irtext_formatter.specs.Lines.{lined, with_gap, then_root};
 ghost use Rattle.irtext_formatter.specs.Rows.{beginning, FailsHere, Formats, FailsWith};
-ghost use Rattle.irtext_formatter.specs.Stands.{place_of, held_by, IsReady, GoesOn};
+ghost use Rattle.irtext_formatter.specs.Stands.{place_of, held_by, IsKept, IsReady, GoesOn};
 ghost use Rattle.irtext_formatter.specs.Unprinted.{is_memory, IsRejected, IsReason, HasText};
 
 use crate::fault::Fault;
@@ -128,28 +128,75 @@ fn append_next<T: IrText<A>, A: AttrText<A>>(
     Ok(followed)
 }
 
-/// Appends the texts of all roots.
-fn append_all<T: IrText<A>, A: AttrText<A>>(
+/// What is kept of the texts of roots.
+#[derive(Clone, Copy)]
+enum Kept {
+    /// The texts of all roots, one after the other.
+    All,
+    /// The text of one root at a time: each takes the place of the one before.
+    Last,
+}
+
+/// Drops the texts so far, unless all are kept.
+fn make_room(kept: Kept, out: &mut String)
+    ensures { IsKept kept (string_bytes out.old) (string_bytes out.new) }
+{
+    match kept {
+        Kept::All => {}
+        Kept::Last => out.clear(),
+    }
+}
+
+/// Parses and prints all roots, and keeps their texts, or one of them at a time.
+fn print_all<T: IrText<A>, A: AttrText<A>>(
     roots: &mut Roots<'_, T, A>,
     layout: Layout,
+    kept: Kept,
     out: &mut String,
 ) -> Result<(), Fault<A>>
     requires ready { IsReady roots.old }
     ensures lent { roots.new.stream.state.ctx.ghost_name ≡ roots.old.stream.state.ctx.ghost_name }
     ensures formats { (text : List ℕ) → place_of roots.old ≡ beginning text → string_bytes out.old ≡ [] →
-        OnOk result (Formats T.IrText.own A.IrText.own A.AttrText.own A.eq layout text (held_by roots.old)
-        (string_bytes out.new) (held_by roots.new)) }
+        OnOk result ((printed : List ℕ) × Formats T.IrText.own A.IrText.own A.AttrText.own A.eq layout text
+        (held_by roots.old) printed (held_by roots.new) × IsKept kept printed (string_bytes out.new)) }
     ensures fails { (text : List ℕ) → place_of roots.old ≡ beginning text → string_bytes out.old ≡ [] →
         IfErr result (FailsWith T.IrText.own A.IrText.own A.AttrText.own A.eq layout text (held_by roots.old)) }
 {
     let mut left = roots.is_left();
     while left {
+        make_room(kept, out);
         match append_next(roots, layout, out) {
             Ok(followed) => left = followed,
             Err(fault) => return Err(fault),
         }
     }
     Ok(())
+}
+
+/// Parses and prints the roots of a text, and returns what is kept of their texts.
+fn print_text<T: IrText<A>, A: AttrText<A>>(
+    ctx: &mut Context<T, A>,
+    text: &str,
+    layout: Layout,
+    kept: Kept,
+) -> Result<String, Fault<A>>
+    ensures formats { IfOk result (λ out. (printed : List ℕ) × Formats T.IrText.own A.IrText.own A.AttrText.own A.eq
+        layout text.now ctx.old printed ctx.new × IsKept kept printed (string_bytes out)) }
+    ensures fails { IfErr result (FailsWith T.IrText.own A.IrText.own A.AttrText.own A.eq layout text.now ctx.old) }
+{
+    let alloc = ctx.allocator();
+    let stream = match TextStream::new(alloc, text) {
+        Ok(stream) => stream,
+        Err(_) => return Err(Fault::Memory),
+    };
+    let mut out = String::new(alloc);
+    let mut roots = Roots::new(ctx, stream);
+    let answer = print_all(&mut roots, layout, kept, &mut out);
+    let _ctx = roots.into_context();
+    match answer {
+        Ok(()) => Ok(out),
+        Err(fault) => Err(fault),
+    }
 }
 
 /// Parses and prints the roots of a text, and returns their texts in their order: each ends with a newline, and an empty line is between
@@ -167,44 +214,7 @@ pub fn format_text<T: IrText<A>, A: AttrText<A>>(
         ctx.old (string_bytes out) ctx.new) }
     ensures fails { IfErr result (FailsWith T.IrText.own A.IrText.own A.AttrText.own A.eq layout text.now ctx.old) }
 {
-    let alloc = ctx.allocator();
-    let stream = match TextStream::new(alloc, text) {
-        Ok(stream) => stream,
-        Err(_) => return Err(Fault::Memory),
-    };
-    let mut out = String::new(alloc);
-    let mut roots = Roots::new(ctx, stream);
-    let answer = append_all(&mut roots, layout, &mut out);
-    let _ctx = roots.into_context();
-    match answer {
-        Ok(()) => Ok(out),
-        Err(fault) => Err(fault),
-    }
-}
-
-/// Parses and prints all roots, one into the text of the other.
-fn check_all<T: IrText<A>, A: AttrText<A>>(
-    roots: &mut Roots<'_, T, A>,
-    layout: Layout,
-    out: &mut String,
-) -> Result<(), Fault<A>>
-    requires ready { IsReady roots.old }
-    ensures lent { roots.new.stream.state.ctx.ghost_name ≡ roots.old.stream.state.ctx.ghost_name }
-    ensures formats { (text : List ℕ) → place_of roots.old ≡ beginning text →
-        OnOk result ((printed : List ℕ) × Formats T.IrText.own A.IrText.own A.AttrText.own A.eq layout text
-        (held_by roots.old) printed (held_by roots.new)) }
-    ensures fails { (text : List ℕ) → place_of roots.old ≡ beginning text →
-        IfErr result (FailsWith T.IrText.own A.IrText.own A.AttrText.own A.eq layout text (held_by roots.old)) }
-{
-    let mut left = roots.is_left();
-    while left {
-        out.clear();
-        match append_next(roots, layout, out) {
-            Ok(followed) => left = followed,
-            Err(fault) => return Err(fault),
-        }
-    }
-    Ok(())
+    print_text(ctx, text, layout, Kept::All)
 }
 
 /// Checks a text as [`format_text`] does, and returns no text: it succeeds exactly where that does, if there is memory enough, and fails
@@ -218,14 +228,8 @@ pub fn check_text<T: IrText<A>, A: AttrText<A>>(
         text.now ctx.old printed ctx.new) }
     ensures fails { IfErr result (FailsWith T.IrText.own A.IrText.own A.AttrText.own A.eq layout text.now ctx.old) }
 {
-    let alloc = ctx.allocator();
-    let stream = match TextStream::new(alloc, text) {
-        Ok(stream) => stream,
-        Err(_) => return Err(Fault::Memory),
-    };
-    let mut out = String::new(alloc);
-    let mut roots = Roots::new(ctx, stream);
-    let answer = check_all(&mut roots, layout, &mut out);
-    let _ctx = roots.into_context();
-    answer
+    match print_text(ctx, text, layout, Kept::Last) {
+        Ok(_) => Ok(()),
+        Err(fault) => Err(fault),
+    }
 }

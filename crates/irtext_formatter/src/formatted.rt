@@ -3,19 +3,19 @@ ghost use Rattle.std.specs.Prelude.{◌≡◌, ℕ, List, [], IfOk, IfErr, OnOk,
 ghost use Rattle.std.specs.Io.KnownBytes.{Appends};
 ghost use Rattle.irtext_formatter.specs.Formatted.{Gives, FailsText, FailsRead, FailsInput, IsRead, Unwritten};
 
-use crate::dialects::Dialects;
+use crate::dialects::{Dialects, new_context};
 use crate::fault::Failure;
 use crate::format::{check_text, format_text};
 use crate::input::read_text;
 use crate::layout::Layout;
 use crate::output::write_text;
 use irtext_base::text::{AttrText, IrText};
-use irtext_context::base::Context;
 use std::alloc::Global;
 use std::io::{Read, Write};
 
-/// Formats a text with these dialects in a new context.
-fn format_new<T: IrText<A>, A: AttrText<A>, D: Dialects<T, A>>(
+/// Formats a text with these dialects, in a new context. The error is `Dialects` if they cannot be registered, and else `Text` with the
+/// fault of [`format_text`].
+pub fn format_new<T: IrText<A>, A: AttrText<A>, D: Dialects<T, A>>(
     alloc: Global,
     text: &str,
     layout: Layout,
@@ -25,10 +25,10 @@ fn format_new<T: IrText<A>, A: AttrText<A>, D: Dialects<T, A>>(
     ensures fails { IfErr result (FailsText T.IrText.own A.IrText.own A.AttrText.own A.eq layout (D.registered [])
         text.now) }
 {
-    let mut ctx = Context::new(alloc);
-    if let Err(error) = D::register(&mut ctx) {
-        return Err(Failure::Dialects(error));
-    }
+    let mut ctx = match new_context::<T, A, D>(alloc) {
+        Ok(ctx) => ctx,
+        Err(error) => return Err(Failure::Dialects(error)),
+    };
     match format_text(&mut ctx, text, layout) {
         Ok(formatted) => Ok(formatted),
         Err(fault) => Err(Failure::Text(fault)),
@@ -66,8 +66,9 @@ pub fn format_input<T: IrText<A>, A: AttrText<A>, D: Dialects<T, A>, R: Read, W:
     }
 }
 
-/// Checks a text with these dialects in a new context.
-fn check_new<T: IrText<A>, A: AttrText<A>, D: Dialects<T, A>>(
+/// Checks a text with these dialects, in a new context, and returns no text. It succeeds exactly where [`format_new`] does, if there is
+/// memory enough, and fails for the same reason.
+pub fn check_new<T: IrText<A>, A: AttrText<A>, D: Dialects<T, A>>(
     alloc: Global,
     text: &str,
     layout: Layout,
@@ -77,10 +78,10 @@ fn check_new<T: IrText<A>, A: AttrText<A>, D: Dialects<T, A>>(
     ensures fails { IfErr result (FailsText T.IrText.own A.IrText.own A.AttrText.own A.eq layout (D.registered [])
         text.now) }
 {
-    let mut ctx = Context::new(alloc);
-    if let Err(error) = D::register(&mut ctx) {
-        return Err(Failure::Dialects(error));
-    }
+    let mut ctx = match new_context::<T, A, D>(alloc) {
+        Ok(ctx) => ctx,
+        Err(error) => return Err(Failure::Dialects(error)),
+    };
     match check_text(&mut ctx, text, layout) {
         Ok(()) => Ok(()),
         Err(fault) => Err(Failure::Text(fault)),

@@ -7,6 +7,7 @@ pub mod fault;
 pub mod format;
 pub mod formatted;
 pub mod input;
+pub mod keys;
 pub mod laws;
 pub mod layout;
 pub mod misfit;

@@ -1,5 +1,6 @@
 //! The first operation of a root that does not fit its format.
 ghost use Rattle.std.specs.Prelude.{◌≡◌, ◌↔◌, ◌∷◌, Some, IsTrue, IsSome, IfSome, IfNone, IfOk};
+ghost use Rattle.std.specs.Option.{option_map};
 ghost use Rattle.irtext_context.specs.Context.{operation};
 ghost use Rattle.irtext_graph.specs.Chained.{Among};
 ghost use Rattle.irtext_graph.specs.Graph.{children, parent, IsInside, IsLive};
@@ -9,8 +10,10 @@ ghost use Rattle.irtext_graph.specs.declared.object.Object.TheVariants.{TheOpera
 ghost use Rattle.irtext_print_ops.specs.Fits as fits;
 ghost use Rattle.irtext_print_ops.specs.Heads as heads;
 ghost use Rattle.irtext_formatter.specs.Layouts.{plain};
-ghost use Rattle.irtext_formatter.specs.Misfits.{position_in, Describes, FitsThere, IsMisfitOf};
+ghost use Rattle.irtext_formatter.specs.Keys.{texts_of};
+ghost use Rattle.irtext_formatter.specs.Misfits.{position_in, mistaken_in, Describes, FitsThere, IsMisfitOf};
 
+use crate::keys::{MistakenKey, mistaken_key};
 use irtext_base::base::OpId;
 use irtext_base::location::{Location, Source};
 use irtext_base::parsable::SourcePosition;
@@ -30,6 +33,8 @@ pub struct Misfit {
     pub position: Option<SourcePosition>,
     /// Why the operation does not fit its format: the text of the `FitFault`.
     pub reason: String,
+    /// The key of one of its attributes that was perhaps meant to be one that its format prints, if that may be why.
+    pub mistaken: Option<MistakenKey>,
 }
 
 /// Whether a source is the text in memory.
@@ -62,6 +67,22 @@ fn id_copied(id: &OpId) -> Result<OpId, AllocError>
     })
 }
 
+/// Returns the key of an operation's attribute that was perhaps meant to be one that its format prints.
+fn mistaken_in<T: IrText<A>, A: AttrText<A>>(
+    ctx: &Context<T, A>,
+    op: Ptr<Operation>,
+    fault: FitFault<'_>,
+) -> Result<Option<MistakenKey>, AllocError>
+    requires live { IsSome (operation ctx.now op) }
+    ensures { IfOk result (λ found. IfSome (operation ctx.now op) (λ seen. option_map texts_of found
+        ≡ mistaken_in ctx.now.dialects seen fault.entry)) }
+{
+    match ctx.op_info(op.get_opid(ctx)) {
+        Some(info) => mistaken_key(ctx.allocator(), &info.format, op.attributes(ctx), fault),
+        None => Ok(None),
+    }
+}
+
 /// Describes an operation that does not fit its format for this reason.
 fn described<T: IrText<A>, A: AttrText<A>>(
     ctx: &Context<T, A>,
@@ -69,15 +90,18 @@ fn described<T: IrText<A>, A: AttrText<A>>(
     fault: FitFault<'_>,
 ) -> Result<Misfit, AllocError>
     requires live { IsSome (operation ctx.now op) }
-    ensures { IfOk result (λ misfit. IfSome (operation ctx.now op) (λ seen. Describes seen fault.entry misfit)) }
+    ensures { IfOk result (λ misfit. IfSome (operation ctx.now op) (λ seen. Describes ctx.now.dialects seen fault.entry
+        misfit)) }
 {
     let id = id_copied(op.get_opid(ctx))?;
     let position = position_in_memory(op.loc(ctx));
     let reason = format!(in ctx.allocator(); "{fault}")?;
+    let mistaken = mistaken_in(ctx, op, fault)?;
     Ok(Misfit {
         id,
         position,
         reason,
+        mistaken,
     })
 }
 

@@ -1,10 +1,12 @@
-//! What may have been meant where a name is not registered: the registered names that one edit leads to.
+//! What may have been meant: where a name is not registered, the registered names that one edit leads to; and where an operation does not
+//! fit its format, a key near another one.
 
 use irtext_base::base::OpId;
 use irtext_base::result::{Cause, Expected};
 use irtext_base::text::{AttrText, IrText};
 use irtext_context::base::Context;
 use irtext_diagnostics::innermost;
+use irtext_formatter::keys::MistakenKey;
 use std::alloc::{AllocError, Global};
 
 /// The characters of names.
@@ -167,4 +169,10 @@ pub fn hint_for<T: IrText<A>, A: AttrText<A>>(
         }
         _ => Ok(None),
     }
+}
+
+/// Returns a sentence on the key of an attribute that was perhaps meant to be another one.
+pub fn hint_for_key(alloc: Global, mistaken: &MistakenKey) -> Result<String, AllocError> {
+    let (written, meant) = (&mistaken.written, &mistaken.meant);
+    format!(in alloc; "the operation has an attribute `{written}`: did you mean `{meant}`?")
 }

@@ -1,6 +1,7 @@
 //! Errors as they are written: what went wrong with an input, a text or an output, as diagnostics.
 
 use crate::about::{Form, STANDARD_OUTPUT};
+use crate::hints::hint_for_key;
 use irtext_diagnostics::{Diagnostic, JsonLine, Severity, invalid_utf8};
 use irtext_excerpt::Excerpt;
 use irtext_formatter::input::InputFault;
@@ -189,7 +190,8 @@ pub fn report_output<E: Write>(alloc: Global, errors: &mut E, form: Form, error:
     report_unwritable(alloc, errors, scene, error);
 }
 
-/// Writes which operation does not fit its format, where its location says that it is, and why.
+/// Writes which operation does not fit its format, where its location says that it is, and why; and, if there is memory for it, which key
+/// was perhaps meant.
 pub fn report_misfit<E: Write>(
     alloc: Global,
     errors: &mut E,
@@ -206,12 +208,17 @@ pub fn report_misfit<E: Write>(
     ) else {
         return report_memory(alloc, errors, scene);
     };
+    let hint = misfit.mistaken.as_ref().and_then(|mistaken| hint_for_key(alloc, mistaken).ok());
+    let note = hint.as_ref().map(|hint| diagnostic(Severity::Note, scene.path, None, hint.as_str()));
     let place = misfit.position.map(|position| Excerpt { text, position });
     let report = Report {
         diagnostic: diagnostic(Severity::Error, scene.path, place, message.as_str()),
         cause: "misfit",
         name: Some(name.as_str()),
-        notes: &[],
+        notes: match &note {
+            Some(note) => std::slice::from_ref(note),
+            None => &[],
+        },
     };
     write_report(alloc, errors, scene.form, &report);
 }

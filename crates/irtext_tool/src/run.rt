@@ -17,12 +17,10 @@ use crate::status::{
 use crate::words::{Answer, Request, Target, Task, parse_words};
 use irtext_base::result;
 use irtext_base::text::{AttrText, IrText};
-use irtext_context::base::Context;
 use irtext_diff::write_unified;
-use irtext_formatter::dialects::Dialects;
+use irtext_formatter::dialects::{Dialects, new_context};
 use irtext_formatter::fault::{Failure, Fault};
-use irtext_formatter::format::format_text;
-use irtext_formatter::formatted::format_input;
+use irtext_formatter::formatted::{check_new, format_input, format_new};
 use irtext_formatter::input::{InputFault, read_text};
 use irtext_formatter::layout::Layout;
 use irtext_formatter::output::write_text;
@@ -51,9 +49,8 @@ fn report_roots<T: IrText<A>, A: AttrText<A>, D: Dialects<T, A>, E: Write>(
     scene: Scene<'_>,
     text: &str,
 ) {
-    let mut ctx = Context::new(alloc);
-    match D::register(&mut ctx) {
-        Ok(()) => report_rejections(&mut ctx, errors, scene, text),
+    match new_context::<T, A, D>(alloc) {
+        Ok(mut ctx) => report_rejections(&mut ctx, errors, scene, text),
         Err(error) => report_dialects(alloc, errors, scene, &error),
     }
 }
@@ -240,34 +237,18 @@ fn deliver<F: Files, W: Write, E: Write>(
     }
 }
 
-/// Formats a text in a new context.
-fn format_new<T: IrText<A>, A: AttrText<A>, D: Dialects<T, A>>(
-    alloc: Global,
-    text: &str,
-    layout: Layout,
-) -> Result<String, Failure<A>> {
-    let mut ctx = Context::new(alloc);
-    if let Err(error) = D::register(&mut ctx) {
-        return Err(Failure::Dialects(error));
-    }
-    format_text(&mut ctx, text, layout).map_err(Failure::Text)
-}
-
 /// Counts what is in a text in a new context, and returns the lines that say so.
 fn count_new<T: IrText<A>, A: AttrText<A>, D: Dialects<T, A>>(
     alloc: Global,
     path: &str,
     text: &str,
 ) -> Result<String, Failure<A>> {
-    let mut ctx = Context::new(alloc);
-    if let Err(error) = D::register(&mut ctx) {
-        return Err(Failure::Dialects(error));
-    }
+    let mut ctx = new_context::<T, A, D>(alloc).map_err(Failure::Dialects)?;
     let counts = count_text(&mut ctx, text).map_err(Failure::Text)?;
     counts_text(alloc, path, &counts).map_err(|_| Failure::Text(Fault::Memory))
 }
 
-/// Does the task with the text of a file, and returns what is to be written.
+/// Does the task with the text of a file, and returns what is to be written: nothing, if the text is only checked.
 fn result_of<T: IrText<A>, A: AttrText<A>, D: Dialects<T, A>>(
     alloc: Global,
     path: &str,
@@ -276,7 +257,7 @@ fn result_of<T: IrText<A>, A: AttrText<A>, D: Dialects<T, A>>(
 ) -> Result<String, Failure<A>> {
     match task {
         Task::Format(layout, _) => format_new::<T, A, D>(alloc, text, layout),
-        Task::Check => format_new::<T, A, D>(alloc, text, WHOLE),
+        Task::Check => check_new::<T, A, D>(alloc, text, WHOLE).map(|()| String::new(alloc)),
         Task::Stats => count_new::<T, A, D>(alloc, path, text),
     }
 }

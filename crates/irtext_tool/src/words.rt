@@ -1,6 +1,7 @@
 //! The words of the command line: what is asked for, by `clap`.
 
 use crate::about::{About, Form, style_of};
+use clap::error::ErrorKind;
 use clap::{Arg, ArgAction, ArgMatches, Command, Error};
 use irtext_formatter::layout::Layout;
 use std::alloc::{AllocError, Global};
@@ -201,6 +202,9 @@ fn command<'a>(alloc: Global, about: &About<'a>) -> Result<Command<'a>, AllocErr
 
 /// Returns what is said instead of doing something.
 fn answer_of(alloc: Global, error: Error) -> Answer {
+    if error.kind() == ErrorKind::OutOfMemory {
+        return Answer::Memory;
+    }
     let Ok(text) = format!(in alloc; "{error}") else {
         return Answer::Memory;
     };
