@@ -5,9 +5,9 @@ ghost use Rattle.irtext_tool.specs.Statuses.{IsStatus};
 
 use crate::about::{About, Form, STANDARD_INPUT, style_of};
 use crate::files::Files;
-use crate::recovery::report_rejections;
+use crate::recovery::{report_rejection, report_rejections};
 use crate::report::{
-    Scene, report_file, report_input, report_made, report_memory, report_misfit, report_output,
+    Scene, report_detail, report_file, report_input, report_memory, report_misfit, report_output,
     report_unwritable,
 };
 use crate::stats::{count_text, counts_text};
@@ -15,6 +15,7 @@ use crate::status::{
     DONE, FAILED, REJECTED, WRONG_WORDS, status_of, status_of_answer, status_of_input,
 };
 use crate::words::{Answer, Request, Target, Task, parse_words};
+use irtext_base::parsable::ParseFault;
 use irtext_base::result;
 use irtext_base::text::{AttrText, IrText};
 use irtext_context::base::Context;
@@ -27,6 +28,7 @@ use irtext_formatter::input::{InputFault, read_text};
 use irtext_formatter::layout::Layout;
 use irtext_formatter::output::write_text;
 use std::alloc::{AllocError, Global};
+use std::io;
 use std::io::{Read, Write};
 
 /// How `fmt` without other words prints.
@@ -38,23 +40,27 @@ fn report_dialects<A, E: Write>(
     errors: &mut E,
     scene: Scene<'_>,
     error: &result::Error<A>,
-) {
-    let cause = &error.err;
-    let message = format!(in alloc; "the dialects of this program cannot be registered: {cause}");
-    report_made(alloc, errors, scene, "dialects", message);
+) -> io::Result<()> {
+    let sentence = "the dialects of this program cannot be registered";
+    report_detail(alloc, errors, scene, "dialects", sentence, &error.err)
 }
 
-/// Writes the errors of a text whose roots were rejected, in a new context.
+/// Writes the errors of a text whose roots were rejected with this fault. The notes of its errors, and the errors after it, are found in a
+/// new context.
 fn report_roots<T: IrText<A>, A: AttrText<A>, D: Dialects<T, A>, E: Write>(
     alloc: Global,
     errors: &mut E,
     scene: Scene<'_>,
     text: &str,
-) {
+    fault: &ParseFault<A>,
+) -> io::Result<()> {
     let mut ctx = Context::new(alloc);
     match D::register(&mut ctx) {
-        Ok(()) => report_rejections(&mut ctx, errors, scene, text),
-        Err(error) => report_dialects(alloc, errors, scene, &error),
+        Ok(()) => report_rejections(&mut ctx, errors, scene, text, fault),
+        Err(error) => {
+            report_rejection(alloc, errors, scene, text, fault, &[])?;
+            report_dialects(alloc, errors, scene, &error)
+        }
     }
 }
 
@@ -65,10 +71,10 @@ fn report_text<T: IrText<A>, A: AttrText<A>, D: Dialects<T, A>, E: Write>(
     scene: Scene<'_>,
     text: &str,
     fault: &Fault<A>,
-) {
+) -> io::Result<()> {
     match fault {
         Fault::Memory => report_memory(alloc, errors, scene),
-        Fault::Rejected(_) => report_roots::<T, A, D, E>(alloc, errors, scene, text),
+        Fault::Rejected(fault) => report_roots::<T, A, D, E>(alloc, errors, scene, text, fault),
         Fault::Misfit(misfit) => report_misfit(alloc, errors, scene, text, misfit),
         Fault::TooDeep => {
             let message = "regions are nested too deep: an indentation does not fit 16 bits";
@@ -84,13 +90,36 @@ fn report_failure<T: IrText<A>, A: AttrText<A>, D: Dialects<T, A>, E: Write>(
     scene: Scene<'_>,
     text: &str,
     failure: &Failure<A>,
-) {
+) -> io::Result<()> {
     match failure {
         Failure::Input(fault) => report_input(alloc, errors, scene, fault),
         Failure::Dialects(error) => report_dialects(alloc, errors, scene, error),
         Failure::Text(fault) => report_text::<T, A, D, E>(alloc, errors, scene, text, fault),
         Failure::Unwritable(error) => report_output(alloc, errors, scene.form, error),
     }
+}
+
+/// Writes why an input was not formatted, if it was not.
+fn report_answer<T: IrText<A>, A: AttrText<A>, D: Dialects<T, A>, E: Write>(
+    alloc: Global,
+    errors: &mut E,
+    scene: Scene<'_>,
+    text: &str,
+    answer: &Result<(), Failure<A>>,
+) -> io::Result<()> {
+    match answer {
+        Ok(()) => Ok(()),
+        Err(failure) => report_failure::<T, A, D, E>(alloc, errors, scene, text, failure),
+    }
+}
+
+/// How the program ended.
+#[derive(Clone, Copy, Debug)]
+pub struct Ended {
+    /// The exit status.
+    pub status: u8,
+    /// Whether the errors took all that was written to them.
+    pub took: bool,
 }
 
 /// Formats standard input to standard output.
@@ -100,20 +129,21 @@ fn format_standard<T: IrText<A>, A: AttrText<A>, D: Dialects<T, A>, R: Read, W: 
     input: &mut R,
     output: &mut W,
     errors: &mut E,
-) -> u8
+) -> Ended
     ensures { Standard T.IrText.own A.IrText.own A.AttrText.own A.eq (D.registered []) (R.remaining input.old)
         (R.remaining input.new) (W.contents output.old) (W.contents output.new) (output.new ≡ output.old) result }
 {
     let mut text = String::new(alloc);
     let answer = format_input::<T, A, D, R, W>(alloc, input, WHOLE, &mut text, output);
-    if let Err(failure) = &answer {
-        let scene = Scene {
-            path: STANDARD_INPUT,
-            form,
-        };
-        report_failure::<T, A, D, E>(alloc, errors, scene, text.as_str(), failure);
+    let scene = Scene {
+        path: STANDARD_INPUT,
+        form,
+    };
+    let said = report_answer::<T, A, D, E>(alloc, errors, scene, text.as_str(), &answer);
+    Ended {
+        status: status_of_answer(&answer),
+        took: said.is_ok(),
     }
-    status_of_answer(&answer)
 }
 
 /// Whether the words ask for standard input to be formatted: `fmt`, alone or with `-`.
@@ -130,10 +160,21 @@ fn asks_for_standard(words: &[&str]) -> bool
 /// What became of a file.
 #[derive(Clone, Copy)]
 enum Done {
-    /// The status for it.
-    Status(u8),
-    /// Nothing more can be written to standard output.
-    Closed,
+    /// The status for it, and whether the errors took what was said of it.
+    Ended(Ended),
+    /// Nothing more can be written to standard output. Whether the errors took what was said of that.
+    Closed(bool),
+}
+
+/// What became of a file with this status, of which this was said.
+fn done(status: u8, said: io::Result<()>) -> Done
+    requires { status ≤ 3 }
+    ensures { IsStatus result }
+{
+    Done::Ended(Ended {
+        status,
+        took: said.is_ok(),
+    })
 }
 
 /// Writes a text to standard output. The status is the one for the file, if that succeeds.
@@ -149,11 +190,8 @@ fn put<W: Write, E: Write>(
     ensures { IsStatus result }
 {
     match write_text(output, text) {
-        Ok(()) => Done::Status(status),
-        Err(error) => {
-            report_output(alloc, errors, form, &error);
-            Done::Closed
-        }
+        Ok(()) => done(status, Ok(())),
+        Err(error) => Done::Closed(report_output(alloc, errors, form, &error).is_ok()),
     }
 }
 
@@ -161,8 +199,7 @@ fn put<W: Write, E: Write>(
 fn out_of_memory<E: Write>(alloc: Global, errors: &mut E, scene: Scene<'_>) -> Done
     ensures { IsStatus result }
 {
-    report_memory(alloc, errors, scene);
-    Done::Status(FAILED)
+    done(FAILED, report_memory(alloc, errors, scene))
 }
 
 /// Writes why a file was not written, if it was not, and returns the status.
@@ -170,16 +207,13 @@ fn written<E: Write>(
     alloc: Global,
     errors: &mut E,
     scene: Scene<'_>,
-    answer: std::io::Result<()>,
+    answer: io::Result<()>,
 ) -> Done
     ensures { IsStatus result }
 {
     match answer {
-        Ok(()) => Done::Status(DONE),
-        Err(error) => {
-            report_unwritable(alloc, errors, scene, &error);
-            Done::Status(FAILED)
-        }
+        Ok(()) => done(DONE, Ok(())),
+        Err(error) => done(FAILED, report_unwritable(alloc, errors, scene, &error)),
     }
 }
 
@@ -196,7 +230,7 @@ fn show_diff<W: Write, E: Write>(
 {
     let mut lines = String::new(alloc);
     match write_unified(alloc, (scene.path, scene.path), text, formatted, &mut lines) {
-        Ok(false) => Done::Status(DONE),
+        Ok(false) => done(DONE, Ok(())),
         Ok(true) => put(alloc, scene.form, lines.as_str(), REJECTED, output, errors),
         Err(AllocError) => out_of_memory(alloc, errors, scene),
     }
@@ -218,17 +252,12 @@ fn deliver<F: Files, W: Write, E: Write>(
     match target {
         Target::Output => put(alloc, scene.form, formatted, DONE, output, errors),
         Target::Diff => show_diff(alloc, scene, text, formatted, output, errors),
-        Target::InPlace | Target::Check if text == formatted => Done::Status(DONE),
+        Target::InPlace | Target::Check if text == formatted => done(DONE, Ok(())),
         Target::InPlace => written(alloc, errors, scene, files.replace(scene.path, formatted)),
         Target::Check => {
-            report_file(
-                alloc,
-                errors,
-                scene,
-                "not-formatted",
-                "the file is not formatted",
-            );
-            Done::Status(REJECTED)
+            let message = "the file is not formatted";
+            let said = report_file(alloc, errors, scene, "not-formatted", message);
+            done(REJECTED, said)
         }
         Target::File(path) => {
             let scene = Scene {
@@ -296,8 +325,8 @@ fn work_on_text<T: IrText<A>, A: AttrText<A>, D: Dialects<T, A>, F: Files, W: Wr
     let made = match result_of::<T, A, D>(alloc, scene.path, text, task) {
         Ok(made) => made,
         Err(failure) => {
-            report_failure::<T, A, D, E>(alloc, errors, scene, text, &failure);
-            return Done::Status(status_of(&failure));
+            let said = report_failure::<T, A, D, E>(alloc, errors, scene, text, &failure);
+            return done(status_of(&failure), said);
         }
     };
     match task {
@@ -312,7 +341,7 @@ fn work_on_text<T: IrText<A>, A: AttrText<A>, D: Dialects<T, A>, F: Files, W: Wr
                 errors,
             )
         }
-        Task::Check => Done::Status(DONE),
+        Task::Check => done(DONE, Ok(())),
         Task::Stats => put(alloc, scene.form, made.as_str(), DONE, output, errors),
     }
 }
@@ -368,13 +397,13 @@ fn work_on_file<
             )
         }
         Err(fault) => {
-            report_input(alloc, errors, scene, &fault);
-            Done::Status(status_of_input(&fault))
+            let said = report_input(alloc, errors, scene, &fault);
+            done(status_of_input(&fault), said)
         }
     }
 }
 
-/// Does what is asked for with each file, up to one whose output cannot be written. Returns the greatest status.
+/// Does what is asked for with each file, up to one whose output cannot be written. The status is the greatest of theirs.
 fn work<T: IrText<A>, A: AttrText<A>, D: Dialects<T, A>, F: Files, R: Read, W: Write, E: Write>(
     alloc: Global,
     request: &Request<'_>,
@@ -382,49 +411,94 @@ fn work<T: IrText<A>, A: AttrText<A>, D: Dialects<T, A>, F: Files, R: Read, W: W
     input: &mut R,
     output: &mut W,
     errors: &mut E,
-) -> u8
-    ensures { result ≤ 3 }
+) -> Ended
+    ensures { result.status ≤ 3 }
 {
-    let mut status = DONE;
+    let (mut status, mut took) = (DONE, true);
     for path in request.files.iter() {
         match work_on_file::<T, A, D, F, R, W, E>(
             alloc, request, *path, files, input, output, errors,
         ) {
-            Done::Status(one) => status = status.max(one),
-            Done::Closed => return FAILED,
+            Done::Ended(one) => {
+                status = status.max(one.status);
+                took = took && one.took;
+            }
+            Done::Closed(told) => {
+                return Ended {
+                    status: FAILED,
+                    took: took && told,
+                };
+            }
         }
     }
-    status
+    Ended { status, took }
 }
 
-/// Says why nothing is done: help or the version to the output, and what is wrong with the words to the errors. Returns the status.
+/// Says why nothing is done: help or the version to the output, and what is wrong with the words to the errors.
 fn say<W: Write, E: Write>(
     alloc: Global,
     about: &About<'_>,
     answer: &Answer,
     output: &mut W,
     errors: &mut E,
-) -> u8
-    ensures { result ≤ 3 }
+) -> Ended
+    ensures { result.status ≤ 3 }
 {
     let form = Form::Text(style_of(about.coloured));
     match answer {
         Answer::Shown(text) => match put(alloc, form, text.as_str(), DONE, output, errors) {
-            Done::Status(status) => status,
-            Done::Closed => FAILED,
+            Done::Ended(ended) => ended,
+            Done::Closed(took) => Ended {
+                status: FAILED,
+                took,
+            },
         },
-        Answer::Wrong(text) => {
-            let _ = errors.write_all(text.as_str().as_bytes());
-            WRONG_WORDS
-        }
+        Answer::Wrong(text) => Ended {
+            status: WRONG_WORDS,
+            took: errors.write_all(text.as_str().as_bytes()).is_ok(),
+        },
         Answer::Memory => {
             let scene = Scene {
                 path: about.name,
                 form,
             };
-            report_memory(alloc, errors, scene);
-            FAILED
+            Ended {
+                status: FAILED,
+                took: report_memory(alloc, errors, scene).is_ok(),
+            }
         }
+    }
+}
+
+/// Does what `run` does, and returns in addition whether the errors took all that was written to them.
+pub fn run_to_end<
+    T: IrText<A>,
+    A: AttrText<A>,
+    D: Dialects<T, A>,
+    F: Files,
+    R: Read,
+    W: Write,
+    E: Write,
+>(
+    alloc: Global,
+    about: &About<'_>,
+    words: &[&str],
+    files: &F,
+    input: &mut R,
+    output: &mut W,
+    errors: &mut E,
+) -> Ended
+    ensures standard { asks_for_standard (map (λ word. word.now) words.now) ≡ true → Standard T.IrText.own A.IrText.own
+        A.AttrText.own A.eq (D.registered []) (R.remaining input.old) (R.remaining input.new) (W.contents output.old)
+        (W.contents output.new) (output.new ≡ output.old) result }
+{
+    if asks_for_standard(words) {
+        let form = Form::Text(style_of(about.coloured));
+        return format_standard::<T, A, D, R, W, E>(alloc, form, input, output, errors);
+    }
+    match parse_words(alloc, about, words) {
+        Ok(request) => work::<T, A, D, F, R, W, E>(alloc, &request, files, input, output, errors),
+        Err(other) => say(alloc, about, &other, output, errors),
     }
 }
 
@@ -442,16 +516,9 @@ pub fn run<T: IrText<A>, A: AttrText<A>, D: Dialects<T, A>, F: Files, R: Read, W
     output: &mut W,
     errors: &mut E,
 ) -> u8
-    ensures standard { asks_for_standard (map (λ word. word.now) words.now) ≡ true → Standard T.IrText.own A.IrText.own
+    ensures standard { asks_for_standard (map (λ word. word.now) words.now) ≡ true → (took : Bool) × Standard T.IrText.own A.IrText.own
         A.AttrText.own A.eq (D.registered []) (R.remaining input.old) (R.remaining input.new) (W.contents output.old)
         (W.contents output.new) (output.new ≡ output.old) result }
 {
-    if asks_for_standard(words) {
-        let form = Form::Text(style_of(about.coloured));
-        return format_standard::<T, A, D, R, W, E>(alloc, form, input, output, errors);
-    }
-    match parse_words(alloc, about, words) {
-        Ok(request) => work::<T, A, D, F, R, W, E>(alloc, &request, files, input, output, errors),
-        Err(other) => say(alloc, about, &other, output, errors),
-    }
+    run_to_end::<T, A, D, F, R, W, E>(alloc, about, words, files, input, output, errors).status
 }
