@@ -11,10 +11,14 @@ use Rattle.irtext_tool.specs.declared.about.Form.{Form}
 use Rattle.irtext_tool.specs.declared.about.Form.TheVariants as form
 use Rattle.irtext_tool.specs.declared.report.Report.{Report}
 
--- notes in a style, one after the other
+-- a note in a style
+abbrev pub note_bytes : Style → Diagnostic → List ℕ
+note_bytes style note = styled_bytes style note.severity note.path.now note.place note.message.now
+
+-- notes, one after the other
 abbrev pub notes_bytes : Style → List Diagnostic → List ℕ
 notes_bytes style [] = []
-notes_bytes style (note ∷ notes) = styled_bytes style note.severity note.path.now note.place note.message.now ++ notes_bytes style notes
+notes_bytes style (note ∷ notes) = note_bytes style note ++ notes_bytes style notes
 
 -- a message in a form, with its notes: after it, or in the one line of JSON that has it, with its cause and its name
 abbrev pub said_bytes : Form → Severity → List ℕ → Option Excerpt → List ℕ → List ℕ → Option (Bor (List ℕ)) → List Diagnostic → List ℕ

@@ -1,9 +1,10 @@
 //! All rejected roots of a text: each is reported once, and the root after it is sought.
-ghost use Rattle.std.specs.Prelude.{◌≡◌};
+ghost use Rattle.std.specs.Prelude.{◌≡◌, OnOk};
 ghost use Rattle.irtext_formatter.specs.Stands.{IsReady};
+ghost use Rattle.irtext_tool.specs.Told.{Writes, WritesMore, TellsRejection, TellsRejected};
 
 use crate::hints::hint_for;
-use crate::report::{Report, Scene, diagnostic, made_or, report_memory, write_report};
+use crate::report::{Report, Scene, diagnostic, made_or, place_in, report_memory, write_report};
 use crate::second_look::{RejectedRoot, stream_at};
 use irtext_base::parsable::{
     ParseFault, ParserNameTrackerError, Place, SourcePosition, UnresolvedReference,
@@ -246,69 +247,104 @@ fn look_at<T: IrText<A>, A: AttrText<A>>(
 fn noted<'a>(
     alloc: Global,
     text: &'a str,
-    scene: Scene<'a>,
+    path: &'a str,
     notes: &'a Notes,
 ) -> Result<Vec<Diagnostic<'a>>, AllocError> {
     let mut said = Vec::new(alloc);
     if let Some((position, what)) = notes.place {
         let place = Excerpt { text, position };
-        said.push(diagnostic(Severity::Note, scene.path, Some(place), what))?;
+        said.push(diagnostic(Severity::Note, path, Some(place), what))?;
     }
     if let Some(hint) = &notes.hint {
-        said.push(diagnostic(Severity::Note, scene.path, None, hint.as_str()))?;
+        said.push(diagnostic(Severity::Note, path, None, hint.as_str()))?;
     }
     if notes.unread {
-        said.push(diagnostic(Severity::Note, scene.path, None, UNREAD))?;
+        said.push(diagnostic(Severity::Note, path, None, UNREAD))?;
     }
     Ok(said)
 }
 
-/// Writes the error of a rejected root, with these notes.
-pub fn report_rejection<A, E: Write>(
+/// Returns the name of a cause, if it has one and there was memory for it.
+fn name_in(made: &Result<Option<String>, AllocError>) -> Option<&str> {
+    match made {
+        Ok(Some(name)) => Some(name.as_str()),
+        _ => None,
+    }
+}
+
+/// Writes the error of a rejected root and its notes, or the error alone if there is no memory for them.
+fn report_rejection<A, E: Write>(
     alloc: Global,
     errors: &mut E,
     scene: Scene<'_>,
     text: &str,
     fault: &ParseFault<A>,
-    notes: &[Diagnostic<'_>],
-) -> io::Result<()> {
+    notes: Notes,
+) -> io::Result<()>
+    ensures { OnOk result (Writes (E.contents errors.old) (E.contents errors.new)
+        (TellsRejection scene.entry.form scene.entry.path.now text.now fault.now)) }
+{
     let cause = innermost(&fault.cause);
-    let message = format!(in alloc; "{cause}");
+    let made = format!(in alloc; "{cause}");
     let name = cause_name(alloc, cause);
-    let place = Excerpt {
-        text,
-        position: fault.pos,
-    };
-    let message = made_or(&message, cause_word(cause));
+    let said = noted(alloc, text, scene.path, &notes).unwrap_or(Vec::new(alloc));
+    let word = cause_word(cause);
+    let message = made_or(&made, word);
+    let place = place_in(text, Some(fault.pos));
     let report = Report {
-        diagnostic: diagnostic(Severity::Error, scene.path, Some(place), message),
-        cause: cause_word(cause),
-        name: match &name {
-            Ok(Some(name)) => Some(name.as_str()),
-            _ => None,
+        diagnostic: Diagnostic {
+            severity: Severity::Error,
+            path: scene.path,
+            place,
+            message,
         },
-        notes,
+        cause: word,
+        name: name_in(&name),
+        notes: said.as_slice(),
     };
     write_report(alloc, errors, scene.form, &report)
 }
 
-/// Writes the error of a rejected root and its notes, or the error alone if there is no memory for them.
-fn report_noted<A, E: Write>(
+/// Writes the error of a rejected root that was looked at, and returns where the next one begins.
+fn report_look<A, E: Write>(
     alloc: Global,
     errors: &mut E,
     scene: Scene<'_>,
     text: &str,
     fault: &ParseFault<A>,
-    notes: &Notes,
-) -> io::Result<()> {
-    match noted(alloc, text, scene, notes) {
-        Ok(said) => report_rejection(alloc, errors, scene, text, fault, said.as_slice()),
-        Err(AllocError) => report_rejection(alloc, errors, scene, text, fault, &[]),
-    }
+    look: Look,
+) -> io::Result<Next>
+    ensures { OnOk result (Writes (E.contents errors.old) (E.contents errors.new)
+        (TellsRejection scene.entry.form scene.entry.path.now text.now fault.now)) }
+{
+    let Look { notes, next } = look;
+    report_rejection(alloc, errors, scene, text, fault, notes)?;
+    Ok(next)
+}
+
+/// Writes the error of a rejected root without notes.
+pub fn report_alone<A, E: Write>(
+    alloc: Global,
+    errors: &mut E,
+    scene: Scene<'_>,
+    text: &str,
+    fault: &ParseFault<A>,
+) -> io::Result<()>
+    ensures { OnOk result (Writes (E.contents errors.old) (E.contents errors.new)
+        (TellsRejection scene.entry.form scene.entry.path.now text.now fault.now)) }
+{
+    let none = Notes {
+        place: None,
+        hint: None,
+        unread: false,
+    };
+    report_rejection(alloc, errors, scene, text, fault, none)
 }
 
 /// Writes that there may be more errors than are reported.
-fn report_limit<E: Write>(alloc: Global, errors: &mut E, scene: Scene<'_>) -> io::Result<()> {
+fn report_limit<E: Write>(alloc: Global, errors: &mut E, scene: Scene<'_>) -> io::Result<()>
+    ensures { OnOk result (WritesMore (E.contents errors.old) (E.contents errors.new)) }
+{
     let report = Report {
         diagnostic: diagnostic(Severity::Note, scene.path, None, LIMIT),
         cause: "limit",
@@ -359,13 +395,12 @@ fn report_next<T: IrText<A>, A: AttrText<A>, E: Write>(
     scene: Scene<'_>,
     text: &str,
     from: SourcePosition,
-) -> io::Result<Next> {
+) -> io::Result<Next>
+    ensures { OnOk result (WritesMore (E.contents errors.old) (E.contents errors.new)) }
+{
     let alloc = ctx.allocator();
     match next_look(ctx, text, from) {
-        Ok(Some((fault, look))) => {
-            report_noted(alloc, errors, scene, text, &fault, &look.notes)?;
-            Ok(look.next)
-        }
+        Ok(Some((fault, look))) => report_look(alloc, errors, scene, text, &fault, look),
         Ok(None) => Ok(Next::Unknown),
         Err(AllocError) => {
             report_memory(alloc, errors, scene)?;
@@ -381,7 +416,9 @@ fn report_others<T: IrText<A>, A: AttrText<A>, E: Write>(
     scene: Scene<'_>,
     text: &str,
     next: Next,
-) -> io::Result<()> {
+) -> io::Result<()>
+    ensures { OnOk result (WritesMore (E.contents errors.old) (E.contents errors.new)) }
+{
     let mut next = next;
     for _turn in 1..MOST_ERRORS {
         match next {
@@ -408,16 +445,19 @@ pub fn report_rejections<T: IrText<A>, A: AttrText<A>, E: Write>(
     scene: Scene<'_>,
     text: &str,
     fault: &ParseFault<A>,
-) -> io::Result<()> {
+) -> io::Result<()>
+    ensures { OnOk result (Writes (E.contents errors.old) (E.contents errors.new)
+        (TellsRejected scene.entry.form scene.entry.path.now text.now fault.now)) }
+{
     let alloc = ctx.allocator();
     match first_look(ctx, text, fault) {
         Ok(Some(look)) => {
-            report_noted(alloc, errors, scene, text, fault, &look.notes)?;
-            report_others(ctx, errors, scene, text, look.next)
+            let next = report_look(alloc, errors, scene, text, fault, look)?;
+            report_others(ctx, errors, scene, text, next)
         }
-        Ok(None) => report_rejection(alloc, errors, scene, text, fault, &[]),
+        Ok(None) => report_alone(alloc, errors, scene, text, fault),
         Err(AllocError) => {
-            report_rejection(alloc, errors, scene, text, fault, &[])?;
+            report_alone(alloc, errors, scene, text, fault)?;
             report_memory(alloc, errors, scene)
         }
     }

@@ -2,12 +2,18 @@
 //!
 //! A call that writes returns whether the errors took all of it. Memory that runs out changes no error into another one: the text of an
 //! error is written in pieces where there is no room for the whole, and a message that cannot be made gives way to a shorter one.
-ghost use Rattle.std.specs.Prelude.{◌≡◌, Some, OnOk, IfOk, IfErr, string_bytes, IsUtf8, ⊥};
+ghost use Rattle.std.specs.Prelude.{◌≡◌, ◌++◌, Some, None, [], codes, OnOk, IfOk, IfSome, string_bytes, ℕ, List};
 ghost use Rattle.std.specs.Fmt.{WritesOnOk};
 ghost use Rattle.std.specs.Io.KnownBytes.{Appends};
-ghost use Rattle.irtext_tool.specs.Reports.{notes_bytes, report_bytes};
+ghost use Rattle.std.specs.IoError.{error_kind};
+ghost use Rattle.std.specs.declared.io.ErrorKind.TheVariants.{BrokenPipe};
+ghost use Rattle.irtext_diagnostics.specs.declared.messages.Severity.TheVariants as severity;
+ghost use Rattle.irtext_tool.specs.Reports.{note_bytes, notes_bytes, report_bytes, said_bytes};
+ghost use Rattle.irtext_tool.specs.Told.{made_or, HasDetail, IsPlaced, Writes, IsAbout, IsMemory};
+ghost use Rattle.irtext_tool.specs.Told.{TellsNotUtf8, TellsInput, TellsMisfit, TellsOutput};
 
 use crate::about::{Form, STANDARD_OUTPUT};
+use irtext_base::parsable::SourcePosition;
 use irtext_diagnostics::{Diagnostic, JsonLine, Severity, Style, invalid_utf8};
 use irtext_excerpt::Excerpt;
 use irtext_formatter::input::InputFault;
@@ -50,8 +56,28 @@ pub fn diagnostic<'a>(
     }
 }
 
+/// Returns the place of a position in a text, if there is one.
+pub fn place_in<'a>(text: &'a str, position: Option<SourcePosition>) -> Option<Excerpt<'a>>
+    ensures { IsPlaced text.now position result }
+{
+    match position {
+        Some(position) => Some(Excerpt { text, position }),
+        None => None,
+    }
+}
+
+/// Returns a text that was made, if there was memory for it.
+fn made(text: &Result<String, AllocError>) -> Option<&str> {
+    match text {
+        Ok(text) => Some(text.as_str()),
+        Err(AllocError) => None,
+    }
+}
+
 /// Returns a text that was made, or another one if there was no memory for it.
-pub fn made_or<'a>(made: &'a Result<String, AllocError>, otherwise: &'a str) -> &'a str {
+pub fn made_or<'a>(made: &'a Result<String, AllocError>, otherwise: &'a str) -> &'a str
+    ensures { result.now ≡ made_or made.now otherwise.now }
+{
     match made {
         Ok(text) => text.as_str(),
         Err(AllocError) => otherwise,
@@ -103,10 +129,21 @@ fn fmt_notes<W: fmt::Write>(
     ensures { WritesOnOk W.write_str_gives f.old result (notes_bytes style notes.now) f.new }
 {
     for note in notes {
-        let note = note.styled(style);
-        write!(f, "{note}")?;
+        fmt_note(style, note, f)?;
     }
     Ok(())
+}
+
+/// Appends a note.
+fn fmt_note<W: fmt::Write>(
+    style: Style,
+    note: &Diagnostic<'_>,
+    f: &mut fmt::Formatter<W>,
+) -> fmt::Result
+    ensures { WritesOnOk W.write_str_gives f.old result (note_bytes style note.now) f.new }
+{
+    let note = note.styled(style);
+    write!(f, "{note}")
 }
 
 /// Writes an error with its notes, at once if there is memory for its text. On an error of the writer a part of it may have been written.
@@ -129,15 +166,23 @@ pub fn write_report<E: Write>(
 }
 
 /// Writes an error about a file as a whole.
-pub fn report_file<E: Write>(
+pub fn report_file<'a, E: Write>(
     alloc: Global,
     errors: &mut E,
-    scene: Scene<'_>,
-    cause: &str,
-    message: &str,
-) -> io::Result<()> {
+    scene: Scene<'a>,
+    cause: &'a str,
+    message: &'a str,
+) -> io::Result<()>
+    ensures { OnOk result (Appends (E.contents errors.old) (E.contents errors.new)
+        (said_bytes scene.entry.form severity.Error scene.entry.path.now None message.now cause.now None [])) }
+{
     let report = Report {
-        diagnostic: diagnostic(Severity::Error, scene.path, None, message),
+        diagnostic: Diagnostic {
+            severity: Severity::Error,
+            path: scene.path,
+            place: None,
+            message,
+        },
         cause,
         name: None,
         notes: &[],
@@ -146,12 +191,17 @@ pub fn report_file<E: Write>(
 }
 
 /// Writes that memory ran out.
-pub fn report_memory<E: Write>(alloc: Global, errors: &mut E, scene: Scene<'_>) -> io::Result<()> {
+pub fn report_memory<E: Write>(alloc: Global, errors: &mut E, scene: Scene<'_>) -> io::Result<()>
+    ensures { OnOk result (Writes (E.contents errors.old) (E.contents errors.new) (IsMemory scene.entry.form scene.entry.path.now)) }
+{
     report_file(alloc, errors, scene, "memory", "out of memory")
 }
 
 /// Returns a sentence, and what it is about after a colon.
-fn detailed<D: Display>(alloc: Global, sentence: &str, detail: &D) -> Result<String, AllocError> {
+fn detailed<D: Display>(alloc: Global, sentence: &str, detail: &D) -> Result<String, AllocError>
+    ensures { IfOk result (λ made. (text : List ℕ) × IfSome (D.output detail.now) (λ d. text ≡ d)
+        × (string_bytes made ≡ sentence.now ++ (codes ": " ++ text))) }
+{
     let detail = format!(in alloc; "{detail}")?;
     format!(in alloc; "{sentence}: {detail}")
 }
@@ -164,7 +214,10 @@ pub fn report_detail<D: Display, E: Write>(
     cause: &str,
     sentence: &str,
     detail: &D,
-) -> io::Result<()> {
+) -> io::Result<()>
+    ensures { OnOk result (Writes (E.contents errors.old) (E.contents errors.new)
+        (IsAbout scene.entry.form scene.entry.path.now cause.now (HasDetail sentence.now (D.output detail.now)))) }
+{
     let message = detailed(alloc, sentence, detail);
     report_file(alloc, errors, scene, cause, made_or(&message, sentence))
 }
@@ -175,24 +228,24 @@ fn report_bytes<E: Write>(
     errors: &mut E,
     scene: Scene<'_>,
     bytes: &[u8],
-) -> io::Result<()> {
+) -> io::Result<()>
+    ensures { OnOk result (Writes (E.contents errors.old) (E.contents errors.new)
+        (TellsNotUtf8 scene.entry.form scene.entry.path.now bytes.now)) }
+{
     let sentence = "the text is not UTF-8";
     let Some(found) = invalid_utf8(bytes) else {
         return report_file(alloc, errors, scene, "not-utf8", sentence);
     };
     let byte = found.byte;
-    let message = format!(in alloc; "the text is not UTF-8: byte 0x{byte:02x}");
-    let place = Excerpt {
-        text: found.valid,
-        position: found.position,
-    };
+    let message = format!(in alloc; "the text is not UTF-8: byte 0x{byte:x}");
+    let place = place_in(found.valid, Some(found.position));
     let report = Report {
-        diagnostic: diagnostic(
-            Severity::Error,
-            scene.path,
-            Some(place),
-            made_or(&message, sentence),
-        ),
+        diagnostic: Diagnostic {
+            severity: Severity::Error,
+            path: scene.path,
+            place,
+            message: made_or(&message, sentence),
+        },
         cause: "not-utf8",
         name: None,
         notes: &[],
@@ -206,7 +259,10 @@ pub fn report_input<E: Write>(
     errors: &mut E,
     scene: Scene<'_>,
     fault: &InputFault,
-) -> io::Result<()> {
+) -> io::Result<()>
+    ensures { OnOk result (Writes (E.contents errors.old) (E.contents errors.new)
+        (TellsInput scene.entry.form scene.entry.path.now fault.now)) }
+{
     match fault {
         InputFault::Memory => report_memory(alloc, errors, scene),
         InputFault::Unreadable(error) => report_unreadable(alloc, errors, scene, error),
@@ -220,7 +276,10 @@ pub fn report_unreadable<E: Write>(
     errors: &mut E,
     scene: Scene<'_>,
     error: &io::Error,
-) -> io::Result<()> {
+) -> io::Result<()>
+    ensures { OnOk result (Writes (E.contents errors.old) (E.contents errors.new)
+        (IsAbout scene.entry.form scene.entry.path.now (codes "unreadable") (HasDetail (codes "cannot be read") None))) }
+{
     report_detail(alloc, errors, scene, "unreadable", "cannot be read", error)
 }
 
@@ -230,7 +289,10 @@ pub fn report_unwritable<E: Write>(
     errors: &mut E,
     scene: Scene<'_>,
     error: &io::Error,
-) -> io::Result<()> {
+) -> io::Result<()>
+    ensures { OnOk result (Writes (E.contents errors.old) (E.contents errors.new)
+        (IsAbout scene.entry.form scene.entry.path.now (codes "unwritable") (HasDetail (codes "cannot be written") None))) }
+{
     report_detail(
         alloc,
         errors,
@@ -247,7 +309,10 @@ pub fn report_output<E: Write>(
     errors: &mut E,
     form: Form,
     error: &io::Error,
-) -> io::Result<()> {
+) -> io::Result<()>
+    ensures told { OnOk result (Writes (E.contents errors.old) (E.contents errors.new) (TellsOutput form error.now)) }
+    ensures silent { error_kind error.now ≡ BrokenPipe → errors.new ≡ errors.old }
+{
     match error.kind() {
         io::ErrorKind::BrokenPipe => Ok(()),
         _ => {
@@ -267,21 +332,26 @@ pub fn report_misfit<E: Write>(
     scene: Scene<'_>,
     text: &str,
     misfit: &Misfit,
-) -> io::Result<()> {
+) -> io::Result<()>
+    ensures { OnOk result (Writes (E.contents errors.old) (E.contents errors.new)
+        (TellsMisfit scene.entry.form scene.entry.path.now text.now misfit.now)) }
+{
     let name = format!(in alloc; "{}", misfit.id);
     let message = format!(in alloc;
         "Operation {} does not fit its format: {}",
         misfit.id, misfit.reason
     );
-    let place = misfit.position.map(|position| Excerpt { text, position });
+    let place = place_in(text, misfit.position);
     let message = made_or(&message, "an operation does not fit its format");
     let report = Report {
-        diagnostic: diagnostic(Severity::Error, scene.path, place, message),
-        cause: "misfit",
-        name: match &name {
-            Ok(name) => Some(name.as_str()),
-            Err(AllocError) => None,
+        diagnostic: Diagnostic {
+            severity: Severity::Error,
+            path: scene.path,
+            place,
+            message,
         },
+        cause: "misfit",
+        name: made(&name),
         notes: &[],
     };
     write_report(alloc, errors, scene.form, &report)

@@ -1,11 +1,15 @@
 //! The body of the program: from its words, its files and its streams to its exit status.
-ghost use Rattle.std.specs.Prelude.{◌≡◌, ◌≤◌, [], map, true};
+ghost use Rattle.std.specs.Prelude.{◌≡◌, ◌≤◌, [], Bool, codes, map, true, Some, OnOk, IfErr};
+ghost use Rattle.irtext_base.specs.Causes.{cause_text};
 ghost use Rattle.irtext_tool.specs.Standard.{asks_for_standard, Standard};
 ghost use Rattle.irtext_tool.specs.Statuses.{IsStatus};
+ghost use Rattle.irtext_tool.specs.Styles.{style_of};
+ghost use Rattle.irtext_tool.specs.Told.{Writes, IsAbout, HasDetail, IsQuiet, IsSilent, Tells, TellsRejected, TellsText};
+ghost use Rattle.irtext_tool.specs.declared.about.Form.TheVariants as form;
 
 use crate::about::{About, Form, STANDARD_INPUT, style_of};
 use crate::files::Files;
-use crate::recovery::{report_rejection, report_rejections};
+use crate::recovery::{report_alone, report_rejections};
 use crate::report::{
     Scene, report_detail, report_file, report_input, report_memory, report_misfit, report_output,
     report_unwritable,
@@ -40,7 +44,11 @@ fn report_dialects<A, E: Write>(
     errors: &mut E,
     scene: Scene<'_>,
     error: &result::Error<A>,
-) -> io::Result<()> {
+) -> io::Result<()>
+    ensures { OnOk result (Writes (E.contents errors.old) (E.contents errors.new)
+        (IsAbout scene.entry.form scene.entry.path.now (codes "dialects")
+        (HasDetail (codes "the dialects of this program cannot be registered") (Some (cause_text error.now.err))))) }
+{
     let sentence = "the dialects of this program cannot be registered";
     report_detail(alloc, errors, scene, "dialects", sentence, &error.err)
 }
@@ -53,12 +61,15 @@ fn report_roots<T: IrText<A>, A: AttrText<A>, D: Dialects<T, A>, E: Write>(
     scene: Scene<'_>,
     text: &str,
     fault: &ParseFault<A>,
-) -> io::Result<()> {
+) -> io::Result<()>
+    ensures { OnOk result (Writes (E.contents errors.old) (E.contents errors.new)
+        (TellsRejected scene.entry.form scene.entry.path.now text.now fault.now)) }
+{
     let mut ctx = Context::new(alloc);
     match D::register(&mut ctx) {
         Ok(()) => report_rejections(&mut ctx, errors, scene, text, fault),
         Err(error) => {
-            report_rejection(alloc, errors, scene, text, fault, &[])?;
+            report_alone(alloc, errors, scene, text, fault)?;
             report_dialects(alloc, errors, scene, &error)
         }
     }
@@ -71,7 +82,10 @@ fn report_text<T: IrText<A>, A: AttrText<A>, D: Dialects<T, A>, E: Write>(
     scene: Scene<'_>,
     text: &str,
     fault: &Fault<A>,
-) -> io::Result<()> {
+) -> io::Result<()>
+    ensures { OnOk result (Writes (E.contents errors.old) (E.contents errors.new)
+        (TellsText scene.entry.form scene.entry.path.now text.now fault.now)) }
+{
     match fault {
         Fault::Memory => report_memory(alloc, errors, scene),
         Fault::Rejected(fault) => report_roots::<T, A, D, E>(alloc, errors, scene, text, fault),
@@ -90,7 +104,11 @@ fn report_failure<T: IrText<A>, A: AttrText<A>, D: Dialects<T, A>, E: Write>(
     scene: Scene<'_>,
     text: &str,
     failure: &Failure<A>,
-) -> io::Result<()> {
+) -> io::Result<()>
+    ensures told { OnOk result (Writes (E.contents errors.old) (E.contents errors.new)
+        (Tells scene.entry.form scene.entry.path.now text.now failure.now)) }
+    ensures silent { IsQuiet failure.now (errors.new ≡ errors.old) }
+{
     match failure {
         Failure::Input(fault) => report_input(alloc, errors, scene, fault),
         Failure::Dialects(error) => report_dialects(alloc, errors, scene, error),
@@ -106,7 +124,11 @@ fn report_answer<T: IrText<A>, A: AttrText<A>, D: Dialects<T, A>, E: Write>(
     scene: Scene<'_>,
     text: &str,
     answer: &Result<(), Failure<A>>,
-) -> io::Result<()> {
+) -> io::Result<()>
+    ensures told { OnOk result (IfErr answer.now (λ failure. Writes (E.contents errors.old) (E.contents errors.new)
+        (Tells scene.entry.form scene.entry.path.now text.now failure))) }
+    ensures silent { IsSilent answer.now (errors.new ≡ errors.old) }
+{
     match answer {
         Ok(()) => Ok(()),
         Err(failure) => report_failure::<T, A, D, E>(alloc, errors, scene, text, failure),
@@ -131,7 +153,8 @@ fn format_standard<T: IrText<A>, A: AttrText<A>, D: Dialects<T, A>, R: Read, W: 
     errors: &mut E,
 ) -> Ended
     ensures { Standard T.IrText.own A.IrText.own A.AttrText.own A.eq (D.registered []) (R.remaining input.old)
-        (R.remaining input.new) (W.contents output.old) (W.contents output.new) (output.new ≡ output.old) result }
+        (R.remaining input.new) (W.contents output.old) (W.contents output.new) (output.new ≡ output.old) form
+        (E.contents errors.old) (E.contents errors.new) (errors.new ≡ errors.old) result.took result.status }
 {
     let mut text = String::new(alloc);
     let answer = format_input::<T, A, D, R, W>(alloc, input, WHOLE, &mut text, output);
@@ -490,7 +513,8 @@ pub fn run_to_end<
 ) -> Ended
     ensures standard { asks_for_standard (map (λ word. word.now) words.now) ≡ true → Standard T.IrText.own A.IrText.own
         A.AttrText.own A.eq (D.registered []) (R.remaining input.old) (R.remaining input.new) (W.contents output.old)
-        (W.contents output.new) (output.new ≡ output.old) result }
+        (W.contents output.new) (output.new ≡ output.old) (form.Text (style_of about.now.coloured))
+        (E.contents errors.old) (E.contents errors.new) (errors.new ≡ errors.old) result.took result.status }
 {
     if asks_for_standard(words) {
         let form = Form::Text(style_of(about.coloured));
@@ -506,7 +530,8 @@ pub fn run_to_end<
 /// the words are wrong; 3 if input or output failed, or memory ran out. All files are worked on, and the greatest status is returned.
 ///
 /// With the one word `fmt`, or with `fmt -`, it formats standard input to standard output as `format_input` does: the status is 0 exactly
-/// if that succeeds, and nothing else is written to the output.
+/// if that succeeds, and nothing else is written to the output. Why it fails is written to the errors: the fault at its place, before
+/// anything else. On a success nothing is written to them. If they fail the status is the same.
 pub fn run<T: IrText<A>, A: AttrText<A>, D: Dialects<T, A>, F: Files, R: Read, W: Write, E: Write>(
     alloc: Global,
     about: &About<'_>,
@@ -516,9 +541,11 @@ pub fn run<T: IrText<A>, A: AttrText<A>, D: Dialects<T, A>, F: Files, R: Read, W
     output: &mut W,
     errors: &mut E,
 ) -> u8
-    ensures standard { asks_for_standard (map (λ word. word.now) words.now) ≡ true → (took : Bool) × Standard T.IrText.own A.IrText.own
-        A.AttrText.own A.eq (D.registered []) (R.remaining input.old) (R.remaining input.new) (W.contents output.old)
-        (W.contents output.new) (output.new ≡ output.old) result }
+    ensures standard { asks_for_standard (map (λ word. word.now) words.now) ≡ true → (took : Bool) × Standard T.IrText.own
+        A.IrText.own A.AttrText.own A.eq (D.registered []) (R.remaining input.old) (R.remaining input.new)
+        (W.contents output.old) (W.contents output.new) (output.new ≡ output.old)
+        (form.Text (style_of about.now.coloured)) (E.contents errors.old) (E.contents errors.new)
+        (errors.new ≡ errors.old) took result }
 {
     run_to_end::<T, A, D, F, R, W, E>(alloc, about, words, files, input, output, errors).status
 }
