@@ -11,7 +11,7 @@ use Rattle.irtext_diagnostics.specs.declared.messages.Severity.TheVariants as se
 use Rattle.irtext_excerpt.specs.declared.Excerpt.{Excerpt}
 use Rattle.irtext_stream.specs.declared.position.SourcePosition.{SourcePosition}
 use Rattle.irtext_tool.specs.Reports.{said_bytes}
-use Rattle.irtext_tool.specs.Told.{made_or, Is, HasDetail, Writes, WritesMore, IsPlaced, IsAbout, IsAt, TellsRejection, TellsRejected}
+use Rattle.irtext_tool.specs.Told.{made_or, IsOr, HasDetail, Writes, WritesMore, IsPlaced, IsAbout, IsAt, TellsRejection, TellsRejected}
 use Rattle.irtext_tool.specs.declared.about.Form.{Form}
 
 -- what was appended on a success is what is said
@@ -41,7 +41,7 @@ module _ {E : Type 0} (before after : Option (List ℕ)) (r : Result (Unit {0}) 
       (record { place = place; placed = placed; name = name; notes = notes; error = record { message = message; says = says; is = refl } })
 
 -- a message that was made, or the short one
-pub is_made : {Z E : Type 0} (made : Result (String Z) E) (text short message : List ℕ) → IfOk made (λ s. string_bytes s ≡ text) → message ≡ made_or made short → Is text short message
+pub is_made : {Z E : Type 0} (made : Result (String Z) E) (text short message : List ℕ) → IfOk made (λ s. string_bytes s ≡ text) → message ≡ made_or made short → IsOr text short message
 is_made (Ok s) text short message is from = inl (from ∙ is)
 is_made (Err error) text short message is from = inr from
 

@@ -34,12 +34,12 @@ made_or (Ok made) otherwise = string_bytes made
 made_or (Err error) otherwise = otherwise
 
 -- a message is this text, or the short one, where there was no memory for it
-abbrev pub Is : List ℕ → List ℕ → List ℕ → Type 0
-Is text short message = (message ≡ text) ⊎ (message ≡ short)
+abbrev pub IsOr : List ℕ → List ℕ → List ℕ → Type 0
+IsOr text short message = (message ≡ text) ⊎ (message ≡ short)
 
 -- a message is this sentence and a detail after a colon, or the sentence alone; the detail is this one, if one is given
 abbrev pub HasDetail : List ℕ → Option (List ℕ) → List ℕ → Type 0
-HasDetail sentence detail message = (text : List ℕ) × IfSome detail (λ d. text ≡ d) × Is (sentence ++ (codes ": " ++ text)) sentence message
+HasDetail sentence detail message = (text : List ℕ) × IfSome detail (λ d. text ≡ d) × IsOr (sentence ++ (codes ": " ++ text)) sentence message
 
 -- ---- errors
 
@@ -88,7 +88,7 @@ module _ (form : Form) (path : List ℕ) where
     pub position : SourcePosition
     pub byte : ℕ
     pub rejected : IsRejected all valid position byte
-    pub error : IsAt (codes "not-utf8") (Is (codes "the text is not UTF-8: byte 0x" ++ digits 16 false byte) (codes "the text is not UTF-8")) valid (Some position) bytes
+    pub error : IsAt (codes "not-utf8") (IsOr (codes "the text is not UTF-8: byte 0x" ++ digits 16 false byte) (codes "the text is not UTF-8")) valid (Some position) bytes
 
   -- the same, unless these bytes are UTF-8
   abbrev pub TellsNotUtf8 : List ℕ → List ℕ → Type 0
@@ -104,13 +104,13 @@ module _ (form : Form) (path : List ℕ) where
   abbrev pub TellsMisfit : List ℕ → Misfit → List ℕ → Type 0
   TellsMisfit text misfit bytes =
       IsAt (codes "misfit")
-      (Is (codes "Operation " ++ (id_text misfit.id ++ (codes " does not fit its format: " ++ string_bytes misfit.reason))) (codes "an operation does not fit its format"))
+      (IsOr (codes "Operation " ++ (id_text misfit.id ++ (codes " does not fit its format: " ++ string_bytes misfit.reason))) (codes "an operation does not fit its format"))
       text misfit.position bytes
 
   -- that a root is rejected: the innermost cause, at the place of the fault
   abbrev pub TellsRejection : {A : Type 0} → List ℕ → ParseFault A → List ℕ → Type 0
   TellsRejection text f bytes =
-      IsAt (cause_word (innermost f.cause)) (Is (cause_text (innermost f.cause)) (cause_word (innermost f.cause))) text (Some f.pos) bytes
+      IsAt (cause_word (innermost f.cause)) (IsOr (cause_text (innermost f.cause)) (cause_word (innermost f.cause))) text (Some f.pos) bytes
 
   -- that a root is rejected, and then anything else
   pub record TellsRejected {A : Type 0} (text : List ℕ) (f : ParseFault A) (bytes : List ℕ) : Type 0 where
