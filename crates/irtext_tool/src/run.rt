@@ -190,7 +190,7 @@ enum Done {
 }
 
 /// What became of a file with this status, of which this was said.
-fn done(status: u8, said: io::Result<()>) -> Done
+fn finished(status: u8, said: io::Result<()>) -> Done
     requires { status ≤ 3 }
     ensures { IsStatus result }
 {
@@ -213,7 +213,7 @@ fn put<W: Write, E: Write>(
     ensures { IsStatus result }
 {
     match write_text(output, text) {
-        Ok(()) => done(status, Ok(())),
+        Ok(()) => finished(status, Ok(())),
         Err(error) => Done::Closed(report_output(alloc, errors, form, &error).is_ok()),
     }
 }
@@ -222,7 +222,7 @@ fn put<W: Write, E: Write>(
 fn out_of_memory<E: Write>(alloc: Global, errors: &mut E, scene: Scene<'_>) -> Done
     ensures { IsStatus result }
 {
-    done(FAILED, report_memory(alloc, errors, scene))
+    finished(FAILED, report_memory(alloc, errors, scene))
 }
 
 /// Writes why a file was not written, if it was not, and returns the status.
@@ -235,8 +235,8 @@ fn written<E: Write>(
     ensures { IsStatus result }
 {
     match answer {
-        Ok(()) => done(DONE, Ok(())),
-        Err(error) => done(FAILED, report_unwritable(alloc, errors, scene, &error)),
+        Ok(()) => finished(DONE, Ok(())),
+        Err(error) => finished(FAILED, report_unwritable(alloc, errors, scene, &error)),
     }
 }
 
@@ -253,7 +253,7 @@ fn show_diff<W: Write, E: Write>(
 {
     let mut lines = String::new(alloc);
     match write_unified(alloc, (scene.path, scene.path), text, formatted, &mut lines) {
-        Ok(false) => done(DONE, Ok(())),
+        Ok(false) => finished(DONE, Ok(())),
         Ok(true) => put(alloc, scene.form, lines.as_str(), REJECTED, output, errors),
         Err(AllocError) => out_of_memory(alloc, errors, scene),
     }
@@ -275,12 +275,12 @@ fn deliver<F: Files, W: Write, E: Write>(
     match target {
         Target::Output => put(alloc, scene.form, formatted, DONE, output, errors),
         Target::Diff => show_diff(alloc, scene, text, formatted, output, errors),
-        Target::InPlace | Target::Check if text == formatted => done(DONE, Ok(())),
+        Target::InPlace | Target::Check if text == formatted => finished(DONE, Ok(())),
         Target::InPlace => written(alloc, errors, scene, files.replace(scene.path, formatted)),
         Target::Check => {
             let message = "the file is not formatted";
             let said = report_file(alloc, errors, scene, "not-formatted", message);
-            done(REJECTED, said)
+            finished(REJECTED, said)
         }
         Target::File(path) => {
             let scene = Scene {
@@ -349,7 +349,7 @@ fn work_on_text<T: IrText<A>, A: AttrText<A>, D: Dialects<T, A>, F: Files, W: Wr
         Ok(made) => made,
         Err(failure) => {
             let said = report_failure::<T, A, D, E>(alloc, errors, scene, text, &failure);
-            return done(status_of(&failure), said);
+            return finished(status_of(&failure), said);
         }
     };
     match task {
@@ -364,7 +364,7 @@ fn work_on_text<T: IrText<A>, A: AttrText<A>, D: Dialects<T, A>, F: Files, W: Wr
                 errors,
             )
         }
-        Task::Check => done(DONE, Ok(())),
+        Task::Check => finished(DONE, Ok(())),
         Task::Stats => put(alloc, scene.form, made.as_str(), DONE, output, errors),
     }
 }
@@ -421,7 +421,7 @@ fn work_on_file<
         }
         Err(fault) => {
             let said = report_input(alloc, errors, scene, &fault);
-            done(status_of_input(&fault), said)
+            finished(status_of_input(&fault), said)
         }
     }
 }
