@@ -10,6 +10,8 @@ use Rattle.irtext_formatter.specs.Formatted.{Gives, FailsInput, IsRead, Unwritte
 use Rattle.irtext_formatter.specs.declared.fault.Failure.{Failure}
 use Rattle.irtext_formatter.specs.declared.layout.Layout.{Layout}
 use Rattle.irtext_tool.specs.Statuses.{answer_status}
+use Rattle.irtext_tool.specs.Told.{Tells, Writes, IsSilent}
+use Rattle.irtext_tool.specs.declared.about.Form.{Form}
 
 -- whether the words ask for standard input to be formatted: `fmt`, alone or with `-`
 abbrev pub asks_for_standard : List (List ℕ) → Bool
@@ -25,7 +27,10 @@ module _ {T A : Type 0} (types : ir_text.Ghosts T A) (owns : ir_text.Ghosts A A)
   -- What was done with an input that had and has these bytes left, and an output that held and holds these, which may be Unchanged: the
   -- status is that of an answer. If it is 0, the bytes of the input are those of roots with these dialects, and what is printed of them was
   -- appended to the output. If not, the answer says why, and nothing was written unless writing failed.
-  pub record Standard (before after contents contents' : Option (List ℕ)) (Unchanged : Type 0) (status : ℕ) : Type 0 where
+  --
+  -- The errors held and hold these bytes, and may be Silent. If they took what was written to them, it tells in this form why the answer is
+  -- no success. On a success nothing is written to them.
+  pub record Standard (before after contents contents' : Option (List ℕ)) (Unchanged : Type 0) (form : Form) (said said' : Option (List ℕ)) (Silent : Type 0) (took : Bool) (status : ℕ) : Type 0 where
     pub answer : Result ⊤ (Failure A)
     pub bytes : List ℕ
     pub is_status : status ≡ answer_status answer
@@ -33,3 +38,5 @@ module _ {T A : Type 0} (types : ir_text.Ghosts T A) (owns : ir_text.Ghosts A A)
     pub gives : OnOk answer ((out : List ℕ) × Gives types owns attributes same whole dialects bytes out × Appends contents contents' out)
     pub fails : IfErr answer (FailsInput types owns attributes same whole dialects before after bytes)
     pub unwritten : Unwritten answer Unchanged
+    pub told : took ≡ true → IfErr answer (λ failure. Writes said said' (Tells form (codes "<stdin>") bytes failure))
+    pub silent : IsSilent answer Silent

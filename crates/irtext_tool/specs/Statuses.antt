@@ -7,7 +7,7 @@ use Rattle.irtext_formatter.specs.declared.fault.Fault.TheVariants as fault
 use Rattle.irtext_formatter.specs.declared.input.InputFault.{InputFault}
 use Rattle.irtext_formatter.specs.declared.input.InputFault.TheVariants as input
 use Rattle.irtext_tool.specs.declared.run.Done.{Done}
-use Rattle.irtext_tool.specs.declared.run.Done.TheVariants.{Status, Closed}
+use Rattle.irtext_tool.specs.declared.run.Done.TheVariants.{Ended, Closed}
 
 -- for an input that was not read: 1 if its bytes are not UTF-8, and else 3
 abbrev pub input_status : InputFault → ℕ
@@ -36,5 +36,5 @@ answer_status (Err why) = failure_status why
 
 -- what became of a file has one of the statuses
 abbrev pub IsStatus : Done → Type 0
-IsStatus (Status status) = status ≤ 3
-IsStatus Closed = ⊤
+IsStatus (Ended ended) = ended.status ≤ 3
+IsStatus (Closed took) = ⊤

@@ -1,4 +1,6 @@
 //! What a program is called, and how it shows errors.
+ghost use Rattle.std.specs.Prelude.{◌≡◌};
+ghost use Rattle.irtext_tool.specs.Styles.{style_of};
 
 use irtext_diagnostics::Style;
 
@@ -29,7 +31,9 @@ pub enum Form {
 }
 
 /// Returns the style that is coloured or not.
-pub fn style_of(coloured: bool) -> Style {
+pub fn style_of(coloured: bool) -> Style
+    ensures { result ≡ style_of coloured }
+{
     if coloured {
         Style::Coloured
     } else {

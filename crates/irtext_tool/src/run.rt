@@ -1,13 +1,17 @@
 //! The body of the program: from its words, its files and its streams to its exit status.
-ghost use Rattle.std.specs.Prelude.{◌≡◌, ◌≤◌, [], map, true};
+ghost use Rattle.std.specs.Prelude.{◌≡◌, ◌≤◌, [], Bool, codes, map, true, Some, OnOk, IfErr};
+ghost use Rattle.irtext_base.specs.Causes.{cause_text};
 ghost use Rattle.irtext_tool.specs.Standard.{asks_for_standard, Standard};
 ghost use Rattle.irtext_tool.specs.Statuses.{IsStatus};
+ghost use Rattle.irtext_tool.specs.Styles.{style_of};
+ghost use Rattle.irtext_tool.specs.Told.{Writes, IsAbout, HasDetail, IsQuiet, IsSilent, Tells, TellsRejected, TellsText};
+ghost use Rattle.irtext_tool.specs.declared.about.Form.TheVariants as form;
 
 use crate::about::{About, Form, STANDARD_INPUT, style_of};
 use crate::files::Files;
-use crate::recovery::report_rejections;
+use crate::recovery::{report_alone, report_rejections};
 use crate::report::{
-    Scene, report_file, report_input, report_made, report_memory, report_misfit, report_output,
+    Scene, report_detail, report_file, report_input, report_memory, report_misfit, report_output,
     report_unwritable,
 };
 use crate::stats::{count_text, counts_text};
@@ -15,6 +19,7 @@ use crate::status::{
     DONE, FAILED, REJECTED, WRONG_WORDS, status_of, status_of_answer, status_of_input,
 };
 use crate::words::{Answer, Request, Target, Task, parse_words};
+use irtext_base::parsable::ParseFault;
 use irtext_base::result;
 use irtext_base::text::{AttrText, IrText};
 use irtext_diff::write_unified;
@@ -25,6 +30,7 @@ use irtext_formatter::input::{InputFault, read_text};
 use irtext_formatter::layout::Layout;
 use irtext_formatter::output::write_text;
 use std::alloc::{AllocError, Global};
+use std::io;
 use std::io::{Read, Write};
 
 /// How `fmt` without other words prints.
@@ -36,22 +42,33 @@ fn report_dialects<A, E: Write>(
     errors: &mut E,
     scene: Scene<'_>,
     error: &result::Error<A>,
-) {
-    let cause = &error.err;
-    let message = format!(in alloc; "the dialects of this program cannot be registered: {cause}");
-    report_made(alloc, errors, scene, "dialects", message);
+) -> io::Result<()>
+    ensures { OnOk result (Writes (E.contents errors.old) (E.contents errors.new)
+        (IsAbout scene.entry.form scene.entry.path.now (codes "dialects")
+        (HasDetail (codes "the dialects of this program cannot be registered") (Some (cause_text error.now.err))))) }
+{
+    let sentence = "the dialects of this program cannot be registered";
+    report_detail(alloc, errors, scene, "dialects", sentence, &error.err)
 }
 
-/// Writes the errors of a text whose roots were rejected, in a new context.
+/// Writes the errors of a text whose roots were rejected with this fault. The notes of its errors, and the errors after it, are found in a
+/// new context.
 fn report_roots<T: IrText<A>, A: AttrText<A>, D: Dialects<T, A>, E: Write>(
     alloc: Global,
     errors: &mut E,
     scene: Scene<'_>,
     text: &str,
-) {
+    fault: &ParseFault<A>,
+) -> io::Result<()>
+    ensures { OnOk result (Writes (E.contents errors.old) (E.contents errors.new)
+        (TellsRejected scene.entry.form scene.entry.path.now text.now fault.now)) }
+{
     match new_context::<T, A, D>(alloc) {
-        Ok(mut ctx) => report_rejections(&mut ctx, errors, scene, text),
-        Err(error) => report_dialects(alloc, errors, scene, &error),
+        Ok(mut ctx) => report_rejections(&mut ctx, errors, scene, text, fault),
+        Err(error) => {
+            report_alone(alloc, errors, scene, text, fault)?;
+            report_dialects(alloc, errors, scene, &error)
+        }
     }
 }
 
@@ -62,10 +79,13 @@ fn report_text<T: IrText<A>, A: AttrText<A>, D: Dialects<T, A>, E: Write>(
     scene: Scene<'_>,
     text: &str,
     fault: &Fault<A>,
-) {
+) -> io::Result<()>
+    ensures { OnOk result (Writes (E.contents errors.old) (E.contents errors.new)
+        (TellsText scene.entry.form scene.entry.path.now text.now fault.now)) }
+{
     match fault {
         Fault::Memory => report_memory(alloc, errors, scene),
-        Fault::Rejected(_) => report_roots::<T, A, D, E>(alloc, errors, scene, text),
+        Fault::Rejected(fault) => report_roots::<T, A, D, E>(alloc, errors, scene, text, fault),
         Fault::Misfit(misfit) => report_misfit(alloc, errors, scene, text, misfit),
         Fault::TooDeep => {
             let message = "regions are nested too deep: an indentation does not fit 16 bits";
@@ -81,13 +101,44 @@ fn report_failure<T: IrText<A>, A: AttrText<A>, D: Dialects<T, A>, E: Write>(
     scene: Scene<'_>,
     text: &str,
     failure: &Failure<A>,
-) {
+) -> io::Result<()>
+    ensures told { OnOk result (Writes (E.contents errors.old) (E.contents errors.new)
+        (Tells scene.entry.form scene.entry.path.now text.now failure.now)) }
+    ensures silent { IsQuiet failure.now (errors.new ≡ errors.old) }
+{
     match failure {
         Failure::Input(fault) => report_input(alloc, errors, scene, fault),
         Failure::Dialects(error) => report_dialects(alloc, errors, scene, error),
         Failure::Text(fault) => report_text::<T, A, D, E>(alloc, errors, scene, text, fault),
         Failure::Unwritable(error) => report_output(alloc, errors, scene.form, error),
     }
+}
+
+/// Writes why an input was not formatted, if it was not.
+fn report_answer<T: IrText<A>, A: AttrText<A>, D: Dialects<T, A>, E: Write>(
+    alloc: Global,
+    errors: &mut E,
+    scene: Scene<'_>,
+    text: &str,
+    answer: &Result<(), Failure<A>>,
+) -> io::Result<()>
+    ensures told { OnOk result (IfErr answer.now (λ failure. Writes (E.contents errors.old) (E.contents errors.new)
+        (Tells scene.entry.form scene.entry.path.now text.now failure))) }
+    ensures silent { IsSilent answer.now (errors.new ≡ errors.old) }
+{
+    match answer {
+        Ok(()) => Ok(()),
+        Err(failure) => report_failure::<T, A, D, E>(alloc, errors, scene, text, failure),
+    }
+}
+
+/// How the program ended.
+#[derive(Clone, Copy, Debug)]
+pub struct Ended {
+    /// The exit status.
+    pub status: u8,
+    /// Whether the errors took all that was written to them.
+    pub took: bool,
 }
 
 /// Formats standard input to standard output.
@@ -97,20 +148,22 @@ fn format_standard<T: IrText<A>, A: AttrText<A>, D: Dialects<T, A>, R: Read, W: 
     input: &mut R,
     output: &mut W,
     errors: &mut E,
-) -> u8
+) -> Ended
     ensures { Standard T.IrText.own A.IrText.own A.AttrText.own A.eq (D.registered []) (R.remaining input.old)
-        (R.remaining input.new) (W.contents output.old) (W.contents output.new) (output.new ≡ output.old) result }
+        (R.remaining input.new) (W.contents output.old) (W.contents output.new) (output.new ≡ output.old) form
+        (E.contents errors.old) (E.contents errors.new) (errors.new ≡ errors.old) result.took result.status }
 {
     let mut text = String::new(alloc);
     let answer = format_input::<T, A, D, R, W>(alloc, input, WHOLE, &mut text, output);
-    if let Err(failure) = &answer {
-        let scene = Scene {
-            path: STANDARD_INPUT,
-            form,
-        };
-        report_failure::<T, A, D, E>(alloc, errors, scene, text.as_str(), failure);
+    let scene = Scene {
+        path: STANDARD_INPUT,
+        form,
+    };
+    let said = report_answer::<T, A, D, E>(alloc, errors, scene, text.as_str(), &answer);
+    Ended {
+        status: status_of_answer(&answer),
+        took: said.is_ok(),
     }
-    status_of_answer(&answer)
 }
 
 /// Whether the words ask for standard input to be formatted: `fmt`, alone or with `-`.
@@ -127,10 +180,21 @@ fn asks_for_standard(words: &[&str]) -> bool
 /// What became of a file.
 #[derive(Clone, Copy)]
 enum Done {
-    /// The status for it.
-    Status(u8),
-    /// Nothing more can be written to standard output.
-    Closed,
+    /// The status for it, and whether the errors took what was said of it.
+    Ended(Ended),
+    /// Nothing more can be written to standard output. Whether the errors took what was said of that.
+    Closed(bool),
+}
+
+/// What became of a file with this status, of which this was said.
+fn finished(status: u8, said: io::Result<()>) -> Done
+    requires { status ≤ 3 }
+    ensures { IsStatus result }
+{
+    Done::Ended(Ended {
+        status,
+        took: said.is_ok(),
+    })
 }
 
 /// Writes a text to standard output. The status is the one for the file, if that succeeds.
@@ -146,11 +210,8 @@ fn put<W: Write, E: Write>(
     ensures { IsStatus result }
 {
     match write_text(output, text) {
-        Ok(()) => Done::Status(status),
-        Err(error) => {
-            report_output(alloc, errors, form, &error);
-            Done::Closed
-        }
+        Ok(()) => finished(status, Ok(())),
+        Err(error) => Done::Closed(report_output(alloc, errors, form, &error).is_ok()),
     }
 }
 
@@ -158,8 +219,7 @@ fn put<W: Write, E: Write>(
 fn out_of_memory<E: Write>(alloc: Global, errors: &mut E, scene: Scene<'_>) -> Done
     ensures { IsStatus result }
 {
-    report_memory(alloc, errors, scene);
-    Done::Status(FAILED)
+    finished(FAILED, report_memory(alloc, errors, scene))
 }
 
 /// Writes why a file was not written, if it was not, and returns the status.
@@ -167,16 +227,13 @@ fn written<E: Write>(
     alloc: Global,
     errors: &mut E,
     scene: Scene<'_>,
-    answer: std::io::Result<()>,
+    answer: io::Result<()>,
 ) -> Done
     ensures { IsStatus result }
 {
     match answer {
-        Ok(()) => Done::Status(DONE),
-        Err(error) => {
-            report_unwritable(alloc, errors, scene, &error);
-            Done::Status(FAILED)
-        }
+        Ok(()) => finished(DONE, Ok(())),
+        Err(error) => finished(FAILED, report_unwritable(alloc, errors, scene, &error)),
     }
 }
 
@@ -193,7 +250,7 @@ fn show_diff<W: Write, E: Write>(
 {
     let mut lines = String::new(alloc);
     match write_unified(alloc, (scene.path, scene.path), text, formatted, &mut lines) {
-        Ok(false) => Done::Status(DONE),
+        Ok(false) => finished(DONE, Ok(())),
         Ok(true) => put(alloc, scene.form, lines.as_str(), REJECTED, output, errors),
         Err(AllocError) => out_of_memory(alloc, errors, scene),
     }
@@ -215,17 +272,12 @@ fn deliver<F: Files, W: Write, E: Write>(
     match target {
         Target::Output => put(alloc, scene.form, formatted, DONE, output, errors),
         Target::Diff => show_diff(alloc, scene, text, formatted, output, errors),
-        Target::InPlace | Target::Check if text == formatted => Done::Status(DONE),
+        Target::InPlace | Target::Check if text == formatted => finished(DONE, Ok(())),
         Target::InPlace => written(alloc, errors, scene, files.replace(scene.path, formatted)),
         Target::Check => {
-            report_file(
-                alloc,
-                errors,
-                scene,
-                "not-formatted",
-                "the file is not formatted",
-            );
-            Done::Status(REJECTED)
+            let message = "the file is not formatted";
+            let said = report_file(alloc, errors, scene, "not-formatted", message);
+            finished(REJECTED, said)
         }
         Target::File(path) => {
             let scene = Scene {
@@ -277,8 +329,8 @@ fn work_on_text<T: IrText<A>, A: AttrText<A>, D: Dialects<T, A>, F: Files, W: Wr
     let made = match result_of::<T, A, D>(alloc, scene.path, text, task) {
         Ok(made) => made,
         Err(failure) => {
-            report_failure::<T, A, D, E>(alloc, errors, scene, text, &failure);
-            return Done::Status(status_of(&failure));
+            let said = report_failure::<T, A, D, E>(alloc, errors, scene, text, &failure);
+            return finished(status_of(&failure), said);
         }
     };
     match task {
@@ -293,7 +345,7 @@ fn work_on_text<T: IrText<A>, A: AttrText<A>, D: Dialects<T, A>, F: Files, W: Wr
                 errors,
             )
         }
-        Task::Check => Done::Status(DONE),
+        Task::Check => finished(DONE, Ok(())),
         Task::Stats => put(alloc, scene.form, made.as_str(), DONE, output, errors),
     }
 }
@@ -349,13 +401,13 @@ fn work_on_file<
             )
         }
         Err(fault) => {
-            report_input(alloc, errors, scene, &fault);
-            Done::Status(status_of_input(&fault))
+            let said = report_input(alloc, errors, scene, &fault);
+            finished(status_of_input(&fault), said)
         }
     }
 }
 
-/// Does what is asked for with each file, up to one whose output cannot be written. Returns the greatest status.
+/// Does what is asked for with each file, up to one whose output cannot be written. The status is the greatest of theirs.
 fn work<T: IrText<A>, A: AttrText<A>, D: Dialects<T, A>, F: Files, R: Read, W: Write, E: Write>(
     alloc: Global,
     request: &Request<'_>,
@@ -363,58 +415,75 @@ fn work<T: IrText<A>, A: AttrText<A>, D: Dialects<T, A>, F: Files, R: Read, W: W
     input: &mut R,
     output: &mut W,
     errors: &mut E,
-) -> u8
-    ensures { result ≤ 3 }
+) -> Ended
+    ensures { result.status ≤ 3 }
 {
-    let mut status = DONE;
+    let (mut status, mut took) = (DONE, true);
     for path in request.files.iter() {
         match work_on_file::<T, A, D, F, R, W, E>(
             alloc, request, *path, files, input, output, errors,
         ) {
-            Done::Status(one) => status = status.max(one),
-            Done::Closed => return FAILED,
+            Done::Ended(one) => {
+                status = status.max(one.status);
+                took = took && one.took;
+            }
+            Done::Closed(told) => {
+                return Ended {
+                    status: FAILED,
+                    took: took && told,
+                };
+            }
         }
     }
-    status
+    Ended { status, took }
 }
 
-/// Says why nothing is done: help or the version to the output, and what is wrong with the words to the errors. Returns the status.
+/// Says why nothing is done: help or the version to the output, and what is wrong with the words to the errors.
 fn say<W: Write, E: Write>(
     alloc: Global,
     about: &About<'_>,
     answer: &Answer,
     output: &mut W,
     errors: &mut E,
-) -> u8
-    ensures { result ≤ 3 }
+) -> Ended
+    ensures { result.status ≤ 3 }
 {
     let form = Form::Text(style_of(about.coloured));
     match answer {
         Answer::Shown(text) => match put(alloc, form, text.as_str(), DONE, output, errors) {
-            Done::Status(status) => status,
-            Done::Closed => FAILED,
+            Done::Ended(ended) => ended,
+            Done::Closed(took) => Ended {
+                status: FAILED,
+                took,
+            },
         },
-        Answer::Wrong(text) => {
-            let _ = errors.write_all(text.as_str().as_bytes());
-            WRONG_WORDS
-        }
+        Answer::Wrong(text) => Ended {
+            status: WRONG_WORDS,
+            took: errors.write_all(text.as_str().as_bytes()).is_ok(),
+        },
         Answer::Memory => {
             let scene = Scene {
                 path: about.name,
                 form,
             };
-            report_memory(alloc, errors, scene);
-            FAILED
+            Ended {
+                status: FAILED,
+                took: report_memory(alloc, errors, scene).is_ok(),
+            }
         }
     }
 }
 
-/// Runs the program over these words, without its own name, and returns the exit status: 0; 1 if a text is rejected or would change; 2 if
-/// the words are wrong; 3 if input or output failed, or memory ran out. All files are worked on, and the greatest status is returned.
-///
-/// With the one word `fmt`, or with `fmt -`, it formats standard input to standard output as `format_input` does: the status is 0 exactly
-/// if that succeeds, and nothing else is written to the output.
-pub fn run<T: IrText<A>, A: AttrText<A>, D: Dialects<T, A>, F: Files, R: Read, W: Write, E: Write>(
+/// Does what `run` does, and returns in addition whether the errors took all that was written to them.
+pub fn run_to_end<
+    T: IrText<A>,
+    A: AttrText<A>,
+    D: Dialects<T, A>,
+    F: Files,
+    R: Read,
+    W: Write,
+    E: Write,
+>(
     alloc: Global,
     about: &About<'_>,
     words: &[&str],
@@ -422,10 +491,11 @@ pub fn run<T: IrText<A>, A: AttrText<A>, D: Dialects<T, A>, F: Files, R: Read, W
     input: &mut R,
     output: &mut W,
     errors: &mut E,
-) -> u8
+) -> Ended
     ensures standard { asks_for_standard (map (λ word. word.now) words.now) ≡ true → Standard T.IrText.own A.IrText.own
         A.AttrText.own A.eq (D.registered []) (R.remaining input.old) (R.remaining input.new) (W.contents output.old)
-        (W.contents output.new) (output.new ≡ output.old) result }
+        (W.contents output.new) (output.new ≡ output.old) (form.Text (style_of about.now.coloured))
+        (E.contents errors.old) (E.contents errors.new) (errors.new ≡ errors.old) result.took result.status }
 {
     if asks_for_standard(words) {
         let form = Form::Text(style_of(about.coloured));
@@ -435,4 +505,28 @@ pub fn run<T: IrText<A>, A: AttrText<A>, D: Dialects<T, A>, F: Files, R: Read, W
         Ok(request) => work::<T, A, D, F, R, W, E>(alloc, &request, files, input, output, errors),
         Err(other) => say(alloc, about, &other, output, errors),
     }
+}
+
+/// Runs the program over these words, without its own name, and returns the exit status: 0; 1 if a text is rejected or would change; 2 if
+/// the words are wrong; 3 if input or output failed, or memory ran out. All files are worked on, and the greatest status is returned.
+///
+/// With the one word `fmt`, or with `fmt -`, it formats standard input to standard output as `format_input` does: the status is 0 exactly
+/// if that succeeds, and nothing else is written to the output. Why it fails is written to the errors: the fault at its place, before
+/// anything else. On a success nothing is written to them. If they fail the status is the same.
+pub fn run<T: IrText<A>, A: AttrText<A>, D: Dialects<T, A>, F: Files, R: Read, W: Write, E: Write>(
+    alloc: Global,
+    about: &About<'_>,
+    words: &[&str],
+    files: &F,
+    input: &mut R,
+    output: &mut W,
+    errors: &mut E,
+) -> u8
+    ensures standard { asks_for_standard (map (λ word. word.now) words.now) ≡ true → (took : Bool) × Standard T.IrText.own
+        A.IrText.own A.AttrText.own A.eq (D.registered []) (R.remaining input.old) (R.remaining input.new)
+        (W.contents output.old) (W.contents output.new) (output.new ≡ output.old)
+        (form.Text (style_of about.now.coloured)) (E.contents errors.old) (E.contents errors.new)
+        (errors.new ≡ errors.old) took result }
+{
+    run_to_end::<T, A, D, F, R, W, E>(alloc, about, words, files, input, output, errors).status
 }
