@@ -1,10 +1,13 @@
 pub mod Apart
 pub mod Covered
+pub mod Fitted
 pub mod Live
 pub mod Misfitting
 pub mod Newer
 pub mod Printing
+pub mod Profiles
 pub mod Rooted
 pub mod Shorter
 pub mod Standing
+pub mod Stays
 pub mod Stepping

@@ -17,15 +17,15 @@ use Rattle.irtext_parse_root.specs.Parses.{texts, attr}
 use Rattle.irtext_parse_state.specs.States.{KeepsRest}
 use Rattle.irtext_formatter.proofs.Newer.{new_inside}
 use Rattle.irtext_formatter.proofs.Shorter.{root_shorter}
-use Rattle.irtext_formatter.specs.Rows.{ReadsRoot}
+use Rattle.irtext_formatter.specs.Rows.{IsSound, ReadsRoot}
 use Rattle.irtext_formatter.specs.Stands.{place_of, held_by, IsReady, CanTakeBack, Begins}
 use Rattle.irtext_formatter.specs.declared.roots.Roots.{Roots}
 
 module _ {T A : Type 0} (types : ir_text.Ghosts T A) (owns : ir_text.Ghosts A A) (old new : Roots T A) where
-  pub reads : IsReady old → (r : Result (Ptr Operation) (ParseFault A)) → IfOk r (λ op. BuildsRoot (texts types) (texts owns) (attr owns) op old.stream new.stream)
+  pub reads : IsReady old → IsSound (held_by new).graph → (r : Result (Ptr Operation) (ParseFault A)) → IfOk r (λ op. BuildsRoot (texts types) (texts owns) (attr owns) op old.stream new.stream)
       → IfOk r (λ op. ReadsRoot types owns op (place_of old) (place_of new) (held_by old) (held_by new))
-  reads ready (Ok op) b = record { old = old.stream; new = new.stream; from = refl; to = refl; source = ready.source; context = refl; left = refl; builds = b }
-  reads ready (Err fault) b = tt
+  reads ready sound (Ok op) b = record { old = old.stream; new = new.stream; from = refl; to = refl; source = ready.source; context = refl; left = refl; builds = b; sound = sound }
+  reads ready sound (Err fault) b = tt
 
   pub is_live : (r : Result (Ptr Operation) (ParseFault A)) → IfOk r (λ op. BuildsRoot (texts types) (texts owns) (attr owns) op old.stream new.stream) → IfOk r (λ op. IsSome (operation (held_by new) op))
   is_live (Ok op) b = ap is_some b.is_whole.0.is

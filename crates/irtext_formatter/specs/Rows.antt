@@ -11,9 +11,14 @@ use Rattle.irtext_base.specs.declared.text.IrText as ir_text
 use Rattle.irtext_context.specs.Context.{ContextView, OperationView, operation, with_loc, EditsOperation}
 use Rattle.irtext_context.specs.Locations.{ErasesLocations}
 use Rattle.irtext_context.specs.Made.{SameObjects}
+use Rattle.irtext_graph.specs.Graph.{GraphView, children, parent}
+use Rattle.irtext_graph.specs.Nested.{Nested}
 use Rattle.irtext_graph.specs.Parts.{regions}
+use Rattle.irtext_graph.specs.Used.{IsUse, IsDefined}
 use Rattle.irtext_graph.specs.declared.arena.Ptr.{Ptr}
+use Rattle.irtext_graph.specs.declared.object.Defined.{Defined}
 use Rattle.irtext_graph.specs.declared.object.Operation.{Operation}
+use Rattle.irtext_graph.specs.declared.object.Site.{Site}
 use Rattle.irtext_names.specs.Promises.{BuildsRoot, RefusesRoot}
 use Rattle.irtext_parse_root.specs.Parses.{texts, attr}
 use Rattle.irtext_parse_state.specs.States.{LocatesAt}
@@ -37,9 +42,14 @@ beginning bytes = record { passed = []; rest = chars bytes; failed = false }
 abbrev pub follows : Text → Bool
 follows rest = is_some (first_of (after_space rest))
 
+-- parents and children agree, and what is used is defined
+pub record IsSound {O B T : Type 0} (g : GraphView O B T) : Type 0 where
+  pub nested : Nested (children g) (parent g)
+  pub used : (u : Site) (d : Defined) → IsUse g d u → IsDefined g d
+
 module _ {T A : Type 0} (types : ir_text.Ghosts T A) (owns : ir_text.Ghosts A A) where
   -- A root was parsed from one position of a text in memory to another: the text between them resolves. What it builds is all that is
-  -- new in the context, under the pointer.
+  -- new in the context, under the pointer; and the graph is sound.
   pub record ReadsRoot (op : Ptr Operation) (at next : StreamView) (before after : ContextView T A) : Type 0 where
     pub old : StateStream T A (Unit {0})
     pub new : StateStream T A (Unit {0})
@@ -49,6 +59,7 @@ module _ {T A : Type 0} (types : ir_text.Ghosts T A) (owns : ir_text.Ghosts A A)
     pub context : old.state.ctx.now ≡ before
     pub left : new.state.ctx.now ≡ after
     pub builds : BuildsRoot (texts types) (texts owns) (attr owns) op old new
+    pub sound : IsSound after.graph
 
   -- no root is parsed at this position with the dialects of this context, and this is the first fault
   abbrev pub RefusesAt : ContextView T A → StreamView → ParseFault A → Type 0

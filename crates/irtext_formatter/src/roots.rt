@@ -16,7 +16,7 @@ ghost use Rattle.irtext_graph.specs.declared.object.Object.TheVariants.{TheOpera
 ghost use Rattle.irtext_graph.specs.declared.object.Operation.{Operation};
 ghost use Rattle.irtext_grammar.specs.Promises.Root.{UnlessMemory};
 ghost use Rattle.irtext_stream.specs.Classes.{after_spaces};
-ghost use Rattle.irtext_formatter.specs.Rows.{follows, ReadsRoot, RefusesAt, KeepsPlace, LaysOut};
+ghost use Rattle.irtext_formatter.specs.Rows.{follows, IsSound, ReadsRoot, RefusesAt, KeepsPlace, LaysOut};
 ghost use Rattle.irtext_formatter.specs.Stands.{place_of, held_by, IsReady, CanTakeBack, Begins, NextRoot};
 
 use crate::layout::Layout;
@@ -26,6 +26,7 @@ use irtext_base::text::{AttrText, IrText};
 use irtext_context::base::context::making::Making;
 use irtext_context::base::{Context, Operation, OperationAccess, Ptr};
 use irtext_context::location::erase_locations;
+use irtext_graph::held::HasGraph;
 use irtext_parse_root::outermost::outermost_parse;
 use irtext_parse_state::parsable::{State, StateStream};
 
@@ -52,6 +53,13 @@ fn context_of<'a, T: IrText<A>, A: AttrText<A>>(state: &'a State<'_, T, A, ()>) 
     ensures { result.now ≡ state.now.ctx.now }
 {
     &*state.ctx
+}
+
+/// The graph of a context is sound. Does nothing: the contract states what every context has.
+fn keeps_sound<T: IrText<A>, A: AttrText<A>>(ctx: &Context<T, A>)
+    ensures { IsSound ctx.now.graph }
+{
+    ctx.graph().keeps_nesting();
 }
 
 /// Whether an operation has no regions.
@@ -172,7 +180,9 @@ impl<'c, T: IrText<A>, A: AttrText<A>> Roots<'c, T, A> {
     {
         self.made = made_in(&self.stream.state);
         self.begin = self.stream.stream.position();
-        outermost_parse(&mut self.stream, true)
+        let parsed = outermost_parse(&mut self.stream, true);
+        keeps_sound(context_of(&self.stream.state));
+        parsed
     }
 
     /// Parses the next root, with its section. `None` exactly if only white space is left of the text. On an error the context holds the
