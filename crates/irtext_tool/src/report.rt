@@ -361,10 +361,7 @@ pub fn report_misfit<E: Write>(
         },
         cause: "misfit",
         name: made(&name),
-        notes: match &note {
-            Some(note) => std::slice::from_ref(note),
-            None => &[],
-        },
+        notes: note.as_slice(),
     };
     write_report(alloc, errors, scene.form, &report)
 }

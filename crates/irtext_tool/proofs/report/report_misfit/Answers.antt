@@ -11,5 +11,5 @@ returns g c =
     let text = codes "Operation " ++ (id_text misfit.id ++ (codes " does not fit its format: " ++ string_bytes misfit.reason)) in
     let short = codes "an operation does not fit its format" in
     writes_at (g.E.Write.contents c.args.errors.now) (g.E.Write.contents c.write_report.new.errors) c.write_report.result c.args.scene.form c.args.scene.path.now (codes "misfit")
-    (IsOr text short) c.args.text.now misfit.position c.place_in-place.result c.made_or-message.result.now c.made.result [] c.write_report.ensures c.place_in-place.ensures
+    (IsOr text short) c.args.text.now misfit.position c.place_in-place.result c.made_or-message.result.now c.made.result c.as_slice.result.now c.write_report.ensures c.place_in-place.ensures
     (is_made c.format-message.result text short c.made_or-message.result.now c.format-message.ensures.ok c.made_or-message.ensures)
