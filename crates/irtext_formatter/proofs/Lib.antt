@@ -1,5 +1,6 @@
 pub mod Apart
 pub mod Covered
+pub mod Keying
 pub mod Live
 pub mod Misfitting
 pub mod Newer
