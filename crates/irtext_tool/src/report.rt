@@ -208,8 +208,16 @@ pub fn report_misfit<E: Write>(
     ) else {
         return report_memory(alloc, errors, scene);
     };
-    let hint = misfit.mistaken.as_ref().and_then(|mistaken| hint_for_key(alloc, mistaken).ok());
-    let note = hint.as_ref().map(|hint| diagnostic(Severity::Note, scene.path, None, hint.as_str()));
+    let hint = misfit
+        .mistaken
+        .as_ref()
+        .and_then(|mistaken| hint_for_key(alloc, mistaken).ok());
+    let note = hint.as_ref().map(|hint| diagnostic(
+        Severity::Note,
+        scene.path,
+        None,
+        hint.as_str(),
+    ));
     let place = misfit.position.map(|position| Excerpt { text, position });
     let report = Report {
         diagnostic: diagnostic(Severity::Error, scene.path, place, message.as_str()),
