@@ -1,6 +1,7 @@
 pub mod Apart
 pub mod Covered
 pub mod Fitted
+pub mod Keying
 pub mod Live
 pub mod Misfitting
 pub mod Newer

@@ -77,8 +77,9 @@ fn mistaken_in<T: IrText<A>, A: AttrText<A>>(
     ensures { IfOk result (λ found. IfSome (operation ctx.now op) (λ seen. option_map texts_of found
         ≡ mistaken_in ctx.now.dialects seen fault.entry)) }
 {
+    let attributes = op.attributes(ctx);
     match ctx.op_info(op.get_opid(ctx)) {
-        Some(info) => mistaken_key(ctx.allocator(), &info.format, op.attributes(ctx), fault),
+        Some(info) => mistaken_key(ctx.allocator(), &info.format, attributes, fault),
         None => Ok(None),
     }
 }

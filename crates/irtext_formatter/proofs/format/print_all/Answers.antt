@@ -27,8 +27,7 @@ loop-left-preserved g c =
       lent = c.append_next.ensures.lent ∙ c.loop-left.invariant.lent;
       ready = λ e. (on.1.left e).1;
       stands = λ text at bare.
-          let so_far = c.loop-left.invariant.stands text at bare in
-          (
+          let so_far = c.loop-left.invariant.stands text at bare in (
             then_root so_far.0 on.0,
             stepped g.T.IrText g.A.IrText g.A.AttrText g.A.PartialEq.eq c.args.layout text (held_by c.args.roots.now) c.loop-left.roots c.append_next.new.roots so_far.0 (then_root so_far.0 on.0) on.0 c.in-Ok.followed (so_far.1.going c.loop-left-test.true) on.1 refl,
             kept_on c.args.kept so_far.0 (string_bytes c.loop-left.out) (string_bytes c.make_room.new.out) on.0 (string_bytes c.append_next.new.out) so_far.2 c.make_room.ensures on.2,
