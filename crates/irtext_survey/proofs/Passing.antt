@@ -104,9 +104,9 @@ module _ {X : Type 0} (item : Text → Outcome X) where
       passing_more {answer = answer} h d s = record { passed = p.passed ++ tt ∷ []; listing = listing_more alone item b t k p.listing (λ y x i. i) (insisted_mean alone answer (Ok tt) h d) s }
 
   -- the next one consumes at least one character
-  pub passing_falls : {A : Type 0} {now mid later next ready new : StreamView} {answer : Result (Unit {0}) (ParseFault A)} → begins (the 44) now.rest ≡ true → mid ≡ advanced now → Takes itself replaced (front is_whitespace mid.rest) (after is_whitespace mid.rest) mid later
+  pub passing_falls : {A : Type 0} (now : StreamView) {mid later next ready new : StreamView} {answer : Result (Unit {0}) (ParseFault A)} → begins (the 44) now.rest ≡ true → mid ≡ advanced now → Takes itself replaced (front is_whitespace mid.rest) (after is_whitespace mid.rest) mid later
       → MayPass item later answer next → DemandsOf itself replaced answer next (Ok tt) ready → Takes itself replaced (front is_whitespace ready.rest) (after is_whitespace ready.rest) ready new → length new.rest < length now.rest
-  passing_falls {A = A} {answer = answer} b t k h d s = item_falls alone item {A = A} b t k (insisted_mean alone answer (Ok tt) h d).read s
+  passing_falls {A = A} now {answer = answer} b t k h d s = item_falls alone item {A = A} {now = now} b t k (insisted_mean alone answer (Ok tt) h d).read s
 
   -- the first one was passed, and what follows it
   pub passes_list : {A : Type 0} {old mid new end : StreamView} {r : Result (Unit {0}) (ParseFault A)} → MayPass {A = A} item old (Ok tt) mid → Takes itself replaced (front is_whitespace mid.rest) (after is_whitespace mid.rest) mid new → PassesMore item new r end → MustPass (separated_at 44 item) old r end

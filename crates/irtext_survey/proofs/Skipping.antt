@@ -56,7 +56,7 @@ module _ {T A : Type 0} {types : ir_text.Ghosts T A} {owns : ir_text.Ghosts A A}
 
   -- what the grammar parses as a tree is noted
   module _ (x : Tree ℕ T A) (rest : Text) (r : grammar.reads L x old.rest rest) where
-    noted_by : Noted
+    abbrev noted_by : Noted
     noted_by = do_tree (isolated dialects) (noter []) x nothing_noted
 
     comes : operation_at dialects types.reading attr (noter []) true old.rest nothing_noted ≡ Advanced tt noted_by rest
