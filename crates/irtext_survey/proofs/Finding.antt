@@ -1,6 +1,5 @@
 -- What is found in the notes of a root is what the definitions say of the text.
-use Rattle.std.proofs.Common.{◌≡◌, ◌∙◌, ℕ, Bool, true, false, true≢false, List, [], Option, Result, Ok, Err, IfOk, refl, sym, ap, subst}
-use Rattle.std.specs.Prelude.{⊤}
+use Rattle.std.proofs.Common.{◌≡◌, ℕ, Bool, true, false, List, Option, sym, ap, subst}
 use Rattle.irtext_base.specs.Text.{Text}
 use Rattle.irtext_base.specs.Stream.{StreamView}
 use Rattle.irtext_base.specs.Locations.{AttrView}
@@ -10,7 +9,6 @@ use Rattle.irtext_context.specs.Dialects.{Table}
 use Rattle.irtext_tokens.specs.Infix.{Reader}
 use Rattle.irtext_grammar.specs.Contexts.Held.{whole}
 use Rattle.irtext_grammar.specs.Parsed.{Leaves, Each, Optional}
-use Rattle.irtext_grammar.specs.Reached.{Reached, Advanced, Stopped}
 use Rattle.irtext_survey.specs.Notes.{Noted, noted_in, state_of, IsFound}
 use Rattle.irtext_survey.specs.Walk.{IsNote, IsNoted}
 use Rattle.irtext_survey.specs.Root.{NotesTree}

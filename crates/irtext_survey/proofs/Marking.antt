@@ -7,7 +7,7 @@ use Rattle.irtext_grammar.specs.Grammar.Forest.{Regions, no_regions, region, Blo
 use Rattle.irtext_grammar.specs.Grammar.Marked.{regions_marked, blocks_marked, operations_marked, marked}
 use Rattle.irtext_grammar.specs.Grammar.Tree as tree
 use Rattle.irtext_grammar.specs.Grammar.Tree.{Part, Op, Head, Brace, shown, elided, Tree, parts_of}
-use Rattle.irtext_grammar.specs.Reached.{Actions, region_parts, each_of, do_parts, do_operation, do_region, do_regions, do_blocks, do_operations, do_tree}
+use Rattle.irtext_grammar.specs.Reached.{Actions, region_parts, each_of, do_parts, do_operation, do_regions, do_blocks, do_operations, do_tree}
 use Rattle.irtext_grammar.specs.Spelling.Spellable.{Enough}
 use Rattle.irtext_grammar.proofs.Seen.{Shows, shows_tree}
 use Rattle.irtext_grammar.proofs.Whole.{HasParts, WholeRegions, WholeBlocks, WholeOperations, IsWhole}

@@ -1,7 +1,7 @@
 -- How far the parser of a section has come that keeps nothing of it.
-use Rattle.std.proofs.Common.{◌≡◌, ◌∙◌, ◌<◌, ◌≤◌, ℕ, zero, suc, Bool, true, false, cond, not, ◌&&◌, Result, Ok, Err, Option, Some, None, List, [], ◌∷◌, ◌++◌, length, length-append, refl, sym, ap, subst, arith, inl, inr, true≢false}
+use Rattle.std.proofs.Common.{◌≡◌, ◌∙◌, ◌<◌, ◌≤◌, ℕ, zero, suc, Bool, true, false, cond, Result, Ok, Err, Option, None, List, [], ◌∷◌, ◌++◌, length, refl, sym, ap, subst, arith, inl, inr, true≢false}
 use Rattle.std.specs.Char.{is_whitespace}
-use Rattle.std.specs.Prelude.{⊤, codes, IfOk}
+use Rattle.std.specs.Prelude.{⊤, codes}
 use Rattle.irtext_base.specs.Text.{Text, begins, front, after}
 use Rattle.irtext_base.specs.Reading.{the}
 use Rattle.irtext_base.specs.Stream.{StreamView, advanced}
@@ -12,10 +12,9 @@ use Rattle.irtext_base.specs.Faults.{Memory, fault_of}
 use Rattle.irtext_base.specs.declared.parsable.fault.ParseFault.{ParseFault}
 use Rattle.irtext_tokens.specs.Demanded.{spaced_at}
 use Rattle.irtext_tokens.specs.ListOutcomes.{items_after, separated_at}
-use Rattle.irtext_tokens.specs.MustRead.{MayRead, MustRead}
+use Rattle.irtext_tokens.specs.MustRead.{MustRead}
 use Rattle.irtext_tokens.specs.Tokens.{space_at, text_at}
 use Rattle.irtext_tokens.proofs.Steps.{alone, Passed, starts, turned, first, more, spaced, ends, last, refuses, refuses_seen, last_seen, fine_there}
-use Rattle.irtext_grammar.specs.Contexts.Held.{whole}
 use Rattle.irtext_grammar.specs.Entries.{begins_given, kept, pair_at, tested, entry_head_at, pairs_at, given_at}
 use Rattle.irtext_grammar.specs.Grammar.Section.{Item, direct, reference, Entry, of_item, of_once}
 use Rattle.irtext_grammar.specs.Grammar.Tree.{Name, Mark, ident}
@@ -23,13 +22,12 @@ use Rattle.irtext_grammar.specs.Readers.Directives.{attribute_at}
 use Rattle.irtext_grammar.specs.Readers.Section.{entry_location_at}
 use Rattle.irtext_grammar.specs.Readers.Streams.{itself, replaced}
 use Rattle.irtext_grammar.proofs.Readers.Answered.{answered}
-use Rattle.irtext_parse_pieces.specs.Named.{MayMean, MustMean}
+use Rattle.irtext_parse_pieces.specs.Named.{MayMean}
 use Rattle.irtext_parse_pieces.proofs.EntrySteps.{first_refused}
 use Rattle.irtext_parse_pieces.proofs.Listings.{Listing, listing_first, listing_all, listing_refused, listing_more, item_falls, list_bad, list_none, list_some}
 use Rattle.irtext_parse_pieces.proofs.Meanings.{insisted_mean, must_refuse}
 use Rattle.irtext_parse_section.proofs.LoopText.{entry_shorter}
 use Rattle.irtext_survey.specs.Section.{any_rule, any_index, pair_in, entry_in, entries_in, section_in, MayPass, MustPass, PassesMore, SkipsSection}
-use Rattle.irtext_survey.specs.Walk.{IsMissed}
 use Rattle.irtext_survey.proofs.Reading.{must_miss}
 
 -- ---- what is not kept
@@ -104,9 +102,9 @@ module _ {X : Type 0} (item : Text → Outcome X) where
       passing_more {answer = answer} h d s = record { passed = p.passed ++ tt ∷ []; listing = listing_more alone item b t k p.listing (λ y x i. i) (insisted_mean alone answer (Ok tt) h d) s }
 
   -- the next one consumes at least one character
-  pub passing_falls : {A : Type 0} {now mid later next ready new : StreamView} {answer : Result (Unit {0}) (ParseFault A)} → begins (the 44) now.rest ≡ true → mid ≡ advanced now → Takes itself replaced (front is_whitespace mid.rest) (after is_whitespace mid.rest) mid later
+  pub passing_falls : {A : Type 0} (now : StreamView) {mid later next ready new : StreamView} {answer : Result (Unit {0}) (ParseFault A)} → begins (the 44) now.rest ≡ true → mid ≡ advanced now → Takes itself replaced (front is_whitespace mid.rest) (after is_whitespace mid.rest) mid later
       → MayPass item later answer next → DemandsOf itself replaced answer next (Ok tt) ready → Takes itself replaced (front is_whitespace ready.rest) (after is_whitespace ready.rest) ready new → length new.rest < length now.rest
-  passing_falls {A = A} {answer = answer} b t k h d s = item_falls alone item {A = A} b t k (insisted_mean alone answer (Ok tt) h d).read s
+  passing_falls {A = A} now {answer = answer} b t k h d s = item_falls alone item {A = A} {now = now} b t k (insisted_mean alone answer (Ok tt) h d).read s
 
   -- the first one was passed, and what follows it
   pub passes_list : {A : Type 0} {old mid new end : StreamView} {r : Result (Unit {0}) (ParseFault A)} → MayPass {A = A} item old (Ok tt) mid → Takes itself replaced (front is_whitespace mid.rest) (after is_whitespace mid.rest) mid new → PassesMore item new r end → MustPass (separated_at 44 item) old r end

@@ -1,5 +1,5 @@
 -- How far a stream is moved to a position of its text.
-use Rattle.std.proofs.Common.{◌≡◌, ◌∙◌, ◌⊎◌, inl, inr, ℕ, Bool, true, false, not, ◌&&◌, Some, [], ◌∷◌, ◌++◌, refl, sym, ap, ap₂, subst, true≢false, append_assoc}
+use Rattle.std.proofs.Common.{◌≡◌, ◌∙◌, ◌⊎◌, inl, inr, ℕ, true, false, not, ◌&&◌, Some, [], ◌∷◌, ◌++◌, refl, sym, ap, ap₂, subst, true≢false, append_assoc}
 use Rattle.std.proofs.lemmas.Cmp.{int_eq_equiv}
 use Rattle.std.specs.Ordering.{int_eq}
 use Rattle.irtext_stream.specs.Text.{Text}

@@ -1,11 +1,10 @@
 -- Whether a root was consumed is whether the text begins with one of the grammar.
 use Rattle.std.proofs.Common.{◌≡◌, ◌∙◌, ℕ, Bool, true, false, List, [], Result, Ok, Err, IfOk, OnOk, refl, sym, ap, subst}
 use Rattle.irtext_base.specs.Text.{Text}
-use Rattle.irtext_base.specs.Answers.{Outcome, Read, Bad, demanded}
+use Rattle.irtext_base.specs.Answers.{Outcome, Read, demanded}
 use Rattle.irtext_base.specs.Format.{Id}
 use Rattle.irtext_base.specs.Locations.{AttrView}
-use Rattle.irtext_base.specs.Own.{Language, texts_of}
-use Rattle.irtext_base.specs.Paths.{Written}
+use Rattle.irtext_base.specs.Own.{Language}
 use Rattle.irtext_base.specs.Stream.{StreamView}
 use Rattle.irtext_base.specs.declared.text.IrText as ir_text
 use Rattle.irtext_context.specs.Dialects.{Table}
@@ -14,11 +13,9 @@ use Rattle.irtext_grammar.specs.Contexts.Formats.{format_of, isolated, IsAccepte
 use Rattle.irtext_grammar.specs.Contexts.Held.{whole}
 use Rattle.irtext_grammar.specs.Grammar.Marked.{marked, section_if}
 use Rattle.irtext_grammar.specs.Grammar.Reads as grammar
-use Rattle.irtext_grammar.specs.Grammar.Section.{Entry}
 use Rattle.irtext_grammar.specs.Grammar.Tree.{Tree}
-use Rattle.irtext_grammar.specs.Promises.Section.{Moves}
 use Rattle.irtext_grammar.specs.Promises.Supported.{supported, location_verdict}
-use Rattle.irtext_grammar.specs.Reached.{Reached, Advanced, Stopped, operation_at, do_tree}
+use Rattle.irtext_grammar.specs.Reached.{Reached, Advanced, operation_at, do_tree}
 use Rattle.irtext_grammar.proofs.Joins.Attributes.{splits_attr}
 use Rattle.irtext_grammar.proofs.Knot.Whole as knot
 use Rattle.irtext_grammar.proofs.Readers.Answered.{moves_more}
@@ -31,7 +28,6 @@ use Rattle.irtext_survey.specs.Root.{NotesTree}
 use Rattle.irtext_survey.specs.Section.{section_in, SkipsSection}
 use Rattle.irtext_survey.specs.Walk.{IsMissed}
 use Rattle.irtext_survey.specs.declared.opening.Notebook.{Notebook}
-use Rattle.irtext_survey.proofs.Finding.{noted_there}
 use Rattle.irtext_survey.proofs.Marking.{marked_noted}
 use Rattle.irtext_survey.proofs.SectionRead.{syntax_read, syntax_found}
 use Rattle.irtext_survey.proofs.Stepping.{moved_whole}
@@ -56,7 +52,7 @@ module _ {T A : Type 0} {types : ir_text.Ghosts T A} {owns : ir_text.Ghosts A A}
 
   -- what the grammar parses as a tree is noted
   module _ (x : Tree ℕ T A) (rest : Text) (r : grammar.reads L x old.rest rest) where
-    noted_by : Noted
+    abbrev noted_by : Noted
     noted_by = do_tree (isolated dialects) (noter []) x nothing_noted
 
     comes : operation_at dialects types.reading attr (noter []) true old.rest nothing_noted ≡ Advanced tt noted_by rest

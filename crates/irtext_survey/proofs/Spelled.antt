@@ -1,16 +1,13 @@
 -- The names of what is parsed stand in the text at their places.
 use Rattle.std.proofs.Common.{◌≡◌, ◌∙◌, inl, inr, ℕ, List, [], ◌∷◌, ◌++◌, map, length, codes, refl, sym, ap, subst, append_assoc}
 use Rattle.std.specs.Char.{is_whitespace}
-use Rattle.std.specs.Prelude.{⊤}
-use Rattle.irtext_base.specs.Text.{Text, front, after, after_space, in_word}
+use Rattle.irtext_base.specs.Text.{Text, front, after_space, in_word}
 use Rattle.irtext_base.specs.Reading.{Reading, ◌▸◌, literal, identifier, more, separated}
 use Rattle.irtext_base.specs.Answers.{Outcome, Read, Missing, Bad}
 use Rattle.irtext_base.specs.Format.{Id}
-use Rattle.irtext_base.specs.Locations.{AttrView}
 use Rattle.irtext_base.specs.Own.{Language, found, verdict, texts_of}
 use Rattle.irtext_base.proofs.Along.{front_after}
 use Rattle.irtext_context.specs.Dialects.{Table}
-use Rattle.irtext_grammar.specs.Contexts.Formats.{format_of}
 use Rattle.irtext_grammar.specs.Exact.{block_head, operation_lead}
 use Rattle.irtext_grammar.specs.Grammar.Reads as reads
 use Rattle.irtext_grammar.specs.Grammar.Tree as tree

@@ -1,5 +1,5 @@
 -- What is found in notes stands in the text where the notes do.
-use Rattle.std.proofs.Common.{◌≡◌, ◌∙◌, ◌⊎◌, inl, inr, ℕ, zero, suc, ◌-◌, Bool, true, false, true≢false, cond, List, [], ◌∷◌, ◌++◌, length, length-append, take, Option, Some, None, slice_get, is_some, refl, sym, ap, subst, arith}
+use Rattle.std.proofs.Common.{◌≡◌, ◌∙◌, ◌⊎◌, inl, inr, ℕ, zero, suc, ◌-◌, Bool, true, false, true≢false, cond, List, [], ◌∷◌, length, length-append, take, Option, Some, None, slice_get, is_some, refl, sym, ap, subst, arith}
 use Rattle.std.proofs.Math.Seq.{take-append_seam}
 use Rattle.std.specs.Prelude.{⊤}
 use Rattle.irtext_base.specs.Text.{Text, line_after, column_after}

@@ -18,7 +18,7 @@ loop-stream-preserved g c = λ first fine.
 
 pub loop-stream-smaller : goal.loop-stream-smaller
 loop-stream-smaller g c =
-    passing_falls (pair_in (attr_at g.A.IrText.reading)) (sym c.next_is.ensures ∙ c.loop-stream-test.true) c.take.ensures.after c.skip_white_space.ensures c.pair_passed-answer.ensures c.in_ok-committed.ensures c.skip_white_space-in-loop-stream.ensures
+    passing_falls (pair_in (attr_at g.A.IrText.reading)) c.loop-stream.stream (sym c.next_is.ensures ∙ c.loop-stream-test.true) c.take.ensures.after c.skip_white_space.ensures c.pair_passed-answer.ensures c.in_ok-committed.ensures c.skip_white_space-in-loop-stream.ensures
 
 pub returns : goal.returns
 returns g c = λ first fine. passing_all (pair_in (attr_at g.A.IrText.reading)) (c.loop-stream.invariant first fine) (sym c.next_is.ensures ∙ c.loop-stream-test.false)

@@ -1,8 +1,5 @@
 use Rattle.std.proofs.Common.{[], subst}
-use Rattle.std.specs.Prelude.{Bool}
-use Rattle.irtext_base.specs.Format.{Id}
 use Rattle.irtext_tokens.specs.AttrTexts.{attr_at}
-use Rattle.irtext_grammar.specs.Contexts.Formats.{IsAccepted}
 use Rattle.irtext_grammar.proofs.Knot.Formats.{each_accepted}
 use Rattle.irtext_parse_root.proofs.Laws.{Laws, laws_of}
 use Rattle.irtext_survey.specs.Root.{NotesTree}
