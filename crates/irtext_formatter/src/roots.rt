@@ -8,15 +8,18 @@ ghost use Rattle.irtext_context.specs.Context.{ContextView, operation, KeepsOlde
 ghost use Rattle.irtext_context.specs.Locations.{ErasesLocations};
 ghost use Rattle.irtext_context.specs.Made.{SameObjects};
 ghost use Rattle.irtext_graph.specs.Back.{AllOlder, IsClosedBelow};
+ghost use Rattle.irtext_graph.specs.Graph.{children, parent};
+ghost use Rattle.irtext_graph.specs.Nested.{Nested};
 ghost use Rattle.irtext_graph.specs.Parts.{regions};
 ghost use Rattle.irtext_graph.specs.Store.{before};
 ghost use Rattle.irtext_graph.specs.Throughout.{IsNewInside};
+ghost use Rattle.irtext_graph.specs.Used.{IsUse, IsDefined};
 ghost use Rattle.irtext_graph.specs.declared.arena.Ptr.{Ptr};
 ghost use Rattle.irtext_graph.specs.declared.object.Object.TheVariants.{TheOperation};
 ghost use Rattle.irtext_graph.specs.declared.object.Operation.{Operation};
 ghost use Rattle.irtext_grammar.specs.Promises.Root.{UnlessMemory};
 ghost use Rattle.irtext_stream.specs.Classes.{after_spaces};
-ghost use Rattle.irtext_formatter.specs.Rows.{follows, IsSound, ReadsRoot, RefusesAt, KeepsPlace, LaysOut};
+ghost use Rattle.irtext_formatter.specs.Rows.{follows, ReadsRoot, RefusesAt, KeepsPlace, LaysOut};
 ghost use Rattle.irtext_formatter.specs.Stands.{place_of, held_by, IsReady, CanTakeBack, Begins, NextRoot};
 
 use crate::layout::Layout;
@@ -57,7 +60,8 @@ fn context_of<'a, T: IrText<A>, A: AttrText<A>>(state: &'a State<'_, T, A, ()>) 
 
 /// The graph of a context is sound. Does nothing: the contract states what every context has.
 fn keeps_sound<T: IrText<A>, A: AttrText<A>>(ctx: &Context<T, A>)
-    ensures { IsSound ctx.now.graph }
+    ensures nested { Nested (children ctx.now.graph) (parent ctx.now.graph) }
+    ensures used { (u d : _) → IsUse ctx.now.graph d u → IsDefined ctx.now.graph d }
 {
     ctx.graph().keeps_nesting();
 }

@@ -4,7 +4,7 @@ use Rattle.irtext_formatter.specs.Rows.{IsSound}
 use Rattle.irtext_formatter.proofs.roots.Roots.parse_root.Goals as goal
 
 pub returns-clause-reads : goal.returns-clause-reads
-returns-clause-reads g c = λ ready. reads g.T.IrText g.A.IrText c.args.self.now (record { stream = c.outermost_parse-parsed.new.s; made = c.made_in-self.result; begin = c.position-self.result }) ready (subst (λ x. IsSound x.graph) c.context_of.ensures c.keeps_sound.ensures) c.outermost_parse-parsed.result (c.outermost_parse-parsed.ensures.parses.answers.builds ready.fresh)
+returns-clause-reads g c = λ ready. reads g.T.IrText g.A.IrText c.args.self.now (record { stream = c.outermost_parse-parsed.new.s; made = c.made_in-self.result; begin = c.position-self.result }) ready (subst (λ x. IsSound x.graph) c.context_of.ensures (record { nested = c.keeps_sound.ensures.nested; used = c.keeps_sound.ensures.used })) c.outermost_parse-parsed.result (c.outermost_parse-parsed.ensures.parses.answers.builds ready.fresh)
 
 pub returns-clause-refuses : goal.returns-clause-refuses
 returns-clause-refuses g c = λ ready. c.outermost_parse-parsed.ensures.parses.answers.unresolved ready.fresh
