@@ -1,2 +1,3 @@
+mod Bounded
 mod Noted
 mod Telling
