@@ -1,3 +1,2 @@
-mod Bounded
 mod Noted
 mod Telling

@@ -1,4 +1,4 @@
-use Rattle.std.proofs.Common.{◌++◌, []}
+use Rattle.std.proofs.Common.{◌++◌}
 use Rattle.std.specs.Prelude.{codes, string_bytes}
 use Rattle.irtext_base.specs.Causes.{id_text}
 use Rattle.irtext_tool.specs.Told.{IsOr}
