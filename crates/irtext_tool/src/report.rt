@@ -345,7 +345,10 @@ pub fn report_misfit<E: Write>(
     );
     let place = place_in(text, misfit.position);
     let message = made_or(&message, "an operation does not fit its format");
-    let hint = misfit.mistaken.as_ref().and_then(|mistaken| hint_for_key(alloc, mistaken).ok());
+    let hint = misfit
+        .mistaken
+        .as_ref()
+        .and_then(|mistaken| hint_for_key(alloc, mistaken).ok());
     let note = hint.as_ref().map(|hint| Diagnostic {
         severity: Severity::Note,
         path: scene.path,
