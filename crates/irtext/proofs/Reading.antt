@@ -95,10 +95,10 @@ module _ {T A : Type 0} (types : ir_text.Ghosts T A) (owns : ir_text.Ghosts A A)
         → IfOk result (λ op. ReadsRoot types owns bytes ctx op after) × IfErr result (IsNotRead types owns bytes ctx)
     is_read answer says result passed = (reads_from answer (says.builds fresh) result passed, rejected_from answer (says.missed fine) (says.unresolved fresh) result passed)
 
-  -- the text could not be copied
-  pub not_copied : (after : ContextView T A) (result : Result (Ptr Operation) (Error A)) → IsOutOfMemory result → IfOk result (λ op. ReadsRoot types owns bytes ctx op after) × IfErr result (IsNotRead types owns bytes ctx)
-  not_copied after (Ok x) memory = absurd memory
-  not_copied after (Err e) memory = (tt, inl memory)
+  -- there was no memory to begin with the text
+  pub not_begun : (after : ContextView T A) (result : Result (Ptr Operation) (Error A)) → IsOutOfMemory result → IfOk result (λ op. ReadsRoot types owns bytes ctx op after) × IfErr result (IsNotRead types owns bytes ctx)
+  not_begun after (Ok x) memory = absurd memory
+  not_begun after (Err e) memory = (tt, inl memory)
 
   -- so the root that was parsed is there
   pub all_seen : (after : ContextView T A) → Nested (children ctx.graph) (parent ctx.graph) → Nested (children after.graph) (parent after.graph) → (result : Result (Ptr Operation) (Error A))

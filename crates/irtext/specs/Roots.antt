@@ -62,7 +62,7 @@ module _ {T A : Type 0} (types : ir_text.Ghosts T A) (owns : ir_text.Ghosts A A)
       pub because : UnlessMemory RejectsText fault
       pub is_error : IsErrorOf fault error
 
-    -- why no root was parsed, as an error: the text could not be copied, or it is rejected
+    -- why no root was parsed, as an error: there was no memory to begin with the text, or it is rejected
     abbrev pub IsNotRead : Error A → Type 0
     IsNotRead error = IsMemory error ⊎ IsRejection error
 

@@ -23,7 +23,8 @@ fn error_text<T: IrText<A>, A: AttrText<A>>(
     format!(in ctx.allocator(); "{}", error.disp(ctx))
 }
 
-/// Returns the fault for the error of a text: `Memory` if there was no memory to copy it or for the error's text, or else `Rejected`.
+/// Returns the fault for the error of a text: `Memory` if there was no memory to begin with it or for the error's text, or
+/// else `Rejected`.
 fn rejection<T: IrText<A>, A: AttrText<A>>(ctx: &Context<T, A>, error: &Error<A>) -> Fault
     ensures { IsRejected A.written ctx.now.paths error.now result }
 {
@@ -57,26 +58,37 @@ fn register<T: IrText<A>, A: AttrText<A>>(ctx: &mut Context<T, A>) -> Result<(),
     }
 }
 
+/// Returns how much room to make for the text of a root in this form, which is parsed from so many bytes. The section that is written is
+/// often longer than the text of the operations, and what is parsed may have none. More room than is used costs nothing.
+fn room_for(form: Form, bytes: usize) -> usize {
+    match form {
+        Form::Whole => bytes.saturating_mul(5) / 2,
+        Form::Elided => 0,
+    }
+}
+
 /// Registers the demo dialects with a context that has no parts, parses a root from the beginning of a text, and returns its text in
 /// this form. The fault is `Memory`, `Rejected` or `Unprinted`.
 pub fn formatted<T: IrText<A>, A: AttrText<A>>(
     ctx: &mut Context<T, A>,
     form: Form,
-    text: &str,
+    text: String,
 ) -> Result<String, Fault>
     requires { ctx.old ≡ no_parts }
-    ensures text { IfOk result (λ printed. Formats T.IrText.own A.IrText.own A.AttrText.own A.eq form text.now
-        (string_bytes printed)) }
-    ensures fault { IfErr result (Unformatted T.IrText.own A.IrText.own A.AttrText.own A.eq form text.now) }
+    ensures text { IfOk result (λ printed. Formats T.IrText.own A.IrText.own A.AttrText.own A.eq form
+        (string_bytes text) (string_bytes printed)) }
+    ensures fault { IfErr result (Unformatted T.IrText.own A.IrText.own A.AttrText.own A.eq form
+        (string_bytes text)) }
 {
     if register(ctx).is_err() {
         return Err(Fault::Memory);
     }
+    let room = room_for(form, text.len());
     let root = match read_root(ctx, text) {
         Ok(root) => root,
         Err(error) => return Err(rejection(ctx, &error)),
     };
-    match print_text(ctx, root, form) {
+    match print_text(ctx, root, form, room) {
         Ok(printed) => Ok(printed),
         Err(_) => Err(unprinted(ctx)),
     }

@@ -9,6 +9,7 @@ use crate::formatting::formatted;
 use crate::input::read_text;
 use crate::output::write_line;
 use crate::root::Form;
+use irtext_base::seed::Seed;
 use irtext_demo::{DemoAttr, DemoType};
 use pliron_text::base::Context;
 use std::alloc::Global;
@@ -36,19 +37,23 @@ fn form_of(args: &[&str]) -> Option<Form>
     }
 }
 
-/// Reads the input to its end, and returns the text of its root in this form.
-fn make_text<R: Read>(alloc: Global, form: Form, input: &mut R) -> Result<String, Fault>
+/// Reads the input to its end, and returns the text of its root in this form. The objects of the root are not freed: the program ends when
+/// the text is written.
+fn make_text<R: Read>(alloc: Global, seed: Seed, form: Form, input: &mut R) -> Result<String, Fault>
     ensures text { IfOk result (λ text. Makes (R.remaining input.old) (R.remaining input.new) form (string_bytes text)) }
     ensures fault { IfErr result (Unmade (R.remaining input.old) (R.remaining input.new) form) }
 {
     let text = read_text(alloc, input)?;
-    let mut ctx: Context<DemoType, DemoAttr> = Context::new(alloc);
-    formatted(&mut ctx, form, text.as_str())
+    let mut ctx: Context<DemoType, DemoAttr> = Context::with_seed(alloc, seed);
+    let answer = formatted(&mut ctx, form, text);
+    std::mem::forget(ctx);
+    answer
 }
 
 /// Does the work of `run`, and returns the fault if there is one.
 fn try_run<R: Read, W: Write>(
     alloc: Global,
+    seed: Seed,
     args: &[&str],
     input: &mut R,
     output: &mut W,
@@ -59,7 +64,7 @@ fn try_run<R: Read, W: Write>(
     let Some(form) = form_of(args) else {
         return Err(Fault::Usage);
     };
-    let text = make_text(alloc, form, input)?;
+    let text = make_text(alloc, seed, form, input)?;
     match write_line(output, text.as_str()) {
         Ok(()) => Ok(()),
         Err(_) => Err(Fault::Unwritable),
@@ -102,6 +107,7 @@ pub struct Ended {
 /// Does what `run` does, and returns in addition whether the errors took what was written to them.
 pub fn run_to_end<R: Read, W: Write, E: Write>(
     alloc: Global,
+    seed: Seed,
     args: &[&str],
     input: &mut R,
     output: &mut W,
@@ -111,7 +117,7 @@ pub fn run_to_end<R: Read, W: Write, E: Write>(
         (map (λ arg. arg.now) args.now) input.old input.new output.old output.new E.contents errors.old errors.new
         result.took result.status }
 {
-    let answer = try_run(alloc, args, input, output);
+    let answer = try_run(alloc, seed, args, input, output);
     let took = tell(errors, &answer).is_ok();
     Ended {
         status: status(&answer),
@@ -126,9 +132,10 @@ pub fn run_to_end<R: Read, W: Write, E: Write>(
 /// The status is 0 if the text was written to `output`, as a line. It is 2 if the arguments are others: then nothing was read. Otherwise
 /// it is 1: the input could not be read, or is not UTF-8; its text was rejected; its root was not printed; memory ran out; or the output
 /// could not be written. Unless that is the reason, nothing was written to `output`. The text of the reason goes to `errors`, as a line;
-/// if they fail the status is the same.
+/// if they fail the status is the same. The seed is that of the context; nothing that is written depends on it.
 pub fn run<R: Read, W: Write, E: Write>(
     alloc: Global,
+    seed: Seed,
     args: &[&str],
     input: &mut R,
     output: &mut W,
@@ -138,5 +145,5 @@ pub fn run<R: Read, W: Write, E: Write>(
         (map (λ arg. arg.now) args.now) input.old input.new output.old output.new E.contents errors.old errors.new
         took result }
 {
-    run_to_end(alloc, args, input, output, errors).status
+    run_to_end(alloc, seed, args, input, output, errors).status
 }

@@ -8,3 +8,5 @@ pub mod location;
 pub mod parsable;
 pub mod result;
 pub mod text;
+
+pub use irtext_interner::seed;

@@ -2,6 +2,7 @@
 
 use crate::again::register;
 use crate::said::{Ctx, erase};
+use irtext_base::seed::Seed;
 use irtext_demo::{DemoAttr, DemoType};
 use pliron_text::base::{Context, Operation};
 use pliron_text::ir::OperationText;
@@ -65,9 +66,15 @@ fn repeated(
     write!(out, "{roots} roots, {live} objects left, end at {last}")
 }
 
-/// Does the same with a new context.
-pub fn erased(alloc: Global, text: &str, times: usize, out: &mut String) -> Result<(), AllocError> {
-    let mut ctx = Context::new(alloc);
+/// Does the same with a new context with this seed.
+pub fn erased(
+    alloc: Global,
+    seed: Seed,
+    text: &str,
+    times: usize,
+    out: &mut String,
+) -> Result<(), AllocError> {
+    let mut ctx = Context::with_seed(alloc, seed);
     let done = repeated(alloc, &mut ctx, text, times, out);
     drop(ctx);
     done

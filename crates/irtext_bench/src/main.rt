@@ -2,7 +2,7 @@
 //! from one stream, and printed once for each further argument. `numbers`, `strings`: the text is parsed as one list. `quoted`,
 //! `copied`: the text is quoted or copied once for each further argument. `positions`: the position of its end is requested a million
 //! times for each further argument. The other words test texts from outside. `erased`: roots are erased as they are parsed, once for
-//! each further argument. `prints`: texts are parsed, and their printed texts are parsed again. `formats`: the same for texts with
+//! each further argument, with a random seed. `prints`: texts are parsed, and their printed texts are parsed again. `formats`: the same for texts with
 //! operations in given formats. `graphs` needs no text: calls are made on graphs and names, which the further arguments select (`graphs.rt`).
 #![tactic(auto)]
 
@@ -19,6 +19,7 @@ mod roots;
 mod said;
 
 use crate::quoted::Way;
+use irtext_base::seed::Seed;
 use std::alloc::{AllocError, Global};
 use std::io::Write;
 use std::process::ExitCode;
@@ -57,6 +58,7 @@ impl Task {
     fn append(
         self,
         alloc: Global,
+        seed: Seed,
         times: usize,
         text: &str,
         out: &mut String,
@@ -66,7 +68,7 @@ impl Task {
             Task::Strings => lists::strings(alloc, text, out),
             Task::Positions => positions::positions(alloc, text, times, out),
             Task::Written(way) => quoted::write_often(alloc, way, text, times, out),
-            Task::Erased => erased::erased(alloc, text, times, out),
+            Task::Erased => erased::erased(alloc, seed, text, times, out),
             Task::Prints => prints::prints(alloc, text, out),
             Task::Formats => formats::formats(alloc, text, out),
             Task::Roots => roots::roots(alloc, text, times, out),
@@ -74,8 +76,15 @@ impl Task {
     }
 
     /// Does the same for a caller of input and output.
-    fn measured(self, alloc: Global, times: usize, text: &str, out: &mut String) -> io::Result<()> {
-        Ok(self.append(alloc, times, text, out)?)
+    fn measured(
+        self,
+        alloc: Global,
+        seed: Seed,
+        times: usize,
+        text: &str,
+        out: &mut String,
+    ) -> io::Result<()> {
+        Ok(self.append(alloc, seed, times, text, out)?)
     }
 }
 
@@ -83,7 +92,7 @@ impl Task {
 fn append_task(rt: &HostRuntime, task: Task, words: &[String], out: &mut String) -> io::Result<()> {
     let text = io::read_to_string(rt.alloc(), rt.reader())?;
     let times = words.len().saturating_sub(1);
-    let done = task.measured(rt.alloc(), times, text.as_str(), out);
+    let done = task.measured(rt.alloc(), Seed::random(rt), times, text.as_str(), out);
     drop(text);
     done
 }

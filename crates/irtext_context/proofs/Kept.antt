@@ -10,7 +10,7 @@ use Rattle.irtext_graph.specs.declared.object.BasicBlock.{BasicBlock}
 use Rattle.irtext_graph.specs.declared.object.Operation.{Operation}
 use Rattle.irtext_graph.specs.declared.object.Value.{Value}
 use Rattle.irtext_graph.proofs.Closed.{older_on, closed_kept, back_to}
-use Rattle.irtext_graph.proofs.Marks.{operation_came}
+use Rattle.irtext_graph.proofs.Marks.{operation_came, counts_back}
 use Rattle.irtext_context.proofs.Contexts.{same-paths}
 
 module _ {T A : Type 0} where
@@ -38,6 +38,7 @@ module _ {T A : Type 0} where
         operations = b.0;
         blocks = b.1;
         regions = b.2;
+        counts = counts_back mark old.graph mid.graph new.graph k.graph r.graph;
         paths = λ i path e. same-paths r.paths i path (k.paths i path e);
         dialects = r.dialects ∙ k.dialects;
       }

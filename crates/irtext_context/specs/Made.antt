@@ -5,7 +5,7 @@ use Rattle.irtext_base.specs.Text.{Text}
 use Rattle.irtext_context.specs.Dialects.{Table}
 use Rattle.irtext_context.specs.DialectTable.{dialect_of, registered}
 use Rattle.irtext_context.specs.Context.{ContextView, OperationView, BlockView, known, KeepsOlder, MakesOperation, AddsRegion}
-use Rattle.irtext_graph.specs.Graph.{IsLive}
+use Rattle.irtext_graph.specs.Graph.{CountsOn, IsLive}
 use Rattle.irtext_graph.specs.Parts.{IsDefinedValue}
 use Rattle.irtext_graph.specs.Store.{get}
 use Rattle.irtext_base.specs.Paths.{KeepsPaths}
@@ -67,18 +67,21 @@ module _ {T A : Type 0} where
     pub makes : MakesOperation old middle op (bare id) types operands successors
     pub adds : AddsRegions n middle new op
 
-  -- every live object is unchanged, no other is live, each path keeps its key, and the dialects are the same
+  -- every live object is unchanged, no other is live, nothing that was given is given again, each path keeps its key, and the dialects
+  -- are the same
   pub record SameObjects (old new : ContextView T A) : Type 0 where
     pub operations : (p : Ptr Operation) → get new.graph.operations p ≡ get old.graph.operations p
     pub blocks : (p : Ptr BasicBlock) → get new.graph.blocks p ≡ get old.graph.blocks p
     pub regions : (p : Ptr Region) → get new.graph.regions p ≡ get old.graph.regions p
+    pub counts : CountsOn old.graph new.graph
     pub paths : KeepsPaths old.paths new.paths
     pub dialects : new.dialects ≡ old.dialects
 
   -- a call that makes an operation makes only one that is registered, and leaves what is older; its error has no location, and leaves all
-  -- objects
+  -- objects, and everything where the operation is not registered
   pub record MakesRegistered {R : Type 0} (id : OpId) (result : Result R (Error A)) (old new : ContextView T A) : Type 0 where
     pub registers : OnOk result (IsSome (registered old.dialects id))
     pub kept : (mark : ℕ) → mark ≤ old.graph.made → KeepsOlder mark old new
     pub objects : OnErr result (SameObjects old new)
+    pub unregistered : registered old.dialects id ≡ None → new ≡ old
     pub kind : IfErr result (λ e. (e.kind ≡ InvalidArgument) × (e.loc ≡ Unknown))

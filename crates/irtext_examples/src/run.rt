@@ -9,7 +9,7 @@ use irtext_formatter::input::{InputFault, read_text};
 use irtext_formatter::misfit::position_in_memory;
 use irtext_formatter::output::write_text;
 use pliron_text::base::{Context, Operation, Ptr};
-use pliron_text::ir::OperationText;
+use pliron_text::ir::{OperationText, PrintError, ToText};
 use pliron_text::parsable::parse_from_str;
 use pliron_text::printable::Disp;
 use pliron_text::result;
@@ -156,7 +156,11 @@ fn printed<T: IrText<A>, A: AttrText<A>>(
     requires { IfOk root (λ op. IsSome (operation ctx.now op)) }
 {
     match root {
-        Ok(root) => Ok(format!(in alloc; "{}", root.disp(ctx))?),
+        Ok(root) => match root.to_text(ctx) {
+            Ok(text) => Ok(text),
+            Err(PrintError::Memory) => Err(Fault::Memory(AllocError)),
+            Err(error) => Err(refusal(alloc, ctx, input, &Error::from(error))),
+        },
         Err(error) => Err(refusal(alloc, ctx, input, &error)),
     }
 }

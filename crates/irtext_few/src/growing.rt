@@ -1,18 +1,18 @@
-//! A list to which elements are added and from which they are removed. Its first element is stored in place and the others in a vector, so
-//! that one element needs no allocation.
-ghost use Rattle.std.specs.Prelude.{◌≡◌, ◌<◌, ◌++◌, ◌∷◌, [], Some, IsTrue, OnOk, OnErr, length, slice_get, ◌↔◌};
+//! A list to which elements are added and from which they are removed. One element is stored in place, and more in a vector in a box, so
+//! that one element needs no allocation and the list takes few bytes.
+ghost use Rattle.std.specs.Prelude.{◌≡◌, ◌<◌, ◌++◌, ◌∷◌, [], Some, OnOk, OnErr, length, slice_get};
 ghost use Rattle.std.specs.List.{remove};
 ghost use Rattle.irtext_few.specs.Growing.{listed, HasPlace};
 
 use std::alloc::{AllocError, Global};
 
-/// A list. If `first` is `None`, the first element of the vector is the first of the list.
+/// A list. An allocator takes no room.
 #[derive(Drop)]
-pub struct Growing<X> {
-    /// The first element, if it is stored in place.
-    pub first: Option<X>,
-    /// The elements after it.
-    pub more: Vec<X>,
+pub enum Growing<X> {
+    Nothing(Global),
+    One(Global, X),
+    /// Any number of elements. A list that once had two stays in this form.
+    Many(Box<Vec<X>>),
 }
 
 impl<X: Copy> Growing<X> {
@@ -20,26 +20,17 @@ impl<X: Copy> Growing<X> {
     pub fn new(alloc: Global) -> Growing<X>
         ensures { listed result ≡ [] }
     {
-        Growing {
-            first: None,
-            more: Vec::new(alloc),
-        }
-    }
-
-    /// Whether the list is empty.
-    fn is_empty(&self) -> bool
-        ensures { IsTrue result ↔ (listed self.now ≡ []) }
-    {
-        self.first.is_none() && self.more.is_empty()
+        Growing::Nothing(alloc)
     }
 
     /// Returns the number of elements.
     pub fn len(&self) -> usize
         ensures { result ≡ length (listed self.now) }
     {
-        match self.first {
-            Some(_) => self.more.len() + 1,
-            None => self.more.len(),
+        match self {
+            Growing::Nothing(_) => 0,
+            Growing::One(_, _) => 1,
+            Growing::Many(more) => more.len(),
         }
     }
 
@@ -48,13 +39,11 @@ impl<X: Copy> Growing<X> {
         requires { index < length (listed self.now) }
         ensures { slice_get (listed self.now) index ≡ Some result }
     {
-        let Some(first) = self.first else {
-            return self.more[index];
-        };
-        if index == 0 {
-            return first;
+        match self {
+            Growing::Nothing(_) => unreachable!(),
+            Growing::One(_, only) => *only,
+            Growing::Many(more) => more[index],
         }
-        self.more[index - 1]
     }
 
     /// Makes room for one more element. The elements are unchanged. Fails only when out of memory.
@@ -62,12 +51,16 @@ impl<X: Copy> Growing<X> {
         ensures same { listed self.new ≡ listed self.old }
         ensures room { OnOk result (HasPlace self.new) }
     {
-        if self.is_empty() {
-            return Ok(());
-        }
-        match self.more.reserve(1) {
-            Ok(()) => Ok(()),
-            Err(_) => Err(AllocError),
+        match self {
+            Growing::Nothing(_) => Ok(()),
+            Growing::One(alloc, only) => {
+                let mut more = Vec::with_capacity(*alloc, 4)?;
+                more.push(*only)?;
+                let boxed = Box::new(*alloc, more)?;
+                *self = Growing::Many(boxed);
+                Ok(())
+            }
+            Growing::Many(more) => more.reserve(1),
         }
     }
 
@@ -76,11 +69,13 @@ impl<X: Copy> Growing<X> {
         requires { HasPlace self.old }
         ensures { listed self.new ≡ listed self.old ++ x ∷ [] }
     {
-        if self.is_empty() {
-            self.first = Some(x);
-            return;
+        match self {
+            Growing::Nothing(alloc) => {
+                *self = Growing::One(*alloc, x);
+            }
+            Growing::One(_, _) => unreachable!(),
+            Growing::Many(more) => more.push_reserved(x),
         }
-        self.more.push_reserved(x);
     }
 
     /// Adds an element at the end. When out of memory, it fails and the elements are unchanged.
@@ -88,14 +83,9 @@ impl<X: Copy> Growing<X> {
         ensures here { OnOk result (listed self.new ≡ listed self.old ++ x ∷ []) }
         ensures err { OnErr result (listed self.new ≡ listed self.old) }
     {
-        if self.is_empty() {
-            self.first = Some(x);
-            return Ok(());
-        }
-        match self.more.push(x) {
-            Ok(()) => Ok(()),
-            Err(_) => Err(AllocError),
-        }
+        self.make_room()?;
+        self.push_reserved(x);
+        Ok(())
     }
 
     /// Removes the element at an index, which must be below the number of elements. The order of the others is unchanged.
@@ -103,14 +93,14 @@ impl<X: Copy> Growing<X> {
         requires { index < length (listed self.old) }
         ensures { listed self.new ≡ remove (listed self.old) index }
     {
-        if self.first.is_none() {
-            self.more.remove(index);
-            return;
+        match self {
+            Growing::Nothing(_) => unreachable!(),
+            Growing::One(alloc, _) => {
+                *self = Growing::Nothing(*alloc);
+            }
+            Growing::Many(more) => {
+                more.remove(index);
+            }
         }
-        if index == 0 {
-            self.first = None;
-            return;
-        }
-        self.more.remove(index - 1);
     }
 }

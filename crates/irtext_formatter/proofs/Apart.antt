@@ -32,7 +32,7 @@ use Rattle.irtext_print_ops.specs.Heads as heads
 use Rattle.irtext_stream.specs.Classes.{after_spaces}
 use Rattle.irtext_formatter.proofs.Fitted.{TreeFault, shown_fault, tree_fault}
 use Rattle.irtext_formatter.proofs.Stays.{RootStays, laid_stays}
-use Rattle.irtext_formatter.specs.Layouts.{plain}
+use Rattle.pliron_text.specs.Unprinted.{plain}
 use Rattle.irtext_formatter.specs.Rows.{follows, ReadsRoot, RefusesAt, HasRoot, GivesRoot, FailsHere, Rows, Rows.{none, more}, Formats, Formats.{empty, roots}, FailsAfter}
 use Rattle.irtext_formatter.specs.declared.fault.Fault as fault
 use Rattle.irtext_formatter.specs.declared.fault.Fault.TheVariants as of_fault

@@ -47,7 +47,7 @@ use Rattle.irtext_print_ops.specs.Walk.{or_nothing}
 use Rattle.pliron_text.proofs.Shown.{typed_seen, known_again, results_seen}
 use Rattle.irtext_formatter.proofs.Profiles.{profile, built_profile, region_profiles, block_profiles, operation_profiles, operation_in, operation_out, regions_in, regions_out}
 use Rattle.irtext_formatter.proofs.Stays.{OperationStays, BlockStays, RootStays}
-use Rattle.irtext_formatter.specs.Layouts.{plain}
+use Rattle.pliron_text.specs.Unprinted.{plain}
 
 -- ---- lists of which only the length counts
 retyped : {T : Type 0} (rs : List (ℕ × T)) → map {B = ℕ × T} (λ (r : ℕ × T). (0, r.1)) rs ≡ map {B = ℕ × T} (λ (t : T). (0, t)) (map (λ (r : ℕ × T). r.1) rs)

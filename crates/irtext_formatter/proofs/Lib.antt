@@ -1,5 +1,4 @@
 pub mod Apart
-pub mod Covered
 pub mod Fitted
 pub mod Keying
 pub mod Live

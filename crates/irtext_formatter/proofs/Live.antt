@@ -5,7 +5,7 @@ use Rattle.std.specs.Prelude.{option_and_then}
 use Rattle.irtext_base.specs.declared.location.Location.{Unknown}
 use Rattle.irtext_graph.specs.Content.{Content, Content.{AnOperation, ABlock, ARegion}, OperationContent}
 use Rattle.irtext_graph.specs.Data.{with_data}
-use Rattle.irtext_graph.specs.Graph.{content_of, IsLive}
+use Rattle.irtext_graph.specs.Graph.{content_of}
 use Rattle.irtext_graph.specs.Store.{get, object_of}
 use Rattle.irtext_graph.specs.Throughout.{changed}
 use Rattle.irtext_graph.specs.declared.arena.Ptr.{Ptr}
@@ -53,11 +53,3 @@ module _ {T A : Type 0} where
           let same : y.content.content.data_of ≡ option_map (with_loc Unknown) x.content.content.data_of = ap data_in e in
           subst (λ d. IsSome (option_map (view_of y.content.content.results y.content.children) d)) (sym same)
           (some_still (with_loc Unknown) (view_of x.content.content.results x.content.children) (view_of y.content.content.results y.content.children) x.content.content.data_of h)
-
-  -- a live operation is a live object
-  pub live_there : (c : ContextView T A) (p : Ptr Operation) → IsSome (operation c p) → IsLive c.graph (TheOperation p)
-  live_there c p h = go (get c.graph.operations p) h
-    where
-      go : (o : Option (OperationEntry T A)) → IsSome (option_and_then operation_of o) → IsSome (option_map an_operation (content_of o))
-      go None h = absurd (cc h)
-      go (Some x) h = refl

@@ -13,7 +13,7 @@ use Rattle.irtext_print.specs.Printers.Shown.{Shown}
 use Rattle.irtext_print.specs.declared.printable.refusal.Refusal.{Refusal}
 use Rattle.irtext_print_ir.specs.Printers.Printed as printed
 use Rattle.pliron_text.specs.Calls.{IsPrinted}
-use Rattle.irtext_formatter.specs.Layouts.{plain}
+use Rattle.pliron_text.specs.Unprinted.{plain}
 
 -- what follows the same text in the same text is the same
 same_end : (xs ys zs : List ℕ) → xs ++ ys ≡ xs ++ zs → ys ≡ zs

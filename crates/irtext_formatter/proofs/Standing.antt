@@ -4,8 +4,9 @@ use Rattle.irtext_base.specs.declared.text.AttrText as attr_text
 use Rattle.irtext_base.specs.declared.text.IrText as ir_text
 use Rattle.irtext_context.specs.Context.{ContextView}
 use Rattle.irtext_stream.specs.Classes.{after_spaces}
+use Rattle.irtext_parse_state.specs.FromText.{at_beginning}
 use Rattle.irtext_formatter.specs.Lines.{then_root}
-use Rattle.irtext_formatter.specs.Rows.{beginning, follows, GivesRoot, FailsHere, Rows, Rows.{none, more}, Formats, Formats.{empty, roots}, FailsWith}
+use Rattle.irtext_formatter.specs.Rows.{follows, GivesRoot, FailsHere, Rows, Rows.{none, more}, Formats, Formats.{empty, roots}, FailsWith}
 use Rattle.irtext_formatter.specs.Stands.{place_of, held_by, GoesOn, IsGoing, IsKept, Stands}
 use Rattle.irtext_formatter.specs.declared.fault.Fault as fault
 use Rattle.irtext_formatter.specs.declared.fault.Fault.TheVariants as of_fault
@@ -16,12 +17,12 @@ use Rattle.irtext_formatter.specs.declared.roots.Roots.{Roots}
 
 module _ {T A : Type 0} (types : ir_text.Ghosts T A) (owns : ir_text.Ghosts A A) (attributes : attr_text.Ghosts A A) (same : A → A → Bool) (layout : Layout) (text : List ℕ) (ctx : ContextView T A) where
   -- no root was parsed yet
-  pub begun : (r : Roots T A) (out : List ℕ) (left : Bool) → place_of r ≡ after_spaces (beginning text) → held_by r ≡ ctx → left ≡ follows (beginning text).rest → out ≡ []
+  pub begun : (r : Roots T A) (out : List ℕ) (left : Bool) → place_of r ≡ after_spaces (at_beginning text) → held_by r ≡ ctx → left ≡ follows (at_beginning text).rest → out ≡ []
       → Stands types owns attributes same layout text ctx out left r
   begun r out left place held is bare = record {
     going = λ e. record {
-      at = beginning text;
-      rows = subst (λ o. Rows types owns attributes same layout text ctx o (beginning text) (held_by r)) (sym bare) (subst (Rows types owns attributes same layout text ctx [] (beginning text)) (sym held) none);
+      at = at_beginning text;
+      rows = subst (λ o. Rows types owns attributes same layout text ctx o (at_beginning text) (held_by r)) (sym bare) (subst (Rows types owns attributes same layout text ctx [] (at_beginning text)) (sym held) none);
       place = place;
       more = sym is ∙ e;
     };

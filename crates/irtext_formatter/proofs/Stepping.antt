@@ -18,7 +18,7 @@ use Rattle.irtext_print_ops.specs.Heads as heads
 use Rattle.irtext_stream.proofs.Slices.{front_after}
 use Rattle.irtext_stream.specs.Classes.{after_spaces, has}
 use Rattle.irtext_stream.specs.declared.class.Class.TheVariants.{WhiteSpace}
-use Rattle.irtext_formatter.specs.Layouts.{plain}
+use Rattle.pliron_text.specs.Unprinted.{plain}
 use Rattle.irtext_formatter.specs.Rows.{follows, RefusesAt, ReadsRoot, LaysOut, HasRoot, FailsHere}
 use Rattle.irtext_formatter.specs.Stands.{place_of, held_by, IsReady, CanTakeBack, NextRoot, GoesOn}
 use Rattle.irtext_formatter.specs.Unprinted.{IsReason}

@@ -1,7 +1,6 @@
 pub mod Formatted
 pub mod Input
 pub mod Keys
-pub mod Layouts
 pub mod Lines
 pub mod Misfits
 pub mod Rows

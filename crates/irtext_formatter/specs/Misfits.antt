@@ -1,5 +1,5 @@
 -- For callers: what is said of the first operation of a root that does not fit its format.
-use Rattle.std.specs.Prelude.{◌≡◌, ◌⊎◌, Bool, List, Option, Some, None, IsSome, string_bytes}
+use Rattle.std.specs.Prelude.{◌≡◌, Bool, List, Option, Some, None, string_bytes}
 use Rattle.std.specs.Option.{option_map, option_and_then}
 use Rattle.irtext_base.specs.Faults.{id_of}
 use Rattle.irtext_base.specs.Text.{Text}
@@ -9,17 +9,13 @@ use Rattle.irtext_base.specs.declared.location.Source.TheVariants.{InMemory}
 use Rattle.irtext_base.specs.declared.text.AttrText as attr_text
 use Rattle.irtext_context.specs.Context.{ContextView, OperationView, operation}
 use Rattle.irtext_context.specs.Dialects.{Table}
-use Rattle.irtext_graph.specs.Chained.{Among}
-use Rattle.irtext_graph.specs.Graph.{IsInside}
-use Rattle.irtext_graph.specs.Throughout.{all_from}
 use Rattle.irtext_graph.specs.declared.arena.Ptr.{Ptr}
-use Rattle.irtext_graph.specs.declared.object.Object.{Object}
-use Rattle.irtext_graph.specs.declared.object.Object.TheVariants.{TheOperation}
 use Rattle.irtext_graph.specs.declared.object.Operation.{Operation}
 use Rattle.irtext_grammar.specs.Contexts.Formats.{format_of}
-use Rattle.irtext_print_ops.specs.Fits.{fault_text, FitsIn, IsFirstReasonIn}
+use Rattle.irtext_print_ops.specs.Fits.{fault_text}
 use Rattle.irtext_print_ops.specs.declared.fits.FitFault.{FitFault}
 use Rattle.irtext_stream.specs.declared.position.SourcePosition.{SourcePosition}
+use Rattle.pliron_text.specs.Misfits.{IsFirstMisfit}
 use Rattle.irtext_formatter.specs.Keys.{mistaken_key, texts_of}
 use Rattle.irtext_formatter.specs.declared.misfit.Misfit.{Misfit}
 
@@ -46,19 +42,11 @@ module _ {T A : Type 0} (dialects : List (Text × Table)) (seen : OperationView 
     pub mistaken : option_map texts_of misfit.mistaken ≡ mistaken_in reason
 
 module _ {T A : Type 0} (written : A → Text) (attributes : attr_text.Ghosts A A) (same : A → A → Bool) (ctx : ContextView T A) where
-  -- if the object is an operation of the context, that fits its format
-  abbrev pub FitsThere : Object → Type 0
-  FitsThere (TheOperation p) = IsSome (operation ctx p) → FitsIn written attributes same ctx p
-  FitsThere _ = Unit {0}
-
-  -- A misfit describes an operation that is the root or nested in it, with the first reason why it does not fit its format. Each operation
-  -- before it in the order of the text fits.
+  -- a misfit describes the first operation of a root that does not fit its format, with the first reason
   pub record IsMisfitOf (root : Ptr Operation) (misfit : Misfit) : Type 0 where
     pub op : Ptr Operation
     pub seen : OperationView T A
     pub is : operation ctx op ≡ Some seen
     pub reason : FitFault
     pub describes : Describes ctx.dialects seen reason misfit
-    pub inside : IsInside ctx.graph (TheOperation root) (TheOperation op)
-    pub unfit : IsFirstReasonIn written attributes same ctx op reason
-    pub first : (q : Object) → IsInside ctx.graph (TheOperation root) q → Among q (all_from ctx.graph (TheOperation root) (Some (TheOperation op))) ⊎ FitsThere q
+    pub first : IsFirstMisfit written attributes same ctx root op reason

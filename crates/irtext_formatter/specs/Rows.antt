@@ -26,17 +26,14 @@ use Rattle.irtext_parse_state.specs.declared.parsable.state.StateStream.{StateSt
 use Rattle.irtext_print_ops.specs.Heads as heads
 use Rattle.irtext_stream.specs.Classes.{after_spaces}
 use Rattle.pliron_text.specs.Calls.{IsPrinted}
-use Rattle.irtext_formatter.specs.Layouts.{plain}
+use Rattle.pliron_text.specs.Unprinted.{plain}
+use Rattle.irtext_parse_state.specs.FromText.{at_beginning}
 use Rattle.irtext_formatter.specs.Misfits.{IsMisfitOf}
 use Rattle.irtext_formatter.specs.Lines.{then_root}
 use Rattle.irtext_formatter.specs.declared.fault.Fault as fault
 use Rattle.irtext_formatter.specs.declared.fault.Fault.TheVariants as of_fault
 use Rattle.irtext_formatter.specs.declared.layout.Layout.{Layout}
 use Rattle.irtext_formatter.specs.declared.misfit.Misfit.{Misfit}
-
--- a stream at the beginning of a text
-abbrev pub beginning : List ℕ → StreamView
-beginning bytes = record { passed = []; rest = chars bytes; failed = false }
 
 -- something else than white space follows
 abbrev pub follows : Text → Bool
@@ -122,7 +119,7 @@ module _ {T A : Type 0} (types : ir_text.Ghosts T A) (owns : ir_text.Ghosts A A)
     -- The roots of the text up to this place, each followed by another, are printed as these bytes. Each was erased: the context holds the
     -- objects that it held at first.
     pub data Rows : List ℕ → StreamView → ContextView T A → Type 0 where
-      none : Rows [] (beginning text) ctx
+      none : Rows [] (at_beginning text) ctx
       more : {so_far root : List ℕ} {at next : StreamView} {before shown left : ContextView T A} → Rows so_far at before → follows at.rest ≡ true
           → GivesRoot (after_spaces at) before root next shown → follows next.rest ≡ true → SameObjects before left
           → Rows (then_root so_far root) next left

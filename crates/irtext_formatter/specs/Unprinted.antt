@@ -12,7 +12,7 @@ use Rattle.irtext_print.specs.declared.printable.refusal.Refusal.{Refusal}
 use Rattle.irtext_print.specs.declared.printable.refusal.Refusal.TheVariants as refusal
 use Rattle.pliron_text.specs.Calls.{IsPrinted}
 use Rattle.irtext_formatter.specs.Lines.{then_root}
-use Rattle.irtext_formatter.specs.Layouts.{plain}
+use Rattle.pliron_text.specs.Unprinted.{plain}
 use Rattle.irtext_formatter.specs.Misfits.{IsMisfitOf}
 use Rattle.irtext_formatter.specs.declared.fault.Fault as fault
 use Rattle.irtext_formatter.specs.declared.fault.Fault.TheVariants as of_fault

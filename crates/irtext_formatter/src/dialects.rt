@@ -3,6 +3,7 @@ ghost use Rattle.std.specs.Prelude.{◌≡◌, List, [], IfOk, OnOk};
 ghost use Rattle.irtext_formatter.specs.Formatted.{new_context};
 
 use irtext_base::result;
+use irtext_base::seed::Seed;
 use irtext_base::text::{AttrText, IrText};
 use irtext_context::base::Context;
 use std::alloc::Global;
@@ -34,13 +35,14 @@ pub trait Dialects<T: IrText<A>, A: AttrText<A>> {
         ensures rest { ctx.new ≡ record ctx.old { dialects = ctx.new.dialects } };
 }
 
-/// Makes a context that has these dialects, and nothing else. The error is that of [`Dialects::register`].
+/// Makes a context with this seed that has these dialects, and nothing else. The error is that of [`Dialects::register`].
 pub fn new_context<T: IrText<A>, A: AttrText<A>, D: Dialects<T, A>>(
     alloc: Global,
+    seed: Seed,
 ) -> result::Result<Context<T, A>, A>
     ensures { IfOk result (λ ctx. ctx ≡ new_context (D.registered [])) }
 {
-    let mut ctx = Context::new(alloc);
+    let mut ctx = Context::with_seed(alloc, seed);
     match D::register(&mut ctx) {
         Ok(()) => Ok(ctx),
         Err(error) => Err(error),

@@ -3,15 +3,16 @@ ghost use Rattle.std.specs.Prelude.{◌≡◌, ◌<◌, ◌++◌, ◌∷◌, ℕ
 ghost use Rattle.irtext_base.specs.Faults.{fault_of};
 ghost use Rattle.irtext_context.specs.Context.{operation};
 ghost use Rattle.irtext_print_ops.specs.Heads as heads;
-ghost use Rattle.irtext_formatter.specs.Layouts.{plain};
+ghost use Rattle.pliron_text.specs.Unprinted.{plain};
+ghost use Rattle.irtext_parse_state.specs.FromText.{at_beginning};
 ghost use Rattle.irtext_formatter.specs.Lines.{lined, with_gap, then_root};
-ghost use Rattle.irtext_formatter.specs.Rows.{beginning, FailsHere, Formats, FailsWith};
+ghost use Rattle.irtext_formatter.specs.Rows.{FailsHere, Formats, FailsWith};
 ghost use Rattle.irtext_formatter.specs.Stands.{place_of, held_by, IsKept, IsReady, GoesOn};
 ghost use Rattle.irtext_formatter.specs.Unprinted.{is_memory, IsRejected, IsReason, HasText};
 
 use crate::fault::Fault;
 use crate::layout::Layout;
-use crate::misfit::first_misfit;
+use crate::misfit::described_misfit;
 use crate::output::ends_line;
 use crate::printed::append_root;
 use crate::roots::Roots;
@@ -20,7 +21,7 @@ use irtext_base::result::Cause;
 use irtext_base::text::{AttrText, IrText};
 use irtext_context::base::{Context, Operation, Ptr};
 use irtext_print::printable::Refusal;
-use std::alloc::AllocError;
+use std::alloc::{AllocError, Global};
 
 /// Whether a cause is that memory ran out.
 fn is_memory<A>(cause: &Cause<A>) -> bool
@@ -55,7 +56,7 @@ fn unprinted<T: IrText<A>, A: AttrText<A>>(
     match refusal {
         Refusal::Memory => Fault::Memory,
         Refusal::Depth => Fault::TooDeep,
-        Refusal::Misfit => match first_misfit(ctx, root) {
+        Refusal::Misfit => match described_misfit(ctx, root) {
             Ok(misfit) => Fault::Misfit(misfit),
             Err(_) => Fault::Memory,
         },
@@ -156,10 +157,10 @@ fn print_all<T: IrText<A>, A: AttrText<A>>(
 ) -> Result<(), Fault<A>>
     requires ready { IsReady roots.old }
     ensures lent { roots.new.stream.state.ctx.ghost_name ≡ roots.old.stream.state.ctx.ghost_name }
-    ensures formats { (text : List ℕ) → place_of roots.old ≡ beginning text → string_bytes out.old ≡ [] →
+    ensures formats { (text : List ℕ) → place_of roots.old ≡ at_beginning text → string_bytes out.old ≡ [] →
         OnOk result ((printed : List ℕ) × Formats T.IrText.own A.IrText.own A.AttrText.own A.eq layout text
         (held_by roots.old) printed (held_by roots.new) × IsKept kept printed (string_bytes out.new)) }
-    ensures fails { (text : List ℕ) → place_of roots.old ≡ beginning text → string_bytes out.old ≡ [] →
+    ensures fails { (text : List ℕ) → place_of roots.old ≡ at_beginning text → string_bytes out.old ≡ [] →
         IfErr result (FailsWith T.IrText.own A.IrText.own A.AttrText.own A.eq layout text (held_by roots.old)) }
 {
     let mut left = roots.is_left();
@@ -171,6 +172,23 @@ fn print_all<T: IrText<A>, A: AttrText<A>>(
         }
     }
     Ok(())
+}
+
+/// Returns how much room to make for what is kept of the texts of the roots in so many bytes. More room than is used costs nothing.
+fn room_for(kept: Kept, bytes: usize) -> usize {
+    match kept {
+        Kept::All => bytes.saturating_mul(5) / 2,
+        Kept::Last => 0,
+    }
+}
+
+/// Returns an empty text with room for this many bytes, if there is memory for them. If not, it grows as it is written.
+fn with_room(alloc: Global, bytes: usize) -> String
+    ensures { string_bytes result ≡ [] }
+{
+    let mut text = String::new(alloc);
+    let _ = text.try_reserve(bytes);
+    text
 }
 
 /// Parses and prints the roots of a text, and returns what is kept of their texts.
@@ -189,7 +207,7 @@ fn print_text<T: IrText<A>, A: AttrText<A>>(
         Ok(stream) => stream,
         Err(_) => return Err(Fault::Memory),
     };
-    let mut out = String::new(alloc);
+    let mut out = with_room(alloc, room_for(kept, text.len()));
     let mut roots = Roots::new(ctx, stream);
     let answer = print_all(&mut roots, layout, kept, &mut out);
     let _ctx = roots.into_context();

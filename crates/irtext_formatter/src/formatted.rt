@@ -9,14 +9,16 @@ use crate::format::{check_text, format_text};
 use crate::input::read_text;
 use crate::layout::Layout;
 use crate::output::write_text;
+use irtext_base::seed::Seed;
 use irtext_base::text::{AttrText, IrText};
 use std::alloc::Global;
 use std::io::{Read, Write};
 
-/// Formats a text with these dialects, in a new context. The error is `Dialects` if they cannot be registered, and else `Text` with the
-/// fault of [`format_text`].
+/// Formats a text with these dialects, in a new context with this seed. The error is `Dialects` if they cannot be registered, and else
+/// `Text` with the fault of [`format_text`].
 pub fn format_new<T: IrText<A>, A: AttrText<A>, D: Dialects<T, A>>(
     alloc: Global,
+    seed: Seed,
     text: &str,
     layout: Layout,
 ) -> Result<String, Failure<A>>
@@ -25,7 +27,7 @@ pub fn format_new<T: IrText<A>, A: AttrText<A>, D: Dialects<T, A>>(
     ensures fails { IfErr result (FailsText T.IrText.own A.IrText.own A.AttrText.own A.eq layout (D.registered [])
         text.now) }
 {
-    let mut ctx = match new_context::<T, A, D>(alloc) {
+    let mut ctx = match new_context::<T, A, D>(alloc, seed) {
         Ok(ctx) => ctx,
         Err(error) => return Err(Failure::Dialects(error)),
     };
@@ -39,6 +41,7 @@ pub fn format_new<T: IrText<A>, A: AttrText<A>, D: Dialects<T, A>>(
 /// are not printed, so that its lines can be shown. On any error but `Unwritable` nothing is written.
 pub fn format_input<T: IrText<A>, A: AttrText<A>, D: Dialects<T, A>, R: Read, W: Write>(
     alloc: Global,
+    seed: Seed,
     input: &mut R,
     layout: Layout,
     text: &mut String,
@@ -56,7 +59,7 @@ pub fn format_input<T: IrText<A>, A: AttrText<A>, D: Dialects<T, A>, R: Read, W:
         Ok(read) => *text = read,
         Err(fault) => return Err(Failure::Input(fault)),
     }
-    let formatted = match format_new::<T, A, D>(alloc, text.as_str(), layout) {
+    let formatted = match format_new::<T, A, D>(alloc, seed, text.as_str(), layout) {
         Ok(formatted) => formatted,
         Err(failure) => return Err(failure),
     };
@@ -66,10 +69,11 @@ pub fn format_input<T: IrText<A>, A: AttrText<A>, D: Dialects<T, A>, R: Read, W:
     }
 }
 
-/// Checks a text with these dialects, in a new context, and returns no text. It succeeds exactly where [`format_new`] does, if there is
-/// memory enough, and fails for the same reason.
+/// Checks a text with these dialects, in a new context with this seed, and returns no text. It succeeds exactly where [`format_new`] does,
+/// if there is memory enough, and fails for the same reason.
 pub fn check_new<T: IrText<A>, A: AttrText<A>, D: Dialects<T, A>>(
     alloc: Global,
+    seed: Seed,
     text: &str,
     layout: Layout,
 ) -> Result<(), Failure<A>>
@@ -78,7 +82,7 @@ pub fn check_new<T: IrText<A>, A: AttrText<A>, D: Dialects<T, A>>(
     ensures fails { IfErr result (FailsText T.IrText.own A.IrText.own A.AttrText.own A.eq layout (D.registered [])
         text.now) }
 {
-    let mut ctx = match new_context::<T, A, D>(alloc) {
+    let mut ctx = match new_context::<T, A, D>(alloc, seed) {
         Ok(ctx) => ctx,
         Err(error) => return Err(Failure::Dialects(error)),
     };
@@ -92,6 +96,7 @@ pub fn check_new<T: IrText<A>, A: AttrText<A>, D: Dialects<T, A>>(
 /// there is memory enough and nothing is wrong with the output, and fails for the same reason.
 pub fn check_input<T: IrText<A>, A: AttrText<A>, D: Dialects<T, A>, R: Read>(
     alloc: Global,
+    seed: Seed,
     input: &mut R,
     layout: Layout,
     text: &mut String,
@@ -106,5 +111,5 @@ pub fn check_input<T: IrText<A>, A: AttrText<A>, D: Dialects<T, A>, R: Read>(
         Ok(read) => *text = read,
         Err(fault) => return Err(Failure::Input(fault)),
     }
-    check_new::<T, A, D>(alloc, text.as_str(), layout)
+    check_new::<T, A, D>(alloc, seed, text.as_str(), layout)
 }

@@ -4,8 +4,9 @@ ghost use Rattle.std.specs.Str.{chars};
 ghost use Rattle.irtext_base.specs.Stream.{StreamView};
 ghost use Rattle.irtext_base.specs.declared.parsable.fault.ParseFault.{ParseFault};
 ghost use Rattle.irtext_context.specs.Context.{ContextView};
+ghost use Rattle.irtext_parse_state.specs.FromText.{at_beginning};
 ghost use Rattle.irtext_formatter.specs.Lines.{lined};
-ghost use Rattle.irtext_formatter.specs.Rows.{beginning, follows, GivesRoot, Formats, FailsAfter};
+ghost use Rattle.irtext_formatter.specs.Rows.{follows, GivesRoot, Formats, FailsAfter};
 ghost use Rattle.irtext_stream.specs.Classes.{after_spaces};
 ghost use Rattle.irtext_formatter.specs.declared.fault.Fault.TheVariants.{Misfit, Rejected};
 ghost use Rattle.irtext_formatter.specs.declared.layout.Layout.{Layout};
@@ -40,7 +41,7 @@ pub fn printed_fits<T: IrText<A>, A: AttrText<A>>()
 pub fn one_root_is_formatted<T: IrText<A>, A: AttrText<A>>()
     ensures { (layout : Layout) (text root : List ℕ) (next : StreamView) (ctx shown : ContextView T A)
         → follows (chars text) ≡ true
-        → GivesRoot T.IrText.own A.IrText.own A.AttrText.own A.eq layout (after_spaces (beginning text)) ctx root next shown
+        → GivesRoot T.IrText.own A.IrText.own A.AttrText.own A.eq layout (after_spaces (at_beginning text)) ctx root next shown
         → follows next.rest ≡ false
         → Formats T.IrText.own A.IrText.own A.AttrText.own A.eq layout text ctx (lined root) shown }
 {}

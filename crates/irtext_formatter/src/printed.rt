@@ -1,9 +1,9 @@
 //! The text of a root.
-ghost use Rattle.std.specs.Prelude.{◌≡◌, ◌++◌, ℕ, List, IsSome, IfOk, IfErr, OnOk, string_bytes};
+ghost use Rattle.std.specs.Prelude.{◌≡◌, ◌++◌, ℕ, List, IsSome, IfErr, OnOk, string_bytes};
 ghost use Rattle.irtext_context.specs.Context.{operation};
 ghost use Rattle.irtext_print_ops.specs.Heads as heads;
 ghost use Rattle.pliron_text.specs.Calls.{IsPrinted};
-ghost use Rattle.irtext_formatter.specs.Layouts.{plain};
+ghost use Rattle.pliron_text.specs.Unprinted.{plain};
 
 use irtext_base::text::{AttrText, IrText};
 use irtext_context::base::{Context, Operation, Ptr};
@@ -26,20 +26,4 @@ pub fn append_root<T: IrText<A>, A: AttrText<A>>(
 {
     let mut state = State::new(ctx.allocator(), ());
     print_root(ctx, op, &mut state, out)
-}
-
-/// Returns the text of a root, as [`append_root`] appends it.
-pub fn text_of_root<T: IrText<A>, A: AttrText<A>>(
-    ctx: &Context<T, A>,
-    op: Ptr<Operation>,
-) -> Result<String, Refusal>
-    requires live { IsSome (operation ctx.now op) }
-    ensures text { IfOk result (λ text. IsPrinted T.IrText.own A.IrText.own A.AttrText.own A.eq ctx.now op
-        plain (string_bytes text)) }
-    ensures refused { IfErr result (heads.RefusesUnder T.IrText.own A.IrText.own A.AttrText.own A.eq ctx.now
-        op plain) }
-{
-    let mut text = String::new(ctx.allocator());
-    append_root(ctx, op, &mut text)?;
-    Ok(text)
 }

@@ -36,6 +36,7 @@ use Rattle.irtext_graph.proofs.Numbers.{what_kept, moved_kept}
 use Rattle.irtext_graph.proofs.Same.{object_tells}
 use Rattle.irtext_graph.proofs.Sounds.{same_use, uses_kept, sound_same}
 use Rattle.irtext_graph.proofs.Stores.{inserted-keeps, edited-keeps}
+use Rattle.irtext_graph.proofs.Once.{once_same, once_edited, once_inserted}
 
 -- the places of an arena that did not change are kept
 same_places : {X : Type 0} (a : Arena X) → KeepsPlaces a a
@@ -213,4 +214,5 @@ module _ {O B T : Type 0} where
     made = let c = k.made in omega (arith, c);
     values = let c = k.values in omega (arith, c);
     first_place = k.first_place;
+    pointers = record { operations = once_edited old.operations new.operations op (with_child p) k.operations; blocks = once_same old.blocks new.blocks k.blocks; regions = once_inserted old.regions new.regions p _ k.regions };
   }

@@ -54,6 +54,7 @@ use Rattle.irtext_graph.proofs.Moves.{lower}
 use Rattle.std.proofs.lemmas.Option.{cond_some}
 use Rattle.irtext_graph.specs.Uses.{eq_site, eq_defined}
 use Rattle.std.proofs.Common.{subst, length, take}
+use Rattle.irtext_graph.proofs.Once.{gives_back}
 
 -- the object that is used
 abbrev pub owner_of : Defined → Object
@@ -348,6 +349,7 @@ back_keeps m mark g h up r = record {
   made = let e = r.made in omega (arith, e);
   values = let e = r.values in omega (arith, e);
   first_place = r.first_place;
+  pointers = gives_back mark g h r;
 }
 
 module _ {O B T : Type 0} where

@@ -33,6 +33,7 @@ use Rattle.irtext_graph.proofs.Stores.{get_mapped, mapped_seen, seen_mapped}
 use Rattle.irtext_graph.proofs.SameSeen.{few_seen, older_seen}
 use Rattle.irtext_graph.proofs.UsesSeen.{val_seen}
 use Rattle.irtext_graph.proofs.Views.{up_seen, kids_seen}
+use Rattle.irtext_graph.proofs.Once.{gives_replaced}
 
 itself : (d e x : Defined) → d ≡ e → replaced d e x ≡ x
 itself d e x same = go (eq_defined x d) refl
@@ -135,6 +136,7 @@ module _ {O B T : Type 0} where
     made = let k = ap (λ (k : GraphView O B T). k.made) r.rest in omega (arith, k);
     values = let k = ap (λ (k : GraphView O B T). k.values) r.rest in omega (arith, k);
     first_place = ap (λ (k : GraphView O B T). k.first_place) r.rest;
+    pointers = gives_replaced g h r.rest;
   }
     where
       kept : (u : Site) → is_older m (content g (TheOperation (user u))) ≡ true → used_at h u ≡ used_at g u

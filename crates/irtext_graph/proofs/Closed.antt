@@ -35,6 +35,7 @@ use Rattle.irtext_graph.proofs.Nests.{seen, some_eq}
 use Rattle.irtext_graph.proofs.Places.{parent_lives}
 use Rattle.irtext_graph.proofs.Stores.{older_all_seen}
 use Rattle.irtext_graph.proofs.Views.{up_seen, kids_seen}
+use Rattle.irtext_graph.proofs.Once.{gives_on}
 
 some_if : {X : Type 0} (e : Option X) → (e ≡ None → ⊥) → IsSome e
 some_if None n = absurd (n refl)
@@ -77,6 +78,7 @@ older_on m a b c s t = record {
   made = let e = s.made in let f = t.made in omega (arith, e, f);
   values = let e = s.values in let f = t.values in omega (arith, e, f);
   first_place = t.first_place ∙ s.first_place;
+  pointers = gives_on a b c s.pointers t.pointers;
 }
 
 module _ {O B T : Type 0} (m : ℕ) (g h : GraphView O B T) (k : KeepsOlder m g h) where

@@ -28,7 +28,7 @@ use Rattle.irtext_graph.specs.declared.objects.OperationData.{OperationData}
 use Rattle.irtext_graph.specs.Store.{Cell, Store, Edits, store_of, cell_of, object_of, object_in, drawn, get, before}
 use Rattle.irtext_graph.specs.Content.{Node, Content, node_of, operation_content, block_content}
 use Rattle.irtext_graph.specs.Data.{edited_at, with_object, with_data, with_block, with_operation_data, with_block_data, EditsOperation, EditsBlock}
-use Rattle.irtext_graph.specs.Graph.{GraphView, graph_of, content_of, KeepsOlder}
+use Rattle.irtext_graph.specs.Graph.{GraphView, graph_of, content_of, KeepsOlder, GivesOnce}
 use Rattle.irtext_graph.specs.Lending.{with_content_at}
 use Rattle.irtext_graph.specs.Log.{age}
 use Rattle.irtext_graph.specs.Nest.{parent_in, children_in}
@@ -47,6 +47,7 @@ use Rattle.irtext_graph.proofs.Numbers.{KeepsNumbers, numbers_kept, edited_numbe
 use Rattle.irtext_graph.proofs.PartsSeen.{operation_seen, block_seen}
 use Rattle.irtext_graph.proofs.Pointers.{equal_or_not, ptr_same, slice_get-set_same, slice_get-set_other}
 use Rattle.irtext_graph.proofs.Stores.{get_seen, edited-keeps as store-keeps}
+use Rattle.irtext_graph.proofs.Once.{once_same, once_edited}
 
 -- another content, as it is seen, is written to one cell
 pub content_set : {X Y K : Type 0} (see : X → Y) (change : Y → Y) (a : Arena X) (p : Ptr K) (x w : X) → option_map (λ o. o.content) (arena.get a p) ≡ Some x → see w ≡ change (see x)
@@ -213,15 +214,30 @@ module _ {O B T : Type 0} where
   pub unedited_block : (g : GraphView O B T) (p : Ptr BasicBlock) (d : B) → option_map (λ c. c.data_of) (block_at g p) ≡ Some d → with_block_data g p d ≡ g
   unedited_block g p d e = ap (λ s. record g { blocks = s }) (not_written g.blocks p (λ c. c.data_of) with_block d (λ n. refl) e)
 
+  -- no pointer is given by that
+  pub edited_gives : (old new : GraphView O B T) (p : Ptr Operation) (change : O → O) → EditsOperation old new p change → GivesOnce old new
+  edited_gives old new p change e = record {
+    operations = once_edited old.operations new.operations p (with_data change) e.operations;
+    blocks = once_same old.blocks new.blocks e.blocks;
+    regions = once_same old.regions new.regions e.regions;
+  }
+
+  pub edited_block_gives : (old new : GraphView O B T) (p : Ptr BasicBlock) (change : B → B) → EditsBlock old new p change → GivesOnce old new
+  edited_block_gives old new p change e = record {
+    operations = once_same old.operations new.operations e.operations;
+    blocks = once_edited old.blocks new.blocks p (with_block change) e.blocks;
+    regions = once_same old.regions new.regions e.regions;
+  }
+
   -- what is older than an operation whose data were written is unchanged
   pub edited-keeps : (m : ℕ) (old new : GraphView O B T) (p : Ptr Operation) (change : O → O) → before m old.operations p ≡ None → EditsOperation old new p change → KeepsOlder m old new
   edited-keeps m old new p change none e =
-      older_kept m old new (store-keeps m old.operations new.operations p (with_data change) none e.operations) (λ q. ap (λ s. before m s q) e.blocks) (λ q. ap (λ s. before m s q) e.regions) (at_least e.made) (at_least e.values) e.first_place
+      older_kept m old new (store-keeps m old.operations new.operations p (with_data change) none e.operations) (λ q. ap (λ s. before m s q) e.blocks) (λ q. ap (λ s. before m s q) e.regions) (at_least e.made) (at_least e.values) e.first_place (edited_gives old new p change e)
 
   -- the same for a block
   pub edited_block-keeps : (m : ℕ) (old new : GraphView O B T) (p : Ptr BasicBlock) (change : B → B) → before m old.blocks p ≡ None → EditsBlock old new p change → KeepsOlder m old new
   edited_block-keeps m old new p change none e =
-      older_kept m old new (λ q. ap (λ s. before m s q) e.operations) (store-keeps m old.blocks new.blocks p (with_block change) none e.blocks) (λ q. ap (λ s. before m s q) e.regions) (at_least e.made) (at_least e.values) e.first_place
+      older_kept m old new (λ q. ap (λ s. before m s q) e.operations) (store-keeps m old.blocks new.blocks p (with_block change) none e.blocks) (λ q. ap (λ s. before m s q) e.regions) (at_least e.made) (at_least e.values) e.first_place (edited_block_gives old new p change e)
 
 module _ {O B T : Type 0} where
   -- all is kept where the objects are as old, and are seen as a graph that keeps the numbers of values

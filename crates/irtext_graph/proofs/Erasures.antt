@@ -39,6 +39,7 @@ use Rattle.irtext_graph.proofs.Sounds.{use_same, head_same}
 use Rattle.irtext_graph.proofs.Frames.{older_or_kept}
 use Rattle.irtext_graph.proofs.Dropped.{named_what}
 use Rattle.irtext_graph.proofs.Dropping.{way_same}
+use Rattle.irtext_graph.proofs.Once.{gives_rest, gives_where}
 
 module _ {O B T : Type 0} where
   pub drops_seen : (m : ℕ) (v : Counters) (x y : Objects O B T) (o : Object) → ((q : Object) → Within (up x) o q → what y q ≡ option_map without_uses (what x q)) → ((q : Object) → (Within (up x) o q → ⊥) → what y q ≡ what x q)
@@ -60,6 +61,7 @@ module _ {O B T : Type 0} where
   pub dropped-keeps : (m : ℕ) (g h : GraphView O B T) (o : Object) → DropsUses g h o → ((q : Object) → (IsInside g o q) ⊎ (IsInside g o q → ⊥))
       → ((p : _) → IsInside g o (TheOperation p) → IsNew m g (TheOperation p)) → KeepsOlder m g h
   dropped-keeps m g h o d known new = older_or_kept m g h (λ q. at q (known q)) (let e = d.rest.made in omega (arith, e)) (let e = d.rest.values in omega (arith, e)) d.rest.first_place
+      (gives_rest g h d.rest (λ q e. elim (known q) [ inl w ↦ d.inside q w ∙ ap (option_map without_uses) e | inr out ↦ d.others q out ∙ e ]))
     where
       same : (q : Object) → content h q ≡ content g q → (IsNew m g q × IsNew m h q) ⊎ ((parent h q ≡ parent g q) × (children h q ≡ children g q) × (content h q ≡ content g q))
       same q e = inr (d.parents q, d.lists q, e)
@@ -223,6 +225,7 @@ module _ {O B T : Type 0} where
   pub erased-keeps : (m : ℕ) (g h : GraphView O B T) (o : Object) → Erases g h o → ((q : Object) → (IsInside g o q) ⊎ (IsInside g o q → ⊥))
       → ((q : Object) → IsInside g o q → IsNew m g q) → ((k : Object) → parent g o ≡ Some k → IsNew m g k) → KeepsOlder m g h
   erased-keeps m g h o d known new above = older_or_kept m g h (λ q. at q (known q)) (let e = d.made in omega (arith, e)) (let e = d.values in omega (arith, e)) d.first_place
+      (gives_where g h d.operation_generations d.block_generations d.region_generations (λ q e. elim (known q) [ inl w ↦ d.gone q w | inr out ↦ d.contents q out ∙ e ]))
     where
       at : (q : Object) → (IsInside g o q) ⊎ (IsInside g o q → ⊥) → (IsNew m g q × IsNew m h q) ⊎ ((parent h q ≡ parent g q) × (children h q ≡ children g q) × (content h q ≡ content g q))
       at q (inl w) = inl (new q w, ap (is_older m) (d.gone q w))

@@ -12,10 +12,11 @@ use Rattle.irtext_graph.specs.declared.object.Object.TheVariants.{TheOperation, 
 use Rattle.irtext_graph.specs.Store.{get, before}
 use Rattle.irtext_graph.specs.Content.{Node, Content, Content.{AnOperation, ABlock, ARegion}, OperationContent, BlockContent, RegionContent}
 use Rattle.irtext_graph.specs.Objects.{is_older}
-use Rattle.irtext_graph.specs.Graph.{GraphView, parent_of, children_of, content_of, parent, children, content, IsNew, KeepsOlder, Appends, Unlinks}
+use Rattle.irtext_graph.specs.Graph.{GraphView, parent_of, children_of, content_of, parent, children, content, IsNew, KeepsOlder, GivesOnce, Appends, Unlinks}
 use Rattle.irtext_graph.proofs.Nests.{same_or_other, seen, some_eq}
 use Rattle.irtext_graph.proofs.Same.{object_tells}
 use Rattle.irtext_graph.proofs.Made.{same_keeps}
+use Rattle.irtext_graph.proofs.Once.{gives_rest}
 
 pub map_same : {X Y : Type 0} (f : X → Y) → ((a b : X) → f a ≡ f b → a ≡ b) → (xs ys : List X) → map f xs ≡ map f ys → xs ≡ ys
 map_same f one [] [] e = refl
@@ -121,8 +122,8 @@ module _ {O B T : Type 0} where
   -- each object is no older than the mark, or as it was
   pub older_or_kept : (m : ℕ) (g h : GraphView O B T)
       → ((q : Object) → (IsNew m g q × IsNew m h q) ⊎ ((parent h q ≡ parent g q) × (children h q ≡ children g q) × (content h q ≡ content g q)))
-      → g.made ≤ h.made → g.values ≤ h.values → h.first_place ≡ g.first_place → KeepsOlder m g h
-  older_or_kept m g h f made values first = record {
+      → g.made ≤ h.made → g.values ≤ h.values → h.first_place ≡ g.first_place → GivesOnce g h → KeepsOlder m g h
+  older_or_kept m g h f made values first pointers = record {
     operations = λ p. elim (f (TheOperation p)) [
       | inl n ↦ new_operation m h p n.1 ∙ sym (new_operation m g p n.0)
       | inr s ↦ ap (older m) (entry_alike TheBlock block_same TheRegion region_same (get h.operations p) (get g.operations p) s.0 s.1 (operation_content_same g h p s.2))
@@ -138,10 +139,11 @@ module _ {O B T : Type 0} where
     made = made;
     values = values;
     first_place = first;
+    pointers = pointers;
   }
 
-  pub framed_keeps : (m : ℕ) (g h : GraphView O B T) → Framed m g h → g.made ≤ h.made → g.values ≤ h.values → h.first_place ≡ g.first_place → KeepsOlder m g h
-  framed_keeps m g h f made values first = older_or_kept m g h (λ q. elim (f.same q) [ inl n ↦ inl (n, still_new m g h q (f.contents q) n) | inr s ↦ inr (s.0, s.1, f.contents q) ]) made values first
+  pub framed_keeps : (m : ℕ) (g h : GraphView O B T) → Framed m g h → g.made ≤ h.made → g.values ≤ h.values → h.first_place ≡ g.first_place → GivesOnce g h → KeepsOlder m g h
+  framed_keeps m g h f made values first pointers = older_or_kept m g h (λ q. elim (f.same q) [ inl n ↦ inl (n, still_new m g h q (f.contents q) n) | inr s ↦ inr (s.0, s.1, f.contents q) ]) made values first pointers
 
   pub appended-keeps : (m : ℕ) (g h : GraphView O B T) (k c : Object) → IsNew m g k → IsNew m g c → Appends g h k c → KeepsOlder m g h
   appended-keeps m g h k c nk nc a = framed_keeps m g h (record {
@@ -153,7 +155,7 @@ module _ {O B T : Type 0} where
         | inr apart ↦ inr (a.parents q apart, a.others q away)
       ]
     ];
-  }) (let e = a.objects.rest.made in omega (arith, e)) (let e = a.objects.rest.values in omega (arith, e)) a.objects.rest.first_place
+  }) (let e = a.objects.rest.made in omega (arith, e)) (let e = a.objects.rest.values in omega (arith, e)) a.objects.rest.first_place (gives_rest g h a.objects.rest (λ q e. a.objects.contents q ∙ e))
 
   -- an insertion, or its error
   pub inserted-keeps : (m : ℕ) (g h : GraphView O B T) (k c : Object) → IsNew m g k → IsNew m g c → {E : Type 0} (r : Result (Unit {0}) E) → OnOk r (Appends g h k c) → OnErr r (h ≡ g) → KeepsOlder m g h
@@ -161,7 +163,7 @@ module _ {O B T : Type 0} where
   inserted-keeps m g h k c nk nc (Err x) a e = same_keeps m g h e
 
   pub unlinked-keeps : (m : ℕ) (g h : GraphView O B T) (c : Object) → IsNew m g c → ((k : Object) → parent g c ≡ Some k → IsNew m g k) → Unlinks g h c → KeepsOlder m g h
-  unlinked-keeps m g h c nc nk a = framed_keeps m g h (record { contents = a.objects.contents; same = same }) (let e = a.objects.rest.made in omega (arith, e)) (let e = a.objects.rest.values in omega (arith, e)) a.objects.rest.first_place
+  unlinked-keeps m g h c nc nk a = framed_keeps m g h (record { contents = a.objects.contents; same = same }) (let e = a.objects.rest.made in omega (arith, e)) (let e = a.objects.rest.values in omega (arith, e)) a.objects.rest.first_place (gives_rest g h a.objects.rest (λ q e. a.objects.contents q ∙ e))
     where
       same : (q : Object) → (IsNew m g q) ⊎ ((parent h q ≡ parent g q) × (children h q ≡ children g q))
       same q = elim (same_or_other object_tells q c) [

@@ -24,6 +24,7 @@ use Rattle.irtext_graph.proofs.Nests.{same_or_other, climb-same}
 use Rattle.irtext_graph.proofs.Preorders.{onward_same}
 use Rattle.irtext_graph.proofs.Same.{object_tells}
 use Rattle.irtext_graph.proofs.Stores.{seen_mapped}
+use Rattle.irtext_graph.proofs.Once.{gives_rest}
 
 module _ {X : Type 0} where
   places_self : (s : Store X) → SamePlaces s s
@@ -260,6 +261,7 @@ module _ {O B T : Type 0} where
     -- what is older than all objects inside is unchanged
     pub edited_inside-keeps : (m : ℕ) (old new : GraphView O B T) (o : Object) → Nested (children old) (parent old) → EditsInside old new o f h → IsNewInside m old o → KeepsOlder m old new
     edited_inside-keeps m old new o s e young = older_or_kept m old new at (let k = e.rest.made in omega (arith, k)) (let k = e.rest.values in omega (arith, k)) e.rest.first_place
+        (gives_rest old new e.rest (λ q none. elim (within_or eq_object object_tells (parent old) s.ends o q) [ inl w ↦ (e.inside q w).what ∙ ap (option_map (changed f h)) none | inr out ↦ (e.others q out).what ∙ none ]))
       where
         at : (q : Object) → (IsNew m old q × IsNew m new q) ⊎ ((parent new q ≡ parent old q) × (children new q ≡ children old q) × (content new q ≡ content old q))
         at q = elim (within_or eq_object object_tells (parent old) s.ends o q) [

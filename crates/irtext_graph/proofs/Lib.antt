@@ -8,6 +8,7 @@ pub mod Depth
 pub mod Pointers
 pub mod Arenas
 pub mod Stores
+pub mod Once
 pub mod Counts
 pub mod Erased
 pub mod Places

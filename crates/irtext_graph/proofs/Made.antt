@@ -18,8 +18,9 @@ use Rattle.irtext_graph.specs.Store.{store_of, before, Inserts}
 use Rattle.irtext_graph.specs.Content.{node_of, typed, operation_content, block_content, region_content}
 use Rattle.irtext_graph.specs.declared.object.Value.{Value}
 use Rattle.irtext_graph.specs.Linking.{IsBlank}
-use Rattle.irtext_graph.specs.Graph.{GraphView, graph_of, seen, numbered, MakesRegion, MakesBlock, MakesOperation, KeepsOlder}
+use Rattle.irtext_graph.specs.Graph.{GraphView, graph_of, seen, numbered, MakesRegion, MakesBlock, MakesOperation, KeepsOlder, GivesOnce}
 use Rattle.irtext_graph.proofs.Stores.{inserts_seen, inserted-keeps, store_same}
+use Rattle.irtext_graph.proofs.Once.{once_same, once_inserted, gives_same}
 use Rattle.irtext_graph.proofs.Linkings.{unlinked_defs}
 use Rattle.irtext_graph.proofs.Logs.{logged_kept, logged_list}
 use Rattle.irtext_graph.proofs.Sounds.{sound_same}
@@ -61,8 +62,8 @@ node_inserted see a after p e i born above none same =
 module _ {O B T : Type 0} where
   -- what is older is kept, by the kinds of objects and the counters
   pub older_kept : (m : ℕ) (old new : GraphView O B T) → ((q : Ptr Operation) → before m new.operations q ≡ before m old.operations q) → ((q : Ptr BasicBlock) → before m new.blocks q ≡ before m old.blocks q)
-      → ((q : Ptr Region) → before m new.regions q ≡ before m old.regions q) → old.made ≤ new.made → old.values ≤ new.values → new.first_place ≡ old.first_place → KeepsOlder m old new
-  older_kept m old new operations blocks regions made values first = record { operations = operations; blocks = blocks; regions = regions; made = made; values = values; first_place = first }
+      → ((q : Ptr Region) → before m new.regions q ≡ before m old.regions q) → old.made ≤ new.made → old.values ≤ new.values → new.first_place ≡ old.first_place → GivesOnce old new → KeepsOlder m old new
+  older_kept m old new operations blocks regions made values first pointers = record { operations = operations; blocks = blocks; regions = regions; made = made; values = values; first_place = first; pointers = pointers }
 
   -- objects in the same slots are seen as they were, and all is kept
   pub slots_seen : (m : ℕ) (v : Counters) (x y : Objects O B T) → SameSlots x.operations y.operations → SameSlots x.blocks y.blocks → SameSlots x.regions y.regions → graph_of m v y ≡ graph_of m v x
@@ -89,6 +90,7 @@ module _ {O B T : Type 0} where
     made = let k = ap (λ (g : GraphView O B T). g.made) e in omega (arith, k);
     values = let k = ap (λ (g : GraphView O B T). g.values) e in omega (arith, k);
     first_place = ap (λ (g : GraphView O B T). g.first_place) e;
+    pointers = gives_same old new e;
   }
 
   pub regions_same : (m : ℕ) (v : Counters) (x : Objects O B T) (after : Arena (Nest Operation BasicBlock RegionData)) → after.slots.items ≡ x.regions.slots.items → after.free ≡ x.regions.free → graph_of m v (record x { regions = after }) ≡ graph_of m v x
@@ -108,6 +110,7 @@ module _ {O B T : Type 0} where
   pub region-keeps : (m : ℕ) (old new : GraphView O B T) (p : Ptr Region) → m ≤ old.made → MakesRegion old new p → KeepsOlder m old new
   region-keeps m old new p up k =
       older_kept m old new (λ q. ap (λ s. before m s q) k.operations) (λ q. ap (λ s. before m s q) k.blocks) (inserted-keeps m old.regions new.regions p _ up k.regions) (grown _ k.made) (at_least k.values) k.first_place
+      (record { operations = once_same old.operations new.operations k.operations; blocks = once_same old.blocks new.blocks k.blocks; regions = once_inserted old.regions new.regions p _ k.regions })
 
   pub block_made : (m : ℕ) (v : Counters) (n : ℕ) (x : Objects O B T) (after : Arena (Nest Region Operation (BlockData B T))) (p : Ptr BasicBlock) (e : Entry (Nest Region Operation (BlockData B T))) (value : B) (types : List T) → arena.Inserts x.blocks after p e
       → e.born ≡ m → e.content.parent ≡ None → listed e.content.children ≡ [] → e.content.data.data ≡ value → map typed e.content.data.arguments ≡ numbered v.values types → n ≡ v.values + length types
@@ -124,6 +127,7 @@ module _ {O B T : Type 0} where
   pub block-keeps : (m : ℕ) (old new : GraphView O B T) (p : Ptr BasicBlock) (value : B) (types : List T) → m ≤ old.made → MakesBlock old new p value types → KeepsOlder m old new
   block-keeps m old new p value types up k =
       older_kept m old new (λ q. ap (λ s. before m s q) k.operations) (inserted-keeps m old.blocks new.blocks p _ up k.blocks) (λ q. ap (λ s. before m s q) k.regions) (grown _ k.made) (grown _ k.values) k.first_place
+      (record { operations = once_same old.operations new.operations k.operations; blocks = once_inserted old.blocks new.blocks p _ k.blocks; regions = once_same old.regions new.regions k.regions })
 
   pub operation_made : (m : ℕ) (v : Counters) (n : ℕ) (x : Objects O B T) (after : Arena (Nest BasicBlock Region (OperationData O T))) (p : Ptr Operation) (e : Entry (Nest BasicBlock Region (OperationData O T))) (value : O) (types : List T)
       (operands : List Value) (successors : List (Ptr BasicBlock)) → arena.Inserts x.operations after p e → e.born ≡ m → IsBlank e.content value types v.values operands successors → n ≡ v.values + length types
@@ -153,3 +157,4 @@ module _ {O B T : Type 0} where
       → MakesOperation old new p value types operands successors → KeepsOlder m old new
   operation-keeps m old new p value types operands successors up k =
       older_kept m old new (inserted-keeps m old.operations new.operations p _ up k.operations) (λ q. ap (λ s. before m s q) k.blocks) (λ q. ap (λ s. before m s q) k.regions) (grown _ k.made) (grown _ k.values) k.first_place
+      (record { operations = once_inserted old.operations new.operations p _ k.operations; blocks = once_same old.blocks new.blocks k.blocks; regions = once_same old.regions new.regions k.regions })

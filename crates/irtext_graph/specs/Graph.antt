@@ -14,7 +14,7 @@ use Rattle.irtext_graph.specs.declared.object.Object.TheVariants.{TheOperation, 
 use Rattle.irtext_graph.specs.declared.objects.Objects.{Objects}
 use Rattle.irtext_graph.specs.Nested.{Within, climb}
 use Rattle.irtext_graph.specs.Objects.{is_older}
-use Rattle.irtext_graph.specs.Store.{Store, store_of, get, generation_at, before, Inserts, count}
+use Rattle.irtext_graph.specs.Store.{Store, store_of, get, generation_at, before, GivenOnce, Inserts, count}
 use Rattle.irtext_graph.specs.Content.{Typed, Node, node_of, Content, Content.{AnOperation, ABlock, ARegion}, OperationContent, operation_content, BlockContent, block_content, RegionContent, region_content}
 
 -- a graph: how many objects and values were made in it, the number of its first slot, and the live objects
@@ -154,6 +154,19 @@ module _ {O B T : Type 0} where
     pub parents : (q : Object) → q ≢ c → parent new q ≡ parent old q
     pub objects : KeepsObjects old new
 
+  -- no pointer of an object is given twice
+  pub record GivesOnce (old new : GraphView O B T) : Type 0 where
+    pub operations : GivenOnce Operation old.operations new.operations
+    pub blocks : GivenOnce BasicBlock old.blocks new.blocks
+    pub regions : GivenOnce Region old.regions new.regions
+
+  -- nothing that was given is given again: the counters do not go back, and no pointer comes twice; slots have the numbers that they had
+  pub record CountsOn (old new : GraphView O B T) : Type 0 where
+    pub made : old.made ≤ new.made
+    pub values : old.values ≤ new.values
+    pub first_place : new.first_place ≡ old.first_place
+    pub pointers : GivesOnce old new
+
   -- what was made before the mark is unchanged
   pub record KeepsOlder (m : ℕ) (old new : GraphView O B T) : Type 0 where
     pub operations : (p : Ptr Operation) → before m new.operations p ≡ before m old.operations p
@@ -162,6 +175,7 @@ module _ {O B T : Type 0} where
     pub made : old.made ≤ new.made
     pub values : old.values ≤ new.values
     pub first_place : new.first_place ≡ old.first_place
+    pub pointers : GivesOnce old new
 
   -- a region was made under a new pointer
   pub record MakesRegion (old new : GraphView O B T) (p : Ptr Region) : Type 0 where

@@ -1,5 +1,5 @@
 -- An arena as its callers see it: the objects under their pointers, the last generation of each slot, and the slot that is used next.
-use Rattle.std.specs.Prelude.{◌≡◌, ◌≢◌, ◌+◌, ◌==◌, if◌then◌else◌, ℕ, Bool, List, length, Option, Some, None, map, slice_get, is_some, count_by, unwrap_or}
+use Rattle.std.specs.Prelude.{◌≡◌, ◌≢◌, ◌≤◌, ◌+◌, ◌==◌, if◌then◌else◌, ℕ, Bool, List, length, Option, Some, None, map, slice_get, is_some, count_by, unwrap_or}
 use Rattle.std.specs.Option.{option_map}
 use Rattle.irtext_graph.specs.Arena as arena
 use Rattle.irtext_graph.specs.Arena.{older}
@@ -91,6 +91,11 @@ module _ {X : Type 0} where
     pub generations : (i : ℕ) → generation_at new i ≡ generation_at old i
     pub free : new.free ≡ old.free
     pub len : length new.cells ≡ length old.cells
+
+  -- no pointer is given twice: the last generation of a slot does not go back, and a pointer whose object is gone refers to nothing again
+  pub record GivenOnce (K : Type 0) (old new : Store X) : Type 0 where
+    pub rises : (i : ℕ) → generation_at old i ≤ generation_at new i
+    pub gone : (p : Ptr K) → p.generation ≤ generation_at old p.index → get old p ≡ None → get new p ≡ None
 
   -- the object that a pointer refers to, if it was made before the mark
   abbrev pub before : {K : Type 0} → ℕ → Store X → Ptr K → Option (Entry X)

@@ -1,25 +1,16 @@
 //! The log of what was made: each object with its age, in the order in which they were made.
-ghost use Rattle.std.specs.Prelude.{◌≡◌, ◌<◌, ◌≤◌, ◌++◌, ◌∷◌, ℕ, Some, [], OnOk, length, slice_get};
+ghost use Rattle.std.specs.Prelude.{◌≡◌, ◌<◌, ◌≤◌, ◌++◌, ◌∷◌, ℕ, Some, [], length, slice_get};
 ghost use Rattle.std.specs.Vec.{vec_len, vec_capacity};
 ghost use Rattle.irtext_graph.specs.Log.{IsByAge, IsLogged};
 
 use crate::object::Object;
 use crate::objects::Objects;
-use std::alloc::AllocError;
 
 /// An object that was made, and the number of objects that were made before it.
 #[derive(Clone, Copy)]
 pub(crate) struct Made {
     pub(crate) born: u64,
     pub(crate) object: Object,
-}
-
-/// Reserves room for one more entry. The entries are unchanged.
-pub(crate) fn make_room(log: &mut Vec<Made>) -> Result<(), AllocError>
-    ensures same { log.new.items ≡ log.old.items }
-    ensures room { OnOk result (vec_len log.new < vec_capacity log.new) }
-{
-    log.reserve(1)
 }
 
 /// Records an object that was made. There is room for it.

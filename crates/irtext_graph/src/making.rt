@@ -12,7 +12,7 @@ ghost use Rattle.irtext_graph.specs.Arena.{Inserts, HasFew};
 use crate::arena::{Arena, Ptr};
 use crate::graph::Graph;
 use crate::held::Kind;
-use crate::log::{Made, make_room, note};
+use crate::log::{Made, note};
 use crate::nest::Nest;
 use crate::new_uses::{Side, unlinked_uses};
 use crate::object::{BasicBlock, Operation, Region, Value};
@@ -60,7 +60,7 @@ fn make_place(log: &mut Vec<Made>, made: u64) -> Result<(), AllocError>
     if made == u64::MAX {
         return Err(AllocError);
     }
-    make_room(log)
+    log.reserve(1)
 }
 
 /// Stores an object that is the next to be made, and records it in the log. Fails if an allocation fails, no slot is left, or no more
@@ -253,7 +253,7 @@ impl<O: Drop, B: Drop, T: Drop> Graph<O, B, T> {
         let blank = Nest {
             parent: Some(op),
             children: Growing::new(self.alloc),
-            noted: self.objects.operations.child_count(op),
+            noted: u32::try_from(self.objects.operations.child_count(op)).unwrap_or(u32::MAX),
             data: RegionData {},
         };
         let first = self.counters.first_place;

@@ -11,7 +11,7 @@ pub(crate) struct Nest<P, C, D> {
     pub(crate) parent: Option<Ptr<P>>,
     pub(crate) children: Growing<Ptr<C>>,
     // the index in the parent as it was recorded last: a hint that is tried first, and may be wrong
-    pub(crate) noted: usize,
+    pub(crate) noted: u32,
     pub(crate) data: D,
 }
 
@@ -47,7 +47,7 @@ impl<P, C, D: Drop> Arena<Nest<P, C, D>> {
     pub(crate) fn noted<K>(&self, p: Ptr<K>) -> usize
         requires { IsSome (get self.now p) }
     {
-        self.content(p).noted
+        self.content(p).noted as usize
     }
 
     /// Records an object's index in its parent. What contracts see of the object is unchanged.
@@ -59,7 +59,7 @@ impl<P, C, D: Drop> Arena<Nest<P, C, D>> {
         ensures links { links self.new ≡ links self.old }
         ensures places { KeepsPlaces self.old self.new }
     {
-        self.content_mut(p).noted = index;
+        self.content_mut(p).noted = u32::try_from(index).unwrap_or(u32::MAX);
     }
 
     /// Appends a child to an object. If an allocation fails, nothing changes.

@@ -10,6 +10,7 @@ impl<O: Drop, B: Drop, T: Drop> Objects<O, B, T> {
     ghost use Rattle.irtext_graph.specs.Used.{bare, uses_left, CanName};
 
     /// Returns the use at a site.
+    #[inline(always)]
     pub(crate) fn use_of(&self, u: Site) -> Use<Defined>
         requires { IsSome (use_at self.now u) }
         ensures { use_at self.now u ≡ Some result }
@@ -33,6 +34,7 @@ impl<O: Drop, B: Drop, T: Drop> Objects<O, B, T> {
     }
 
     /// Sets the links of a use.
+    #[inline(always)]
     fn set_links(&mut self, u: Site, links: Links)
         requires { IsSome (use_at self.old u) }
         ensures here { use_at self.new u ≡ option_map (relinked links) (use_at self.old u) }
@@ -71,6 +73,7 @@ impl<O: Drop, B: Drop, T: Drop> Objects<O, B, T> {
     }
 
     /// Returns the first use of a value or a block.
+    #[inline(always)]
     pub(crate) fn head_of(&self, d: Defined) -> Option<Site>
         requires { IsSome (head_at self.now d) }
         ensures { head_at self.now d ≡ Some result }
@@ -91,6 +94,7 @@ impl<O: Drop, B: Drop, T: Drop> Objects<O, B, T> {
     }
 
     /// Sets the first use of a value or a block.
+    #[inline(always)]
     fn set_head(&mut self, d: Defined, h: Option<Site>)
         requires { IsSome (head_at self.old d) }
         ensures here { head_at self.new d ≡ Some h }
@@ -110,6 +114,7 @@ impl<O: Drop, B: Drop, T: Drop> Objects<O, B, T> {
     }
 
     /// Sets the link to the previous use, if there is a use w.
+    #[inline(always)]
     fn set_prev_of(&mut self, w: Option<Site>, p: Option<Site>)
         requires { (s : _) → w ≡ Some s → IsSome (use_at self.old s) }
         ensures here { (s : _) → w ≡ Some s → prv self.new s ≡ p }
@@ -149,6 +154,7 @@ impl<O: Drop, B: Drop, T: Drop> Objects<O, B, T> {
     }
 
     /// Inserts a use that is in no use list at the head of the list of what it refers to.
+    #[inline(always)]
     pub(crate) fn attach(&mut self, u: Site)
         requires linked { AreUsesLinked self.old }
         requires there { IsSome (use_at self.old u) }

@@ -1,6 +1,7 @@
 //! Texts that are kept once, each under a number: its index among those that are kept.
 #![tactic(auto)]
 
+pub mod seed;
 mod text;
 
 ghost use Rattle.std.specs.Prelude.{◌≡◌, ◌<◌, ◌++◌, ◌∷◌, [], Some, false, is_some, IfOk, OnOk, OnErr, length, position, slice_get, take};
@@ -8,6 +9,7 @@ ghost use Rattle.std.specs.List.{list_any};
 ghost use Rattle.std.specs.Str.{bytes_eq};
 ghost use Rattle.irtext_interner.specs.Interned.{texts_of, number_of, with_text, KeepsTexts, AreDistinct};
 
+use crate::seed::Seed;
 use crate::text::ShortText;
 use indexmap::IndexSet;
 use std::alloc::{AllocError, Global};
@@ -16,7 +18,7 @@ use std::marker::Model;
 /// A set of texts. Each is kept once, with its index as its number.
 #[derive(Drop)]
 pub struct Interner {
-    texts: IndexSet<ShortText>,
+    texts: IndexSet<ShortText, Seed>,
     alloc: Global,
 }
 
@@ -34,14 +36,18 @@ impl Model for Interner {
     ghost invariant = { λ n. AreDistinct (texts_of n.texts) };
 }
 
-fn find(texts: &IndexSet<ShortText>, text: &str) -> Option<usize>
+fn find(texts: &IndexSet<ShortText, Seed>, text: &str) -> Option<usize>
     ensures index { result ≡ position (bytes_eq text.now) (texts_of texts.now) }
     ensures found { is_some result ≡ list_any (bytes_eq text.now) (texts_of texts.now) }
 {
     texts.get_index_of(text)
 }
 
-fn put_last(texts: &mut IndexSet<ShortText>, alloc: Global, text: &str) -> Result<(), AllocError>
+fn put_last(
+    texts: &mut IndexSet<ShortText, Seed>,
+    alloc: Global,
+    text: &str,
+) -> Result<(), AllocError>
     requires { list_any (bytes_eq text.now) (texts_of texts.old) ≡ false }
     ensures ok { OnOk result (texts_of texts.new ≡ texts_of texts.old ++ text.now ∷ []) }
     ensures err { OnErr result (texts_of texts.new ≡ texts_of texts.old) }
@@ -51,7 +57,11 @@ fn put_last(texts: &mut IndexSet<ShortText>, alloc: Global, text: &str) -> Resul
     Ok(())
 }
 
-fn keep(texts: &mut IndexSet<ShortText>, alloc: Global, text: &str) -> Result<usize, AllocError>
+fn keep(
+    texts: &mut IndexSet<ShortText, Seed>,
+    alloc: Global,
+    text: &str,
+) -> Result<usize, AllocError>
     ensures number { IfOk result (λ i. i ≡ number_of (texts_of texts.old) text.now) }
     ensures kept { OnOk result (texts_of texts.new ≡ with_text (texts_of texts.old) text.now) }
     ensures err { OnErr result (texts_of texts.new ≡ texts_of texts.old) }
@@ -65,7 +75,7 @@ fn keep(texts: &mut IndexSet<ShortText>, alloc: Global, text: &str) -> Result<us
     Ok(number)
 }
 
-fn text_at(texts: &IndexSet<ShortText>, number: usize) -> &str
+fn text_at(texts: &IndexSet<ShortText, Seed>, number: usize) -> &str
     requires { number < length (texts_of texts.now) }
     ensures { slice_get (texts_of texts.now) number ≡ Some result.now }
 {
@@ -76,12 +86,12 @@ fn text_at(texts: &IndexSet<ShortText>, number: usize) -> &str
 }
 
 impl Interner {
-    /// Returns an empty set. It allocates nothing yet.
-    pub fn new(alloc: Global) -> Interner
+    /// Returns an empty set, in which texts are found by hashes with this seed. It allocates nothing yet.
+    pub fn new(alloc: Global, seed: Seed) -> Interner
         ensures { result ≡ [] }
     {
         Interner {
-            texts: IndexSet::new(alloc),
+            texts: IndexSet::with_hasher(alloc, seed),
             alloc,
         }
     }

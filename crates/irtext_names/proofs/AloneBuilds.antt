@@ -46,7 +46,7 @@ use Rattle.irtext_grammar.specs.Tracks.{Made, noted, HasChild}
 use Rattle.irtext_names.specs.Linked.{Known, NamesAgree}
 use Rattle.irtext_names.specs.OfItems.{AreOf}
 use Rattle.irtext_names.proofs.Linked.Passes.{ran_through}
-use Rattle.irtext_names.specs.Alone.{pointers_in, held_region}
+use Rattle.irtext_names.specs.Alone.{pointers_in, held_region, IsWholeRegion}
 use Rattle.irtext_names.specs.Held.{placed_regions}
 use Rattle.irtext_names.specs.Placed.{RegionsAre}
 use Rattle.irtext_names.proofs.Builds.{in_among}
@@ -56,6 +56,7 @@ use Rattle.irtext_names.proofs.ItemsGiven.{region_has}
 use Rattle.irtext_names.proofs.Located.{IsPlaced, located_in, bound_uses, operand_uses, successor_uses}
 use Rattle.irtext_names.proofs.Occurs.{region_whole_occurs}
 use Rattle.irtext_names.proofs.Paths.{once_regions}
+use Rattle.irtext_names.proofs.Wholes.{regions_whole}
 
 -- ---- the blocks alone
 module _ {T A : Type 0} (first : ℕ → Written A) (isolated : Id → Bool) (id : Id) (closed : isolated id ≡ true) (place : ℕ) (bs : Blocks (Op ℕ T A) (Head ℕ T A) (Brace ℕ)) (formed : FormedBlocks bs) (st : State)
@@ -116,6 +117,11 @@ module _ {T A : Type 0} (L : ℕ → Location A → Type 0) (c : ContextView T A
 
   pub placed : (o : Object) (q : Path) → Among (o, q) all → IsPlaced L c items path o q
   placed = located_in L c items path (pointers_in c r) (forest.region (shown place) bs no_regions) (subst (λ xs. Each (λ (item : ℕ × Path). path item.0 ≡ item.1) xs) (sym (append-nil (paths_in_blocks (0 ∷ []) 0 bs))) names) is_region
+
+  -- everything in the region is there
+  pub is_whole : (first : ℕ → Written A) → ((n : ℕ) (l : Location A) → L n l → location_over c.paths l ≡ first n) → IsWholeRegion c r
+  is_whole first tells =
+      regions_whole c first [] (pointers_in c r) (forest.region (shown place) bs no_regions) (region_has L c items first tells (pointers_in c r) (forest.region (shown place) bs no_regions) is_region)
 
   module _ {O B X : Type 0} (first : ℕ → Written A) (isolated : Id → Bool) (id : Id) (closed : isolated id ≡ true) (formed : FormedBlocks bs) (names_at : NameTracker Value (Ptr BasicBlock)) (g : GraphView (Option O) B X) (known : Known) (are : AreOf path items known) (st : State)
       (agreed : NamesAgree names_at g known [] st) (same_uses : (s : Site) → used_at c.graph s ≡ used_at g s) (ran : run (going history.start) (events (script.within true place (blocks_script isolated (0 ∷ []) 0 bs) done)) ≡ going st) where

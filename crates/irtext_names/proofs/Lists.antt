@@ -4,6 +4,7 @@ use Rattle.std.proofs.lemmas.List.{take_more}
 use Rattle.irtext_graph.specs.Graph.{GraphView, KeepsOlder}
 use Rattle.irtext_names.specs.Rows.{AreKnown}
 use Rattle.irtext_names.proofs.NamesInRow.{map-through}
+use Rattle.irtext_graph.proofs.Once.{gives_itself}
 
 -- each number is known
 pub known_at : {X : Type 0} (f : X → ℕ) (count : ℕ) (xs : List X) (i : ℕ) (x : X) → i < length xs → AreKnown count (map f xs) → f (get_or xs i x) < count
@@ -17,7 +18,7 @@ number_more f xs i x l = ap (map f) (take_more xs i x l) ∙ map-through f (take
 
 -- an unchanged graph keeps all older objects
 pub older_itself : {O B T : Type 0} (m : ℕ) (g : GraphView O B T) → KeepsOlder m g g
-older_itself m g = record { operations = λ p. refl; blocks = λ b. refl; regions = λ r. refl; made = omega arith; values = omega arith; first_place = refl }
+older_itself m g = record { operations = λ p. refl; blocks = λ b. refl; regions = λ r. refl; made = omega arith; values = omega arith; first_place = refl; pointers = gives_itself g }
 
 -- the numbers before one, that one, and those after it
 pub number_here : {X : Type 0} (f : X → ℕ) (xs : List X) (i : ℕ) (x : X) → i < length xs → map f (take i xs) ++ f (get_or xs i x) ∷ map f (drop (suc i) xs) ≡ map f xs

@@ -57,6 +57,7 @@ use Rattle.irtext_names.proofs.Ages.{IsHere, here_is_live, live_here, was_live_o
 use Rattle.irtext_names.proofs.Located.{IsPlaced, located}
 use Rattle.irtext_names.proofs.OnePlace.{path_there}
 use Rattle.irtext_names.proofs.Occurs.{child_parent, whole_occurs}
+use Rattle.irtext_graph.proofs.Marks.{counts_kept}
 
 operation_inj : (p q : Ptr Operation) → TheOperation p ≡ TheOperation q → p ≡ q
 operation_inj p q e = cc
@@ -341,6 +342,7 @@ module _ {T A : Type 0} (L : ℕ → Location A → Type 0) (start c : ContextVi
     blocks = block_stays m start.graph c.graph older kept.graph;
     regions = region_stays m start.graph c.graph older kept.graph;
     uses = uses;
+    counts = counts_kept m start.graph c.graph kept.graph;
     paths = kept.paths;
     dialects = kept.dialects;
   }

@@ -22,7 +22,7 @@ module _ {T A : Type 0} (c : ContextView T A) (first : ℕ → Written A) (es : 
   block_whole b head h = record { view = h.view; is = h.is; labelled = h.has_label; types = _; known_as = h.types }
 
   mutual
-    regions_whole : (ps : PtrRegions) (rs : Regions (Op ℕ T A) (Head ℕ T A) (Brace ℕ)) → RegionsHave c first es ps rs → AllRegions (OperationWhole c) (BlockWhole c) (λ r. ⊤) ps
+    pub regions_whole : (ps : PtrRegions) (rs : Regions (Op ℕ T A) (Head ℕ T A) (Brace ℕ)) → RegionsHave c first es ps rs → AllRegions (OperationWhole c) (BlockWhole c) (λ r. ⊤) ps
     regions_whole no_regions no_regions h = tt
     regions_whole no_regions (forest.region brace hs rs) h = absurd h
     regions_whole (forest.region r bs ps) no_regions h = absurd h

@@ -11,7 +11,7 @@ use Rattle.irtext_graph.specs.declared.object.BasicBlock.{BasicBlock}
 use Rattle.irtext_graph.specs.declared.object.Region.{Region}
 use Rattle.irtext_graph.specs.declared.object.Object.{Object}
 use Rattle.irtext_graph.specs.declared.object.Site.TheVariants.{AtOperand, AtSuccessor}
-use Rattle.irtext_graph.specs.Graph.{GraphView, parent}
+use Rattle.irtext_graph.specs.Graph.{GraphView, CountsOn, parent}
 use Rattle.irtext_graph.specs.Nested.{climb}
 use Rattle.irtext_graph.specs.Parts.{regions, blocks, operations_in}
 use Rattle.irtext_graph.specs.Store.{get}
@@ -42,6 +42,7 @@ use Rattle.irtext_names.specs.Held.{placed_under, held_root, held_op, held_regio
 use Rattle.irtext_names.specs.OnlyNew.{OnlyNew}
 use Rattle.irtext_names.specs.WithSection.{refused, SameShape}
 use Rattle.irtext_names.proofs.Equal.{Keeps, root_same}
+use Rattle.irtext_graph.proofs.Marks.{counts_on}
 
 -- ---- what is wrong
 module _ {P : Type 0} where
@@ -173,14 +174,15 @@ pub only_still : {T A : Type 0} (op : Ptr Operation) (old mid new : ContextView 
     → ((p : Ptr Operation) → IsSome (get old.graph.operations p) → get new.graph.operations p ≡ get mid.graph.operations p)
     → ((b : Ptr BasicBlock) → IsSome (get old.graph.blocks b) → get new.graph.blocks b ≡ get mid.graph.blocks b)
     → ((r : Ptr Region) → IsSome (get old.graph.regions r) → get new.graph.regions r ≡ get mid.graph.regions r)
-    → KeepsPaths old.paths new.paths → new.dialects ≡ mid.dialects → OnlyNew op old new
-only_still op old mid new only shape operations blocks regions paths dialects = record {
+    → CountsOn mid.graph new.graph → KeepsPaths old.paths new.paths → new.dialects ≡ mid.dialects → OnlyNew op old new
+only_still op old mid new only shape operations blocks regions counts paths dialects = record {
   live = λ q s. elim (only.live q (shape.was_live q s)) [ inl was ↦ inl was | inr i ↦ inr (i.0, climb_same mid.graph new.graph shape i.0 (Some q) ∙ i.1) ];
   is_new = λ q i s. only.is_new q (i.0, sym (climb_same mid.graph new.graph shape i.0 (Some q)) ∙ i.1) s;
   operations = λ p s. operations p s ∙ only.operations p s;
   blocks = λ b s. blocks b s ∙ only.blocks b s;
   regions = λ r s. regions r s ∙ only.regions r s;
   uses = λ d s there e. only.uses d s there (sym (shape.same_uses s) ∙ e);
+  counts = counts_on old.graph mid.graph new.graph only.counts counts;
   paths = paths;
   dialects = dialects ∙ only.dialects;
 }

@@ -1,5 +1,6 @@
 -- What the names of a parse refer to, what is made of parsed parts, and what is promised of what was parsed.
 pub mod Alone
+pub mod Carriers
 pub mod Gathered
 pub mod Given
 pub mod Held

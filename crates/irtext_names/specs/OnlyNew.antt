@@ -12,12 +12,12 @@ use Rattle.irtext_graph.specs.declared.object.Defined.{Defined}
 use Rattle.irtext_graph.specs.declared.object.Defined.TheVariants.{OfValue}
 use Rattle.irtext_graph.specs.declared.object.Site.{Site}
 use Rattle.irtext_graph.specs.declared.object.Value.TheVariants.{Result}
-use Rattle.irtext_graph.specs.Graph.{IsLive, IsInside, IsNew}
+use Rattle.irtext_graph.specs.Graph.{CountsOn, IsLive, IsInside, IsNew}
 use Rattle.irtext_graph.specs.Store.{get}
 use Rattle.irtext_graph.specs.Used.{IsDefined, IsUse}
 
 -- Each live object was live before, or is the operation or nested in it; nothing in the operation was live before. Each older object is
--- unchanged, and has no new uses. Each path keeps its key, and the dialects are the same.
+-- unchanged, and has no new uses. Nothing that was given is given again. Each path keeps its key, and the dialects are the same.
 pub record OnlyNew {T A : Type 0} (op : Ptr Operation) (old new : ContextView T A) : Type 0 where
   pub live : (q : Object) → IsLive new.graph q → IsLive old.graph q ⊎ IsInside new.graph (TheOperation op) q
   pub is_new : (q : Object) → IsInside new.graph (TheOperation op) q → IsLive old.graph q → ⊥
@@ -25,6 +25,7 @@ pub record OnlyNew {T A : Type 0} (op : Ptr Operation) (old new : ContextView T 
   pub blocks : (b : Ptr BasicBlock) → IsSome (get old.graph.blocks b) → get new.graph.blocks b ≡ get old.graph.blocks b
   pub regions : (r : Ptr Region) → IsSome (get old.graph.regions r) → get new.graph.regions r ≡ get old.graph.regions r
   pub uses : (d : Defined) (s : Site) → IsDefined old.graph d → IsUse new.graph d s → IsUse old.graph d s
+  pub counts : CountsOn old.graph new.graph
   pub paths : KeepsPaths old.paths new.paths
   pub dialects : new.dialects ≡ old.dialects
 

@@ -25,6 +25,7 @@ use irtext_scopes::scopes::DefineFault;
 /// definition replaces the placeholder in all uses, and the placeholder is erased. Fails with `MultipleDefinitions` if the scope defines
 /// the name already, and with `Memory` if an allocation fails, which can happen only for a name that is new in the scope. On an error the
 /// scopes and the graph are unchanged.
+#[inline(always)]
 pub fn define_name<K: Referent<B>, O: Drop, B: Drop, T: Drop>(
     names: &mut Names,
     graph: &mut Graph<Option<O>, B, Option<T>>,

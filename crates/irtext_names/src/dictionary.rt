@@ -14,6 +14,7 @@ use crate::kinds::Names;
 use crate::making::failed;
 use crate::memory::ended;
 use crate::operation_parts::{NotGathered, entry_stored};
+use irtext_base::seed::Seed;
 use irtext_context::base::AttributeDict;
 use irtext_few::{Few, Items};
 use irtext_grammar::parsed::{ReadEntry, ReadName};
@@ -62,6 +63,7 @@ fn held_entry_stored<A: Drop>(
 
 /// Stores the entries of a dictionary, one after another. Fails at the first entry whose attribute is not allowed under its key, or if an
 /// allocation fails; the entries before it are stored then.
+#[inline(always)]
 pub fn entries_stored<A: Drop>(
     attributes: &mut AttributeDict<A>,
     holder: Holder,
@@ -96,9 +98,11 @@ fn dictionary_stored<A: Drop>(
     entries_stored(attributes, Holder::Block, entries)
 }
 
-/// Returns the attributes of a block: its dictionary, if there is one, and then the names of its arguments.
+/// Returns the attributes of a block: its dictionary, if there is one, and then the names of its arguments. The seed is that of the
+/// attributes.
 pub fn block_attributes<A: Drop>(
     alloc: Global,
+    seed: Seed,
     names: &Names,
     entries: Option<Vec<ReadEntry<A>>>,
     arguments: &Few<ReadName>,
@@ -111,7 +115,7 @@ pub fn block_attributes<A: Drop>(
     ensures allowed { OnOk result (AreAllowed block_may_hold (entries_in entries)) }
     ensures refused { IfErr result (Forbids block_may_hold (entries_in entries)) }
 {
-    let mut attributes = AttributeDict::new(alloc);
+    let mut attributes = AttributeDict::with_seed(alloc, seed);
     if let Err(refusal) = dictionary_stored(&mut attributes, entries) {
         ended(attributes);
         return Err(refusal);

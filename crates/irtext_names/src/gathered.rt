@@ -2,6 +2,7 @@
 ghost use Rattle.std.specs.Prelude.{◌≡◌};
 ghost use Rattle.irtext_names.specs.Gathered.{IsNothing};
 
+use irtext_base::seed::Seed;
 use irtext_context::base::block::BlockData;
 use irtext_context::base::operation::OperationData;
 use irtext_context::base::{AttributeDict, BasicBlock, Ptr};
@@ -33,8 +34,8 @@ pub struct Gathered<T, A> {
     pub attributes: AttributeDict<A>,
 }
 
-/// Returns an empty value. Allocates nothing.
-pub fn nothing<T: Drop, A: Drop>(alloc: Global) -> Gathered<T, A>
+/// Returns an empty value; the seed is that of its attributes. Allocates nothing.
+pub fn nothing<T: Drop, A: Drop>(alloc: Global, seed: Seed) -> Gathered<T, A>
     ensures { IsNothing result }
 {
     Gathered {
@@ -48,7 +49,7 @@ pub fn nothing<T: Drop, A: Drop>(alloc: Global) -> Gathered<T, A>
         },
         types: Vec::new(alloc),
         listed: Few::none(),
-        attributes: AttributeDict::new(alloc),
+        attributes: AttributeDict::with_seed(alloc, seed),
     }
 }
 

@@ -19,7 +19,7 @@ use irtext_grammar::parsed::ReadName;
 use std::alloc::{AllocError, Global};
 
 /// Returns the names with these numbers.
-#[inline(never)]
+#[inline(always)]
 fn given_names(
     alloc: Global,
     names: &Names,

@@ -100,6 +100,7 @@ where
 }
 
 /// Uses the names of a list of operands or of successors.
+#[inline(always)]
 fn names_gathered<K: Referent<BlockData<A>>, T: Drop, A: Drop>(
     names: &mut Names,
     graph: &mut Objects<T, A>,

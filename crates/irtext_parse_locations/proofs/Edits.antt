@@ -10,6 +10,8 @@ use Rattle.irtext_graph.specs.Store.{Store, Edits, get, before, object_of}
 use Rattle.irtext_graph.specs.declared.arena.Ptr.{Ptr}
 use Rattle.irtext_graph.specs.declared.object.BasicBlock.{BasicBlock}
 use Rattle.irtext_graph.specs.declared.object.Operation.{Operation}
+use Rattle.irtext_graph.proofs.Once.{gives_on}
+use Rattle.irtext_graph.specs.Graph.{GivesOnce}
 
 -- an edit that leaves its object as it was
 edits_nothing : {X K : Type 0} (s : Store X) (p : Ptr K) (change : X → X) → get s p ≡ option_map (object_of change) (get s p) → Edits s s p change
@@ -49,9 +51,9 @@ module _ {T A : Type 0} where
   block_unedited c p f e = block_edit c c p f refl (edits_nothing c.graph.blocks p (with_block f) e) (rest_same c)
 
   -- what is older is kept from before one edit to after another, where it is between them, and their objects are as they were
-  pub kept_around : (mark : ℕ) (a b c d : ContextView T A) → SameRest a b → KeepsOlder mark b c → SameRest c d → ((q : Ptr Operation) → before mark d.graph.operations q ≡ before mark a.graph.operations q)
+  pub kept_around : (mark : ℕ) (a b c d : ContextView T A) → SameRest a b → GivesOnce a.graph b.graph → KeepsOlder mark b c → SameRest c d → GivesOnce c.graph d.graph → ((q : Ptr Operation) → before mark d.graph.operations q ≡ before mark a.graph.operations q)
       → ((q : Ptr BasicBlock) → before mark d.graph.blocks q ≡ before mark a.graph.blocks q) → KeepsOlder mark a d
-  kept_around mark a b c d r kept s operations blocks = record {
+  kept_around mark a b c d r taken kept s returned operations blocks = record {
     graph = record {
       operations = operations;
       blocks = blocks;
@@ -59,6 +61,7 @@ module _ {T A : Type 0} where
       made = let i = r.1 in let j = kept.graph.made in let k = s.1 in omega (arith, i, j, k);
       values = let i = r.2 in let j = kept.graph.values in let k = s.2 in omega (arith, i, j, k);
       first_place = s.3 ∙ (kept.graph.first_place ∙ r.3);
+      pointers = gives_on a.graph b.graph d.graph taken (gives_on b.graph c.graph d.graph kept.graph.pointers returned);
     };
     paths = λ i path f. same-paths s.4 i path (kept.paths i path (same-paths r.4 i path f));
     dialects = s.5 ∙ (kept.dialects ∙ r.5);

@@ -23,6 +23,7 @@ use Rattle.irtext_parse_locations.specs.Applied.{no_label, label_in, LocatesOper
 use Rattle.irtext_parse_locations.specs.Together.{IsLive, Puts, Takes, TakesOperation, TakesBlock, PutsBack}
 use Rattle.irtext_parse_locations.proofs.Edits.{operation_rest, block_rest, operation_unedited, block_unedited, kept_around}
 use Rattle.irtext_parse_locations.proofs.Swaps.{taken_back}
+use Rattle.irtext_graph.proofs.Data.{edited_gives, edited_block_gives}
 
 -- ---- one item's attributes are put back
 module _ {T A : Type 0} (mark : ℕ) (a b c d : ContextView T A) (kept : KeepsOlder mark b c) where
@@ -39,7 +40,8 @@ module _ {T A : Type 0} (mark : ℕ) (a b c d : ContextView T A) (kept : KeepsOl
 
     pub operation_back : KeepsOlder mark a d
     operation_back =
-        kept_around mark a b c d (operation_rest a b p (with_attributes t.left) t.edits) kept (operation_rest c d p (with_attributes had) e)
+        kept_around mark a b c d (operation_rest a b p (with_attributes t.left) t.edits) (edited_gives a.graph b.graph p (option_map (with_attributes t.left)) t.edits.graph) kept
+        (operation_rest c d p (with_attributes had) e) (edited_gives c.graph d.graph p (option_map (with_attributes had)) e.graph)
         (taken_back mark a.graph.operations b.graph.operations c.graph.operations d.graph.operations p (with_data (option_map (with_attributes t.left))) (with_data (option_map (with_attributes had)))
         t.edits.graph.operations kept.graph.operations e.graph.operations entry_restored)
         (λ q. ap (λ s. before mark s q) e.graph.blocks ∙ (kept.graph.blocks q ∙ ap (λ s. before mark s q) t.edits.graph.blocks))
@@ -53,7 +55,8 @@ module _ {T A : Type 0} (mark : ℕ) (a b c d : ContextView T A) (kept : KeepsOl
 
     pub block_back : KeepsOlder mark a d
     block_back =
-        kept_around mark a b c d (block_rest a b p (with_block_attributes t.left) t.edits) kept (block_rest c d p (with_block_attributes had) e)
+        kept_around mark a b c d (block_rest a b p (with_block_attributes t.left) t.edits) (edited_block_gives a.graph b.graph p (with_block_attributes t.left) t.edits.graph) kept
+        (block_rest c d p (with_block_attributes had) e) (edited_block_gives c.graph d.graph p (with_block_attributes had) e.graph)
         (λ q. ap (λ s. before mark s q) e.graph.operations ∙ (kept.graph.operations q ∙ ap (λ s. before mark s q) t.edits.graph.operations))
         (taken_back mark a.graph.blocks b.graph.blocks c.graph.blocks d.graph.blocks p (with_block (with_block_attributes t.left)) (with_block (with_block_attributes had))
         t.edits.graph.blocks kept.graph.blocks e.graph.blocks block_restored)

@@ -3,6 +3,7 @@
 use indexmap::IndexMap;
 use irtext_base::base::AttrObj;
 use irtext_base::location::Location;
+use irtext_base::seed::Seed;
 use irtext_context::base::Item;
 use irtext_grammar::parsed::{Key, ReadMark};
 use irtext_parse_state::parsable::numbered::Numbered;
@@ -33,7 +34,7 @@ pub enum ReadEntry<A> {
 }
 
 /// The print-once attributes, by their indices.
-pub type Once<A> = IndexMap<usize, AttrObj<A>>;
+pub type Once<A> = IndexMap<usize, AttrObj<A>, Seed>;
 
 /// The parsed entries of a section: those of items in the order of the text, the indices of these, and the print-once attributes.
 #[derive(Drop)]

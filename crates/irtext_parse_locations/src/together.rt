@@ -15,6 +15,7 @@ use crate::applied::{
 use crate::said::{ItemEntry, Once, ReadPair};
 use irtext_base::base::{AttrObj, Identifier};
 use irtext_base::location::Location;
+use irtext_base::seed::Seed;
 use irtext_base::text::{AttrText, IrText};
 use irtext_context::base::{
     AttributeDict, BasicBlock, BlockAccess, Context, Item, Operation, OperationAccess, Ptr,
@@ -49,12 +50,13 @@ fn entry_copied<A: AttrText<A>>(
 /// Returns a copy of a dictionary, with equal attributes under its keys.
 fn copied<A: AttrText<A>>(
     alloc: Global,
+    seed: Seed,
     attributes: &AttributeDict<A>,
 ) -> Result<AttributeDict<A>, AllocError>
     ensures { IfOk result (λ copy. entries_of copy ≡ entries_of attributes.now) }
 {
     attributes.keeps_keys();
-    let mut copy = AttributeDict::new(alloc);
+    let mut copy = AttributeDict::with_seed(alloc, seed);
     for (key, attr) in attributes.iter() {
         entry_copied(alloc, &mut copy, key, attr)?;
     }
@@ -73,7 +75,7 @@ fn operation_next<T: IrText<A>, A: AttrText<A>>(
         (option_map (λ op. op.attributes) (operation ctx.now op))) }
 {
     let alloc = ctx.allocator();
-    let mut next = copied(alloc, op.attributes(ctx))?;
+    let mut next = copied(alloc, ctx.seed(), op.attributes(ctx))?;
     pairs_stored(alloc, once, &mut next, pairs)?;
     Ok(next)
 }
@@ -137,7 +139,7 @@ fn block_next<T: IrText<A>, A: AttrText<A>>(
     ensures label { IfOk result (λ next. next.1 ≡ label_in None (all_stored once.now.entries pairs.items)) }
 {
     let alloc = ctx.allocator();
-    let mut next = copied(alloc, at.attributes(ctx))?;
+    let mut next = copied(alloc, ctx.seed(), at.attributes(ctx))?;
     let label = block_pairs_stored(alloc, once, &mut next, pairs)?;
     Ok((next, label))
 }

@@ -37,7 +37,7 @@ use Rattle.irtext_names.specs.Gathering.{entries_in}
 use Rattle.irtext_parse_nested.specs.Blocks.{MakesHead, NamesHead, RefusesHead}
 use Rattle.irtext_names.specs.LosesPlaceholders.{LosesPlaceholders}
 use Rattle.irtext_names.specs.Definitions.{numbers_of}
-use Rattle.irtext_parse_nested.specs.Ends.{noted_as}
+use Rattle.irtext_names.specs.Carriers.{noted_as}
 use Rattle.irtext_names.specs.Items.{Names, IsSound, KeepsLive}
 use Rattle.irtext_names.specs.Located.{IsLocated}
 use Rattle.irtext_parse_nested.specs.Read.{BeginsBlock, RefusesBlock}

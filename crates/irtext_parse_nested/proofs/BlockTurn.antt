@@ -44,7 +44,7 @@ use Rattle.irtext_names.specs.declared.operation_parts.NotGathered.{NotGathered}
 use Rattle.irtext_names.specs.declared.operation_parts.NotGathered.TheVariants as refusal
 use Rattle.irtext_names.specs.Gathering.{entries_in, Forbids}
 use Rattle.irtext_parse_nested.specs.Blocks.{IsOfEntries, IsRefusalFault, RefusesKeys, MakesHead, NamesHead, RefusesHead}
-use Rattle.irtext_parse_nested.specs.Ends.{noted_as}
+use Rattle.irtext_names.specs.Carriers.{noted_as}
 use Rattle.irtext_names.specs.Items.{Names, ActFails, ActsWith}
 use Rattle.irtext_parse_nested.specs.Read.{heads_of, BeginsBlock, RefusesBlock}
 use Rattle.irtext_parse_nested.proofs.OperationClosed.{noted_is}

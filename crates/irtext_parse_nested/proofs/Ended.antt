@@ -31,7 +31,8 @@ use Rattle.irtext_parse_pieces.specs.Named.{MustMean}
 use Rattle.irtext_parse_pieces.proofs.Meanings.{must_whole}
 use Rattle.irtext_parse_nested.specs.declared.frame.BegunOperation.{BegunOperation}
 use Rattle.irtext_parse_nested.specs.OpenOperation.{pledge_of}
-use Rattle.irtext_parse_nested.specs.Ends.{closes_at, NotesMark, noted_as, RefusesMark}
+use Rattle.irtext_names.specs.Carriers.{noted_as}
+use Rattle.irtext_parse_nested.specs.Ends.{closes_at, NotesMark, RefusesMark}
 use Rattle.irtext_names.specs.Items.{Names, Acts}
 use Rattle.irtext_parse_nested.specs.Read.{EndsOperation, RefusesEnd, no_mark, same_mark}
 use Rattle.irtext_parse_nested.proofs.OperationClosed.{noted_is}

@@ -26,7 +26,8 @@ use Rattle.irtext_grammar.specs.declared.parsed.ReadName.{ReadName}
 use Rattle.irtext_grammar.specs.Parsed.{IsMarkIf, Represents, Each}
 use Rattle.irtext_parse_nested.specs.declared.frame.BegunOperation.{BegunOperation}
 use Rattle.irtext_parse_nested.specs.OpenOperation.{pledge_of}
-use Rattle.irtext_parse_nested.specs.Ends.{closes_at, NotesMark, noted_as, WritesAttributes, GivesNames, BecomesNamed}
+use Rattle.irtext_names.specs.Carriers.{noted_as}
+use Rattle.irtext_parse_nested.specs.Ends.{closes_at, NotesMark, WritesAttributes, GivesNames, BecomesNamed}
 use Rattle.irtext_names.specs.Items.{Names, Acts, KeepsLive, IsSound}
 use Rattle.irtext_parse_nested.proofs.Edited.{edited_lasts, edited_sound, edited_agrees}
 use Rattle.irtext_parse_nested.proofs.Faults.{named_each}

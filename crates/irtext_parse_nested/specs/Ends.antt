@@ -1,5 +1,5 @@
 -- Between functions: what the end of an operation does, step by step: its results are defined, and its mark is recorded.
-use Rattle.std.specs.Prelude.{◌≡◌, ℕ, true, false, List, [], ◌∷◌, ◌++◌, length, map, Option, Some, None, slice_get}
+use Rattle.std.specs.Prelude.{◌≡◌, ℕ, true, false, List, ◌++◌, length, map, Option, Some, None, slice_get}
 use Rattle.std.specs.Map.{lookup}
 use Rattle.irtext_base.specs.Text.{Text}
 use Rattle.irtext_base.specs.Answers.{Read}
@@ -18,6 +18,7 @@ use Rattle.irtext_parse_state.specs.States.{same_index, marks_of, Notes}
 use Rattle.irtext_grammar.specs.declared.parsed.ReadMark.{ReadMark}
 use Rattle.irtext_grammar.specs.declared.parsed.ReadName.{ReadName}
 use Rattle.irtext_parse_nested.specs.declared.frame.BegunOperation.{BegunOperation}
+use Rattle.irtext_names.specs.Carriers.{noted_as}
 use Rattle.irtext_names.specs.Rows.{FailsRow, AreNamed}
 use Rattle.irtext_names.specs.Definitions.{IsFaultOf, numbers_of}
 use Rattle.irtext_parse_state.specs.declared.parsable.state.State as code
@@ -52,11 +53,6 @@ pub data RefusesResults {O B T A : Type 0} (b : BegunOperation) (names : Names) 
 abbrev pub NotesMark : {X : Type 0} → Option ReadMark → X → List (ℕ × X) → List (ℕ × X) → Type 0
 NotesMark None item old new = new ≡ old
 NotesMark (Some mark) item old new = Notes mark.index item true old new
-
--- the mark of the text, if there is one, with the operation or block that carries it
-abbrev pub noted_as : {X : Type 0} → Option (Mark ℕ) → X → List (ℕ × X)
-noted_as None item = []
-noted_as (Some m) item = (m.index, item) ∷ []
 
 -- the mark that comes next in the text, if one does, was recorded for this item
 abbrev pub NotesNext : {T A U : Type 0} → StateStream T A U → StateStream T A U → Item → Type 0

@@ -23,11 +23,13 @@ ghost use Rattle.irtext_names.specs.Gathering.{entries_in, Forbids};
 ghost use Rattle.irtext_parse_nested.specs.Blocks.{PlacesLabelled, IsOfEntries, ReadsHead, OfNextHead, IsRefusalFault, MakesHead, RefusesArguments, DefinesArguments, NamesHead, RefusesHead};
 ghost use Rattle.irtext_names.specs.LosesPlaceholders.{LosesPlaceholders};
 ghost use Rattle.irtext_names.specs.Definitions.{numbers_of};
-ghost use Rattle.irtext_parse_nested.specs.Ends.{noted_as, GainsMarks};
+ghost use Rattle.irtext_names.specs.Carriers.{noted_as};
+ghost use Rattle.irtext_parse_nested.specs.Ends.{GainsMarks};
 ghost use Rattle.irtext_names.specs.Items.{IsSound, KeepsLive, KeepsDepths};
 ghost use Rattle.irtext_names.specs.Located.{IsLocated};
 ghost use Rattle.irtext_parse_nested.specs.Read.{BeginsBlock, RefusesBlock};
 
+use crate::beginning::seed_of;
 use crate::frame::BegunBlock;
 use crate::operation_end::note_mark;
 use irtext_base::location::Location;
@@ -135,7 +137,7 @@ fn head_made<T: IrText<A>, A: AttrText<A>, U>(
         ended(entries);
         return Err(NotGathered::Memory);
     };
-    let attributes = match block_attributes(alloc, names, entries, &arguments) {
+    let attributes = match block_attributes(alloc, seed_of(&s.state), names, entries, &arguments) {
         Ok(attributes) => attributes,
         Err(refusal) => {
             ended((arguments, types));

@@ -53,6 +53,7 @@ fn name_unstored<S: CharStream, A>(stream: &mut S) -> ParseResult<ReadName, A>
 }
 
 /// Parses a name, and stores it. If none comes next, the error is uncommitted and the stream is unchanged; other errors are committed.
+#[inline(always)]
 pub(crate) fn name_parse<S: CharStream, V: Copy, B: Copy, A>(
     stream: &mut S,
     names: &mut NameTracker<V, B>,

@@ -25,7 +25,7 @@ use Rattle.irtext_grammar.specs.Tracks.{Made, noted, HoldsMade}
 use Rattle.irtext_grammar.proofs.Acts.{block_ended}
 use Rattle.irtext_grammar.proofs.Tracked.{uses_in_block, enters_operation, heads_first, heads_next, late_operation, closes_operation, marks_root, marks_in_block, block_ends, leaves_empty, leaves_with_block}
 use Rattle.irtext_grammar.proofs.Kept.{region_kept}
-use Rattle.irtext_parse_nested.specs.Ends.{noted_as}
+use Rattle.irtext_names.specs.Carriers.{noted_as}
 use Rattle.irtext_parse_root.specs.Built.{built, IsHeld, RegionTracks, HoldsRegion}
 use Rattle.irtext_parse_root.specs.Carried.{marks_in_blocks, marks_so_far, AreCarried}
 use Rattle.irtext_parse_root.specs.Here.{Base, within}

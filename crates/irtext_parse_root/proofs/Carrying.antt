@@ -20,7 +20,7 @@ use Rattle.irtext_grammar.specs.Naming.{body_of, unmarked}
 use Rattle.irtext_grammar.specs.Building.{append_regions, append_blocks, append_operations, Unfinished, operation_so_far, region_so_far, but_its_mark, Building, building, whole_blocks, block_begun, region_ended, operation_closed, operation_marked, with_mark}
 use Rattle.irtext_grammar.specs.Unchanged.{OwnSoFar, OpenAt, operation_under, ended_under, region_under, IsOpenAt, AreOpenAt, TreeHolds, as_inner}
 use Rattle.irtext_grammar.specs.Tracks.{Made}
-use Rattle.irtext_parse_nested.specs.Ends.{noted_as}
+use Rattle.irtext_names.specs.Carriers.{noted_as}
 use Rattle.irtext_parse_root.specs.Carried.{marks_in_regions, marks_in_blocks, marks_in_operations, marks_in, marks_open, marks_whole, marks_so_far, object_of, AreCarried, Falls}
 
 -- ---- the marks of parts that follow one another
@@ -208,13 +208,13 @@ carried_wider items one [] (n ∷ ns) h = absurd h
 carried_wider items one (m ∷ ms) [] h = absurd h
 carried_wider items one (m ∷ ms) (n ∷ ns) (e, i, h) = (e, inr i, carried_wider items one ms ns h)
 
-carried_both : (items : Made) (ms more : List (ℕ × ℕ)) (ns others : List (ℕ × Item)) → AreCarried items ms ns → AreCarried items more others → AreCarried items (ms ++ more) (ns ++ others)
+pub carried_both : (items : Made) (ms more : List (ℕ × ℕ)) (ns others : List (ℕ × Item)) → AreCarried items ms ns → AreCarried items more others → AreCarried items (ms ++ more) (ns ++ others)
 carried_both items [] more [] others h k = k
 carried_both items [] more (n ∷ ns) others h k = absurd h
 carried_both items (m ∷ ms) more [] others h k = absurd h
 carried_both items (m ∷ ms) more (n ∷ ns) others (e, i, h) k = (e, i, carried_both items ms more ns others h k)
 
-carried_one : (items : Made) (mark : Option (Mark ℕ)) (place : ℕ) (x : Item) → Among (place, object_of x) items → AreCarried items (noted_as mark place) (noted_as mark x)
+pub carried_one : (items : Made) (mark : Option (Mark ℕ)) (place : ℕ) (x : Item) → Among (place, object_of x) items → AreCarried items (noted_as mark place) (noted_as mark x)
 carried_one items None place x i = tt
 carried_one items (Some m) place x i = (refl, i, tt)
 

@@ -1,5 +1,5 @@
 -- Where a parse begins no name is known: names, graph and marks agree with the initial state of the machine.
-use Rattle.std.proofs.Common.{◌≡◌, ◌∙◌, ℕ, [], Option, Some, None, IsSome, refl, sym, ap, subst, le_refl}
+use Rattle.std.proofs.Common.{◌≡◌, ◌∙◌, ℕ, [], Option, Some, None, IsSome, refl, sym, le_refl}
 use Rattle.irtext_context.specs.Context.{ContextView, KeepsOlder}
 use Rattle.irtext_graph.specs.Back.{AllOlder, IsClosedBelow}
 use Rattle.irtext_graph.specs.Store.{get}
@@ -7,7 +7,7 @@ use Rattle.irtext_graph.proofs.Frames.{new_operation}
 use Rattle.irtext_scopes.specs.Names.{AreDistinct}
 use Rattle.irtext_parse_state.specs.States.{marks_of}
 use Rattle.irtext_parse_state.specs.declared.parsable.state.State as code
-use Rattle.irtext_grammar.specs.Names.History.{going, start, State}
+use Rattle.irtext_grammar.specs.Names.History.{going, State}
 use Rattle.irtext_grammar.specs.Names.Script.{Path}
 use Rattle.irtext_grammar.specs.Promises.Section.{indices_of}
 use Rattle.irtext_names.specs.Linked.{nothing_made}
@@ -47,10 +47,6 @@ module _ {T A U : Type 0} (names : Names) (s : code.State T A U) (no_names : nam
     marks = refl;
     results = λ w i. absurd i;
   }
-
-  -- it is the initial state if no mark is recorded
-  pub fresh_agrees : marks_of s ≡ [] → (path : ℕ → Path) → MachineAgrees path [] [] names s (going start)
-  fresh_agrees none path = subst (λ ms. MachineAgrees path [] [] names s (going (start_with ms))) (ap indices_of none) (begun_agrees path)
 
   -- no placeholder waits for a name, since all live objects are older
   pub fresh_sound : AllOlder s.ctx.now.graph.made s.ctx.now.graph → IsSound s.ctx.now.graph.made names s

@@ -33,7 +33,8 @@ use Rattle.irtext_parse_nested.specs.declared.frame.BegunRegion.{BegunRegion}
 use Rattle.irtext_parse_nested.specs.declared.frame.BegunBlock.{BegunBlock}
 use Rattle.irtext_parse_nested.specs.Beginning.{HasBegun, ComesInto}
 use Rattle.irtext_parse_nested.specs.OpenOperation.{IsBegun, IsRegion}
-use Rattle.irtext_parse_nested.specs.Ends.{noted_as, GainsMarks, BecomesNamed}
+use Rattle.irtext_names.specs.Carriers.{noted_as}
+use Rattle.irtext_parse_nested.specs.Ends.{GainsMarks, BecomesNamed}
 use Rattle.irtext_names.specs.Items.{Names, IsSound, KeepsLive}
 use Rattle.irtext_parse_nested.specs.Later.{GoesOn}
 use Rattle.irtext_parse_nested.proofs.Marking.{gains_nothing, on_err, always_err}

@@ -26,6 +26,7 @@ pub mod Proceeding
 pub mod Refused
 pub mod RegionBuilt
 pub mod RegionGains
+pub mod RegionMarks
 pub mod RegionMoved
 pub mod RegionPlaces
 pub mod RegionReads

@@ -14,6 +14,7 @@ use Rattle.irtext_parse_root.specs.Here.{Base, IsHere, AreHere}
 use Rattle.irtext_parse_root.specs.Levels.{Level, at_operation, at_region, at_block, first_frame, left_to_do, AreNewFrames}
 use Rattle.irtext_parse_root.specs.Turned.{Carries, Turned, Faulted, Arrives, Proceeds, Stops}
 use Rattle.irtext_parse_root.proofs.Chains.{moved_whole, turned_none, turned_both, turned_over, faulted_after, faulted_over}
+use Rattle.irtext_graph.proofs.Once.{gives_itself}
 
 -- nothing is open
 none_open : {T A : Type 0} (ls : List (Level T A)) → None ≡ first_frame ls → ls ≡ []
@@ -81,7 +82,7 @@ module _ {T A U : Type 0} (types_at : Reader T) (attr : Reader (AttrView A)) (n0
 -- where no action was performed, older objects are unchanged
 pub keeps_itself : {T A : Type 0} (m : ℕ) (c : ContextView T A) → KeepsOlder m c c
 keeps_itself m c = record {
-  graph = record { operations = λ p. refl; blocks = λ p. refl; regions = λ p. refl; made = le_refl c.graph.made; values = le_refl c.graph.values; first_place = refl };
+  graph = record { operations = λ p. refl; blocks = λ p. refl; regions = λ p. refl; made = le_refl c.graph.made; values = le_refl c.graph.values; first_place = refl; pointers = gives_itself c.graph };
   paths = λ i path e. e;
   dialects = refl;
 }

@@ -17,7 +17,7 @@ use Rattle.irtext_names.proofs.Linked.Moving.{among_split}
 use Rattle.irtext_grammar.specs.Naming.{paths_in_regions, paths_in_blocks, paths_in_operations, paths_in}
 use Rattle.irtext_grammar.proofs.Naming.Places as places
 use Rattle.irtext_grammar.specs.Tracks.{Made}
-use Rattle.irtext_parse_nested.specs.Ends.{noted_as}
+use Rattle.irtext_names.specs.Carriers.{noted_as}
 use Rattle.irtext_parse_section.specs.Items.{CarriesOnly}
 use Rattle.irtext_parse_root.specs.Carried.{marks_in_regions, marks_in_blocks, marks_in_operations, marks_in, object_of, AreCarried, Falls}
 use Rattle.irtext_parse_root.proofs.Carrying.{carried_by}
@@ -245,7 +245,7 @@ indices_carried items [] (n ∷ ns) h = absurd h
 indices_carried items (m ∷ ms) [] h = absurd h
 indices_carried items (m ∷ ms) (n ∷ ns) (e, made, h) = ap (λ z. z ∷ map (λ n. n.0) ns) e ∙ ap (λ z. m.0 ∷ z) (indices_carried items ms ns h)
 
-one_item : (x y : Item) → object_of x ≡ object_of y → x ≡ y
+pub one_item : (x y : Item) → object_of x ≡ object_of y → x ≡ y
 one_item (item.Operation p) (item.Operation q) e = let same : p ≡ q = cc e in ap item.Operation same
 one_item (item.Operation p) (item.Block b) e = absurd (cc)
 one_item (item.Block b) (item.Operation p) e = absurd (cc)

@@ -1,6 +1,6 @@
--- A region that was parsed alone satisfies its promise: its contents are what its blocks build, and only the region and what is nested in
--- it are new.
-use Rattle.std.proofs.Common.{◌≡◌, ◌∙◌, ◌⊎◌, ℕ, Bool, true, List, [], ◌∷◌, Some, None, IsSome, option_map, refl, sym, ap, subst, inl, inr}
+-- A region that was parsed alone satisfies its promise: its contents are what its blocks build, without placeholders; the items of its
+-- marks are in it; and only the region and what is nested in it are new.
+use Rattle.std.proofs.Common.{◌≡◌, ◌∙◌, ◌⊎◌, ℕ, Bool, true, List, [], ◌∷◌, Some, None, IsSome, option_map, append-nil, refl, sym, ap, subst, inl, inr}
 use Rattle.std.specs.Prelude.{⊤}
 use Rattle.irtext_base.specs.Text.{Text}
 use Rattle.irtext_base.specs.Format.{Id}
@@ -8,6 +8,7 @@ use Rattle.irtext_base.specs.Paths.{Written, KeepsPaths}
 use Rattle.irtext_base.specs.declared.location.Location.{Location}
 use Rattle.irtext_context.specs.Context.{ContextView, operation, region_of, with_graph, KeepsOlder}
 use Rattle.irtext_context.specs.Dialects.{Table}
+use Rattle.irtext_context.specs.declared.base.item.Item.{Item}
 use Rattle.irtext_graph.specs.declared.arena.Ptr.{Ptr}
 use Rattle.irtext_graph.specs.declared.object.Operation.{Operation}
 use Rattle.irtext_graph.specs.declared.object.BasicBlock.{BasicBlock}
@@ -43,14 +44,17 @@ use Rattle.irtext_grammar.proofs.Whole.{WholeRegions, WholeBlocks, WholeOperatio
 use Rattle.irtext_names.specs.Linked.{Known, NamesAgree}
 use Rattle.irtext_names.specs.OfItems.{AreOf}
 use Rattle.irtext_names.specs.Tied.{NoneIsLeft}
-use Rattle.irtext_names.specs.Alone.{OnlyNewIn, held_region}
+use Rattle.irtext_names.specs.Alone.{OnlyNewIn, IsWholeRegion, pointers_in, held_region, in_braces}
+use Rattle.irtext_names.specs.Carriers.{marks_on_regions}
 use Rattle.irtext_names.specs.OnlyNew.{BlanksDefine}
 use Rattle.irtext_names.proofs.Ages.{operation_stays, block_stays, region_stays}
 use Rattle.irtext_names.proofs.AloneBuilds as builds
 use Rattle.irtext_names.proofs.Kept.{accepts}
 use Rattle.irtext_names.proofs.News as news
 use Rattle.irtext_parse_root.specs.Built.{RegionTracks}
+use Rattle.irtext_parse_root.specs.Carried.{marks_in_blocks, AreCarried, Falls}
 use Rattle.irtext_parse_root.proofs.RegionGains.{gains_child, other_operation, each_block, other_region, there_in}
+use Rattle.irtext_parse_root.proofs.RegionMarks.{carried_there}
 use Rattle.irtext_parse_root.proofs.RegionMoved as moved
 
 -- each operation that a text parses as has a body of an accepted format
@@ -79,7 +83,7 @@ module _ {T A : Type 0} (L : ℕ → Location A → Type 0) (start mid now : Con
     (ran : run (going history.start) (events (script.within true place (blocks_script isolated (0 ∷ []) 0 bs) done)) ≡ going st)
     (first : ℕ → Written A) (tells : (n : ℕ) (l : Location A) → L n l → location_over now.paths l ≡ first n) where
   abbrev rs : Regions (Op ℕ T A) (Head ℕ T A) (Brace ℕ)
-  rs = forest.region (shown place) bs no_regions
+  rs = in_braces place bs
 
   not_whole : Among (TheOperation op) whole → ⊥
   not_whole i = tracks.came (TheOperation op) i here
@@ -91,15 +95,15 @@ module _ {T A : Type 0} (L : ℕ → Location A → Type 0) (start mid now : Con
   inside_now o i = elim (tracks.inside o i) [ inl e ↦ inl e | inr (k, at, child) ↦ inr (k, at, moved.child_moved (noted items L) mid now op r a whole not_whole k o at child) ]
 
   -- the contents of the region are what the blocks build
-  pub builds_now : held_region now r ≡ built_regions isolated first [] [] [] 0 true rs
+  builds_now : held_region now r ≡ built_regions isolated first [] [] [] 0 true rs
   builds_now = builds.region_builds L now items whole r place bs hold_now tracks.known tracks.once inside_now nest path said first isolated id id_closed formed names_at mid.graph known are st agreed
       (moved.used_same (noted items L) mid now op r a whole not_whole) ran tells
 
   linked_now : AllRegions OpLinked (λ b. ⊤) (λ q. ⊤) (held_region now r)
   linked_now = subst (λ z. AllRegions OpLinked (λ b. ⊤) (λ q. ⊤) z) (sym builds_now) (builds.region_linked first isolated id id_closed place bs formed st ran)
 
-  -- and only the region and what is nested in it are new
-  pub only_now : now ≡ with_graph mid now.graph → OnlyNewIn op r start now
+  -- only the region and what is nested in it are new
+  only_now : now ≡ with_graph mid now.graph → OnlyNewIn op r start now
   only_now is = record {
     live = news.region_live L start mid now items whole op r a there tracks.came tracks.all tracks.known hold.0 inside_now nest m older kept none blanks holders;
     is_new = news.region_is_new L start mid now items whole op r a there tracks.came tracks.all tracks.known hold.0 inside_now nest m older kept none blanks holders;
@@ -120,3 +124,24 @@ module _ {T A : Type 0} (L : ℕ → Location A → Type 0) (start mid now : Con
       region_seen : (x : moved.OfRegion) → IsSome x → IsSome (option_map region_of x)
       region_seen None h = absurd (cc)
       region_seen (Some e) h = refl
+
+  -- the items that carry its marks are in it
+  carried_now : (above below : ℕ) → Falls above items below → (marks : List (ℕ × Item)) → AreCarried items (marks_in_blocks bs) marks → marks ≡ marks_on_regions rs (pointers_in now r)
+  carried_now above below falls marks carried =
+      carried_there L now items above below falls (pointers_in now r) rs (builds.is_region L now items whole r place bs hold_now tracks.known tracks.once inside_now nest path said)
+      marks (subst (λ ms. AreCarried items ms marks) (sym (append-nil (marks_in_blocks bs))) carried)
+
+  -- what is promised of the context, and of marks that are recorded
+  pub record Promised (marks : List (ℕ × Item)) : Type 0 where
+    pub builds : held_region now r ≡ built_regions isolated first [] [] [] 0 true (in_braces place bs)
+    pub is_whole : IsWholeRegion now r
+    pub carried : marks ≡ marks_on_regions (in_braces place bs) (pointers_in now r)
+    pub only : OnlyNewIn op r start now
+
+  pub promised : now ≡ with_graph mid now.graph → (above below : ℕ) → Falls above items below → (marks : List (ℕ × Item)) → AreCarried items (marks_in_blocks bs) marks → Promised marks
+  promised is above below falls marks carried = record {
+    builds = builds_now;
+    is_whole = builds.is_whole L now items whole r place bs hold_now tracks.known tracks.once inside_now nest path said first tells;
+    carried = carried_now above below falls marks carried;
+    only = only_now is;
+  }

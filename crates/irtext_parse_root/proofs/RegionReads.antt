@@ -1,17 +1,17 @@
--- A region that was parsed alone: its text parses as blocks in braces, they resolve, and its marks are recorded.
+-- A region that was parsed alone, on any state: its text parses as blocks in braces, they resolve, and its marks are recorded after the
+-- earlier ones.
 use Rattle.std.proofs.Common.{◌≡◌, ◌∙◌, ℕ, Bool, true, false, List, [], ◌∷◌, ◌++◌, map, length, Option, Some, None, IsSome, append-nil, refl, sym, ap, subst}
 use Rattle.irtext_base.specs.Text.{Text, after_space}
 use Rattle.irtext_base.specs.Reading.{the}
 use Rattle.irtext_base.specs.Format.{Format, Id}
 use Rattle.irtext_base.specs.Own.{Texts, Language, language, texts_of}
 use Rattle.irtext_context.specs.Dialects.{Table}
-use Rattle.irtext_context.specs.declared.base.item.Item.{Item}
 use Rattle.irtext_graph.specs.declared.arena.Ptr.{Ptr}
 use Rattle.irtext_graph.specs.declared.object.Operation.{Operation}
 use Rattle.irtext_graph.specs.declared.object.Region.{Region}
 use Rattle.irtext_tokens.specs.AttrTexts.{attr_at}
 use Rattle.irtext_tokens.specs.Infix.{Reader}
-use Rattle.irtext_parse_state.specs.States.{IsFresh, marks_of}
+use Rattle.irtext_parse_state.specs.States.{marks_of}
 use Rattle.irtext_parse_state.specs.declared.parsable.state.StateStream.{StateStream}
 use Rattle.irtext_grammar.specs.Contexts.Formats.{format_of, isolated, IsAccepted}
 use Rattle.irtext_grammar.specs.Grammar.Forest.{Regions, no_regions, region, Blocks, no_blocks, block, Operations, no_operations, operation}
@@ -21,11 +21,11 @@ use Rattle.irtext_grammar.specs.Grammar.Tree.{Op, Head, Brace, Tree, custom, sho
 use Rattle.irtext_grammar.specs.Spelling.Spellable.{Each}
 use Rattle.irtext_grammar.specs.Names.History as history
 use Rattle.irtext_grammar.specs.Names.History.{going, start, run, events, after}
-use Rattle.irtext_grammar.specs.Names.Scopes.{no_scope}
 use Rattle.irtext_grammar.specs.Names.Script.{Path}
 use Rattle.irtext_grammar.specs.Names.Acts.{blocks_script}
-use Rattle.irtext_grammar.specs.Names.TextScopes.{Facts, failures, facts, outward}
+use Rattle.irtext_grammar.specs.Names.TextScopes.{Facts, Script, failures, facts, outward}
 use Rattle.irtext_grammar.proofs.Names.InScripts as enough
+use Rattle.irtext_grammar.proofs.Names.TreeClaims.{root_entryless}
 use Rattle.irtext_grammar.proofs.Names.TreeLists.{marks_in_root}
 use Rattle.irtext_grammar.proofs.Grammar.ListReadings.{repeated_used}
 use Rattle.irtext_grammar.specs.Promises.Section.{indices_of}
@@ -39,15 +39,16 @@ use Rattle.irtext_grammar.specs.Building.{Unfinished, region_so_far, Building, w
 use Rattle.irtext_grammar.proofs.Built.{blocks_after, last_after, whole_after, in_region, blocks_build}
 use Rattle.irtext_grammar.proofs.Seen.{shows_blocks}
 use Rattle.irtext_grammar.proofs.Whole.{WholeRegions, WholeBlocks, WholeOperations, blocks_read}
-use Rattle.irtext_names.proofs.Linked.Passes.{ran_through}
+use Rattle.irtext_names.proofs.FewerMarks.{ran_without}
+use Rattle.irtext_names.proofs.Linked.Passes.{ran_from, ran_through}
 use Rattle.irtext_names.specs.Items.{Names, MachineAgrees, doing, IsSound}
-use Rattle.irtext_parse_root.specs.Carried.{marks_in_blocks, AreCarried}
+use Rattle.irtext_parse_root.specs.Carried.{marks_in_blocks}
 use Rattle.irtext_parse_root.specs.Recorded.{Did, did_enter, did_leave, recorder, all_done}
 use Rattle.irtext_parse_root.specs.Under.{ReadsUnder}
-use Rattle.irtext_grammar.specs.Tracks.{Made}
 use Rattle.irtext_parse_root.proofs.Carrying.{marks_are}
 use Rattle.irtext_parse_root.proofs.Telling.{tells_does, done_both}
-use Rattle.irtext_parse_root.proofs.Fresh.{fresh_agrees}
+use Rattle.irtext_parse_root.proofs.Fresh.{begun_agrees}
+use Rattle.irtext_parse_root.proofs.Marks.{map_both, indices_carried}
 use Rattle.irtext_context.specs.Context as context
 use Rattle.irtext_context.specs.Context.{KeepsOlder}
 use Rattle.irtext_graph.specs.declared.object.Object.{Object}
@@ -57,9 +58,11 @@ use Rattle.irtext_graph.specs.Nested as graphs
 use Rattle.irtext_grammar.specs.Contexts.Held.{whole}
 use Rattle.irtext_grammar.proofs.Grammar.PartsOfFormats.{FormedBlocks}
 use Rattle.irtext_grammar.specs.Promises.Root.{location_of}
+use Rattle.irtext_names.specs.Linked.{NamesAgree}
 use Rattle.irtext_names.specs.OfItems.{AreOf}
+use Rattle.irtext_names.specs.Promises.{start_with, outside_with}
 use Rattle.irtext_names.specs.Tied.{NoneIsLeft}
-use Rattle.irtext_names.specs.Alone.{region_alone, BuildsRegion}
+use Rattle.irtext_names.specs.Alone.{region_alone, in_braces, BuildsRegion}
 use Rattle.irtext_names.proofs.AfterTree.{values_shut, labels_shut, none_left, place_written}
 use Rattle.irtext_names.proofs.Kept.{came_same}
 use Rattle.irtext_names.specs.Located.{IsLocated}
@@ -98,13 +101,6 @@ outward_marks : (iso : Bool) (f : Facts) → (outward iso f).marks ≡ f.marks
 outward_marks true f = refl
 outward_marks false f = refl
 
--- marks that are carried have their indices
-carried_indices : (items : Made) (ms : List (ℕ × ℕ)) (ns : List (ℕ × Item)) → AreCarried items ms ns → indices_of ns ≡ map (λ m. m.0) ms
-carried_indices items [] [] h = refl
-carried_indices items [] (n ∷ ns) h = absurd h
-carried_indices items (m ∷ ms) [] h = absurd h
-carried_indices items (m ∷ ms) (n ∷ ns) (e, there, h) = λ i. e i ∷ carried_indices items ms ns h i
-
 -- ---- what was recorded
 left_last : {T A : Type 0} (iso is : Bool) (place at : ℕ) (ds es : List (Did T A)) → ◌≡◌ {A = List (Did T A)} (did_leave iso place ∷ ds) (did_leave is at ∷ es) → ds ≡ es
 left_last iso is place at ds es e = cc
@@ -127,7 +123,7 @@ module _ {T A : Type 0} (formats : Id → Option Format) (isolated : Id → Bool
 
 module _ {T A U : Type 0} (types_at : Reader T) (types_written : T → Text) (reading : Reader A) (written : A → Text) (types_split : Splits types_at) (splits : Splits reading) (words : NeedsWord reading)
     (short_types : Shortens (texts_of types_at types_written)) (short_owns : Shortens (texts_of reading written)) (before names : Names) (old new : StateStream T A U)
-    (no_names : before.names ≡ []) (no_values : before.values ≡ []) (no_labels : before.labels ≡ []) (fresh : IsFresh old) (op : Ptr Operation) (r : Ptr Region) (u : ReadsUnder types_at (attr_at reading) op before old r names new)
+    (no_names : before.names ≡ []) (no_values : before.values ≡ []) (no_labels : before.labels ≡ []) (op : Ptr Operation) (r : Ptr Region) (u : ReadsUnder types_at (attr_at reading) op before old r names new)
     (accepted : (id : Id) → IsAccepted old.state.ctx.now.dialects id) (closed : u.iso ≡ true) where
   abbrev ds : List (Text × Table)
   ds = old.state.ctx.now.dialects
@@ -140,6 +136,14 @@ module _ {T A U : Type 0} (types_at : Reader T) (types_written : T → Text) (re
 
   abbrev place : ℕ
   place = length old.stream.rest
+
+  -- the marks that were recorded earlier
+  abbrev earlier : List ℕ
+  earlier = indices_of (marks_of old.state)
+
+  -- the machine of names before any name
+  abbrev begun : history.State
+  begun = start_with earlier
 
   -- the blocks that the context holds
   abbrev pub blocks : Blocks (Op ℕ T A) (Head ℕ T A) (Brace ℕ)
@@ -169,53 +173,66 @@ module _ {T A U : Type 0} (types_at : Reader T) (types_written : T → Text) (re
   pub named : (path : ℕ → Path) × Each (λ item. path item.0 ≡ item.1) (paths_in_blocks (0 ∷ []) 0 blocks)
   named = paths_exist types owns (format_of ds) short_types short_owns (0 ∷ []) (shown place) blocks old.stream.rest new.stream.rest region_reads
 
-  abbrev at_end : (z : history.Outcome) × MachineAgrees named.0 (u.made ++ []) [] names u.mid.state z × (region_at ds types_at (attr_at reading) (doing ds named.0) u.iso old.stream.rest (going start) ≡ Advanced tt z new.stream.rest)
-  at_end = u.runs named.0 [] (going start) (fresh_agrees before old.state no_names no_values no_labels fresh.marks named.0)
+  abbrev at_end : (z : history.Outcome) × MachineAgrees named.0 (u.made ++ []) [] names u.mid.state z × (region_at ds types_at (attr_at reading) (doing ds named.0) u.iso old.stream.rest (going begun) ≡ Advanced tt z new.stream.rest)
+  at_end = u.runs named.0 [] (going begun) (begun_agrees before old.state no_names no_values no_labels named.0)
+
+  -- what they do with names
+  abbrev script : Script
+  script = region_alone ds place blocks
 
   -- the machine ran their script without failure
-  pub ran : run (going start) (events (region_alone ds place blocks)) ≡ going at_end.1.state
+  ran : run (going begun) (events script) ≡ going at_end.1.state
   ran =
-      let found = knot.region_found types_at types_written reading written ds types_split splits (naming (format_of ds) named.0) words true blocks old.stream.rest new.stream.rest (going start) region_reads in
-      let came = subst (λ b. region_at ds types_at (attr_at reading) (doing ds named.0) b old.stream.rest (going start) ≡ Advanced tt at_end.0 new.stream.rest) closed at_end.2 in
-      region_runs types owns (format_of ds) named.0 (isolated ds) true (0 ∷ []) place blocks old.stream.rest new.stream.rest region_reads named.1 (going start)
+      let found = knot.region_found types_at types_written reading written ds types_split splits (naming (format_of ds) named.0) words true blocks old.stream.rest new.stream.rest (going begun) region_reads in
+      let came = subst (λ b. region_at ds types_at (attr_at reading) (doing ds named.0) b old.stream.rest (going begun) ≡ Advanced tt at_end.0 new.stream.rest) closed at_end.2 in
+      region_runs types owns (format_of ds) named.0 (isolated ds) true (0 ∷ []) place blocks old.stream.rest new.stream.rest region_reads named.1 (going begun)
       ∙ (came_same tt tt _ _ new.stream.rest new.stream.rest (sym found ∙ came) ∙ at_end.1.going)
 
-  -- they resolve
-  pub region_resolves : failures no_scope (region_alone ds place blocks) ≡ []
-  region_resolves = (ran_through (region_alone ds place blocks) at_end.1.state ran).0
+  -- they resolve, and none of their marks was recorded earlier
+  resolves : failures (outside_with earlier) script ≡ []
+  resolves = (ran_from begun script at_end.1.state ran).0
 
-  -- the state of the machine after all facts of the script
-  pub region_says : at_end.1.state ≡ after start (facts (region_alone ds place blocks))
-  region_says = (ran_through (region_alone ds place blocks) at_end.1.state ran).1
-
-  -- ---- its marks
   -- a tree of which it is the one region, whose operation says nothing of marks
   abbrev round : Tree ℕ T A
-  round = record { own = record { place = 0; names = []; id = record { dialect = []; name = [] }; body = custom (tree.region 0 ∷ []); mark = None }; regions = region (shown place) blocks no_regions }
+  round = record { own = record { place = 0; names = []; id = record { dialect = []; name = [] }; body = custom (tree.region 0 ∷ []); mark = None }; regions = in_braces place blocks }
 
+  whole_round : enough.WholeOperations (operation round.own round.regions no_operations)
+  whole_round = ((tt, (blocks_enough (format_of ds) blocks (blocks_whole types owns (format_of ds) place blocks old.stream.rest new.stream.rest region_reads), tt)), tt)
+
+  -- the machine runs where nothing was marked, too
+  alone : (st : history.State) × (run (going start) (events script) ≡ going st) × (at_end.1.state ≡ record st { marks = earlier ++ st.marks })
+  alone = ran_without earlier script start at_end.1.state ((root_entryless (isolated ds) round whole_round).0, tt) (ap (λ ms. run (going (start_with ms)) (events script)) (append-nil earlier) ∙ ran)
+
+  stopped : alone.0 ≡ after start (facts script)
+  stopped = (ran_through script alone.0 alone.1).1
+
+  agreed : NamesAgree names u.mid.state.ctx.now.graph at_end.1.known [] alone.0
+  agreed = subst (λ z. NamesAgree names u.mid.state.ctx.now.graph at_end.1.known [] z) alone.2 at_end.1.agreed
+
+  -- ---- its marks
   -- the indices that are recorded are those that the blocks say
-  pub region_marks : indices_of (marks_of new.state) ≡ (facts (region_alone ds place blocks)).marks
-  region_marks =
-      let whole = blocks_enough (format_of ds) blocks (blocks_whole types owns (format_of ds) place blocks old.stream.rest new.stream.rest region_reads) in
-      let none = append-nil (map (λ m. m.0) (marks_in_blocks blocks)) in
-      let inside = facts (blocks_script (isolated ds) (0 ∷ []) 0 blocks) in
-      let outer = outward_marks (isolated ds round.own.id) inside in
-      ap indices_of (u.noted ∙ ap (λ ms. ms ++ u.marks) fresh.marks)
-      ∙ (carried_indices u.made (marks_in_blocks blocks) u.marks u.holds.carried
-      ∙ (ap (λ ms. map (λ m. m.0) ms) (sym (append-nil (marks_in_blocks blocks ++ []) ∙ append-nil (marks_in_blocks blocks)))
+  marks_said : indices_of u.marks ≡ (facts script).marks
+  marks_said =
+      let none = append-nil (marks_in_blocks blocks ++ []) ∙ append-nil (marks_in_blocks blocks) in
+      let outer = outward_marks (isolated ds round.own.id) (facts (blocks_script (isolated ds) (0 ∷ []) 0 blocks)) in
+      indices_carried u.made (marks_in_blocks blocks) u.marks u.holds.carried
+      ∙ (ap (λ ms. map (λ m. m.0) ms) (sym none)
       ∙ (marks_are (isolated ds) round
-      ∙ (sym (marks_in_root (isolated ds) round ((tt, (whole, tt)), tt))
-      ∙ ap (λ ms. ms ++ []) outer))))
+      ∙ (sym (marks_in_root (isolated ds) round whole_round)
+      ∙ ap (λ ms. ms ++ []) outer)))
+
+  marks_after : indices_of (marks_of new.state) ≡ earlier ++ (facts script).marks
+  marks_after = ap indices_of u.noted ∙ (map_both (λ m. m.0) (marks_of old.state) u.marks ∙ ap (λ ms. earlier ++ ms) marks_said)
 
   -- ---- what it built
   module _ (id : Id) (id_closed : isolated ds id ≡ true) (here : IsSome (context.operation old.state.ctx.now op)) (older : AllOlder old.state.ctx.now.graph.made old.state.ctx.now.graph)
       (kept : KeepsOlder old.state.ctx.now.graph.made old.state.ctx.now u.mid.state.ctx.now) (sound : IsSound old.state.ctx.now.graph.made names u.mid.state)
       (nest : graphs.Nested (children new.state.ctx.now.graph) (parent new.state.ctx.now.graph)) (holders : (c k : Object) → parent old.state.ctx.now.graph c ≡ Some k → IsLive old.state.ctx.now.graph k) where
     values_none : names.values ≡ []
-    values_none = values_shut names u.mid.state.ctx.now.graph at_end.1.known [] at_end.1.state at_end.1.agreed (ap (λ (z : history.State). z.values) region_says)
+    values_none = values_shut names u.mid.state.ctx.now.graph at_end.1.known [] alone.0 agreed (ap (λ (z : history.State). z.values) stopped)
 
     labels_none : names.labels ≡ []
-    labels_none = labels_shut names u.mid.state.ctx.now.graph at_end.1.known [] at_end.1.state at_end.1.agreed (ap (λ (z : history.State). z.labels) region_says)
+    labels_none = labels_shut names u.mid.state.ctx.now.graph at_end.1.known [] alone.0 agreed (ap (λ (z : history.State). z.labels) stopped)
 
     none : NoneIsLeft old.state.ctx.now.graph.made [] u.mid.state.ctx.now.graph
     none = none_left old.state.ctx.now.graph.made names.values names.labels u.mid.state.ctx.now.graph values_none labels_none sound.waiting
@@ -227,17 +244,21 @@ module _ {T A U : Type 0} (types_at : Reader T) (types_written : T → Text) (re
     are = subst (λ xs. AreOf named.0 xs at_end.1.known) (append-nil u.made) at_end.1.of_items
 
     -- so it keeps its promise
-    pub builds_region : BuildsRegion types owns op r old new
-    builds_region = record {
-      blocks = blocks;
-      reads = region_reads;
-      resolves = region_resolves;
-      moves = u.moves;
-      builds = built.builds_now (IsLocated old.state.src (whole old.stream)) old.state.ctx.now u.mid.state.ctx.now new.state.ctx.now u.made u.holds.whole op r place blocks u.holds.holds u.holds.there u.holds.tracks u.places here
-          old.state.ctx.now.graph.made older kept none sound.blanks holders nest named.0 named.1 (isolated ds) id id_closed formed names at_end.1.known are at_end.1.state at_end.1.agreed ran
-          (location_of new.state.ctx.now.paths old.state.src (whole old.stream)) (λ n l e. place_written new.state.ctx.now.paths old.state.src (whole old.stream) n l e);
-      marks = region_marks;
-      only = built.only_now (IsLocated old.state.src (whole old.stream)) old.state.ctx.now u.mid.state.ctx.now new.state.ctx.now u.made u.holds.whole op r place blocks u.holds.holds u.holds.there u.holds.tracks u.places here
-          old.state.ctx.now.graph.made older kept none sound.blanks holders nest named.0 named.1 (isolated ds) id id_closed formed names at_end.1.known are at_end.1.state at_end.1.agreed ran
-          (location_of new.state.ctx.now.paths old.state.src (whole old.stream)) (λ n l e. place_written new.state.ctx.now.paths old.state.src (whole old.stream) n l e) u.with_it;
-    }
+    pub builds_region : BuildsRegion types owns (marks_of old.state) op r old new
+    builds_region =
+        let p = built.promised (IsLocated old.state.src (whole old.stream)) old.state.ctx.now u.mid.state.ctx.now new.state.ctx.now u.made u.holds.whole op r place blocks u.holds.holds u.holds.there u.holds.tracks u.places here
+        old.state.ctx.now.graph.made older kept none sound.blanks holders nest named.0 named.1 (isolated ds) id id_closed formed names at_end.1.known are alone.0 agreed alone.1
+        (location_of new.state.ctx.now.paths old.state.src (whole old.stream)) (λ n l e. place_written new.state.ctx.now.paths old.state.src (whole old.stream) n l e) u.with_it
+        (length old.stream.rest) (length new.stream.rest) u.falls u.marks u.holds.carried in
+        record {
+          blocks = blocks;
+          reads = region_reads;
+          resolves = resolves;
+          moves = u.moves;
+          builds = p.builds;
+          is_whole = p.is_whole;
+          attached = u.places.parent_here;
+          only = p.only;
+          marks = marks_after;
+          carried = u.noted ∙ ap (λ ms. marks_of old.state ++ ms) p.carried;
+        }

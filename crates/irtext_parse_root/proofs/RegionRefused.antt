@@ -48,7 +48,7 @@ use Rattle.irtext_names.specs.Promises.{start_with, IsOf, IsFirst}
 use Rattle.irtext_names.proofs.Refuses.{first_is}
 use Rattle.irtext_names.specs.Items.{Names, MachineAgrees, doing}
 use Rattle.irtext_parse_root.specs.AnyRegion as region
-use Rattle.irtext_parse_root.specs.AnyRegion.{ReadsRegion, HasRegionFault, MissesRegion}
+use Rattle.irtext_parse_root.specs.AnyRegion.{IsRegionText, HasRegionFault, MissesRegion}
 use Rattle.irtext_parse_root.specs.Under as under
 use Rattle.irtext_parse_root.specs.Under.{IsolatedAs, ReadsUnder, FaultUnder, RefusesUnder}
 use Rattle.irtext_parse_root.specs.Region.{unisolated, IsReportedAt}
@@ -170,14 +170,10 @@ module _ {T A U : Type 0} (types_at : Reader T) (attr : Reader (AttrView A)) (be
       (λ path. subst (λ b. EndsIn (failed failure) (reached b path)) is (so path [] begun (begun_there path)))
 
   -- what is parsed under an operation that is isolated has no fault
-  pub region_read : (r : Ptr Region) (names : Names) (new : StateStream T A U) → ReadsUnder types_at attr op before old r names new → ReadsRegion types_at attr op old new
-  region_read r names new u = record {
-    isolated = none;
-    moves = u.moves;
-    came = λ path.
-        let z = u.runs path [] begun (begun_there path) in
-        (z.1.state, subst (λ b. reached b path ≡ Advanced tt (going z.1.state) new.stream.rest) (closed_as old.state.ctx.now op here none u.iso u.isolation) (z.2 ∙ ap (λ o. Advanced tt o new.stream.rest) z.1.going));
-  }
+  pub region_came : (r : Ptr Region) (names : Names) (new : StateStream T A U) → ReadsUnder types_at attr op before old r names new → IsRegionText types_at attr dialects earlier old.stream.rest new.stream.rest
+  region_came r names new u path =
+      let z = u.runs path [] begun (begun_there path) in
+      (z.1.state, subst (λ b. reached b path ≡ Advanced tt (going z.1.state) new.stream.rest) (closed_as old.state.ctx.now op here none u.iso u.isolation) (z.2 ∙ ap (λ o. Advanced tt o new.stream.rest) z.1.going))
 
   -- and if it is an error, the fault is that of the text
   pub misses_region : (fault : ParseFault A) → UnlessMemory (RefusesUnder types_at attr op before old) fault → UnlessMemory (MissesRegion types_at attr op old) fault

@@ -25,7 +25,7 @@ use Rattle.irtext_names.proofs.Linked.Moving.{among_split}
 use Rattle.irtext_grammar.specs.Tracks.{Made}
 use Rattle.irtext_names.specs.Held.{PtrRegions, PtrBlocks, PtrOperations}
 use Rattle.irtext_names.specs.Placed.{RegionsAre, BlocksAre, OperationsAre, RootIs}
-use Rattle.irtext_parse_nested.specs.Ends.{noted_as}
+use Rattle.irtext_names.specs.Carriers.{noted_as}
 use Rattle.irtext_parse_root.specs.Carried.{marks_in_regions, marks_in_blocks, marks_in_operations, marks_in, object_of, AreCarried, Falls}
 use Rattle.irtext_parse_root.proofs.Carrying.{one_object, carried_by}
 use Rattle.irtext_parse_section.specs.Said.{rules_of, rule_of_item}

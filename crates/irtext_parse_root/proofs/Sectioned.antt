@@ -74,6 +74,7 @@ use Rattle.irtext_parse_root.proofs.Rooted.{GivesEach, root_given}
 use Rattle.irtext_parse_root.proofs.Rules.{rules_are}
 use Rattle.irtext_parse_root.proofs.SectionFirst.{first_wrong}
 use Rattle.irtext_parse_root.proofs.SectionGives as gives
+use Rattle.irtext_graph.proofs.Marks.{counts_kept}
 
 module _ {T A U : Type 0} {types : ir_text.Ghosts T A} {owns : ir_text.Ghosts A A} (laws : Laws types owns) (op : Ptr Operation) (old mid : StateStream T A U) (m : ReadsTree types.reading (attr_at owns.reading) op old mid) (none : marks_of old.state ≡ []) where
   -- what is parsed of a type and of an attribute, and what is printed
@@ -238,7 +239,7 @@ module _ {T A U : Type 0} {types : ir_text.Ghosts T A} {owns : ir_text.Ghosts A 
           (λ p h. operation_stays mark old.state.ctx.now.graph new.state.ctx.now.graph m.closed.older all_kept.graph p h ∙ sym (operation_stays mark old.state.ctx.now.graph mid.state.ctx.now.graph m.closed.older m.closed.kept.graph p h))
           (λ b h. block_stays mark old.state.ctx.now.graph new.state.ctx.now.graph m.closed.older all_kept.graph b h ∙ sym (block_stays mark old.state.ctx.now.graph mid.state.ctx.now.graph m.closed.older m.closed.kept.graph b h))
           (λ q h. region_stays mark old.state.ctx.now.graph new.state.ctx.now.graph m.closed.older all_kept.graph q h ∙ sym (region_stays mark old.state.ctx.now.graph mid.state.ctx.now.graph m.closed.older m.closed.kept.graph q h))
-          all_kept.paths later.dialects
+          (counts_kept mark mid.state.ctx.now.graph new.state.ctx.now.graph later.graph) all_kept.paths later.dialects
 
       -- the root keeps its promise
       pub root_marked : BuildsRoot (texts_of types_at types_written) (texts_of reading written) (attr_at reading) op old new

@@ -35,7 +35,7 @@ use Rattle.irtext_parse_nested.specs.declared.frame.BegunRegion.{BegunRegion}
 use Rattle.irtext_parse_nested.specs.declared.frame.BegunBlock.{BegunBlock}
 use Rattle.irtext_parse_nested.specs.Beginning.{HasBegun, ComesInto}
 use Rattle.irtext_parse_nested.specs.OpenOperation.{pledge_of}
-use Rattle.irtext_parse_nested.specs.Ends.{noted_as}
+use Rattle.irtext_names.specs.Carriers.{noted_as}
 use Rattle.irtext_names.specs.Items.{Names, Made, Acts, doing}
 use Rattle.irtext_names.specs.Located.{IsLocated}
 use Rattle.irtext_parse_nested.specs.Read.{begun_by, uses_of, ReadsPiece, EndsOperation, BeginsRegion, EndsRegion, BeginsBlock}

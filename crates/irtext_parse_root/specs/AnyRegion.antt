@@ -5,21 +5,23 @@ use Rattle.irtext_base.specs.Faults.{Fault, Unexpected, Word, fault_of}
 use Rattle.irtext_base.specs.Answers.{Outcome}
 use Rattle.irtext_base.specs.Stream.{StreamView, IsAt, first_of}
 use Rattle.irtext_base.specs.Locations.{AttrView}
+use Rattle.irtext_base.specs.Own.{Texts}
 use Rattle.irtext_base.specs.declared.parsable.fault.ParseFault.{ParseFault}
 use Rattle.irtext_context.specs.Dialects.{Table}
 use Rattle.irtext_graph.specs.declared.arena.Ptr.{Ptr}
 use Rattle.irtext_graph.specs.declared.object.Operation.{Operation}
+use Rattle.irtext_graph.specs.declared.object.Region.{Region}
 use Rattle.irtext_parse_state.specs.States.{marks_of}
 use Rattle.irtext_parse_state.specs.declared.parsable.state.StateStream.{StateStream}
 use Rattle.irtext_grammar.specs.Contexts.Formats.{format_of}
 use Rattle.irtext_grammar.specs.Contexts.Held.{whole, IsPosition}
 use Rattle.irtext_grammar.specs.Names.History.{State, going, failed}
 use Rattle.irtext_grammar.specs.Names.Script.{Failure, Path}
-use Rattle.irtext_grammar.specs.Promises.Section.{Moves, indices_of}
+use Rattle.irtext_grammar.specs.Promises.Section.{indices_of}
 use Rattle.irtext_grammar.specs.Naming.{naming}
 use Rattle.irtext_grammar.specs.Reached.{Advanced, Stopped, begins_region, region_at}
 use Rattle.irtext_grammar.specs.Resume.{EndsIn}
-use Rattle.irtext_names.specs.Alone.{IsUnisolated}
+use Rattle.irtext_names.specs.Alone.{IsUnisolated, BuildsRegion}
 use Rattle.irtext_names.specs.Promises.{start_with, IsOf}
 use Rattle.irtext_parse_root.specs.Region.{unisolated}
 
@@ -40,14 +42,16 @@ module _ {T A : Type 0} (types_at : Text → Outcome T) (attr : Text → Outcome
         → ((path : ℕ → Path) → EndsIn (failed f) (region_at dialects types_at attr (naming (format_of dialects) path) true old.rest (going (start_with earlier)))) → HasRegionFault old fault
 
 module _ {T A U : Type 0} (types_at : Text → Outcome T) (attr : Text → Outcome (AttrView A)) where
-  -- A region of an isolated operation was parsed from the old position of the stream to the new one, and this text has no fault.
-  pub record ReadsRegion (op : Ptr Operation) (old new : StateStream T A U) : Type 0 where
-    pub isolated : unisolated old.state.ctx.now op ≡ None
-    pub moves : Moves old.stream new.stream
-    pub came : IsRegionText types_at attr old.state.ctx.now.dialects (indices_of (marks_of old.state)) old.stream.rest new.stream.rest
-
   -- No region was parsed. If the operation is not isolated from above, the fault says so, whatever the text is. If it is isolated, the
   -- fault is that of the text.
   pub data MissesRegion (op : Ptr Operation) (old : StateStream T A U) (fault : ParseFault A) : Type 0 where
     not_isolated : IsUnisolated (unisolated old.state.ctx.now op) fault → MissesRegion op old fault
     in_text : unisolated old.state.ctx.now op ≡ None → HasRegionFault types_at attr old.state.ctx.now.dialects (indices_of (marks_of old.state)) old.stream fault → MissesRegion op old fault
+
+module _ {T A U : Type 0} (types : Texts T) (owns : Texts A) (types_at : Text → Outcome T) (attr : Text → Outcome (AttrView A)) where
+  -- A region of an isolated operation was parsed from the old position of the stream to the new one, and this text has no fault. It is
+  -- built in the context as on a fresh state; the marks that were recorded earlier stay before its own.
+  pub record ReadsRegion (op : Ptr Operation) (r : Ptr Region) (old new : StateStream T A U) : Type 0 where
+    pub isolated : unisolated old.state.ctx.now op ≡ None
+    pub came : IsRegionText types_at attr old.state.ctx.now.dialects (indices_of (marks_of old.state)) old.stream.rest new.stream.rest
+    pub parsed : BuildsRegion types owns (marks_of old.state) op r old new

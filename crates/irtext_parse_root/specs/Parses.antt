@@ -1,6 +1,6 @@
 -- For callers: what each outermost parser promises: what it says of the text, and that it is undone if it fails. Between functions: what
 -- is known of a parser that can still be undone.
-use Rattle.std.specs.Prelude.{◌≡◌, Bool, false, length, take, Result, IfOk, IfErr, OnOk, OnErr}
+use Rattle.std.specs.Prelude.{◌≡◌, Bool, false, [], length, take, Result, IfOk, IfErr, OnOk, OnErr}
 use Rattle.irtext_base.specs.Text.{Text}
 use Rattle.irtext_base.specs.Answers.{Outcome}
 use Rattle.irtext_base.specs.Locations.{AttrView}
@@ -82,7 +82,7 @@ module _ {T A U : Type 0} (types : ir_text.Ghosts T A) (owns : ir_text.Ghosts A 
 
   -- a region, as the last one of an operation
   abbrev pub AnswersRegion : Ptr Operation → StateStream T A U → Result (Ptr Region) (ParseFault A) → StateStream T A U → Type 0
-  AnswersRegion op = Answers (λ r old new. ReadsRegion types.reading (attr owns) op old new) (BuildsRegion (texts types) (texts owns) op) (MissesRegion types.reading (attr owns) op)
+  AnswersRegion op = Answers (ReadsRegion (texts types) (texts owns) types.reading (attr owns) op) (BuildsRegion (texts types) (texts owns) [] op) (MissesRegion types.reading (attr owns) op)
       (λ old fault. RefusesRegion (texts types) (texts owns) old.state.ctx.now.dialects (unisolated old.state.ctx.now op) old.stream fault)
 
 -- this many objects had been created at the start, and this many marks were recorded then; each object was created before that

@@ -35,7 +35,7 @@ use Rattle.irtext_parse_nested.specs.declared.frame.BegunBlock.{BegunBlock}
 use Rattle.irtext_parse_nested.specs.Beginning.{HasBegun, ComesInto}
 use Rattle.irtext_parse_nested.specs.OpenOperation.{IsBegun, IsRegion}
 use Rattle.irtext_parse_pieces.specs.Coming.{IsStep}
-use Rattle.irtext_parse_nested.specs.Ends.{noted_as}
+use Rattle.irtext_names.specs.Carriers.{noted_as}
 use Rattle.irtext_names.specs.Items.{Names}
 use Rattle.irtext_parse_nested.specs.Later.{GoesOn}
 use Rattle.irtext_names.specs.Located.{IsLocated}

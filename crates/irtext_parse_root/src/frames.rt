@@ -43,6 +43,7 @@ impl Waiting {
     }
 
     /// Pushes a frame. Allocates only if another frame is on the stack.
+    #[inline(always)]
     pub(crate) fn push(&mut self, frame: Frame) -> Result<(), AllocError>
         ensures { OnOk result (self.new ≡ self.old ++ frame ∷ []) }
     {

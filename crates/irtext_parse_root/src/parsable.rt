@@ -12,7 +12,8 @@ pub use irtext_base::parsable::{
 };
 use irtext_base::text::{AttrText, IrText};
 pub use irtext_parse_state::parsable::{
-    State, StateStream, StreamLocation, parse_from_str, state_stream_from_iterator,
+    State, StateStream, StreamLocation, parse_from_str, parse_from_string,
+    state_stream_from_iterator,
 };
 pub use irtext_tokens::parsable::{IntoParseResult, OwnStream};
 

@@ -15,6 +15,7 @@ use irtext_base::parsable::{CharStream, ParseResult, SourcePosition};
 use irtext_base::text::{AttrText, IrText};
 use irtext_context::base::operation::OperationAccess;
 use irtext_context::base::{Context, Operation, Ptr, Region};
+use irtext_parse_nested::beginning::seed_of;
 use irtext_parse_state::parsable::{State, StateStream};
 use irtext_scopes::tracker::NameTracker;
 
@@ -59,7 +60,7 @@ fn alone_parse<T: IrText<A>, A: AttrText<A>, U>(
     if let Some(at) = unisolated_here(&s.state, parent) {
         return Err(not_isolated(&mut s.stream, at));
     }
-    let mut names = NameTracker::new(s.stream.allocator());
+    let mut names = NameTracker::with_seed(s.stream.allocator(), seed_of(&s.state));
     context_keeps(&s.state);
     match items::region_parse(s, &mut names, parent) {
         Ok(region) => {
@@ -79,8 +80,9 @@ impl<T: IrText<A>, A: AttrText<A>, U> Parsable<T, A, U> for Region {
     ghost can_parse = { λ op s. IsSome (operation s.state.ctx.now op) };
 
     /// Parses `{`, blocks and `}` at the current position of the stream, with everything nested in them, and appends the region to an
-    /// operation. The marks of the region are recorded, and no section is parsed. The region is appended only when all of it has been
-    /// parsed, so on an error all objects and marks are unchanged.
+    /// operation. The marks of the region are recorded after those of earlier texts, and no section is parsed: the next section that is
+    /// parsed with this state is for all of them. A mark with an index that is recorded already is an error, `Cause::DuplicateIndex`. The
+    /// region is appended only when all of it has been parsed, so on an error all objects and marks are unchanged.
     ///
     /// The region has scopes of names of its own, so for an operation that is not isolated from above the error is
     /// `TopLevelOpRegionNotIsolatedFromAbove`, at the line and column of its location, whatever the text is. For an isolated one it is the

@@ -11,23 +11,24 @@ ghost use Rattle.irtext_parse_section.specs.Said.{rules_of};
 use crate::entry::entry_parse;
 use indexmap::IndexMap;
 use irtext_base::parsable::{CharStream, ParseResult};
+use irtext_base::seed::Seed;
 use irtext_base::text::{AttrText, IrText};
 use irtext_parse_locations::said::{Entries, NotedEntries, ReadEntry};
 use irtext_parse_pieces::keys::Keys;
-use irtext_parse_state::parsable::StateStream;
 use irtext_parse_state::parsable::numbered::Numbered;
+use irtext_parse_state::parsable::{State, StateStream};
 use irtext_tokens::irfmt::faults::{next_is, out_of_memory};
 use irtext_tokens::irfmt::parsers::skip_white_space;
 use std::alloc::{AllocError, Global};
 
 /// Returns an empty list of entries. Allocates nothing.
-fn none_noted<A>(alloc: Global) -> NotedEntries<A>
+fn none_noted<A>(alloc: Global, seed: Seed) -> NotedEntries<A>
     ensures { noted result ≡ nothing }
 {
     NotedEntries {
         items: Vec::new(alloc),
-        seen: Numbered::new(alloc),
-        once: IndexMap::new(alloc),
+        seen: Numbered::new(alloc, seed),
+        once: IndexMap::with_hasher(alloc, seed),
     }
 }
 
@@ -52,10 +53,14 @@ fn entry_noted<A: Drop>(
 }
 
 /// Returns a list of one entry.
-fn first_noted<A: Drop>(alloc: Global, first: ReadEntry<A>) -> Result<NotedEntries<A>, AllocError>
+fn first_noted<A: Drop>(
+    alloc: Global,
+    seed: Seed,
+    first: ReadEntry<A>,
+) -> Result<NotedEntries<A>, AllocError>
     ensures { IfOk result (λ entries. noted entries ≡ one_noted first) }
 {
-    let mut entries = none_noted(alloc);
+    let mut entries = none_noted(alloc, seed);
     entry_noted(&mut entries, first)?;
     Ok(entries)
 }
@@ -92,6 +97,12 @@ fn more_parse<T: IrText<A>, A: AttrText<A>, U>(
     }
 }
 
+/// Returns the seed of the state's context.
+#[inline(always)]
+fn seed_of<T: IrText<A>, A: AttrText<A>, U>(state: &State<'_, T, A, U>) -> Seed {
+    state.ctx.seed()
+}
+
 /// Parses more entries after the first one, as long as `!` comes next.
 #[inline(never)]
 fn first_and_more<T: IrText<A>, A: AttrText<A>, U>(
@@ -102,7 +113,7 @@ fn first_and_more<T: IrText<A>, A: AttrText<A>, U>(
     ensures only { AddsOnlyPaths s.old.state s.new.state }
     ensures read { MustGoOn (attr_at A.IrText.reading) (one_noted first) s.old result s.new }
 {
-    match first_noted(s.stream.allocator(), first) {
+    match first_noted(s.stream.allocator(), seed_of(&s.state), first) {
         Ok(entries) => more_parse(s, entries, keys),
         Err(AllocError) => Err(out_of_memory(&mut s.stream)),
     }

@@ -8,6 +8,7 @@ ghost use Rattle.irtext_parse_section.specs.Entries.{items_of, once_of};
 
 use indexmap::IndexMap;
 use irtext_base::parsable::{CharStream, ParseResult, TextStream};
+use irtext_base::seed::Seed;
 use irtext_base::text::{AttrText, IrText};
 use irtext_context::base::Context;
 use irtext_parse_locations::applied::{item_given, items_given};
@@ -24,7 +25,7 @@ fn only_checked<A: Drop>(stream: &mut TextStream, entry: &ItemEntry<A>) -> Parse
     if entry.pairs.is_empty() {
         return Ok(());
     }
-    let once = IndexMap::new(stream.allocator());
+    let once = IndexMap::with_hasher(stream.allocator(), Seed::FIXED);
     pairs_checked(stream, &once, is_block(entry.item), entry.pairs.as_slice())
 }
 
@@ -66,7 +67,7 @@ fn only_stored<T: IrText<A>, A: AttrText<A>>(
     ensures unchanged { (mark : ℕ) → earlier ≡ true → OnErr result (KeepsOlder mark ctx.old ctx.new) }
 {
     let alloc = ctx.allocator();
-    let once = IndexMap::new(alloc);
+    let once = IndexMap::with_hasher(alloc, Seed::FIXED);
     if earlier {
         let items = one_item(alloc, entry)?;
         return items_given_together(ctx, &once, items);

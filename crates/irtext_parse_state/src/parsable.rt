@@ -5,4 +5,4 @@ pub mod state;
 pub mod text;
 
 pub use state::{State, StateStream, StreamLocation};
-pub use text::{parse_from_str, state_stream_from_iterator};
+pub use text::{parse_from_str, parse_from_string, state_stream_from_iterator};

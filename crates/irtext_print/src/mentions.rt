@@ -4,6 +4,7 @@ ghost use Rattle.irtext_grammar.specs.Graphs.Graph.{place_in};
 ghost use Rattle.irtext_print.specs.Mentions as mentions;
 
 use indexmap::IndexSet;
+use irtext_base::seed::Seed;
 use irtext_base::text::AttrText;
 use std::fmt;
 
@@ -13,7 +14,7 @@ pub(crate) struct Mentions<'c, A: AttrText<A>> {
     /// The number of items.
     pub(crate) items: usize,
     /// The attributes, in the order of their first mention.
-    pub(crate) known: IndexSet<&'c A>,
+    pub(crate) known: IndexSet<&'c A, Seed>,
 }
 
 impl<'c, A: AttrText<A>> Mentions<'c, A> {

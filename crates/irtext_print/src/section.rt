@@ -101,7 +101,7 @@ fn fmt_section<T: IrText<A>, A: AttrText<A>>(
     f.push_str("\n\noutlined_attributes:\n")?;
     let mut mentions = Mentions {
         items: items.len(),
-        known: IndexSet::new(ctx.allocator()),
+        known: IndexSet::with_hasher(ctx.allocator(), ctx.seed()),
     };
     mentions.fmt_items(ctx, items, f)?;
     mentions.fmt_all_once(f)

@@ -68,13 +68,13 @@ module _ {O B T : Type 0} (g : GraphView O B T) where
 
   module _ (nested : Nested (children g) (parent g)) where
     -- an operation in a block of a region of another is three levels deeper
-    region_up : (p : Ptr Operation) (r : Ptr Region) (m : ℕ) → slice_get (regions g p) m ≡ Some r → parent g (TheRegion r) ≡ Some (TheOperation p)
+    pub region_up : (p : Ptr Operation) (r : Ptr Region) (m : ℕ) → slice_get (regions g p) m ≡ Some r → parent g (TheRegion r) ≡ Some (TheOperation p)
     region_up p r m e = nested.down (TheOperation p) m (TheRegion r) (slice_get-map TheRegion (regions g p) m ∙ ap (option_map TheRegion) e)
 
-    block_up : (r : Ptr Region) (b : Ptr BasicBlock) (j : ℕ) → slice_get (blocks g r) j ≡ Some b → parent g (TheBlock b) ≡ Some (TheRegion r)
+    pub block_up : (r : Ptr Region) (b : Ptr BasicBlock) (j : ℕ) → slice_get (blocks g r) j ≡ Some b → parent g (TheBlock b) ≡ Some (TheRegion r)
     block_up r b j e = nested.down (TheRegion r) j (TheBlock b) (slice_get-map TheBlock (blocks g r) j ∙ ap (option_map TheBlock) e)
 
-    operation_up : (b : Ptr BasicBlock) (q : Ptr Operation) (i : ℕ) → slice_get (operations_in g b) i ≡ Some q → parent g (TheOperation q) ≡ Some (TheBlock b)
+    pub operation_up : (b : Ptr BasicBlock) (q : Ptr Operation) (i : ℕ) → slice_get (operations_in g b) i ≡ Some q → parent g (TheOperation q) ≡ Some (TheBlock b)
     operation_up b q i e = nested.down (TheBlock b) i (TheOperation q) (slice_get-map TheOperation (operations_in g b) i ∙ ap (option_map TheOperation) e)
 
     three_up : (p : Ptr Operation) (r : Ptr Region) (b : Ptr BasicBlock) (q : Ptr Operation) → parent g (TheRegion r) ≡ Some (TheOperation p) → parent g (TheBlock b) ≡ Some (TheRegion r) →

@@ -1,4 +1,5 @@
 pub mod Names
+pub mod Places
 pub mod Scopes
 pub mod Bindings
 pub mod Tracker

@@ -2,5 +2,6 @@
 #![tactic(auto)]
 
 mod marks;
+mod place;
 pub mod scopes;
 pub mod tracker;

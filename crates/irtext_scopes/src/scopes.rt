@@ -6,6 +6,7 @@ ghost use Rattle.irtext_scopes.specs.Bindings.{Chained, entries_of, rebound, hea
 ghost use Rattle.irtext_scopes.specs.Scopes.{innermost, outer, in_innermost, is_open, find, mentioned, resolved, defined, is_defined, placeholder_of, first_pending};
 
 use crate::marks::Marks;
+use crate::place::Place;
 use std::alloc::{AllocError, Global};
 use std::marker::Model;
 
@@ -30,16 +31,16 @@ pub enum DefineFault {
 /// A name as one scope binds it, and the index of the binding of that name that it hides.
 #[derive(Clone, Copy)]
 pub(crate) struct Binding<V> {
-    pub(crate) name: usize,
     pub(crate) entry: Entry<V>,
-    pub(crate) hidden: Option<usize>,
+    pub(crate) name: u32,
+    pub(crate) hidden: Place,
 }
 
 /// The open scopes of one kind of names, the innermost first. Names are given by their numbers.
 #[derive(Drop)]
 pub struct Scopes<V> {
     // for the number of a name: the index of its newest binding
-    heads: Vec<Option<usize>>,
+    heads: Vec<Place>,
     bindings: Vec<Binding<V>>,
     // the index at which the bindings of each scope begin
     marks: Marks,
@@ -58,29 +59,29 @@ impl<V> Model for Scopes<V> {
 }
 
 // returns the index of the newest binding of a name
-fn head_of(heads: &[Option<usize>], name: usize) -> Option<usize>
+fn head_of(heads: &[Place], name: usize) -> Place
     ensures { result ≡ head_at heads.now name }
 {
     if name < heads.len() {
         heads[name]
     } else {
-        None
+        Place::none()
     }
 }
 
 // makes room for a name that has no binding yet
-fn grow(heads: &mut Vec<Option<usize>>, name: usize) -> Result<(), AllocError>
+fn grow(heads: &mut Vec<Place>, name: usize) -> Result<(), AllocError>
     ensures same { (n : ℕ) → head_at heads.new.items n ≡ head_at heads.old.items n }
     ensures ok { OnOk result (name < length heads.new.items) }
 {
     while heads.len() <= name {
-        heads.push(None)?;
+        heads.push(Place::none())?;
     }
     Ok(())
 }
 
 // sets the index that is held for a name
-fn set_head(heads: &mut Vec<Option<usize>>, name: usize, place: Option<usize>)
+fn set_head(heads: &mut Vec<Place>, name: usize, place: Place)
     requires { name < length heads.old.items }
     ensures { (n : ℕ) → head_at heads.new.items n ≡ cond (nat_eq name n) place (head_at heads.old.items n) }
 {
@@ -90,7 +91,7 @@ fn set_head(heads: &mut Vec<Option<usize>>, name: usize, place: Option<usize>)
 // removes the bindings from a mark on, so that each name in them has the binding again that was hidden, and returns the first of these
 // names without a definition
 fn cut<V: Copy>(
-    heads: &mut Vec<Option<usize>>,
+    heads: &mut Vec<Place>,
     bindings: &mut Vec<Binding<V>>,
     mark: usize,
 ) -> Option<usize>
@@ -105,9 +106,10 @@ fn cut<V: Copy>(
         let Some(b) = bindings.pop() else {
             return first;
         };
-        set_head(heads, b.name, b.hidden);
+        let name = b.name as usize;
+        set_head(heads, name, b.hidden);
         if let Entry::Pending(_) = b.entry {
-            first = Some(b.name);
+            first = Some(name);
         }
     }
     first
@@ -121,20 +123,20 @@ fn rebind<V: Copy>(bindings: &mut Vec<Binding<V>>, place: usize, value: V)
 {
     let Binding { name, hidden, .. } = bindings[place];
     bindings[place] = Binding {
-        name,
         entry: Entry::Defined(value),
+        name,
         hidden,
     };
 }
 
 // returns the index of the binding that the innermost scope has of a name
-fn place_of(heads: &[Option<usize>], marks: &Marks, name: usize) -> Option<usize>
+fn place_of(heads: &[Place], marks: &Marks, name: usize) -> Option<usize>
     ensures { result ≡ place_in heads.now marks.now name }
 {
     let Some(mark) = marks.last() else {
         return None;
     };
-    let Some(place) = head_of(heads, name) else {
+    let Some(place) = head_of(heads, name).index() else {
         return None;
     };
     if place < mark {
@@ -194,22 +196,27 @@ impl<V: Copy> Scopes<V> {
     }
 
     /// Adds a name to the innermost scope. A scope must be open, and the innermost one must not have the name. When out of memory, it fails
-    /// and the scopes are unchanged.
+    /// and the scopes are unchanged. The number of a name above 2³² - 1, and more than 2³² - 1
+    /// names in the open scopes, count as out of memory.
     pub fn add(&mut self, name: usize, entry: Entry<V>) -> Result<(), AllocError>
         requires open { is_open self.old ≡ true }
         requires unknown { find name (innermost self.old) ≡ None }
         ensures ok { OnOk result (self.new ≡ in_innermost (mentioned name entry) self.old) }
         ensures err { OnErr result (self.new ≡ self.old) }
     {
+        let place = self.bindings.len();
+        let head = Place::new(place)?;
+        if name > u32::MAX as usize {
+            return Err(AllocError);
+        }
         let hidden = head_of(&self.heads, name);
         grow(&mut self.heads, name)?;
-        let place = self.bindings.len();
         self.bindings.push(Binding {
-            name,
             entry,
+            name: name as u32,
             hidden,
         })?;
-        set_head(&mut self.heads, name, Some(place));
+        set_head(&mut self.heads, name, head);
         Ok(())
     }
 

@@ -12,6 +12,7 @@ ghost use Rattle.irtext_scopes.specs.Tracker.{EntersRegion, left, unresolved, ar
 
 use crate::scopes::{DefineFault, Entry, Scopes};
 use irtext_interner::Interner;
+use irtext_interner::seed::Seed;
 use std::alloc::{AllocError, Global};
 
 /// Why a region can't be entered.
@@ -83,14 +84,24 @@ fn leave<V: Copy, B: Copy>(
 }
 
 impl<V: Copy, B: Copy> NameTracker<V, B> {
-    /// Returns a tracker without names and without open regions. It allocates nothing yet.
+    /// Returns a tracker without names and without open regions, in which names are found by hashes with a fixed seed. It allocates
+    /// nothing yet.
     pub fn new(alloc: Global) -> NameTracker<V, B>
         ensures names { result.names ≡ [] }
         ensures values { result.values ≡ [] }
         ensures labels { result.labels ≡ [] }
     {
+        NameTracker::with_seed(alloc, Seed::FIXED)
+    }
+
+    /// Returns a tracker as [`NameTracker::new`] does, in which names are found by hashes with this seed. It allocates nothing yet.
+    pub fn with_seed(alloc: Global, seed: Seed) -> NameTracker<V, B>
+        ensures names { result.names ≡ [] }
+        ensures values { result.values ≡ [] }
+        ensures labels { result.labels ≡ [] }
+    {
         NameTracker {
-            names: Interner::new(alloc),
+            names: Interner::new(alloc, seed),
             values: Scopes::new(alloc),
             labels: Scopes::new(alloc),
         }

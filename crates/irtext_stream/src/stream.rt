@@ -1,5 +1,5 @@
 //! A text as a stream: its bytes, the offset up to which they were consumed, and the index by which lines and columns are found.
-ghost use Rattle.std.specs.Prelude.{◌≡◌, [], IfOk, MatchBool, false};
+ghost use Rattle.std.specs.Prelude.{◌≡◌, [], IfOk, MatchBool, false, string_bytes};
 ghost use Rattle.std.specs.Str.{chars, encode_utf8_all};
 ghost use Rattle.irtext_stream.specs.Text.{BeginsOtherwise};
 ghost use Rattle.irtext_stream.specs.Classes.{after_front, after_spaces};
@@ -59,8 +59,20 @@ impl TextStream {
     pub fn new(alloc: Global, text: &str) -> Result<TextStream, AllocError>
         ensures { IfOk result (λ s. s ≡ record { passed = []; rest = chars text.now; failed = false }) }
     {
-        let index = TextIndex::new(alloc, text)?;
         let text = String::from_str(alloc, text)?;
+        TextStream::from_string(alloc, text)
+    }
+
+    /// Returns a stream at the beginning of a text, which becomes its own without a copy. Fails only if an allocation fails; the text is
+    /// then dropped.
+    pub fn from_string(alloc: Global, text: String) -> Result<TextStream, AllocError>
+        ensures { IfOk result (λ s. s ≡ record {
+          passed = [];
+          rest = chars (string_bytes text);
+          failed = false;
+        }) }
+    {
+        let index = TextIndex::new(alloc, text.as_str())?;
         Ok(TextStream {
             alloc,
             text,

@@ -79,7 +79,7 @@ pub(crate) fn tree_noted<T: IrText<A>, A: AttrText<A>>(
         name.now stream.old is_whole book.new stream.new) }
 {
     let alloc = stream.allocator();
-    let mut names = NameTracker::new(alloc);
+    let mut names = NameTracker::with_seed(alloc, ctx.seed());
     let mut keys = Keys::new(alloc);
     match tree_parse(stream, ctx, &mut names, &mut keys, name, book) {
         Ok(()) => Ok(true),

@@ -8,6 +8,7 @@ ghost use Rattle.irtext_survey.specs.Section.{any_rule, pair_in, entry_in, entri
 
 use crate::beside::unless_memory;
 use irtext_base::parsable::{CharStream, ParseResult, TextStream};
+use irtext_base::seed::Seed;
 use irtext_base::text::{AttrText, IrText};
 use irtext_context::base::Context;
 use irtext_parse_pieces::entries::attr_demanded;
@@ -141,15 +142,16 @@ fn section_passed<T: IrText<A>, A: AttrText<A>>(
 }
 
 /// Consumes a section, and returns whether one of the grammar comes next, whatever the indices, the keys and the references in it are. Fails
-/// only if an allocation fails. The stream must not have failed before.
+/// only if an allocation fails. The seed is that of the paths that are passed. The stream must not have failed before.
 pub(crate) fn section_skipped<T: IrText<A>, A: AttrText<A>>(
     stream: &mut TextStream,
+    seed: Seed,
 ) -> Result<bool, AllocError>
     requires fine { stream.old.failed ≡ false }
     ensures { IfOk result (λ there. SkipsSection (attr_at A.IrText.reading) stream.old there stream.new) }
 {
     let alloc = stream.allocator();
-    let mut paths: Context<T, A> = Context::new(alloc);
+    let mut paths: Context<T, A> = Context::with_seed(alloc, seed);
     let mut keys = Keys::none(alloc);
     match section_passed(stream, &mut paths, &mut keys) {
         Ok(()) => Ok(true),

@@ -194,5 +194,5 @@ pub fn skip_root<T: IrText<A>, A: AttrText<A>>(
     if !book.marked {
         return Ok(true);
     }
-    section_skipped::<T, A>(stream)
+    section_skipped::<T, A>(stream, ctx.seed())
 }

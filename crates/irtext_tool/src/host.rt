@@ -4,6 +4,7 @@ use crate::about::About;
 use crate::files::Disk;
 use crate::run::run;
 use crate::status::{FAILED, WRONG_WORDS};
+use irtext_base::seed::Seed;
 use irtext_base::text::{AttrText, IrText};
 use irtext_formatter::dialects::Dialects;
 use std::io::IsTerminal;
@@ -42,6 +43,7 @@ fn run_words<T: IrText<A>, A: AttrText<A>, D: Dialects<T, A>>(
     let (mut input, mut output, mut errors) = (rt.reader(), rt.stdout(), rt.stderr());
     Ok(run::<T, A, D, _, _, _, _>(
         rt.alloc(),
+        Seed::random(rt),
         &about,
         words.as_slice(),
         &files,
@@ -51,8 +53,8 @@ fn run_words<T: IrText<A>, A: AttrText<A>, D: Dialects<T, A>>(
     ))
 }
 
-/// Runs the program of this name and version, for the dialects `D`, over the words, the files and the streams of the process. This is
-/// the whole of a `main`:
+/// Runs the program of this name and version, for the dialects `D`, over the words, the files and the streams of the process, with a seed
+/// from random bytes of the system. This is the whole of a `main`:
 ///
 /// ```text
 /// fn main(rt: HostRuntime) -> ExitCode {

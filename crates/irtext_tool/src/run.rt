@@ -21,6 +21,7 @@ use crate::status::{
 use crate::words::{Answer, Request, Target, Task, parse_words};
 use irtext_base::parsable::ParseFault;
 use irtext_base::result;
+use irtext_base::seed::Seed;
 use irtext_base::text::{AttrText, IrText};
 use irtext_diff::write_unified;
 use irtext_formatter::dialects::{Dialects, new_context};
@@ -55,6 +56,7 @@ fn report_dialects<A, E: Write>(
 /// new context.
 fn report_roots<T: IrText<A>, A: AttrText<A>, D: Dialects<T, A>, E: Write>(
     alloc: Global,
+    seed: Seed,
     errors: &mut E,
     scene: Scene<'_>,
     text: &str,
@@ -63,7 +65,7 @@ fn report_roots<T: IrText<A>, A: AttrText<A>, D: Dialects<T, A>, E: Write>(
     ensures { OnOk result (Writes (E.contents errors.old) (E.contents errors.new)
         (TellsRejected scene.entry.form scene.entry.path.now text.now fault.now)) }
 {
-    match new_context::<T, A, D>(alloc) {
+    match new_context::<T, A, D>(alloc, seed) {
         Ok(mut ctx) => report_rejections(&mut ctx, errors, scene, text, fault),
         Err(error) => {
             report_alone(alloc, errors, scene, text, fault)?;
@@ -75,6 +77,7 @@ fn report_roots<T: IrText<A>, A: AttrText<A>, D: Dialects<T, A>, E: Write>(
 /// Writes why the roots of a text were not printed.
 fn report_text<T: IrText<A>, A: AttrText<A>, D: Dialects<T, A>, E: Write>(
     alloc: Global,
+    seed: Seed,
     errors: &mut E,
     scene: Scene<'_>,
     text: &str,
@@ -85,7 +88,9 @@ fn report_text<T: IrText<A>, A: AttrText<A>, D: Dialects<T, A>, E: Write>(
 {
     match fault {
         Fault::Memory => report_memory(alloc, errors, scene),
-        Fault::Rejected(fault) => report_roots::<T, A, D, E>(alloc, errors, scene, text, fault),
+        Fault::Rejected(fault) => report_roots::<T, A, D, E>(
+            alloc, seed, errors, scene, text, fault,
+        ),
         Fault::Misfit(misfit) => report_misfit(alloc, errors, scene, text, misfit),
         Fault::TooDeep => {
             let message = "regions are nested too deep: an indentation does not fit 16 bits";
@@ -97,6 +102,7 @@ fn report_text<T: IrText<A>, A: AttrText<A>, D: Dialects<T, A>, E: Write>(
 /// Writes why an input was not formatted whose text is this, as far as it was read.
 fn report_failure<T: IrText<A>, A: AttrText<A>, D: Dialects<T, A>, E: Write>(
     alloc: Global,
+    seed: Seed,
     errors: &mut E,
     scene: Scene<'_>,
     text: &str,
@@ -109,7 +115,7 @@ fn report_failure<T: IrText<A>, A: AttrText<A>, D: Dialects<T, A>, E: Write>(
     match failure {
         Failure::Input(fault) => report_input(alloc, errors, scene, fault),
         Failure::Dialects(error) => report_dialects(alloc, errors, scene, error),
-        Failure::Text(fault) => report_text::<T, A, D, E>(alloc, errors, scene, text, fault),
+        Failure::Text(fault) => report_text::<T, A, D, E>(alloc, seed, errors, scene, text, fault),
         Failure::Unwritable(error) => report_output(alloc, errors, scene.form, error),
     }
 }
@@ -117,6 +123,7 @@ fn report_failure<T: IrText<A>, A: AttrText<A>, D: Dialects<T, A>, E: Write>(
 /// Writes why an input was not formatted, if it was not.
 fn report_answer<T: IrText<A>, A: AttrText<A>, D: Dialects<T, A>, E: Write>(
     alloc: Global,
+    seed: Seed,
     errors: &mut E,
     scene: Scene<'_>,
     text: &str,
@@ -128,7 +135,7 @@ fn report_answer<T: IrText<A>, A: AttrText<A>, D: Dialects<T, A>, E: Write>(
 {
     match answer {
         Ok(()) => Ok(()),
-        Err(failure) => report_failure::<T, A, D, E>(alloc, errors, scene, text, failure),
+        Err(failure) => report_failure::<T, A, D, E>(alloc, seed, errors, scene, text, failure),
     }
 }
 
@@ -144,6 +151,7 @@ pub struct Ended {
 /// Formats standard input to standard output.
 fn format_standard<T: IrText<A>, A: AttrText<A>, D: Dialects<T, A>, R: Read, W: Write, E: Write>(
     alloc: Global,
+    seed: Seed,
     form: Form,
     input: &mut R,
     output: &mut W,
@@ -154,12 +162,12 @@ fn format_standard<T: IrText<A>, A: AttrText<A>, D: Dialects<T, A>, R: Read, W: 
         (E.contents errors.old) (E.contents errors.new) (errors.new ≡ errors.old) result.took result.status }
 {
     let mut text = String::new(alloc);
-    let answer = format_input::<T, A, D, R, W>(alloc, input, WHOLE, &mut text, output);
+    let answer = format_input::<T, A, D, R, W>(alloc, seed, input, WHOLE, &mut text, output);
     let scene = Scene {
         path: STANDARD_INPUT,
         form,
     };
-    let said = report_answer::<T, A, D, E>(alloc, errors, scene, text.as_str(), &answer);
+    let said = report_answer::<T, A, D, E>(alloc, seed, errors, scene, text.as_str(), &answer);
     Ended {
         status: status_of_answer(&answer),
         took: said.is_ok(),
@@ -292,10 +300,11 @@ fn deliver<F: Files, W: Write, E: Write>(
 /// Counts what is in a text in a new context, and returns the lines that say so.
 fn count_new<T: IrText<A>, A: AttrText<A>, D: Dialects<T, A>>(
     alloc: Global,
+    seed: Seed,
     path: &str,
     text: &str,
 ) -> Result<String, Failure<A>> {
-    let mut ctx = new_context::<T, A, D>(alloc).map_err(Failure::Dialects)?;
+    let mut ctx = new_context::<T, A, D>(alloc, seed).map_err(Failure::Dialects)?;
     let counts = count_text(&mut ctx, text).map_err(Failure::Text)?;
     counts_text(alloc, path, &counts).map_err(|_| Failure::Text(Fault::Memory))
 }
@@ -303,20 +312,22 @@ fn count_new<T: IrText<A>, A: AttrText<A>, D: Dialects<T, A>>(
 /// Does the task with the text of a file, and returns what is to be written: nothing, if the text is only checked.
 fn result_of<T: IrText<A>, A: AttrText<A>, D: Dialects<T, A>>(
     alloc: Global,
+    seed: Seed,
     path: &str,
     text: &str,
     task: Task<'_>,
 ) -> Result<String, Failure<A>> {
     match task {
-        Task::Format(layout, _) => format_new::<T, A, D>(alloc, text, layout),
-        Task::Check => check_new::<T, A, D>(alloc, text, WHOLE).map(|()| String::new(alloc)),
-        Task::Stats => count_new::<T, A, D>(alloc, path, text),
+        Task::Format(layout, _) => format_new::<T, A, D>(alloc, seed, text, layout),
+        Task::Check => check_new::<T, A, D>(alloc, seed, text, WHOLE).map(|()| String::new(alloc)),
+        Task::Stats => count_new::<T, A, D>(alloc, seed, path, text),
     }
 }
 
 /// Does what is asked for with the text of a file.
 fn work_on_text<T: IrText<A>, A: AttrText<A>, D: Dialects<T, A>, F: Files, W: Write, E: Write>(
     alloc: Global,
+    seed: Seed,
     scene: Scene<'_>,
     task: Task<'_>,
     text: &str,
@@ -326,10 +337,10 @@ fn work_on_text<T: IrText<A>, A: AttrText<A>, D: Dialects<T, A>, F: Files, W: Wr
 ) -> Done
     ensures { IsStatus result }
 {
-    let made = match result_of::<T, A, D>(alloc, scene.path, text, task) {
+    let made = match result_of::<T, A, D>(alloc, seed, scene.path, text, task) {
         Ok(made) => made,
         Err(failure) => {
-            let said = report_failure::<T, A, D, E>(alloc, errors, scene, text, &failure);
+            let said = report_failure::<T, A, D, E>(alloc, seed, errors, scene, text, &failure);
             return finished(status_of(&failure), said);
         }
     };
@@ -369,6 +380,7 @@ fn work_on_file<
     E: Write,
 >(
     alloc: Global,
+    seed: Seed,
     request: &Request<'_>,
     path: &str,
     files: &F,
@@ -392,6 +404,7 @@ fn work_on_file<
             let task = request.task;
             work_on_text::<T, A, D, F, W, E>(
                 alloc,
+                seed,
                 scene,
                 task,
                 text.as_str(),
@@ -410,6 +423,7 @@ fn work_on_file<
 /// Does what is asked for with each file, up to one whose output cannot be written. The status is the greatest of theirs.
 fn work<T: IrText<A>, A: AttrText<A>, D: Dialects<T, A>, F: Files, R: Read, W: Write, E: Write>(
     alloc: Global,
+    seed: Seed,
     request: &Request<'_>,
     files: &F,
     input: &mut R,
@@ -421,7 +435,7 @@ fn work<T: IrText<A>, A: AttrText<A>, D: Dialects<T, A>, F: Files, R: Read, W: W
     let (mut status, mut took) = (DONE, true);
     for path in request.files.iter() {
         match work_on_file::<T, A, D, F, R, W, E>(
-            alloc, request, *path, files, input, output, errors,
+            alloc, seed, request, *path, files, input, output, errors,
         ) {
             Done::Ended(one) => {
                 status = status.max(one.status);
@@ -485,6 +499,7 @@ pub fn run_to_end<
     E: Write,
 >(
     alloc: Global,
+    seed: Seed,
     about: &About<'_>,
     words: &[&str],
     files: &F,
@@ -499,22 +514,26 @@ pub fn run_to_end<
 {
     if asks_for_standard(words) {
         let form = Form::Text(style_of(about.coloured));
-        return format_standard::<T, A, D, R, W, E>(alloc, form, input, output, errors);
+        return format_standard::<T, A, D, R, W, E>(alloc, seed, form, input, output, errors);
     }
     match parse_words(alloc, about, words) {
-        Ok(request) => work::<T, A, D, F, R, W, E>(alloc, &request, files, input, output, errors),
+        Ok(request) => work::<T, A, D, F, R, W, E>(
+            alloc, seed, &request, files, input, output, errors,
+        ),
         Err(other) => say(alloc, about, &other, output, errors),
     }
 }
 
 /// Runs the program over these words, without its own name, and returns the exit status: 0; 1 if a text is rejected or would change; 2 if
-/// the words are wrong; 3 if input or output failed, or memory ran out. All files are worked on, and the greatest status is returned.
+/// the words are wrong; 3 if input or output failed, or memory ran out. All files are worked on, and the greatest status is returned. The
+/// seed is that of each context; nothing that is written depends on it.
 ///
 /// With the one word `fmt`, or with `fmt -`, it formats standard input to standard output as `format_input` does: the status is 0 exactly
 /// if that succeeds, and nothing else is written to the output. Why it fails is written to the errors: the fault at its place, before
 /// anything else. On a success nothing is written to them. If they fail the status is the same.
 pub fn run<T: IrText<A>, A: AttrText<A>, D: Dialects<T, A>, F: Files, R: Read, W: Write, E: Write>(
     alloc: Global,
+    seed: Seed,
     about: &About<'_>,
     words: &[&str],
     files: &F,
@@ -528,5 +547,7 @@ pub fn run<T: IrText<A>, A: AttrText<A>, D: Dialects<T, A>, F: Files, R: Read, W
         (form.Text (style_of about.now.coloured)) (E.contents errors.old) (E.contents errors.new)
         (errors.new ≡ errors.old) took result }
 {
-    run_to_end::<T, A, D, F, R, W, E>(alloc, about, words, files, input, output, errors).status
+    run_to_end::<T, A, D, F, R, W, E>(
+        alloc, seed, about, words, files, input, output, errors,
+    ).status
 }

@@ -33,7 +33,7 @@ module _ {T A : Type 0} (types : Texts T) (reading : Text → Outcome A) (text_o
 
   module _ (bytes : List ℕ) (ctx : ContextView T A) (p : Ptr Operation) (after : ContextView T A) (read : ReadsText types (texts_of reading text_of) (attr_at reading) bytes ctx p after) (before_kept : KeepsAll ctx) (after_kept : KeepsAll after) where
     only : OnlyNew p ctx after
-    only = subst (λ (z : ContextView T A). OnlyNew p z after) read.starts.context (subst (λ (z : ContextView T A). OnlyNew p read.old.state.ctx.now z) read.ends read.builds.only)
+    only = subst (λ (z : ContextView T A). OnlyNew p z after) read.begins.context (subst (λ (z : ContextView T A). OnlyNew p read.old.state.ctx.now z) read.ends read.builds.only)
 
     -- the dialects are the same still
     pub same_dialects : after.dialects ≡ ctx.dialects

@@ -7,7 +7,7 @@ use Rattle.irtext_base.specs.Text.{Text}
 use Rattle.irtext_base.specs.Format.{Id, same_text}
 use Rattle.irtext_base.specs.Paths.{Written}
 use Rattle.irtext_base.proofs.Characters.{and_left, and_right}
-use Rattle.irtext_context.specs.Context.{ContextView, BlockView, operation, block}
+use Rattle.irtext_context.specs.Context.{ContextView, BlockView, block}
 use Rattle.irtext_graph.specs.declared.arena.Ptr.{Ptr}
 use Rattle.irtext_graph.specs.declared.object.Operation.{Operation}
 use Rattle.irtext_graph.specs.declared.object.BasicBlock.{BasicBlock}

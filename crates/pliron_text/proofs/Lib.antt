@@ -1,12 +1,16 @@
 pub mod Again
 pub mod Back
+pub mod Covered
 pub mod ErrorCauses
 pub mod Fitting
 pub mod HeldRepresents
+pub mod Misfitting
 pub mod NamesDiffer
 pub mod Nowhere
+pub mod Older
 pub mod PrintedBack
 pub mod ReadClosed
 pub mod RoundTrips
 pub mod Shown
 pub mod TrueFacts
+pub mod Unlimited

@@ -1,5 +1,5 @@
 -- The names under which values and blocks of a context are printed are all different.
-use Rattle.std.proofs.Common.{◌≡◌, ◌∙◌, ◌+◌, ℕ, Option, Some, None, option_map, refl, sym, arith}
+use Rattle.std.proofs.Common.{◌≡◌, ◌∙◌, ◌+◌, Option, Some, None, option_map, refl, sym, arith}
 use Rattle.irtext_base.specs.Text.{Text}
 use Rattle.irtext_context.specs.Context.{ContextView, BlockView, block}
 use Rattle.irtext_graph.specs.declared.arena.Ptr.{Ptr}

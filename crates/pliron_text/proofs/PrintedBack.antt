@@ -1,7 +1,7 @@
 -- The promises of the two calls, put together.
 use Rattle.std.proofs.Common.{◌≡◌, ◌∙◌, ℕ, Bool, true, refl, sym, ap, subst, arith, List, [], length, Some, None}
 use Rattle.std.proofs.lemmas.Str.{chars_from_encodes, length-le-encodes}
-use Rattle.std.specs.Str.{chars}
+use Rattle.std.specs.Str.{chars, encode_utf8_all}
 use Rattle.irtext_base.specs.Answers.{Outcome}
 use Rattle.irtext_base.specs.Locations.{AttrView}
 use Rattle.irtext_base.specs.Own.{Texts, texts_of, Lawful, Unreserved, unplaced}
@@ -10,7 +10,7 @@ use Rattle.irtext_base.specs.declared.parsable.fault.ParseFault.{ParseFault}
 use Rattle.irtext_context.specs.Context.{ContextView}
 use Rattle.irtext_graph.specs.declared.arena.Ptr.{Ptr}
 use Rattle.irtext_graph.specs.declared.object.Operation.{Operation}
-use Rattle.irtext_grammar.specs.Contexts.Formats.{format_of, isolated}
+use Rattle.irtext_grammar.specs.Contexts.Formats.{isolated}
 use Rattle.irtext_grammar.specs.Contexts.Held.{whole}
 use Rattle.irtext_grammar.specs.Contexts.Nested.{printing_over}
 use Rattle.irtext_grammar.specs.Grammar.Marked.{AllShown, reads_root}
@@ -29,6 +29,13 @@ use Rattle.irtext_grammar.proofs.Limited.{limited_refused}
 use Rattle.irtext_grammar.proofs.TextBack.{held_back, held_whole, readable}
 use Rattle.irtext_parse_state.specs.declared.parsable.state.StateStream.{StateStream}
 use Rattle.pliron_text.specs.PrintedRoot.{PrintedRoot, GivesBackRoot, GivesBackWhole}
+use Rattle.pliron_text.proofs.Unlimited.{text_shown}
+
+-- what was printed under a limit that leaves no region out was printed as without one
+pub without_limit : {T A : Type 0} (types : Texts T) (owns : Texts A) (attr : Text → Outcome (AttrView A)) (C : Printing T A) (ctx : ContextView T A) (p : Ptr Operation) (g : Graph T A) (width n : ℕ) (limit : Limit) (bytes : List ℕ)
+    → PrintedRoot types owns attr C ctx p g width n limit bytes → AllShown (written C limit g) → PrintedRoot types owns attr C ctx p g width n None bytes
+without_limit types owns attr C ctx p g width n limit bytes root shown =
+    record { sees = root.sees; kept = root.kept; fits = root.fits; utf8 = root.utf8; few = root.few; printed = root.printed ∙ ap encode_utf8_all (text_shown C (unplaced types owns C.format_of) g n width limit shown) }
 
 module _ {T A : Type 0} (types : Texts T) (reading : Text → Outcome A) (text_of : A → Text) (types_law : Lawful T types) (owns_law : Lawful A (texts_of reading text_of)) (unreserved : Unreserved A (texts_of reading text_of))
     (outlined once : A → Bool) (eq : A → A → Bool) (sound : (a b : A) → eq a b ≡ true → a ≡ b) (reflexive : (a : A) → eq a a ≡ true)

@@ -1,6 +1,6 @@
 -- For callers: the promises about a root that is printed and parsed again.
 use Rattle.std.specs.Prelude.{◌≡◌, ℕ, Bool, true, List, [], Some, None}
-use Rattle.std.specs.Str.{chars, encode_utf8_all}
+use Rattle.std.specs.Str.{encode_utf8_all}
 use Rattle.irtext_base.specs.Answers.{Outcome}
 use Rattle.irtext_base.specs.Faults.{fault_of}
 use Rattle.irtext_base.specs.Faults as fault
@@ -11,12 +11,12 @@ use Rattle.irtext_base.specs.declared.parsable.fault.ParseFault.{ParseFault}
 use Rattle.irtext_base.specs.declared.text.AttrText as attr_text
 use Rattle.irtext_base.specs.declared.text.IrText as ir_text
 use Rattle.irtext_context.specs.Context.{ContextView}
-use Rattle.irtext_context.specs.Dialects.{Table}
 use Rattle.irtext_graph.specs.declared.arena.Ptr.{Ptr}
 use Rattle.irtext_graph.specs.declared.object.Operation.{Operation}
 use Rattle.irtext_grammar.specs.Contexts.Formats.{isolated}
-use Rattle.irtext_grammar.specs.Contexts.Nested.{seen_root}
-use Rattle.irtext_grammar.specs.Graphs.Graph.{Graph, Printing}
+use Rattle.irtext_grammar.specs.Contexts.Nested.{printing_over, seen_root}
+use Rattle.irtext_grammar.specs.Grammar.Marked.{AllShown}
+use Rattle.irtext_grammar.specs.Graphs.Graph.{Graph, Printing, written}
 use Rattle.irtext_grammar.specs.Graphs.Same.{Found, resolved_root}
 use Rattle.irtext_grammar.specs.Spelling.Section.{text}
 use Rattle.irtext_grammar.specs.Spelling.Writable.{has_region}
@@ -31,6 +31,7 @@ use Rattle.irtext_names.specs.Promises.{BuildsRoot, RefusesRoot}
 use Rattle.irtext_tokens.specs.AttrTexts.{attr_at}
 use Rattle.irtext_grammar.specs.Back.{HeldBack, HeldWhole}
 use Rattle.irtext_grammar.specs.RootParts.{HoldsNoLabels}
+use Rattle.irtext_parse_state.specs.FromText.{at_beginning, Begins}
 use Rattle.irtext_parse_state.specs.declared.parsable.state.StateStream.{StateStream}
 use Rattle.pliron_text.specs.declared.calls.NotAgain.{NotAgain}
 use Rattle.pliron_text.specs.declared.calls.NotAgain.TheVariants.{Refused, Lost}
@@ -63,48 +64,61 @@ module _ {T A : Type 0} (types : ir_text.Ghosts T A) (owns : ir_text.Ghosts A A)
   IsExcused layout (Unprinted refusal) = heads.RefusesUnder types owns attributes same ctx p layout refusal
   IsExcused layout (Unread refused) = fault_of refused.cause ≡ fault.Memory
 
-module _ {T A : Type 0} (types : Texts T) (owns : Texts A) (attr : Text → Outcome (AttrView A)) where
-  module _ (C : Printing T A) (dialects : List (Text × Table)) (g : Graph T A) (q : Ptr Operation) (ctx : ContextView T A) where
-    -- the operation that the pointer refers to is equal to the root up to fillings, uses inside included, and only white space of the
-    -- text is left
-    abbrev pub ComesBack : Type 0
-    ComesBack = (rest : Text) × HeldBack types owns attr C (isolated dialects) g rest (held_root ctx q)
+module _ {T A : Type 0} (types : Texts T) (owns : Texts A) (attr : Text → Outcome (AttrView A)) (bytes : List ℕ) (ctx : ContextView T A) where
+  -- a root was parsed from the beginning of the text over this context, and left the context as `after`
+  pub record ReadsText (op : Ptr Operation) (after : ContextView T A) : Type 0 where
+    pub old : StateStream T A (Unit {0})
+    pub new : StateStream T A (Unit {0})
+    pub begins : Begins (at_beginning bytes) ctx old
+    pub ends : new.state.ctx.now ≡ after
+    pub builds : BuildsRoot types owns attr op old new
+
+  -- no root was parsed from the beginning of the text over this context, since the text is not that of a root
+  pub record RefusesText (types_at : Text → Outcome T) (refused : ParseFault A) : Type 0 where
+    pub old : StateStream T A (Unit {0})
+    pub begins : Begins (at_beginning bytes) ctx old
+    pub refuses : RefusesRoot types owns types_at attr old.state.ctx.now.dialects old.stream refused
+
+module _ {T A : Type 0} (types : ir_text.Ghosts T A) (owns : ir_text.Ghosts A A) (attributes : attr_text.Ghosts A A) (same : A → A → Bool) (ctx : ContextView T A) (p : Ptr Operation) (layout : Shown (Unit {0})) where
+  -- what printing needs to know of the context and of the caller's attributes
+  abbrev pub printing : Printing T A
+  printing = printing_over ctx attributes.outlined attributes.print_once same
+
+  -- the layout leaves no region of the root out
+  abbrev pub ShowsAll : Graph T A → Type 0
+  ShowsAll g = AllShown (written printing (levels layout.limit) g)
+
+  module _ (other : ContextView T A) (q : Ptr Operation) (left : ContextView T A) where
+    -- The root was printed in this layout, and a root was parsed from the beginning of that text over another context.
+    pub record ReadsPrinted : Type 0 where
+      pub bytes : List ℕ
+      pub printed : IsPrinted types owns attributes same ctx p layout bytes
+      pub reads : ReadsText (texts_of types.reading types.written) (texts_of owns.reading owns.written) (attr_at owns.reading) bytes other q left
+
+    -- What was parsed from the printed text is equal to the root up to fillings, uses inside included, and only white space was left of
+    -- that text.
+    abbrev pub ComesBack : Graph T A → Type 0
+    ComesBack g = (r : ReadsPrinted) × HeldBack (texts_of types.reading types.written) (texts_of owns.reading owns.written) (attr_at owns.reading) printing (isolated ctx.dialects) g r.reads.new.stream.rest (held_root left q)
 
     -- the same if nothing was filled in but positions
-    abbrev pub ComesBackWhole : Type 0
-    ComesBackWhole = (rest : Text) × HeldWhole types owns attr C (isolated dialects) g rest (held_root ctx q)
+    abbrev pub ComesBackWhole : Graph T A → Type 0
+    ComesBackWhole g = (r : ReadsPrinted) × HeldWhole (texts_of types.reading types.written) (texts_of owns.reading owns.written) (attr_at owns.reading) printing (isolated ctx.dialects) g r.reads.new.stream.rest (held_root left q)
 
-  module _ (bytes : List ℕ) (ctx : ContextView T A) where
-    -- a stream that is at the start of the text, over this context
-    pub record Starts (old : StateStream T A (Unit {0})) : Type 0 where
-      pub text : old.stream.rest ≡ chars bytes
-      pub context : old.state.ctx.now ≡ ctx
-
-    -- a root was parsed from a stream of the text over this context, and left the context as `after`
-    pub record ReadsText (op : Ptr Operation) (after : ContextView T A) : Type 0 where
-      pub old : StateStream T A (Unit {0})
-      pub new : StateStream T A (Unit {0})
-      pub starts : Starts old
-      pub ends : new.state.ctx.now ≡ after
-      pub builds : BuildsRoot types owns attr op old new
-
-    -- no root was parsed from a stream of the text over this context, since the text is not that of a root
-    pub record RefusesText (types_at : Text → Outcome T) (refused : ParseFault A) : Type 0 where
-      pub old : StateStream T A (Unit {0})
-      pub starts : Starts old
-      pub refuses : RefusesRoot types owns types_at attr old.state.ctx.now.dialects old.stream refused
-
-  -- A text was parsed as a root, and the printed text of that root as another one. The second is equal to the first, with nothing
-  -- filled in but positions, and nothing else in the second context is new.
-  pub record IsAgain (C : Printing T A) (bytes : List ℕ) (ctx : ContextView T A) (p : Ptr Operation) (after : ContextView T A) (other : ContextView T A) (q : Ptr Operation) (left : ContextView T A) : Type 0 where
-    pub reads : ReadsText bytes ctx p after
+module _ {T A : Type 0} (types : ir_text.Ghosts T A) (owns : ir_text.Ghosts A A) (attributes : attr_text.Ghosts A A) (same : A → A → Bool) (bytes : List ℕ) (ctx : ContextView T A) where
+  -- A text was parsed as a root, and the printed text of that root as another one, both from their beginnings. If the layout leaves no
+  -- region out, the second is equal to the first, with nothing filled in but positions. Nothing else in the second context is new.
+  pub record IsAgain (layout : Shown (Unit {0})) (p : Ptr Operation) (after : ContextView T A) (other : ContextView T A) (q : Ptr Operation) (left : ContextView T A) : Type 0 where
+    pub reads : ReadsText (texts_of types.reading types.written) (texts_of owns.reading owns.written) (attr_at owns.reading) bytes ctx p after
     pub graph : Graph T A
     pub sees : seen_root owns.written after p ≡ Some graph
-    pub whole : ComesBackWhole C after.dialects graph q left
+    pub again : ReadsPrinted types owns attributes same after p layout other q left
+    pub whole : ShowsAll types owns attributes same after p layout graph → ComesBackWhole types owns attributes same after p layout other q left graph
     pub only : OnlyNew q other left
 
--- why a text's root is not parsed again: the text was rejected, its root was not printed in this layout, or memory ran out
-abbrev pub IsExcusedAgain : {T A : Type 0} → ir_text.Ghosts T A → ir_text.Ghosts A A → attr_text.Ghosts A A → (A → A → Bool) → List ℕ → ContextView T A → ContextView T A → Shown (Unit {0}) → NotAgain A → Type 0
-IsExcusedAgain types owns attributes same bytes ctx after layout (Refused f) = UnlessMemory (RefusesText (texts_of types.reading types.written) (texts_of owns.reading owns.written) (attr_at owns.reading) bytes ctx types.reading) f
-IsExcusedAgain {T} {A} types owns attributes same bytes ctx after layout (Lost lost) =
-    (p : Ptr Operation) × ReadsText (texts_of types.reading types.written) (texts_of owns.reading owns.written) (attr_at owns.reading) bytes ctx p after × IsExcused types owns attributes same after p layout lost
+  -- Why a text's root is not parsed again: the text was rejected, its root was not printed in this layout, or memory ran out. If the
+  -- layout leaves a region out, the printed text may also be rejected.
+  abbrev pub IsExcusedAgain : ContextView T A → Shown (Unit {0}) → NotAgain A → Type 0
+  IsExcusedAgain after layout (Refused f) = UnlessMemory (RefusesText (texts_of types.reading types.written) (texts_of owns.reading owns.written) (attr_at owns.reading) bytes ctx types.reading) f
+  IsExcusedAgain after layout (Lost lost) =
+      (p : Ptr Operation) × ReadsText (texts_of types.reading types.written) (texts_of owns.reading owns.written) (attr_at owns.reading) bytes ctx p after
+      × ((g : Graph T A) → seen_root owns.written after p ≡ Some g → ShowsAll types owns attributes same after p layout g → IsExcused types owns attributes same after p layout lost)

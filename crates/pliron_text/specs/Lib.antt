@@ -2,8 +2,11 @@
 -- graphs, what is printed of them, what a context holds, and the promises to a caller. Then what functions promise one another:
 -- streams, faults and causes, what a parser returns, what a printer appends.
 pub mod Calls
+pub mod Misfits
+pub mod Older
 pub mod PrintedRoot
 pub mod Promises
+pub mod Unprinted
 pub use Rattle.irtext_base.specs.Answers
 pub use Rattle.irtext_base.specs.Causes
 pub use Rattle.irtext_base.specs.Faults

@@ -1,6 +1,7 @@
 //! The objects of a context, and access to them.
 
 pub use irtext_base::base::{AttrObj, GIVEN_NAMES_KEY, Identifier, OpId, Refusal, SYM_NAME_KEY};
+pub use irtext_base::seed::Seed;
 pub use irtext_checked::access::{TryAccess, TryBlockAccess};
 pub use irtext_checked::contains::ContainsParts;
 pub use irtext_checked::insert::TryInsert;

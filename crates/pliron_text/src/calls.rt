@@ -21,7 +21,7 @@ ghost use Rattle.irtext_names.specs.OnlyNew.{OnlyNew};
 ghost use Rattle.irtext_names.specs.Promises.{BuildsRoot, RefusesRoot};
 ghost use Rattle.irtext_tokens.specs.AttrTexts.{attr_at};
 ghost use Rattle.irtext_grammar.specs.Back.{ClosedRoot};
-ghost use Rattle.pliron_text.specs.Calls.{IsClosed, IsPrinted, ComesBack, ComesBackWhole, ReadsText, RefusesText, IsExcused, IsAgain, IsExcusedAgain};
+ghost use Rattle.pliron_text.specs.Calls.{IsClosed, IsPrinted, ReadsPrinted, ComesBack, ComesBackWhole, ReadsText, RefusesText, IsExcused, IsAgain, IsExcusedAgain};
 
 use irtext_base::location::Source;
 use irtext_base::parsable::{ParseFault, ParseResult, SourcePosition, TextStream};
@@ -152,29 +152,29 @@ fn there_and_back<T: IrText<A>, A: AttrText<A>>(
 ) -> Result<Ptr<Operation>, NotBack<A>>
     requires live { IsSome (operation ctx.now op) }
     requires dialects { other.old.dialects ≡ ctx.now.dialects }
-    ensures back { levels layout.now.limit ≡ None → block_round ctx.now op ≡ None → (g : Graph T A)
-        → seen_root A.written ctx.now op ≡ Some g →
+    ensures reads { IfOk result (λ q. ReadsPrinted T.IrText.own A.IrText.own A.AttrText.own A.eq ctx.now op
+        (fresh layout.now.width layout.now.indent layout.now.limit) other.old q other.new) }
+    ensures back { block_round ctx.now op ≡ None → (g : Graph T A) → seen_root A.written ctx.now op ≡ Some g →
         let C = printing_over ctx.now A.outlined A.print_once A.eq in
+        AllShown (written C (levels layout.now.limit) g) →
         (Fit C (isolated ctx.now.dialects) g → ClosedRoot C (isolated ctx.now.dialects) g) →
-        IfOk result (λ q. ComesBack (texts_of T.reading T.written) (texts_of A.reading A.written)
-        (attr_at A.reading) C
-        ctx.now.dialects g q other.new) }
-    ensures whole { levels layout.now.limit ≡ None → block_round ctx.now op ≡ None → (g : Graph T A)
-        → seen_root A.written ctx.now op ≡ Some g →
+        IfOk result (λ q. ComesBack T.IrText.own A.IrText.own A.AttrText.own A.eq ctx.now op
+        (fresh layout.now.width layout.now.indent layout.now.limit) other.old q other.new g) }
+    ensures whole { block_round ctx.now op ≡ None → (g : Graph T A) → seen_root A.written ctx.now op ≡ Some g →
         let C = printing_over ctx.now A.outlined A.print_once A.eq in
+        AllShown (written C (levels layout.now.limit) g) →
         (Fit C (isolated ctx.now.dialects) g → ClosedRoot C (isolated ctx.now.dialects) g × Named C g) →
-        IfOk result (λ q. ComesBackWhole (texts_of T.reading T.written) (texts_of A.reading A.written)
-        (attr_at A.reading) C
-        ctx.now.dialects g q other.new) }
+        IfOk result (λ q. ComesBackWhole T.IrText.own A.IrText.own A.AttrText.own A.eq ctx.now op
+        (fresh layout.now.width layout.now.indent layout.now.limit) other.old q other.new g) }
     ensures limited { block_round ctx.now op ≡ None → (g : Graph T A) → seen_root A.written ctx.now
         op ≡ Some g →
         let C = printing_over ctx.now A.outlined A.print_once A.eq in
         Fit C (isolated ctx.now.dialects) g → (AllShown (written C (levels layout.now.limit) g) → ⊥)
         → IfOk result (λ q. ⊥) }
     ensures only { IfOk result (λ q. OnlyNew q other.old other.new) }
-    ensures refused { levels layout.now.limit ≡ None → block_round ctx.now op ≡ None → (g : Graph T A)
-        → seen_root A.written ctx.now op ≡ Some g →
+    ensures refused { block_round ctx.now op ≡ None → (g : Graph T A) → seen_root A.written ctx.now op ≡ Some g →
         let C = printing_over ctx.now A.outlined A.print_once A.eq in
+        AllShown (written C (levels layout.now.limit) g) →
         (Fit C (isolated ctx.now.dialects) g → ClosedRoot C (isolated ctx.now.dialects) g) →
         IfErr result (IsExcused T.IrText.own A.IrText.own A.AttrText.own A.eq ctx.now op
         (fresh layout.now.width layout.now.indent layout.now.limit)) }
@@ -197,9 +197,9 @@ fn there_and_back<T: IrText<A>, A: AttrText<A>>(
 /// (as `disp` does if the layout is that of a new state), and parses as `top_level_parse` does.
 ///
 /// If the root is closed and the layout leaves no region out, the returned operation, however deep, is equal to the root up to
-/// fillings, uses inside included. If in addition each block has a label, and everything that has results or arguments holds given
-/// names, only positions are filled in. In both cases an error is one of these: out of memory, an operation does not fit its format, or
-/// an indentation does not fit 16 bits.
+/// fillings, uses inside included, and only white space is left of the printed text. If in addition each block has a label, and
+/// everything that has results or arguments holds given names, only positions are filled in. In both cases an error is one of these: out
+/// of memory, an operation does not fit its format, or an indentation does not fit 16 bits.
 ///
 /// On success only the returned operation and what is inside it is new in the other context. On an error the objects of the other
 /// context are unchanged. If the root is closed, its operations fit and the layout leaves a region out, the call never succeeds.
@@ -211,26 +211,26 @@ pub fn printed_and_read<T: IrText<A>, A: AttrText<A>>(
 ) -> Result<Ptr<Operation>, NotBack<A>>
     requires live { IsSome (operation ctx.now op) }
     requires dialects { other.old.dialects ≡ ctx.now.dialects }
-    ensures back { levels layout.now.limit ≡ None → (g : Graph T A) →
+    ensures reads { IfOk result (λ q. ReadsPrinted T.IrText.own A.IrText.own A.AttrText.own A.eq ctx.now op
+        (fresh layout.now.width layout.now.indent layout.now.limit) other.old q other.new) }
+    ensures back { (g : Graph T A) →
         let C = printing_over ctx.now A.outlined A.print_once A.eq in
-        IsClosed A.written C ctx.now op g →
-        IfOk result (λ q. ComesBack (texts_of T.reading T.written) (texts_of A.reading A.written)
-        (attr_at A.reading) C
-        ctx.now.dialects g q other.new) }
-    ensures whole { levels layout.now.limit ≡ None → (g : Graph T A) →
+        IsClosed A.written C ctx.now op g → AllShown (written C (levels layout.now.limit) g) →
+        IfOk result (λ q. ComesBack T.IrText.own A.IrText.own A.AttrText.own A.eq ctx.now op
+        (fresh layout.now.width layout.now.indent layout.now.limit) other.old q other.new g) }
+    ensures whole { (g : Graph T A) →
         let C = printing_over ctx.now A.outlined A.print_once A.eq in
-        IsClosed A.written C ctx.now op g → Named C g →
-        IfOk result (λ q. ComesBackWhole (texts_of T.reading T.written) (texts_of A.reading A.written)
-        (attr_at A.reading) C
-        ctx.now.dialects g q other.new) }
+        IsClosed A.written C ctx.now op g → AllShown (written C (levels layout.now.limit) g) → Named C g →
+        IfOk result (λ q. ComesBackWhole T.IrText.own A.IrText.own A.AttrText.own A.eq ctx.now op
+        (fresh layout.now.width layout.now.indent layout.now.limit) other.old q other.new g) }
     ensures limited { (g : Graph T A) →
         let C = printing_over ctx.now A.outlined A.print_once A.eq in
         IsClosed A.written C ctx.now op g → Fit C (isolated ctx.now.dialects) g →
         (AllShown (written C (levels layout.now.limit) g) → ⊥) → IfOk result (λ q. ⊥) }
     ensures only { IfOk result (λ q. OnlyNew q other.old other.new) }
-    ensures refused { levels layout.now.limit ≡ None → (g : Graph T A) →
+    ensures refused { (g : Graph T A) →
         let C = printing_over ctx.now A.outlined A.print_once A.eq in
-        IsClosed A.written C ctx.now op g →
+        IsClosed A.written C ctx.now op g → AllShown (written C (levels layout.now.limit) g) →
         IfErr result (IsExcused T.IrText.own A.IrText.own A.AttrText.own A.eq ctx.now op
         (fresh layout.now.width layout.now.indent layout.now.limit)) }
     ensures objects { OnErr result (SameObjects other.old other.new) }
@@ -239,22 +239,19 @@ pub fn printed_and_read<T: IrText<A>, A: AttrText<A>>(
     there_and_back(ctx, op, layout, other)
 }
 
-/// Parses a text, prints the root, and parses the printed text in another context with the same dialects. The layout must not limit the
-/// depth of regions. On success returns both roots. The second is equal to the first, with a position if a location was unknown, and
-/// with no name and no label filled in. An error is one of these: the text is rejected, out of memory, an operation does not fit its
-/// format, or an indentation does not fit 16 bits.
+/// Parses a text, prints the root, and parses the printed text in another context with the same dialects. On success returns both
+/// roots. If the layout leaves no region out, the second is equal to the first, with a position if a location was unknown, and with no
+/// name and no label filled in. Then an error is one of these: the text is rejected, out of memory, an operation does not fit its
+/// format, or an indentation does not fit 16 bits. If the layout leaves a region out, the printed text may also be rejected.
 pub fn read_printed_and_read<T: IrText<A>, A: AttrText<A>>(
     text: &str,
     ctx: &mut Context<T, A>,
     layout: &PrintState<()>,
     other: &mut Context<T, A>,
 ) -> Result<(Ptr<Operation>, Ptr<Operation>), NotAgain<A>>
-    requires unlimited { levels layout.now.limit ≡ None }
     requires dialects { other.old.dialects ≡ ctx.old.dialects }
-    ensures again { IfOk result (λ r. IsAgain (texts_of T.reading T.written) (texts_of A.reading A.written)
-        (attr_at A.reading)
-        (printing_over ctx.new A.outlined A.print_once A.eq) text.now ctx.old r.0 ctx.new other.old
-        r.1 other.new) }
+    ensures again { IfOk result (λ r. IsAgain T.IrText.own A.IrText.own A.AttrText.own A.eq text.now ctx.old
+        (fresh layout.now.width layout.now.indent layout.now.limit) r.0 ctx.new other.old r.1 other.new) }
     ensures refused { IfErr result (IsExcusedAgain T.IrText.own A.IrText.own A.AttrText.own A.eq text.now
         ctx.old ctx.new
         (fresh layout.now.width layout.now.indent layout.now.limit)) }

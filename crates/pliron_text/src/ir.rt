@@ -1,5 +1,7 @@
 //! Operations, blocks and regions as text.
 
+pub mod misfit;
+pub mod printing;
 mod text;
 
 pub use irtext_checked::context::keeps_parts;
@@ -10,4 +12,6 @@ pub use irtext_print_ir::ir::print::{
 };
 pub use irtext_print_ir::ir::verify::{BasicBlockVerifyErr, DefUseVerifyErr};
 pub use irtext_print_ops::fits::{FitFault, check_fits};
+pub use misfit::first_misfit;
+pub use printing::{Misfit, PrintError, ToText};
 pub use text::OperationText;

@@ -37,6 +37,7 @@ pub mod entries;
 pub mod headline;
 pub mod locations;
 pub mod nested;
+pub mod older;
 
 use irtext_base::text::{AttrText, IrText};
 

@@ -5,6 +5,7 @@ ghost use Rattle.irtext_base.specs.Paths.{path_index, with_path, MayBeRefused};
 
 use crate::location::PathKey;
 use irtext_interner::Interner;
+use irtext_interner::seed::Seed;
 use std::alloc::{AllocError, Global};
 use std::marker::Model;
 
@@ -62,12 +63,12 @@ fn as_index(index: usize) -> Result<u32, AllocError>
 }
 
 impl Paths {
-    /// Returns an empty set. It allocates nothing yet.
-    pub fn new(alloc: Global) -> Paths
+    /// Returns an empty set, in which paths are found by hashes with this seed. It allocates nothing yet.
+    pub fn new(alloc: Global, seed: Seed) -> Paths
         ensures { result ≡ [] }
     {
         Paths {
-            texts: Interner::new(alloc),
+            texts: Interner::new(alloc, seed),
         }
     }
 

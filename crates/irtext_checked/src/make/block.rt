@@ -31,7 +31,7 @@ pub trait NewBlock {
         ensures kind { IfErr result (λ e. (e.kind ≡ ErrorKind.InvalidArgument) × (e.loc ≡ Unknown)) }
         ensures kept { (mark : ℕ) → mark ≤ ctx.old.graph.made → KeepsOlder mark ctx.old ctx.new }
     {
-        let attributes = AttributeDict::new(ctx.allocator());
+        let attributes = AttributeDict::with_seed(ctx.allocator(), ctx.seed());
         match ctx.make_block(label, attributes, Location::Unknown, arg_types) {
             Ok(p) => Ok(p),
             Err(AllocError) => Err(invalid(Cause::Memory)),

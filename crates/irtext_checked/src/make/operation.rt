@@ -55,7 +55,7 @@ fn make<T: IrText<A>, A: AttrText<A>>(
         operands.now successors.now) }
     ensures kept { (mark : ℕ) → mark ≤ ctx.old.graph.made → KeepsOlder mark ctx.old ctx.new }
 {
-    let attributes = AttributeDict::new(ctx.allocator());
+    let attributes = AttributeDict::with_seed(ctx.allocator(), ctx.seed());
     let op = ctx.make_operation_with(
         id,
         attributes,

@@ -17,6 +17,7 @@ mod others;
 
 pub use copy::is_outlined;
 use irtext_base::base::{AttrObj, GIVEN_NAMES_KEY, Identifier, Refusal};
+use irtext_base::seed::Seed;
 use others::Others;
 use std::alloc::Global;
 use std::marker::Model;
@@ -134,13 +135,21 @@ fn move_up<A>(given: &mut Option<Given<A>>, gone: usize)
 }
 
 impl<A: Drop> AttributeDict<A> {
-    /// Returns an empty dictionary. It allocates nothing yet.
+    /// Returns an empty dictionary, in which keys are found by hashes with a fixed seed if they are many. It allocates nothing yet.
     pub fn new(alloc: Global) -> Self
+        ensures { result ≡ [] }
+    {
+        AttributeDict::with_seed(alloc, Seed::FIXED)
+    }
+
+    /// Returns an empty dictionary, in which keys are found by hashes with this seed if they are many: a context's own, if the keys come
+    /// from a text. It allocates nothing yet.
+    pub fn with_seed(alloc: Global, seed: Seed) -> Self
         ensures { result ≡ [] }
     {
         AttributeDict {
             given: None,
-            others: Others::new(alloc),
+            others: Others::new(alloc, seed),
         }
     }
 
@@ -171,6 +180,7 @@ impl<A: Drop> AttributeDict<A> {
     /// Puts an attribute under a key: in place of the one that is there, or else as the last entry. If the key is `builtin_given_names` and
     /// the attribute is not `GivenNames`, the error is `ReservedKey` with the key. For any other key, the error is `Memory` when out of
     /// memory. On an error the dictionary is unchanged. Given names under their key need no allocation, and never fail.
+    #[inline(always)]
     pub fn insert(&mut self, key: Identifier, attr: AttrObj<A>) -> Result<(), Refusal>
         ensures entries { OnOk result (self.new ≡ insert_entry bytes_eq self.old key attr) }
         ensures allowed { OnOk result (is_reserved_for key attr ≡ false) }
@@ -202,6 +212,7 @@ impl<A: Drop> AttributeDict<A> {
     }
 
     /// Returns the entry at an index, from 0, in the order in which the keys were inserted; or `None` if there are fewer entries.
+    #[inline(always)]
     pub fn get_index(&self, index: usize) -> Option<(&Identifier, &AttrObj<A>)>
         ensures { option_map deref_pair result ≡ slice_get self.now index }
     {

@@ -13,6 +13,7 @@ use crate::base::{BasicBlock, Operation, Ptr, Region};
 use crate::dialect::{Dialect, DialectName};
 use indexmap::IndexMap;
 use irtext_base::location::paths::Paths;
+use irtext_base::seed::Seed;
 use irtext_base::text::{AttrText, IrText};
 use irtext_graph::graph::Graph;
 use irtext_graph::held::{HasGraph, Kind};
@@ -27,7 +28,8 @@ use std::marker::Model;
 pub struct Context<T, A> {
     pub(crate) graph: Graph<Option<OperationData<A>>, BlockData<A>, Option<T>>,
     paths: Paths,
-    pub(crate) dialects: IndexMap<DialectName, Dialect>,
+    pub(crate) dialects: IndexMap<DialectName, Dialect, Seed>,
+    seed: Seed,
     alloc: Global,
 }
 
@@ -37,6 +39,7 @@ impl<T: Drop, A: Drop> Drop for Context<T, A> {
             graph: _graph,
             paths: _paths,
             dialects: _dialects,
+            seed: _,
             alloc: _,
         } = self;
     }
@@ -82,11 +85,26 @@ impl<T: Drop, A: Drop> HasGraph for Context<T, A> {
 }
 
 impl<T: IrText<A>, A: AttrText<A>> Context<T, A> {
-    /// Makes a context without objects and dialects. It allocates nothing.
+    /// Makes a context without objects and dialects. Its seed is [`Seed::FIXED`]: whoever writes a text can choose names for which a parse
+    /// takes much longer than for others. It allocates nothing.
     pub fn new(alloc: Global) -> Context<T, A>
         ensures { result ≡ record { graph = empty; paths = []; dialects = [] } }
     {
-        Context::with_counters(alloc, 0, 1)
+        Context::with_seed(alloc, Seed::FIXED)
+    }
+
+    /// Makes a context without objects and dialects. Hashes with this seed find names, paths, attributes and marks. No text that is printed,
+    /// no order and no error depends on it. It allocates nothing.
+    pub fn with_seed(alloc: Global, seed: Seed) -> Context<T, A>
+        ensures { result ≡ record { graph = empty; paths = []; dialects = [] } }
+    {
+        Context {
+            graph: Graph::new(alloc),
+            paths: Paths::new(alloc, seed),
+            dialects: IndexMap::with_hasher(alloc, seed),
+            seed,
+            alloc,
+        }
     }
 
     /// Makes a context without objects and dialects. Its next value gets the number `values`, and the numbers of its slots start at
@@ -98,10 +116,16 @@ impl<T: IrText<A>, A: AttrText<A>> Context<T, A> {
     {
         Context {
             graph: Graph::with_counters(alloc, values, places),
-            paths: Paths::new(alloc),
-            dialects: IndexMap::new(alloc),
+            paths: Paths::new(alloc, Seed::FIXED),
+            dialects: IndexMap::with_hasher(alloc, Seed::FIXED),
+            seed: Seed::FIXED,
             alloc,
         }
+    }
+
+    /// The seed of the context's hashes, for the tables of whoever parses a text into the context.
+    pub fn seed(&self) -> Seed {
+        self.seed
     }
 
     /// The allocator of the context's objects.

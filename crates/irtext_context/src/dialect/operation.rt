@@ -19,6 +19,7 @@ use irtext_base::base::{Identifier, OpId};
 use irtext_base::format::OpFormat;
 use irtext_base::result;
 use irtext_base::result::{Cause, ErrorKind};
+use irtext_base::seed::Seed;
 use irtext_base::text::{AttrText, IrText};
 use irtext_format_check::format::check_format;
 use std::alloc::{AllocError, Global};
@@ -79,7 +80,7 @@ fn dialect_with<A>(
 
 /// Appends a dialect that has only this operation. On an error the entries are unchanged.
 fn put_first<A>(
-    dialects: &mut IndexMap<DialectName, Dialect>,
+    dialects: &mut IndexMap<DialectName, Dialect, Seed>,
     alloc: Global,
     id: OpId,
     format: OpFormat,
@@ -103,7 +104,7 @@ fn put_first<A>(
 }
 
 /// Returns the index of the dialect that is registered under the name, if there is one.
-fn index_of(dialects: &IndexMap<DialectName, Dialect>, name: &Identifier) -> Option<usize>
+fn index_of(dialects: &IndexMap<DialectName, Dialect, Seed>, name: &Identifier) -> Option<usize>
     ensures found { IfSome result (λ i. IsKeptAt dialects.now.entries name.now i dialects.now.entries) }
     ensures none { result ≡ None → lookup (bytes_eq name.now) dialects.now.entries ≡ None }
 {

@@ -17,6 +17,7 @@ use indexmap::IndexMap;
 use irtext_base::base::{Identifier, OpId};
 use irtext_base::result;
 use irtext_base::result::{Cause, ErrorKind};
+use irtext_base::seed::Seed;
 use irtext_base::text::{AttrText, IrText};
 use std::alloc::{AllocError, Global};
 
@@ -36,7 +37,7 @@ pub(crate) fn empty(
 
 /// Appends a dialect. If an allocation fails, the entries are unchanged.
 pub(crate) fn put_last(
-    dialects: &mut IndexMap<DialectName, Dialect>,
+    dialects: &mut IndexMap<DialectName, Dialect, Seed>,
     key: DialectName,
     dialect: Dialect,
 ) -> Result<(), AllocError>
@@ -51,7 +52,7 @@ pub(crate) fn put_last(
 /// Returns the index of the dialect with this name. Appends one without operations if there is none. If an allocation fails, the entries
 /// are unchanged.
 fn keep(
-    dialects: &mut IndexMap<DialectName, Dialect>,
+    dialects: &mut IndexMap<DialectName, Dialect, Seed>,
     alloc: Global,
     name: &DialectName,
 ) -> Result<usize, AllocError>
@@ -69,7 +70,7 @@ fn keep(
 
 /// Looks up the dialect with this name. The index that the name carries as a hint is tried first.
 fn dialect_by<'d>(
-    dialects: &'d IndexMap<DialectName, Dialect>,
+    dialects: &'d IndexMap<DialectName, Dialect, Seed>,
     name: &Identifier,
 ) -> Option<&'d Dialect>
     ensures { option_copied result ≡ lookup (bytes_eq name.now) dialects.now.entries }

@@ -110,6 +110,10 @@ run_script (within iso a body k) st =
     (run_region a (events body) (λ s. failures s body) (facts body) (λ s. run_script body s) iso st)
     (run_script k (after st (outward iso (facts body))))
 
+-- from any state
+pub one_pass_from : (st : State) (x : Script) → run (going st) (events x) ≡ outcome (failures (scopes_of st) x) (after st (facts x))
+one_pass_from st x = (run_script x st).so
+
 -- the start's scopes are none
 pub one_pass : (x : Script) → run (going start) (events x) ≡ outcome (failures (scopes_of start) x) (after start (facts x))
-one_pass x = (run_script x start).so
+one_pass x = one_pass_from start x

@@ -6,6 +6,7 @@ ghost use Rattle.irtext_parse_state.specs.Numbered.{all_numbered};
 ghost use Rattle.irtext_parse_state.specs.States.{same_index, Notes};
 
 use indexmap::IndexMap;
+use irtext_base::seed::Seed;
 use std::alloc::{AllocError, Global};
 use std::marker::Model;
 
@@ -14,7 +15,7 @@ pub struct Numbered<X> {
     // the item at a position has that position as its index
     dense: Vec<X>,
     // all of these were recorded after the items in `dense`
-    others: IndexMap<usize, X>,
+    others: IndexMap<usize, X, Seed>,
 }
 
 impl<X: Drop> Drop for Numbered<X> {
@@ -39,7 +40,7 @@ impl<X> Model for Numbered<X> {
 /// Records an item after the others. On an error nothing is recorded.
 fn note_last<X: Drop>(
     dense: &mut Vec<X>,
-    others: &mut IndexMap<usize, X>,
+    others: &mut IndexMap<usize, X, Seed>,
     index: usize,
     item: X,
 ) -> Result<(), AllocError>
@@ -58,13 +59,13 @@ fn note_last<X: Drop>(
 }
 
 impl<X: Drop> Numbered<X> {
-    /// Makes an empty collection. It allocates nothing.
-    pub fn new(alloc: Global) -> Numbered<X>
+    /// Makes an empty collection, in which items are found by hashes with this seed from the first gap on. It allocates nothing.
+    pub fn new(alloc: Global, seed: Seed) -> Numbered<X>
         ensures { result ≡ [] }
     {
         Numbered {
             dense: Vec::new(alloc),
-            others: IndexMap::new(alloc),
+            others: IndexMap::with_hasher(alloc, seed),
         }
     }
 

@@ -38,7 +38,7 @@ impl<'c, T: IrText<A>, A: AttrText<A>, U> State<'c, T, A, U> {
         ensures aux_data { result.aux_data ≡ aux_data }
         ensures fresh { marks_of result ≡ [] }
     {
-        let marks = Numbered::new(ctx.allocator());
+        let marks = Numbered::new(ctx.allocator(), ctx.seed());
         State {
             ctx,
             src,

@@ -1,8 +1,8 @@
 //! Runs a parser on a text in memory, or on the characters of an iterator.
-ghost use Rattle.std.specs.Prelude.{◌≡◌, ◌⊎◌, ℕ, List, IfOk};
+ghost use Rattle.std.specs.Prelude.{◌≡◌, ◌⊎◌, ℕ, List, IfOk, string_bytes};
 ghost use Rattle.std.specs.Iterator.{Drains, IsFinite};
 ghost use Rattle.std.specs.Str.{encode_utf8_all};
-ghost use Rattle.irtext_parse_state.specs.FromText.{at_beginning, IsCauseOf, IsErrorOf, IsOutOfMemory, Passes, Runs, Ran};
+ghost use Rattle.irtext_parse_state.specs.FromText.{at_beginning, Begins, IsCauseOf, IsErrorOf, IsOutOfMemory, Passes, Runs, Ran};
 
 use crate::parsable::{State, StateStream};
 use irtext_base::location::{Location, Source};
@@ -47,7 +47,7 @@ fn run_on<T, A, R, F: FnOnce(&mut StateStream<'_, T, A, ()>) -> R>(
 where
     T: IrText<A>,
     A: AttrText<A>,
-    requires callable { (s : _) → F.pre parse s }
+    requires callable { (s : _) → Begins stream ctx.old s.now → F.pre parse s }
     requires lent { (s : _) (answer : R) (t : _) → F.post parse s answer t
         → t.now.state.ctx.ghost_name ≡ s.now.state.ctx.ghost_name }
     ensures { Runs (F.post parse) stream ctx.old result ctx.new }
@@ -114,14 +114,38 @@ where
     T: IrText<A>,
     A: AttrText<A>,
     R: ParseAnswer,
-    requires callable { (s : _) → F.pre parse s }
+    requires callable { (s : _) → Begins (at_beginning text.now) ctx.old s.now → F.pre parse s }
     requires lent { (s : _) (answer : R) (t : _) → F.post parse s answer t
         → t.now.state.ctx.ghost_name ≡ s.now.state.ctx.ghost_name }
     ensures { Ran R.passes (F.post parse) text.now ctx.old result ctx.new ⊎ (R.ran_out result
         × (ctx.new ≡ ctx.old)) }
 {
+    let Ok(text) = String::from_str(ctx.allocator(), text) else {
+        return R::no_memory();
+    };
+    parse_from_string(parse, ctx, text)
+}
+
+/// Does what `parse_from_str` does, on a text that it takes: the text is not copied, and is dropped before the call returns. If there is no
+/// memory for the table of the text's lines, the parser does not run: the error is `Memory`, of kind invalid argument without a location,
+/// and the context is unchanged.
+pub fn parse_from_string<T, A, R, F: FnOnce(&mut StateStream<'_, T, A, ()>) -> R>(
+    parse: F,
+    ctx: &mut Context<T, A>,
+    text: String,
+) -> R::Answer
+where
+    T: IrText<A>,
+    A: AttrText<A>,
+    R: ParseAnswer,
+    requires callable { (s : _) → Begins (at_beginning (string_bytes text)) ctx.old s.now → F.pre parse s }
+    requires lent { (s : _) (answer : R) (t : _) → F.post parse s answer t
+        → t.now.state.ctx.ghost_name ≡ s.now.state.ctx.ghost_name }
+    ensures { Ran R.passes (F.post parse) (string_bytes text) ctx.old result ctx.new ⊎ (R.ran_out result
+        × (ctx.new ≡ ctx.old)) }
+{
     let alloc = ctx.allocator();
-    let Ok(stream) = TextStream::new(alloc, text) else {
+    let Ok(stream) = TextStream::from_string(alloc, text) else {
         return R::no_memory();
     };
     let answer = run_on(stream, ctx, parse);
@@ -139,7 +163,7 @@ fn stream_of<I: Iterator<Item = char>>(
         × (stream ≡ at_beginning (encode_utf8_all items))) }
 {
     let text: String = iterator.collect(alloc)?;
-    TextStream::new(alloc, text.as_str())
+    TextStream::from_string(alloc, text)
 }
 
 /// Makes a stream of the characters of a finite iterator, which are collected first. Fails only if an allocation fails.
@@ -155,6 +179,7 @@ pub fn state_stream_from_iterator<
 ) -> std::result::Result<StateStream<'c, T, A, U>, AllocError>
     requires can { I.can_next iterator }
     requires finite { IsFinite (I.remaining iterator) }
+    ensures same_reference { IfOk result (λ s. s.state.ctx.ghost_name ≡ state.entry.ctx.ghost_name) }
     ensures text { IfOk result (λ s. (items : List ℕ) × Drains I.next_gives iterator items
         × (s.stream ≡ at_beginning (encode_utf8_all items))) }
     ensures state { IfOk result (λ s. s.state ≡ state.entry) }

@@ -1,7 +1,7 @@
 //! The checks that need a context, and the one place where it is made for them.
 use crate::tests::dialects_page;
 use crate::tests::layer::{checked, dialects, graphs, macros, reexports};
-use crate::tests::parse::{errors, location_readings, outside, refused};
+use crate::tests::parse::{errors, location_readings, outside, refused, regions};
 use crate::tests::value::{is_done, value_of};
 use irtext_demo::dialects::register_demo;
 use irtext_tests_common::contexts::{Ctx, with_counters};
@@ -32,6 +32,8 @@ pub(crate) enum Check<'t> {
     Objects,
     /// A row of the results that are named outside of regions.
     Outside(usize),
+    /// Regions, and the section after them.
+    Regions,
     /// A text that is no root.
     Refused,
     /// The example of docs/DIALECTS.md.
@@ -83,6 +85,7 @@ fn make_in_demo(rt: &impl Abort, alloc: Global, ctx: &mut Ctx, check: Check<'_>)
         Check::Roots => graphs::check(rt, alloc, ctx),
         Check::Objects => reexports::check(rt, alloc, ctx),
         Check::Outside(row) => outside::check(rt, alloc, ctx, row),
+        Check::Regions => regions::check(rt, alloc, ctx),
         Check::Refused => refused::check(rt, alloc, ctx),
         _ => dialects_page::check(rt, alloc, ctx),
     }

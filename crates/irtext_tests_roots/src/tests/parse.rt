@@ -5,4 +5,5 @@ pub(crate) mod location_readings;
 mod markers;
 pub(crate) mod outside;
 pub(crate) mod refused;
+pub(crate) mod regions;
 mod values;

@@ -2,7 +2,7 @@
 use irtext_demo::dialects::register_demo;
 use irtext_demo::{DemoAttr, DemoType};
 use pliron_text::base::{Context, Operation};
-use pliron_text::ir::OperationText;
+use pliron_text::ir::{OperationText, ToText};
 use pliron_text::parsable::parse_from_str;
 use pliron_text::printable::Disp;
 use pliron_text::result::Result as Answer;
@@ -11,8 +11,7 @@ use std::io;
 fn formatted(ctx: &mut Context<DemoType, DemoAttr>, text: &str) -> Answer<String, DemoAttr> {
     register_demo(ctx)?;
     let root = parse_from_str(|s| Operation::top_level_parse(s), ctx, text)?;
-    let ctx: &Context<DemoType, DemoAttr> = ctx;
-    Ok(format!(in ctx.allocator(); "{}", root.disp(ctx))?)
+    Ok(root.to_text(ctx)?)
 }
 
 fn main(rt: HostRuntime) -> io::Result<()> {
@@ -35,4 +34,19 @@ fn the_program_of_the_readme_prints_a_text(rt: HostRuntime) {
     let answer = formatted(&mut ctx, "builtin.module @m { }");
     same(&rt, told(&rt, rt.alloc(), answer), PRINTED);
     is_done(main(rt));
+}
+
+/// A module with an attribute that its format does not print.
+const MISFIT: &str =
+    "builtin.module @m { } !0\n\noutlined_attributes:\n!0 = @[?], [note = builtin.string \"x\"]\n";
+
+#[test]
+fn the_program_of_the_readme_tells_a_misfit(rt: HostRuntime) {
+    let mut ctx = Context::new(rt.alloc());
+    let answer = formatted(&mut ctx, MISFIT);
+    same(
+        &rt,
+        told(&rt, rt.alloc(), answer),
+        "Compilation error: invalid argument.\nOperation builtin.module does not fit its format: The format does not write the attribute note",
+    );
 }

@@ -118,6 +118,14 @@ pub fn read_root_is_closed<T: IrText<A>, A: AttrText<A>>()
         HeldWhole types owns (attr_at A.reading) C isolated g rest held }
 {}
 
+/// Without a limit no region is left out, and a limit that leaves no region out prints what no limit does.
+pub fn limit_that_shows_all<T: IrText<A>, A: AttrText<A>>()
+    ensures unlimited { (C : Printing T A) (g : Graph T A) → AllShown (written C None g) }
+    ensures same { (C : Printing T A) (g : Graph T A) (n width : ℕ) (limit : Limit) →
+        let L = unplaced (texts_of T.reading T.written) (texts_of A.reading A.written) C.format_of in
+        AllShown (written C limit g) → text L C g n width limit ≡ text L C g n width None }
+{}
+
 /// A root that satisfies `SelfContained` is closed if no two of its values or blocks are the same, as in every context.
 pub fn root_alone_is_closed<T, A>()
     ensures { (C : Printing T A) (isolated : Id → Bool) (g : Graph T A) → SelfContained C isolated g

@@ -16,7 +16,7 @@ use irtext_base::text::{AttrText, IrText};
 use irtext_checked::context::keeps_parts;
 use irtext_context::base::Context;
 
-/// What is printed of a closed root of a context, with its section and without a limit that elides regions, is parsed back from its bytes
+/// What is printed of a closed root of a context, with its section and under no limit that elides a region, is parsed back from its bytes
 /// in any context with the same dialects. Each root that is returned is equal to the printed one up to fillings, with the same uses
 /// inside, and only white space is left of the text. If each block has a label, and each operation with results and each block with
 /// arguments has given names, nothing is filled in but positions. And it is no text that is rejected (`RefusesRoot`). `keeps_parts`

@@ -31,7 +31,7 @@ impl<A: AttrText<A>> AttributeDict<A> {
     {
         self.keeps_keys();
         let alloc = self.others.allocator();
-        let mut others = Others::new(alloc);
+        let mut others = self.others.none_of();
         for (key, attr) in self.iter() {
             if !is_outlined(attr) {
                 others.put(key.clone()?, attr.try_clone(alloc)?)?;

@@ -10,6 +10,7 @@ ghost use Rattle.irtext_context.specs.Others.{entries_of, IsFew};
 
 use indexmap::IndexMap;
 use irtext_base::base::{AttrObj, Identifier};
+use irtext_base::seed::Seed;
 use std::alloc::{AllocError, Global};
 use std::marker::Model;
 
@@ -18,7 +19,7 @@ const FEW: usize = 8;
 
 type Entry<A> = (Identifier, AttrObj<A>);
 
-type Table<A> = IndexMap<Identifier, AttrObj<A>>;
+type Table<A> = IndexMap<Identifier, AttrObj<A>, Seed>;
 
 #[derive(Drop)]
 enum Stored<A> {
@@ -31,6 +32,7 @@ enum Stored<A> {
 pub(crate) struct Others<A> {
     stored: Stored<A>,
     alloc: Global,
+    seed: Seed,
 }
 
 impl<A> Model for Others<A> {
@@ -100,11 +102,11 @@ fn put_within<A: Drop>(map: &mut Table<A>, key: Identifier, attr: AttrObj<A>)
 }
 
 /// Returns an empty map with room for one entry more than `FEW`.
-fn roomy<A: Drop>(alloc: Global) -> Result<Box<Table<A>>, AllocError>
+fn roomy<A: Drop>(alloc: Global, seed: Seed) -> Result<Box<Table<A>>, AllocError>
     ensures empty { IfOk result (λ map. map.value.entries ≡ []) }
     ensures spare { IfOk result (λ map. 9 ≤ spare map.value) }
 {
-    let map = IndexMap::with_capacity(alloc, FEW + 1)?;
+    let map = IndexMap::with_capacity_and_hasher(alloc, FEW + 1, seed)?;
     Ok(Box::new(alloc, map)?)
 }
 
@@ -123,6 +125,7 @@ fn put_all<A: Drop>(map: &mut Table<A>, entries: Vec<Entry<A>>)
 fn widened<A: Drop>(
     few: &mut Vec<Entry<A>>,
     alloc: Global,
+    seed: Seed,
     key: Identifier,
     attr: AttrObj<A>,
 ) -> Result<Box<Table<A>>, AllocError>
@@ -131,7 +134,7 @@ fn widened<A: Drop>(
     ensures ok { IfOk result (λ map. map.value.entries ≡ insert_entry bytes_eq few.old.items key attr) }
     ensures err { OnErr result (few.new.items ≡ few.old.items) }
 {
-    let mut map = roomy(alloc)?;
+    let mut map = roomy(alloc, seed)?;
     put_all(&mut map, std::mem::replace(few, Vec::new(alloc)));
     put_within(&mut map, key, attr);
     Ok(map)
@@ -149,6 +152,7 @@ fn replace<A: Drop>(few: &mut Vec<Entry<A>>, place: usize, key: &Identifier, att
 fn put<A: Drop>(
     stored: &mut Stored<A>,
     alloc: Global,
+    seed: Seed,
     key: Identifier,
     attr: AttrObj<A>,
 ) -> Result<(), AllocError>
@@ -171,7 +175,7 @@ fn put<A: Drop>(
         few.push((key, attr))?;
         return Ok(());
     }
-    let map = widened(few, alloc, key, attr)?;
+    let map = widened(few, alloc, seed, key, attr)?;
     *stored = Stored::Many(map);
     Ok(())
 }
@@ -193,14 +197,22 @@ fn take<A: Drop>(stored: &mut Stored<A>, key: &Identifier) -> Option<(usize, Att
 }
 
 impl<A: Drop> Others<A> {
-    /// Returns an empty list of entries. It allocates nothing yet.
-    pub(crate) fn new(alloc: Global) -> Self
+    /// Returns an empty list of entries, of which more than `FEW` are found by hashes with this seed. It allocates nothing yet.
+    pub(crate) fn new(alloc: Global, seed: Seed) -> Self
         ensures { result ≡ [] }
     {
         Others {
             stored: Stored::Few(Vec::new(alloc)),
             alloc,
+            seed,
         }
+    }
+
+    /// Returns an empty list of entries with the same allocator and the same seed. It allocates nothing yet.
+    pub(crate) fn none_of(&self) -> Self
+        ensures { result ≡ [] }
+    {
+        Others::new(self.alloc, self.seed)
     }
 
     /// The allocator of the entries.
@@ -214,7 +226,7 @@ impl<A: Drop> Others<A> {
         ensures ok { OnOk result (self.new ≡ insert_entry bytes_eq self.old key attr) }
         ensures err { OnErr result (self.new ≡ self.old) }
     {
-        put(&mut self.stored, self.alloc, key, attr)
+        put(&mut self.stored, self.alloc, self.seed, key, attr)
     }
 
     /// Returns the attribute under the key with this text, or `None` if there is none.

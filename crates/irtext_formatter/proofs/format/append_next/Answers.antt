@@ -1,7 +1,7 @@
 use Rattle.std.proofs.Common.{◌∙◌, subst}
 use Rattle.irtext_print_ops.specs.Heads as heads
 use Rattle.pliron_text.specs.Calls.{IsPrinted}
-use Rattle.irtext_formatter.specs.Layouts.{plain}
+use Rattle.pliron_text.specs.Unprinted.{plain}
 use Rattle.irtext_formatter.specs.Stands.{place_of, held_by}
 use Rattle.irtext_formatter.specs.Unprinted.{IsReason}
 use Rattle.irtext_formatter.proofs.Stepping.{stopped_here, has_root, goes_on, shorter_still}

@@ -7,7 +7,7 @@ use Rattle.irtext_parse_locations.proofs.together.copied.Goals as goal
 
 pub loop-key-init : goal.loop-key-init
 loop-key-init g c =
-    ap (λ z. entries_of z ++ entries_of (entries_left c.into_iter-key-iterator.result)) c.new-copy.ensures
+    ap (λ z. entries_of z ++ entries_of (entries_left c.into_iter-key-iterator.result)) c.with_seed-copy.ensures
     ∙ ap entries_of (ap entries_left c.into_iter-key-iterator.ensures.into_iter_gives ∙ c.iter-key-items.ensures)
 
 pub loop-key-preserved : goal.loop-key-preserved

@@ -1,15 +1,18 @@
-use Rattle.std.proofs.Common.{refl, sym, ap, subst, le_refl, inr}
+use Rattle.std.proofs.Common.{◌≡◌, None, refl, sym, ap, subst, le_refl, inr}
 use Rattle.irtext_graph.proofs.Made.{same_keeps}
 use Rattle.irtext_names.specs.Alone as alone
+use Rattle.irtext_names.specs.Alone.{BuildsRegion}
 use Rattle.irtext_tokens.specs.AttrTexts.{attr_at}
 use Rattle.irtext_grammar.specs.Readers.Refusals.{Refusal}
 use Rattle.irtext_parse_nested.proofs.Marking.{gains_nothing}
 use Rattle.irtext_parse_root.specs.AnyRegion as any
+use Rattle.irtext_parse_root.specs.Parses.{texts}
+use Rattle.irtext_parse_root.specs.Region.{unisolated}
 use Rattle.irtext_parse_root.proofs.Laws.{Laws, laws_of}
 use Rattle.irtext_parse_root.proofs.Fresh.{fresh_sound, keeps_all}
 use Rattle.irtext_parse_root.proofs.Refused.{refusal_by}
 use Rattle.irtext_parse_root.proofs.RegionReads.{builds_region}
-use Rattle.irtext_parse_root.proofs.RegionRefused.{reported, unreported, refused_unisolated, closed_as, closed_id, says_region, region_read, misses_region, refuses_region}
+use Rattle.irtext_parse_root.proofs.RegionRefused.{reported, unreported, refused_unisolated, closed_as, closed_id, says_region, region_came, misses_region, refuses_region}
 use Rattle.irtext_parse_root.proofs.region.alone_parse.Given as given
 use Rattle.irtext_parse_root.proofs.region.alone_parse.Goals as goal
 
@@ -36,25 +39,25 @@ returns-in-Some-clause-answers g c =
 
 -- ---- it is
 pub region_parse-requires-clause-sound : goal.region_parse-requires-clause-sound
-region_parse-requires-clause-sound g c = fresh_sound c.new-names.result c.args.s.now.state c.new-names.ensures.names c.new-names.ensures.values c.new-names.ensures.labels c.context_keeps.ensures.older
+region_parse-requires-clause-sound g c = fresh_sound c.with_seed-names.result c.args.s.now.state c.with_seed-names.ensures.names c.with_seed-names.ensures.values c.with_seed-names.ensures.labels c.context_keeps.ensures.older
 
 pub returns-in-Err-clause-undone : goal.returns-in-Err-clause-undone
 returns-in-Err-clause-undone g c =
-    let e = c.new-names.ensures in
+    let e = c.with_seed-names.ensures in
     let f = c.in-Err.ensures in
-    let says = says_region g.T.IrText.reading g.A.IrText.reading g.met.T.IrText.sincere g.met.A.IrText.sincere c.new-names.result c.args.s.now e.names e.values e.labels c.args.parent c.in-Err.fault f.refused in
+    let says = says_region g.T.IrText.reading g.A.IrText.reading g.met.T.IrText.sincere g.met.A.IrText.sincere c.with_seed-names.result c.args.s.now e.names e.values e.labels c.args.parent c.in-Err.fault f.refused in
     rw c.refused.ensures.same (record {
       rest = f.rest;
       refused = subst (Refusal c.args.s.now.stream c.in-Err.fault) (sym c.refused.ensures.fails) (refusal_by c.args.s.now.stream c.region_parse.new.s.stream c.in-Err.fault says f.unread);
       noted = f.unnoted;
-      kept = keeps_all c.new-names.result c.args.s.now.state e.names e.values e.labels c.context_keeps.ensures.older c.context_keeps.ensures.closed f.kept;
+      kept = keeps_all c.with_seed-names.result c.args.s.now.state e.names e.values e.labels c.context_keeps.ensures.older c.context_keeps.ensures.closed f.kept;
     })
 
 pub returns-in-Err-clause-answers : goal.returns-in-Err-clause-answers
 returns-in-Err-clause-answers g c =
-    let e = c.new-names.ensures in
+    let e = c.with_seed-names.ensures in
     let l = laws g in
-    let missed = misses_region g.T.IrText.reading (attr_at g.A.IrText.reading) c.new-names.result c.args.s.now e.names e.values e.labels c.args.parent c.requires.alive (unreported _ c.in_default.ensures) c.in-Err.fault c.in-Err.ensures.refused in
+    let missed = misses_region g.T.IrText.reading (attr_at g.A.IrText.reading) c.with_seed-names.result c.args.s.now e.names e.values e.labels c.args.parent c.requires.alive (unreported _ c.in_default.ensures) c.in-Err.fault c.in-Err.ensures.refused in
     rw c.refused.ensures.same (record {
       read = tt;
       missed = λ fine. missed;
@@ -68,20 +71,27 @@ returns-in-Ok-clause-undone g c = rw c.ended.ensures (record { rest = c.in-Ok.en
 pub returns-in-Ok-clause-answers : goal.returns-in-Ok-clause-answers
 returns-in-Ok-clause-answers g c =
     let l = laws g in
-    let e = c.new-names.ensures in
+    let e = c.with_seed-names.ensures in
     let before = c.context_keeps.ensures in
     let old = c.args.s.now in
     let new = c.region_parse.new.s in
     let m = old.state.ctx.now.graph.made in
     let u = c.in-Ok.ensures.read in
-    let begun = fresh_sound c.new-names.result old.state e.names e.values e.labels before.older in
+    let here = c.requires.alive in
+    let none : unisolated old.state.ctx.now c.args.parent ≡ None = unreported _ c.in_default.ensures in
+    let begun = fresh_sound c.with_seed-names.result old.state e.names e.values e.labels before.older in
     let kept = u.older m (le_refl m) before.closed begun in
-    let id = closed_id old.state.ctx.now c.args.parent c.requires.alive (unreported _ c.in_default.ensures) in
+    let id = closed_id old.state.ctx.now c.args.parent here none in
+    let parsed = builds_region g.T.IrText.reading g.T.IrText.written g.A.IrText.reading g.A.IrText.written l.types_split l.splits l.words l.short_types l.short_owns
+    c.with_seed-names.result c.region_parse.new.names old new e.names e.values e.labels c.args.parent c.in-Ok.region u before.accepted (closed_as old.state.ctx.now c.args.parent here none u.iso u.isolation)
+    id.0 id.1 here before.older kept (u.sound m (le_refl m) begun) c.context_keeps-in-Ok.ensures.nest before.holders in
     rw c.ended.ensures (record {
-      read = region_read g.T.IrText.reading (attr_at g.A.IrText.reading) c.new-names.result old e.names e.values e.labels c.args.parent c.requires.alive (unreported _ c.in_default.ensures) c.in-Ok.region c.region_parse.new.names new u;
+      read = record {
+        isolated = none;
+        came = region_came g.T.IrText.reading (attr_at g.A.IrText.reading) c.with_seed-names.result old e.names e.values e.labels c.args.parent here none c.in-Ok.region c.region_parse.new.names new u;
+        parsed = parsed;
+      };
       missed = λ fine. tt;
-      builds = λ fresh. builds_region g.T.IrText.reading g.T.IrText.written g.A.IrText.reading g.A.IrText.written l.types_split l.splits l.words l.short_types l.short_owns
-          c.new-names.result c.region_parse.new.names old new e.names e.values e.labels fresh c.args.parent c.in-Ok.region u before.accepted (closed_as old.state.ctx.now c.args.parent c.requires.alive (unreported _ c.in_default.ensures) u.iso u.isolation)
-          id.0 id.1 c.requires.alive before.older kept (u.sound m (le_refl m) begun) c.context_keeps-in-Ok.ensures.nest before.holders;
+      builds = λ fresh. subst (λ ms. BuildsRegion (texts g.T.IrText) (texts g.A.IrText) ms c.args.parent c.in-Ok.region old new) fresh.marks parsed;
       unresolved = λ fresh. tt;
     })

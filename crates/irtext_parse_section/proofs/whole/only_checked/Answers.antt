@@ -14,5 +14,5 @@ returns-then-is_empty g c =
 
 pub returns : goal.returns
 returns g c =
-    subst (λ ws. Checks ws c.args.stream.now c.pairs_checked.result c.pairs_checked.new.stream) (only_wrong c.new-once.result.entries c.args.entry.now c.new-once.ensures.empty)
+    subst (λ ws. Checks ws c.args.stream.now c.pairs_checked.result c.pairs_checked.new.stream) (only_wrong c.with_hasher-once.result.entries c.args.entry.now c.with_hasher-once.ensures.empty)
     (rw (c.is_block.ensures, c.as_slice.ensures.value) at c.pairs_checked.ensures)

@@ -18,6 +18,6 @@ returns g c =
     then c.fmt_all_once.result
     (λ r. section_written L C gives c.args.items.now (mentions.known_in c.fmt_items.new.self.known) (string_bytes c.args.f.now) (string_bytes c.push_str.new.self) (string_bytes c.fmt_items.new.f) (string_bytes c.fmt_all_once.new.f)
     some c.in_ok-push_str.ensures.bytes
-    (c.in_ok-fmt_items.ensures.known ∙ ap (λ ks. mentions.items_noted C (map (λ r. r.now) ks) (map gives c.args.items.now)) c.new.ensures.empty)
+    (c.in_ok-fmt_items.ensures.known ∙ ap (λ ks. mentions.items_noted C (map (λ r. r.now) ks) (map gives c.args.items.now)) c.with_hasher.ensures.empty)
     c.in_ok-fmt_items.ensures.text (r ∙ ap (λ n. string_bytes c.fmt_items.new.f ++ encode_utf8_all (once_texts (words g.A.IrText.written) (mentions.asking g.A.AttrText.print_once g.A.PartialEq.eq) n (mentions.known_in c.fmt_items.new.self.known))) c.in_ok-fmt_items.ensures.items))
     c.fmt_all_once.ensures

@@ -1,4 +1,3 @@
-use Rattle.std.proofs.Common.{ap}
 use Rattle.irtext_base.specs.Own.{texts_of}
 use Rattle.irtext_names.specs.Promises.{RefusesRoot}
 use Rattle.irtext_tokens.specs.AttrTexts.{attr_at}
@@ -14,5 +13,5 @@ returns-clause-refuses g c =
     let attr = attr_at g.A.IrText.reading in
     let s : StateStream g.row.T.Denot g.row.A.Denot (Unit {0}) = record { stream = c.in-Ok.stream; state = c.new-state.result } in
     refused_as (RefusesRoot types owns g.T.IrText.reading attr s.state.ctx.now.dialects s.stream) (RefusesText types owns attr c.args.text.now c.args.ctx.now g.T.IrText.reading)
-    (λ f p. record { old = s; starts = record { text = ap (λ v. v.rest) c.in-Ok.ensures; context = c.new-state.ensures.now }; refuses = p })
+    (λ f p. record { old = s; begins = record { stream_is = c.in-Ok.ensures; context = c.new-state.ensures.now; source = c.new-state.ensures.src; fresh = c.new-state.ensures.fresh }; refuses = p })
     c.fresh_parse-answer.result c.fresh_parse-answer.ensures.unresolved

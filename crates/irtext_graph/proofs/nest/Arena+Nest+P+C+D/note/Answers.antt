@@ -11,7 +11,7 @@ pub returns-clause-kids : goal.returns-clause-kids
 returns-clause-kids g c = λ q. same_view children_in (replaced c.args.self.now c.args.p c.content_mut.result.now _ c.content_mut.ensures.value) (λ b. refl) q
 
 pub returns-clause-links : goal.returns-clause-links
-returns-clause-links g c = let x = c.content_mut.result.now in let k = links_with c.args.self.now c.args.p x (record x { noted = c.args.index }) c.content_mut.ensures.value in omega (arith, k)
+returns-clause-links g c = let x = c.content_mut.result.now in let k = links_with c.args.self.now c.args.p x (record x { noted = c.unwrap_or.result }) c.content_mut.ensures.value in omega (arith, k)
 
 pub returns-clause-ups : goal.returns-clause-ups
 returns-clause-ups g c = same_view parent_in (replaced c.args.self.now c.args.p c.content_mut.result.now _ c.content_mut.ensures.value) (λ b. refl)

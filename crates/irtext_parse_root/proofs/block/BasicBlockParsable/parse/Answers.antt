@@ -7,7 +7,7 @@ use Rattle.irtext_parse_root.proofs.block.BasicBlockParsable.parse.Goals as goal
 
 -- ---- the header is parsed
 pub header_fault-requires-clause-words : goal.header_fault-requires-clause-words
-header_fault-requires-clause-words g c = c.header_parse.ensures.names.words (no_words c.new-names.ensures.names)
+header_fault-requires-clause-words g c = c.header_parse.ensures.names.words (no_words c.with_seed-names.ensures.names)
 
 pub header_fault-requires-clause-read : goal.header_fault-requires-clause-read
 header_fault-requires-clause-read g c =

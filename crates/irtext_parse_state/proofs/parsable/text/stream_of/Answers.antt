@@ -8,4 +8,4 @@ returns g c =
     let ran = c.in_ok-text.ensures.ran in
     let drained = ran.1 in
     let last = drained.2 tt in
-    IfOk-weaker c.new.result _ _ (λ stream is. (ran.0, (last.0, (drained.0, drained.1, last.1)), is ∙ ap at_beginning (c.as_str.ensures.value ∙ ran.2))) c.new.ensures
+    IfOk-weaker c.from_string.result _ _ (λ stream is. (ran.0, (last.0, (drained.0, drained.1, last.1)), is ∙ ap at_beginning ran.2)) c.from_string.ensures

@@ -27,7 +27,7 @@ invariant_of-self-2 g c =
     let none : find b.name (innermost (scopes_at t.marks t.bindings.items)) ≡ None = ap (λ s. find c.args.name (innermost s)) c.self.view_is ∙ c.requires.unknown in
     subst (λ z. IsSound c.set_head.new.heads.items z t.marks) (sym e)
     (added_sound t.heads.items c.set_head.new.heads.items t.marks t.bindings.items b c.self.invariant hid
-    (λ m. c.set_head.ensures m ∙ (ap (λ k. cond (nat_eq b.name m) (Some k) (head_at c.grow.new.heads.items m)) n ∙ ap (cond (nat_eq b.name m) (Some (length t.bindings.items))) (c.grow.ensures.same m))) none)
+    (λ m. c.set_head.ensures m ∙ (ap (λ o. cond (nat_eq b.name m) o (head_at c.grow.new.heads.items m)) (c.in_ok-head.ensures ∙ ap (λ k. Some k) n) ∙ ap (cond (nat_eq b.name m) (Some (length t.bindings.items))) (c.grow.ensures.same m))) none)
 
 pub returns-clause-ok : goal.returns-clause-ok
 returns-clause-ok g c =

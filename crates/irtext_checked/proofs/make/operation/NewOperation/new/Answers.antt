@@ -2,13 +2,15 @@ use Rattle.std.proofs.Common.{arith, refl, rules, subst}
 use Rattle.irtext_context.proofs.Contexts.{same-keeps}
 use Rattle.irtext_context.proofs.Kept.{kept_trans, kept_closed, rolled_back}
 use Rattle.irtext_context.specs.Made.{MakesWithRegions}
+use Rattle.irtext_graph.proofs.Marks.{counts_itself}
 use Rattle.irtext_checked.proofs.make.operation.NewOperation.new.Goals as goal
 
 pub returns-in-Err-clause-registered : goal.returns-in-Err-clause-registered
 returns-in-Err-clause-registered g c = record {
   registers = tt;
   kept = λ mark h. same-keeps mark c.args.ctx.now c.args.ctx.now refl;
-  objects = record { operations = λ p. refl; blocks = λ p. refl; regions = λ p. refl; paths = λ i path e. e; dialects = refl };
+  objects = record { operations = λ p. refl; blocks = λ p. refl; regions = λ p. refl; counts = counts_itself c.args.ctx.now.graph; paths = λ i path e. e; dialects = refl };
+  unregistered = λ none. refl;
   kind = search rules;
 }
 
@@ -25,5 +27,6 @@ returns-in-Err-make-clause-registered g c = record {
   registers = search rules;
   kept = λ mark h. kept_trans (c.in-Err-make.ensures.kept mark h) (c.roll_back.ensures.kept mark (omega (arith, h, c.made-made.ensures.made)));
   objects = rolled_back c.made-made.ensures.older (c.in-Err-make.ensures.kept c.made-made.result (omega (arith, c.made-made.ensures.made))) c.roll_back.ensures.back;
+  unregistered = search rules;
   kind = search rules;
 }

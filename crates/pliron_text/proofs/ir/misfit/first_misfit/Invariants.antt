@@ -1,0 +1,18 @@
+use Rattle.std.proofs.Common.{◌⊎◌, length}
+use Rattle.std.specs.Prelude.{IfSome}
+use Rattle.irtext_graph.specs.Chained.{Among}
+use Rattle.irtext_graph.specs.Graph.{IsInside, IsLive}
+use Rattle.irtext_graph.specs.Throughout.{all_from}
+use Rattle.irtext_graph.specs.declared.object.Object.{Object}
+use Rattle.pliron_text.specs.Misfits.{FitsThere}
+use Rattle.pliron_text.proofs.ir.misfit.first_misfit.Given as goal
+
+abbrev pub invariant-loop-at : goal.invariant-loop-at
+invariant-loop-at g l = record {
+  so_far : (q : Object) → IsInside l.ctx.graph l.top q → Among q (all_from l.ctx.graph l.top l.at) ⊎ FitsThere g.A.IrText.written g.A.AttrText g.A.PartialEq.eq l.ctx q;
+  inside : IfSome l.at (λ q. IsInside l.ctx.graph l.top q);
+  live : IfSome l.at (λ q. IsLive l.ctx.graph q);
+}
+
+abbrev pub decreases-loop-at : goal.decreases-loop-at
+decreases-loop-at g l = length (all_from l.ctx.graph l.top l.at)
