@@ -1,5 +1,5 @@
 -- What is at an index of a list, and at the same index of its images.
-use Rattle.std.proofs.Common.{◌≡◌, ◌<◌, ◌≤◌, ◌+◌, ◌∙◌, ◌∷◌, ◌⊎◌, ◌↔◌, ℕ, zero, suc, refl, sym, ap, subst, inl, inr, arith, nat_lt, Option, Some, None, IsSome, List, [], length, map, slice_get}
+use Rattle.std.proofs.Common.{◌≡◌, ◌<◌, ◌+◌, ◌∙◌, ◌∷◌, ◌⊎◌, ◌↔◌, ℕ, zero, suc, refl, sym, ap, subst, inl, inr, arith, nat_lt, Option, Some, None, IsSome, List, [], length, map, slice_get}
 use Rattle.std.specs.Prelude.{IsTrue}
 use Rattle.std.specs.Option.{option_map}
 use Rattle.std.proofs.lemmas.Bool.{lt-ltb}

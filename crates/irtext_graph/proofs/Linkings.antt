@@ -67,18 +67,6 @@ blank n value types from operands successors uses leads results alone childless 
   results = subst (λ ds. Defines ds types from) (sym r) d;
 }
 
--- an operation is blank whose lists are empty
-pub blank_bare : {O T : Type 0} (n : Nest BasicBlock Region (OperationData O T)) (value : O) (from : ℕ) → n.parent ≡ None → listed n.children ≡ [] → n.data.data ≡ value → n.data.operands ≡ [] → n.data.successors ≡ [] → n.data.results ≡ []
-    → IsBlank n value [] from [] []
-blank_bare n value from alone childless v o s r = record {
-  parent = alone;
-  children = childless;
-  value_is = v;
-  operand_uses = o;
-  successor_uses = s;
-  results = subst (λ ds. Defines ds [] from) (sym r) (record { values = refl; unused = λ i u e. absurd (cc) });
-}
-
 -- the element at an index of new uses
 new_use : {D : Type 0} (f : D → Defined) (ds : List D) (i : ℕ) → option_map (either f) (slice_get (map unlinked ds) i) ≡ option_map unlinked (option_map f (slice_get ds i))
 new_use f ds i = ap (option_map (either f)) (slice_get-map unlinked ds i) ∙ go (slice_get ds i)
@@ -260,13 +248,3 @@ module _ {O B T : Type 0} (x : Objects O B T) (made : ℕ) (after : Arena (Nest 
         all : (u : Site) → IsSome (use_at y u) → IsSome (val y u)
         all (AtOperand q j) h = used_at s.all_used Operands q j h
         all (AtSuccessor q j) h = used_at s.all_used Successors q j h
-
--- all is sound once an operation came that uses nothing
-module _ {O B T : Type 0} (x : Objects O B T) (made : ℕ) (after : Arena (Nest BasicBlock Region (OperationData O T))) (p : Ptr Operation) (e : Entry (Nest BasicBlock Region (OperationData O T))) (i : Inserts x.operations after p e)
-    (value : O) (types : List T) (from : ℕ) (b : IsBlank e.content value types from [] []) where
-  pub sound_bare : IsSound made x → e.born < made + 1 → HasFew after → IsSound (made + 1) (record x { operations = after })
-  sound_bare s young few = sound_linked x made after p e i value types from [] [] b (record x { operations = after }) refl (linked_here x made after p e i value types from [] [] b s.uses) none (λ u away. refl) s young few
-    where
-      none : (s : Side) (j : ℕ) → IsSome (named_by [] [] s j) → IsSome (val (record x { operations = after }) (site_of s p j))
-      none Operands j h = absurd (cc)
-      none Successors j h = absurd (cc)

@@ -1,20 +1,17 @@
 -- No pointer is given twice: what each change of a store or of a graph leaves of that.
-use Rattle.std.proofs.Common.{◌≡◌, ◌≢◌, ◌≤◌, ◌+◌, ◌∙◌, ◌⊎◌, inl, inr, ℕ, refl, sym, ap, subst, arith, Option, Some, None, slice_get}
+use Rattle.std.proofs.Common.{◌≡◌, ◌∙◌, inl, inr, ℕ, refl, sym, ap, subst, arith, Option, Some, None, slice_get}
 use Rattle.std.specs.Option.{option_map}
 use Rattle.std.proofs.lemmas.Option.{slice_get-map}
 use Rattle.irtext_graph.specs.declared.arena.Entry.{Entry}
 use Rattle.irtext_graph.specs.declared.arena.Ptr.{Ptr}
-use Rattle.irtext_graph.specs.declared.object.Operation.{Operation}
-use Rattle.irtext_graph.specs.declared.object.BasicBlock.{BasicBlock}
-use Rattle.irtext_graph.specs.declared.object.Region.{Region}
 use Rattle.irtext_graph.specs.declared.object.Object.{Object}
 use Rattle.irtext_graph.specs.declared.object.Object.TheVariants.{TheOperation, TheBlock, TheRegion}
 use Rattle.irtext_graph.specs.Arena.{older}
 use Rattle.irtext_graph.specs.Content.{Node, Content.{AnOperation, ABlock, ARegion}}
 use Rattle.irtext_graph.specs.Store.{Cell, Store, object_of, mapped, get, drawn, generation_at, GivenOnce, Inserts, Edits, Returns}
-use Rattle.irtext_graph.specs.Graph.{GraphView, content, content_of, KeepsRest, GivesOnce, MakesRegion, MakesBlock, MakesOperation}
+use Rattle.irtext_graph.specs.Graph.{GraphView, content, content_of, KeepsRest, GivesOnce}
 use Rattle.irtext_graph.specs.Back.{RollsBack}
-use Rattle.irtext_graph.specs.Used.{without_uses, without_uses_in, Replaces}
+use Rattle.irtext_graph.specs.Used.{without_uses, without_uses_in}
 use Rattle.irtext_graph.proofs.Pointers.{equal_or_not, ptr_or}
 use Rattle.irtext_graph.proofs.Stores.{get_mapped}
 

@@ -83,6 +83,7 @@ impl<X: Drop> Arena<X> {
     ghost use Rattle.irtext_graph.specs.declared.arena.Slot.TheVariants.{Vacant};
     ghost use Rattle.irtext_graph.specs.Arena.{get, generation_at, next_index, free_place, Updates, Inserts, HasFew, born_in, is_full, AtLeast, Sheds};
     ghost use Rattle.irtext_graph.specs.Lending.{LendsContent};
+    ghost use Rattle.irtext_graph.specs.Places.{pointer_in};
 
     /// Makes an arena without objects.
     pub(crate) fn new(alloc: Global) -> Arena<X>
@@ -174,14 +175,12 @@ impl<X: Drop> Arena<X> {
         if index >= (u32::MAX - first) as usize {
             return Err(AllocError);
         }
-        match self.slots.push(Slot::Full(1, Entry { born, content })) {
-            Ok(()) => Ok(Ptr {
-                index: index as u32,
-                generation: 1,
-                of: PhantomData,
-            }),
-            Err(_) => Err(AllocError),
-        }
+        self.slots.push(Slot::Full(1, Entry { born, content }))?;
+        Ok(Ptr {
+            index: index as u32,
+            generation: 1,
+            of: PhantomData,
+        })
     }
 
     /// Returns the object that a pointer refers to, if it is live.
@@ -196,6 +195,20 @@ impl<X: Drop> Arena<X> {
                     None
                 }
             }
+            _ => None,
+        }
+    }
+
+    /// Returns the pointer to the object in a slot, if there is one.
+    pub(crate) fn pointer_at<K>(&self, index: u32) -> Option<Ptr<K>>
+        ensures { result ≡ pointer_in index (slice_get self.now.slots.items index) }
+    {
+        match self.slots.get(index as usize) {
+            Some(Slot::Full(generation, _)) => Some(Ptr {
+                index,
+                generation: *generation,
+                of: PhantomData,
+            }),
             _ => None,
         }
     }

@@ -129,12 +129,12 @@ impl<O: Drop, B: Drop, T: Drop> Objects<O, B, T> {
         requires alive { IsSome (head_at self.now d) }
         ensures { IsTrue result ↔ IsUsedInside self.now o d }
     {
-        let mut at = self.head_of(d);
+        let mut at = self.head_of(d).site();
         while let Some(u) = at {
             if !self.is_inside(o, user_of(u)) {
                 return false;
             }
-            at = self.use_of(u).links.next;
+            at = self.use_of(u).links.next.site();
         }
         true
     }

@@ -3,17 +3,14 @@
 
 pub mod arena;
 mod erasing;
-mod forest;
 pub mod graph;
 pub mod held;
-mod live_objects;
 mod log;
 mod making;
+mod near;
 mod nest;
 mod new_uses;
 pub mod object;
 mod objects;
 mod parts;
-mod rollback;
 mod use_lists;
-mod users;

@@ -13,6 +13,7 @@ use crate::arena::{Arena, Ptr};
 use crate::graph::Graph;
 use crate::held::Kind;
 use crate::log::{Made, note};
+use crate::near::Near;
 use crate::nest::Nest;
 use crate::new_uses::{Side, unlinked_uses};
 use crate::object::{BasicBlock, Operation, Region, Value};
@@ -28,7 +29,7 @@ fn definition<T>(of_type: T, number: u64) -> Definition<T>
     Definition {
         of_type,
         number,
-        first: None,
+        first: Near::of(None),
     }
 }
 
@@ -94,10 +95,7 @@ fn store<X: Drop, K: Kind>(
 fn number_after(from: u64, count: usize) -> Result<u64, AllocError>
     ensures { IfOk result (λ next. next ≡ from + count) }
 {
-    match from.checked_add(count as u64) {
-        Some(next) => Ok(next),
-        None => Err(AllocError),
-    }
+    from.checked_add(count as u64).ok_or(AllocError)
 }
 
 /// Makes values with these types, numbered from `from`, without uses. It allocates nothing for up to one.
@@ -177,6 +175,7 @@ fn new_operation<O: Drop, T: Drop>(
     successors: &[Ptr<BasicBlock>],
 ) -> Result<Nest<BasicBlock, Region, OperationData<O, T>>, AllocError>
     ensures blank { IfOk result (λ n. IsBlank n value types from operands.now successors.now) }
+    ensures few { OnOk result ((length operands.now < 2147483648) × (length successors.now < 2147483648)) }
     ensures room { OnOk result (from + length types ≤ 18446744073709551615) }
 {
     let results = next_definitions(alloc, types, from)?;
@@ -281,7 +280,7 @@ impl<O: Drop, B: Drop, T: Drop> Graph<O, B, T> {
             data: BlockData {
                 data: value,
                 arguments,
-                preds: None,
+                preds: Near::of(None),
             },
         };
         let first = self.counters.first_place;
@@ -292,25 +291,17 @@ impl<O: Drop, B: Drop, T: Drop> Graph<O, B, T> {
     }
 
     /// Makes an operation that has this data and nothing else. If an allocation fails or a counter is at its limit, the graph is unchanged.
-    #[inline(never)]
     pub fn make_bare_operation(&mut self, value: O) -> Result<Ptr<Operation>, AllocError>
         ensures made { IfOk result (λ p. MakesOperation self.old self.new p value [] [] []) }
         ensures err { OnErr result (self.new ≡ self.old) }
         ensures kept { (m : ℕ) → m ≤ self.old.made → KeepsOlder m self.old self.new }
     {
-        let made = self.made;
-        let results = Lone::none();
-        let used = Few::none();
-        let led_to = Lone::none();
-        let op = blank_operation(self.alloc, value, results, used, led_to);
-        let first = self.counters.first_place;
-        let p = store(&mut self.objects.operations, &mut self.log, first, made, op)?;
-        self.made = made + 1;
-        Ok(p)
+        self.make_operation(value, Few::none(), &[], &[])
     }
 
     /// Makes an operation with this data, operands, successors and result types, without a parent and regions. The results get the next
-    /// numbers of values. If an allocation fails or a counter is at its limit, the graph is unchanged.
+    /// numbers of values. If an allocation fails, a counter is at its limit, or there are 2^31 operands or successors, the graph is unchanged.
+    #[inline(always)]
     pub fn make_operation(
         &mut self,
         value: O,

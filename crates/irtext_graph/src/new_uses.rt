@@ -1,8 +1,9 @@
 //! The uses of a new operation. They are made outside of the use lists, and inserted into them when all allocations have succeeded.
-ghost use Rattle.std.specs.Prelude.{◌≡◌, ◌≢◌, ◌<◌, ℕ, Some, None, IsSome, IfOk, map};
+ghost use Rattle.std.specs.Prelude.{◌≡◌, ◌≢◌, ◌<◌, ℕ, Some, None, IsSome, IfOk, OnOk, length, map};
 ghost use Rattle.irtext_graph.specs.Linking.{unlinked, site_of};
 
 use crate::arena::Ptr;
+use crate::near::Near;
 use crate::object::{Operation, Site};
 use crate::objects::{Links, Objects, Use};
 use irtext_few::Few;
@@ -34,16 +35,20 @@ fn unlinked_use<D>(def: D) -> Use<D>
         def,
         links: Links {
             linked: false,
-            prev: None,
-            next: None,
+            prev: Near::of(None),
+            next: Near::of(None),
         },
     }
 }
 
-/// Makes uses of these that are in no use list, in a vector.
+/// Makes uses of these that are in no use list, in a vector. Fails if they are too many.
 fn many_unlinked_uses<D: Copy + Drop>(alloc: Global, defs: &[D]) -> Result<Vec<Use<D>>, AllocError>
-    ensures { IfOk result (λ uses. uses.items ≡ map unlinked defs.now) }
+    ensures uses { IfOk result (λ uses. uses.items ≡ map unlinked defs.now) }
+    ensures few { OnOk result (length defs.now < 2147483648) }
 {
+    if defs.len() > i32::MAX as usize {
+        return Err(AllocError);
+    }
     let mut uses = Vec::with_capacity(alloc, defs.len())?;
     for def in defs {
         uses.push(unlinked_use(*def))?;
@@ -51,13 +56,14 @@ fn many_unlinked_uses<D: Copy + Drop>(alloc: Global, defs: &[D]) -> Result<Vec<U
     Ok(uses)
 }
 
-/// Makes uses of these that are in no use list. It allocates nothing for up to two.
+/// Makes uses of these that are in no use list. It allocates nothing for up to two. Fails if they are too many.
 #[inline(always)]
 pub(crate) fn unlinked_uses<D: Copy + Drop>(
     alloc: Global,
     defs: &[D],
 ) -> Result<Few<Use<D>>, AllocError>
-    ensures { IfOk result (λ uses. uses ≡ map unlinked defs.now) }
+    ensures uses { IfOk result (λ uses. uses ≡ map unlinked defs.now) }
+    ensures few { OnOk result (length defs.now < 2147483648) }
 {
     match defs {
         [] => Ok(Few::none()),
@@ -76,6 +82,7 @@ impl<O: Drop, B: Drop, T: Drop> Objects<O, B, T> {
     /// Inserts the operands of an operation, or its successors, into the use lists of what they refer to.
     #[inline(always)]
     pub(crate) fn attach_all(&mut self, side: Side, p: Ptr<Operation>, count: usize)
+        requires few { count < 2147483648 }
         requires linked { AreUsesLinked self.old }
         requires there { (i : ℕ) → i < count → IsSome (use_at self.old (site_of side p i)) }
         requires free { (i : ℕ) → val self.old (site_of side p i) ≡ None }

@@ -1,8 +1,9 @@
-//! The parts of an object: its data, operands, successors, results and arguments.
+//! The parts of an object: its data, operands, successors, results and arguments; the live objects by their slots; the counters.
 ghost use Rattle.std.specs.Prelude.{◌≡◌, ◌↔◌, ◌<◌, ℕ, Some, IsSome, IsTrue, length, slice_get, option_map};
 ghost use Rattle.irtext_graph.specs.declared.object.Object.TheVariants.{TheOperation, TheBlock};
 ghost use Rattle.irtext_graph.specs.Graph.{IsLive};
 ghost use Rattle.std.specs.Borrow.{sem};
+ghost use Rattle.irtext_graph.specs.Places.{pointer_at};
 ghost use Rattle.irtext_graph.specs.Parts.{operation_at, block_at, operands, successors, results, arguments, value_at, IsDefinedValue, definition_at};
 
 use crate::arena::Ptr;
@@ -28,7 +29,7 @@ impl<O: Drop, B: Drop, T: Drop> Objects<O, B, T> {
     }
 
     /// Returns the definition of a value.
-    fn definition(&self, v: Value) -> &Definition<T>
+    pub(crate) fn definition(&self, v: Value) -> &Definition<T>
         requires { IsSome (definition_at self.now v) }
         ensures { definition_at self.now v ≡ Some result.now }
     {
@@ -44,6 +45,48 @@ impl<O: Drop, B: Drop, T: Drop> Graph<O, B, T> {
     ghost use Rattle.irtext_graph.specs.declared.object.BasicBlock.{BasicBlock};
     ghost use Rattle.irtext_graph.specs.declared.object.Value.{Value};
     ghost use Rattle.irtext_graph.specs.DataLends.{LendsOperation, LendsBlock};
+
+    /// The number of slots for operations.
+    pub fn operation_places(&self) -> u32
+        ensures { result ≡ length self.now.operations.cells }
+    {
+        self.objects.operations.slots.len() as u32
+    }
+
+    /// The number of slots for blocks.
+    pub fn block_places(&self) -> u32
+        ensures { result ≡ length self.now.blocks.cells }
+    {
+        self.objects.blocks.slots.len() as u32
+    }
+
+    /// Returns the operation in a slot, if there is one. It may be a placeholder.
+    pub fn operation_in(&self, place: u32) -> Option<Ptr<Operation>>
+        ensures { result ≡ pointer_at self.now.operations place }
+    {
+        self.objects.operations.pointer_at(place)
+    }
+
+    /// Returns the block in a slot, if there is one.
+    pub fn block_in(&self, place: u32) -> Option<Ptr<BasicBlock>>
+        ensures { result ≡ pointer_at self.now.blocks place }
+    {
+        self.objects.blocks.pointer_at(place)
+    }
+
+    /// Returns the number of the next value. All values have smaller numbers.
+    pub fn next_number(&self) -> u64
+        ensures { result ≡ self.now.values }
+    {
+        self.counters.values
+    }
+
+    /// Returns the number of the first slot.
+    pub fn first_place(&self) -> u32
+        ensures { result ≡ self.now.first_place }
+    {
+        self.counters.first_place
+    }
 
     /// The number of results of an operation.
     pub fn num_results(&self, op: Ptr<Operation>) -> usize

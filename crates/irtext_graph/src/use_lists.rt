@@ -1,13 +1,26 @@
 //! Use lists: each use of a value or a block has links to the other uses of the same, and is in one list with them.
-ghost use Rattle.std.specs.Prelude.{◌≡◌, ◌≢◌, ◌<◌, Some, None, IsSome, option_map};
+ghost use Rattle.std.specs.Prelude.{◌≡◌, ◌≢◌, ◌<◌, ◌↔◌, ℕ, Some, None, IsSome, IsTrue, IfOk, option_map};
+ghost use Rattle.irtext_graph.specs.Chained.{Lists, Counts};
+ghost use Rattle.irtext_graph.specs.Used.{IsUse, IsDefined, AreAlike, Replaces, IsUnusedBelow, replaced, bare, uses_left, CanName};
+ghost use Rattle.irtext_graph.specs.Graph.{KeepsOlder};
 
+use crate::graph::Graph;
+use crate::near::Near;
 use crate::object::{Defined, Site, Value};
 use crate::objects::{Links, Objects, Use};
+use std::alloc::{AllocError, Global};
+
+/// Whether two are the same value or the same block.
+fn same_defined(d: Defined, e: Defined) -> bool
+    ensures { IsTrue result ↔ d ≡ e }
+{
+    d == e
+}
 
 impl<O: Drop, B: Drop, T: Drop> Objects<O, B, T> {
     ghost use Rattle.irtext_graph.specs.Graph.{seen};
+    ghost use Rattle.irtext_graph.specs.Near.{IsNear};
     ghost use Rattle.irtext_graph.specs.Uses.{use_at, head_at, val, prv, nxt, relinked, renamed, AreUsesLinked, AreAllUsed};
-    ghost use Rattle.irtext_graph.specs.Used.{bare, uses_left, CanName};
 
     /// Returns the use at a site.
     #[inline(always)]
@@ -74,28 +87,18 @@ impl<O: Drop, B: Drop, T: Drop> Objects<O, B, T> {
 
     /// Returns the first use of a value or a block.
     #[inline(always)]
-    pub(crate) fn head_of(&self, d: Defined) -> Option<Site>
+    pub(crate) fn head_of(&self, d: Defined) -> Near
         requires { IsSome (head_at self.now d) }
         ensures { head_at self.now d ≡ Some result }
     {
         match d {
-            Defined::OfValue(Value::Result(p, i)) => self
-                .operations
-                .content(p)
-                .data
-                .results[i].first,
-            Defined::OfValue(Value::Argument(b, i)) => self
-                .blocks
-                .content(b)
-                .data
-                .arguments[i].first,
+            Defined::OfValue(v) => self.definition(v).first,
             Defined::OfBlock(b) => self.blocks.content(b).data.preds,
         }
     }
 
     /// Sets the first use of a value or a block.
-    #[inline(always)]
-    fn set_head(&mut self, d: Defined, h: Option<Site>)
+    fn set_head(&mut self, d: Defined, h: Near)
         requires { IsSome (head_at self.old d) }
         ensures here { head_at self.new d ≡ Some h }
         ensures others { (e : _) → e ≢ d → head_at self.new e ≡ head_at self.old e }
@@ -115,7 +118,7 @@ impl<O: Drop, B: Drop, T: Drop> Objects<O, B, T> {
 
     /// Sets the link to the previous use, if there is a use w.
     #[inline(always)]
-    fn set_prev_of(&mut self, w: Option<Site>, p: Option<Site>)
+    fn set_prev_of(&mut self, w: Option<Site>, p: Near)
         requires { (s : _) → w ≡ Some s → IsSome (use_at self.old s) }
         ensures here { (s : _) → w ≡ Some s → prv self.new s ≡ p }
         ensures others { (s : _) → w ≢ Some s → prv self.new s ≡ prv self.old s }
@@ -132,7 +135,7 @@ impl<O: Drop, B: Drop, T: Drop> Objects<O, B, T> {
     }
 
     /// Sets the link to the next use, or the first use of d if there is no use w.
-    fn set_next_of(&mut self, w: Option<Site>, d: Defined, n: Option<Site>)
+    fn set_next_of(&mut self, w: Option<Site>, d: Defined, n: Near)
         requires sites { (s : _) → w ≡ Some s → IsSome (use_at self.old s) }
         requires alive { IsSome (head_at self.old d) }
         ensures here { (s : _) → w ≡ Some s → nxt self.new s ≡ n }
@@ -156,6 +159,7 @@ impl<O: Drop, B: Drop, T: Drop> Objects<O, B, T> {
     /// Inserts a use that is in no use list at the head of the list of what it refers to.
     #[inline(always)]
     pub(crate) fn attach(&mut self, u: Site)
+        requires near { IsNear u }
         requires linked { AreUsesLinked self.old }
         requires there { IsSome (use_at self.old u) }
         requires free { val self.old u ≡ None }
@@ -167,16 +171,14 @@ impl<O: Drop, B: Drop, T: Drop> Objects<O, B, T> {
     {
         let d = self.use_of(u).def;
         let h = self.head_of(d);
-        self.set_links(
-            u,
-            Links {
-                linked: true,
-                prev: None,
-                next: h,
-            },
-        );
-        self.set_prev_of(h, Some(u));
-        self.set_head(d, Some(u));
+        let links = Links {
+            linked: true,
+            prev: Near::of(None),
+            next: h,
+        };
+        self.set_links(u, links);
+        self.set_prev_of(h.site(), Near::of(Some(u)));
+        self.set_head(d, Near::of(Some(u)));
     }
 
     /// Removes a use from its use list. What it refers to is unchanged.
@@ -189,20 +191,20 @@ impl<O: Drop, B: Drop, T: Drop> Objects<O, B, T> {
         ensures seen { seen self.new ≡ seen self.old }
     {
         let o = self.use_of(u);
-        self.set_links(
-            u,
-            Links {
-                linked: false,
-                prev: None,
-                next: None,
-            },
-        );
-        self.set_prev_of(o.links.next, o.links.prev);
-        self.set_next_of(o.links.prev, o.def, o.links.next);
+        let links = o.links;
+        let unlinked = Links {
+            linked: false,
+            prev: Near::of(None),
+            next: Near::of(None),
+        };
+        self.set_links(u, unlinked);
+        self.set_prev_of(links.next.site(), links.prev);
+        self.set_next_of(links.prev.site(), o.def, links.next);
     }
 
     /// Removes a use from its use list, and makes it a use of e.
     pub(crate) fn redirect(&mut self, u: Site, e: Defined)
+        requires near { IsNear u }
         requires linked { AreUsesLinked self.old }
         requires all_used { AreAllUsed self.old }
         requires used { IsSome (val self.old u) }
@@ -219,5 +221,95 @@ impl<O: Drop, B: Drop, T: Drop> Objects<O, B, T> {
         self.detach(u);
         self.set_def(u, e);
         self.attach(u);
+    }
+
+    /// Counts the uses in a use list, up to `usize::MAX`.
+    fn count_uses(&self, d: Defined) -> usize
+        requires linked { AreUsesLinked self.now }
+        requires alive { IsSome (head_at self.now d) }
+        ensures { Counts (λ u. val self.now u ≡ Some d) result }
+    {
+        let mut n = 0;
+        let mut at = self.head_of(d).site();
+        while let Some(u) = at {
+            if n == usize::MAX {
+                return n;
+            }
+            n += 1;
+            at = self.use_of(u).links.next.site();
+        }
+        n
+    }
+
+    /// Returns the uses in a use list, each once.
+    fn list_uses(&self, alloc: Global, d: Defined) -> Result<Vec<Site>, AllocError>
+        requires linked { AreUsesLinked self.now }
+        requires alive { IsSome (head_at self.now d) }
+        ensures { IfOk result (λ us. Lists (λ u. val self.now u ≡ Some d) us.items) }
+    {
+        let mut uses = Vec::new(alloc);
+        let mut at = self.head_of(d).site();
+        while let Some(u) = at {
+            uses.push(u)?;
+            at = self.use_of(u).links.next.site();
+        }
+        Ok(uses)
+    }
+
+    /// Makes each use of d a use of e. It allocates nothing.
+    fn replace_uses(&mut self, d: Defined, e: Defined)
+        requires linked { AreUsesLinked self.old }
+        requires all_used { AreAllUsed self.old }
+        requires alive { IsSome (head_at self.old d) }
+        requires alive_too { IsSome (head_at self.old e) }
+        requires alike { AreAlike d e }
+        requires differ { d ≢ e }
+        ensures linked { AreUsesLinked self.new }
+        ensures all_used { AreAllUsed self.new }
+        ensures uses { (u : _) → val self.new u ≡ option_map (replaced d e) (val self.old u) }
+        ensures bare { bare self.new ≡ bare self.old }
+    {
+        while let Some(u) = self.head_of(d).site() {
+            self.redirect(u, e);
+        }
+    }
+}
+
+impl<O: Drop, B: Drop, T: Drop> Graph<O, B, T> {
+    /// Whether an operand or a successor refers to d.
+    pub fn has_use(&self, d: Defined) -> bool
+        requires { IsDefined self.now d }
+        ensures { IsTrue result ↔ (u : Site) × IsUse self.now d u }
+    {
+        self.objects.head_of(d).site().is_some()
+    }
+
+    /// Returns how many operands and successors refer to d, at most `usize::MAX`. Its time grows with the number of uses.
+    pub fn num_uses(&self, d: Defined) -> usize
+        requires { IsDefined self.now d }
+        ensures { Counts (IsUse self.now d) result }
+    {
+        self.objects.count_uses(d)
+    }
+
+    /// Returns the sites of all uses of d, each once: two for an operation that uses d twice. Fails only if an allocation fails.
+    pub fn uses(&self, d: Defined) -> Result<Vec<Site>, AllocError>
+        requires { IsDefined self.now d }
+        ensures { IfOk result (λ us. Lists (IsUse self.now d) us.items) }
+    {
+        self.objects.list_uses(self.alloc, d)
+    }
+
+    /// Makes each operand or successor that refers to d refer to e. It allocates nothing. Its time grows with the number of uses of d.
+    pub fn replace_all_uses(&mut self, d: Defined, e: Defined)
+        requires alive { IsDefined self.old d }
+        requires alive_too { IsDefined self.old e }
+        requires alike { AreAlike d e }
+        ensures replaces { Replaces self.old self.new d e }
+        ensures kept { (m : ℕ) → IsUnusedBelow m self.old d → KeepsOlder m self.old self.new }
+    {
+        if !same_defined(d, e) {
+            self.objects.replace_uses(d, e);
+        }
     }
 }

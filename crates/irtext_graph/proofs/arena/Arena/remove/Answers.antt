@@ -1,5 +1,4 @@
 use Rattle.std.proofs.Common.{◌∙◌, ap, sym, set}
-use Rattle.irtext_graph.specs.declared.arena.Slot.TheVariants.{Vacant}
 use Rattle.irtext_graph.specs.Arena.{get}
 use Rattle.irtext_graph.proofs.Slots.{not_vacant, full_content, vacated_updates, vacated_generations, some_object}
 use Rattle.irtext_graph.proofs.arena.Arena.remove.Goals.{then-p, else-p}

@@ -18,7 +18,7 @@ pub invariant_of-self-2 : goal.invariant_of-self-2
 invariant_of-self-2 g c =
     let e = c.in_ok-p.ensures in
     record {
-      sound = sound_block c.self.inside.objects c.self.inside.made c.store.new.arena c.in_ok-p.p _ e.inserts refl c.new.ensures c.in_ok-arguments.ensures.defines.unused refl c.self.invariant.sound (omega arith) (e.few c.self.invariant.sound.few_blocks);
+      sound = sound_block c.self.inside.objects c.self.inside.made c.store.new.arena c.in_ok-p.p _ e.inserts refl c.new.ensures c.in_ok-arguments.ensures.defines.unused c.of.ensures c.self.invariant.sound (omega arith) (e.few c.self.invariant.sound.few_blocks);
       logged = block_noted c.self.inside.made c.self.inside.log.items c.store.new.log.items c.self.inside.objects c.store.new.arena c.in_ok-p.p _ e.noted c.self.invariant.logged e.inserts.updates refl;
       numbered = block_numbers _ _ c.in_ok-p.p c.args.value c.args.types
           (block_made c.self.inside.made c.self.inside.counters _ c.self.inside.objects c.store.new.arena c.in_ok-p.p _ c.args.value c.args.types e.inserts refl refl c.new.ensures refl

@@ -1,7 +1,12 @@
-use Rattle.std.proofs.Common.{◌≢◌, ◌∙◌, ℕ, sym, ap, subst, arith, inl, inr, refl, IsSome}
+use Rattle.std.proofs.Common.{◌≢◌, ◌<◌, ◌∙◌, ℕ, sym, ap, subst, arith, inl, inr, refl, IsSome}
 use Rattle.std.proofs.lemmas.Bool.{cases_eq}
 use Rattle.irtext_graph.specs.Uses.{use_at, val}
 use Rattle.irtext_graph.specs.Linking.{site_of}
+use Rattle.irtext_graph.specs.Near.{IsNear}
+use Rattle.irtext_graph.specs.declared.arena.Ptr.{Ptr}
+use Rattle.irtext_graph.specs.declared.object.Operation.{Operation}
+use Rattle.irtext_graph.specs.declared.new_uses.Side.{Side}
+use Rattle.irtext_graph.specs.declared.new_uses.Side.TheVariants.{Operands, Successors}
 use Rattle.irtext_graph.proofs.Linkings.{index_apart}
 use Rattle.irtext_graph.proofs.SameSeen.{same_there, same_is_defined, used_of}
 use Rattle.irtext_graph.proofs.objects.Objects.attach_all.Goals as goal
@@ -14,6 +19,13 @@ loop-i-init g c = record {
   kept = λ u _. refl;
   seen = refl;
 }
+
+near_site : (s : Side) (p : Ptr Operation) (i n : ℕ) → i < n → n < 2147483648 → IsNear (site_of s p i)
+near_site Operands p i n low few = omega (arith, low, few)
+near_site Successors p i n low few = omega (arith, low, few)
+
+pub attach-requires-clause-near : goal.attach-requires-clause-near
+attach-requires-clause-near g c = subst IsNear (sym c.site_at.ensures) (near_site c.args.side c.args.p c.loop-i.i c.args.count (omega arith) c.requires.few)
 
 pub attach-requires-clause-there : goal.attach-requires-clause-there
 attach-requires-clause-there g c = subst (λ u. IsSome (use_at c.loop-i.self u)) (sym c.site_at.ensures) (same_there c.args.self.now c.loop-i.self c.loop-i.invariant.seen (site_of c.args.side c.args.p c.loop-i.i) (c.requires.there c.loop-i.i (omega arith)))

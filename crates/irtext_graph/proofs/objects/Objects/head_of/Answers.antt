@@ -1,28 +1,29 @@
-use Rattle.std.proofs.Common.{ap, refl, ◌∙◌}
+use Rattle.std.proofs.Common.{◌≡◌, ◌∙◌, refl, ap, subst, Option, Some, None, IsSome}
+use Rattle.irtext_graph.specs.declared.object.Value.{Value}
+use Rattle.irtext_graph.specs.declared.object.Value.TheVariants.{Result, Argument}
 use Rattle.irtext_graph.specs.declared.object.Defined.TheVariants.{OfValue}
-use Rattle.irtext_graph.specs.Uses.{first_of}
-use Rattle.irtext_graph.proofs.Puts.{result_at, argument_at, seen_is, seen_within}
+use Rattle.irtext_graph.specs.declared.objects.Definition.{Definition}
+use Rattle.irtext_graph.specs.declared.objects.Objects.{Objects}
+use Rattle.irtext_graph.specs.Parts.{definition_at}
+use Rattle.irtext_graph.specs.Uses.{first_of, head_at}
 use Rattle.irtext_graph.proofs.objects.Objects.head_of.Goals as goal
 
-pub index-requires : goal.index-requires
-index-requires g c =
-    let k = c.in-OfValue-Result in
-    seen_within first_of refl _ k.i _ (result_at c.args.self.now k.p c.content.result.now c.content.ensures c.args.d k.i (k.is ∙ ap OfValue (rw k.is at k.field-0-is))) c.requires
+head_is : {O B T : Type 0} (x : Objects O B T) (v : Value) → head_at x (OfValue v) ≡ first_of (definition_at x v)
+head_is x (Result p i) = refl
+head_is x (Argument p i) = refl
 
-pub index-requires-in-OfValue-Argument : goal.index-requires-in-OfValue-Argument
-index-requires-in-OfValue-Argument g c =
-    let k = c.in-OfValue-Argument in
-    let n = c.content-in-OfValue-Argument in
-    seen_within first_of refl _ k.i _ (argument_at c.args.self.now k.b n.result.now n.ensures c.args.d k.i (k.is ∙ ap OfValue (rw k.is at k.field-0-is))) c.requires
+defined : {T : Type 0} (d : Option (Definition T)) → IsSome (first_of d) → IsSome d
+defined None h = absurd (cc)
+defined (Some d) h = refl
 
-pub returns-in-OfValue-Result : goal.returns-in-OfValue-Result
-returns-in-OfValue-Result g c =
-    let k = c.in-OfValue-Result in
-    seen_is first_of refl _ k.i _ (result_at c.args.self.now k.p c.content.result.now c.content.ensures c.args.d k.i (k.is ∙ ap OfValue (rw k.is at k.field-0-is))) c.requires c.index.result.now c.index.ensures
+pub definition-requires : goal.definition-requires
+definition-requires g c =
+    let x = c.args.self.now in
+    let k = c.in-OfValue in
+    defined (definition_at x k.v) (subst (λ o. IsSome o) (head_is x k.v) (subst (λ d. IsSome (head_at x d)) k.is c.requires))
 
-pub returns-in-OfValue-Argument : goal.returns-in-OfValue-Argument
-returns-in-OfValue-Argument g c =
-    let k = c.in-OfValue-Argument in
-    let n = c.content-in-OfValue-Argument in
-    let d = c.index-in-OfValue-Argument in
-    seen_is first_of refl _ k.i _ (argument_at c.args.self.now k.b n.result.now n.ensures c.args.d k.i (k.is ∙ ap OfValue (rw k.is at k.field-0-is))) c.requires d.result.now d.ensures
+pub returns-in-OfValue : goal.returns-in-OfValue
+returns-in-OfValue g c =
+    let x = c.args.self.now in
+    let k = c.in-OfValue in
+    ap (head_at x) k.is ∙ head_is x k.v ∙ ap first_of c.definition.ensures

@@ -6,9 +6,9 @@ use Rattle.irtext_graph.proofs.Nests.{attached, renested}
 use Rattle.irtext_graph.proofs.Kept.{places_on, data_on, forest_then, appends_then}
 use Rattle.irtext_graph.proofs.objects.Objects.insert_last.Goals as goal
 
-pub returns-in-Ok-clause-forest : goal.returns-in-Ok-clause-forest
-returns-in-Ok-clause-forest g c =
-    let a = c.in-Ok.ensures.ok in
+pub returns-clause-forest : goal.returns-clause-forest
+returns-clause-forest g c =
+    let a = c.in_ok-append.ensures.ok in
     forest_then (attached eq_object object_tells c.requires.forest (record {
       free = c.requires.can.free;
       apart = c.requires.can.apart;
@@ -18,24 +18,24 @@ returns-in-Ok-clause-forest g c =
       ups = a.ups;
     })) c.note.ensures
 
-pub returns-in-Ok-clause-ok : goal.returns-in-Ok-clause-ok
-returns-in-Ok-clause-ok g c = appends_then c.in-Ok.ensures.ok c.note.ensures
+pub returns-clause-ok : goal.returns-clause-ok
+returns-clause-ok g c = appends_then c.in_ok-append.ensures.ok c.note.ensures
 
-pub returns-in-Ok-clause-places : goal.returns-in-Ok-clause-places
-returns-in-Ok-clause-places g c = places_on c.append.ensures.places c.note.ensures.places
+pub returns-clause-places : goal.returns-clause-places
+returns-clause-places g c = places_on c.append.ensures.places c.note.ensures.places
 
-pub returns-in-Ok-clause-data : goal.returns-in-Ok-clause-data
-returns-in-Ok-clause-data g c = data_on c.append.ensures.data c.note.ensures.all_data
+pub returns-clause-data : goal.returns-clause-data
+returns-clause-data g c = data_on c.append.ensures.data c.note.ensures.all_data
 
 pub note-requires : goal.note-requires
-note-requires g c = rw (c.in-Ok.ensures.ok.whats c.args.c) c.requires.lives
+note-requires g c = rw (c.in_ok-append.ensures.ok.whats c.args.c) c.requires.lives
 
-pub returns-in-Err-clause-forest : goal.returns-in-Err-clause-forest
-returns-in-Err-clause-forest g c =
-    renested eq_object object_tells c.requires.forest (λ q. (c.in-Err.ensures.err q).same_kids) (λ q. (c.in-Err.ensures.err q).same_up)
+pub returns-in_err-append-clause-forest : goal.returns-in_err-append-clause-forest
+returns-in_err-append-clause-forest g c =
+    renested eq_object object_tells c.requires.forest (λ q. (c.in_err-append.ensures.err q).same_kids) (λ q. (c.in_err-append.ensures.err q).same_up)
 
-pub returns-in-Ok-clause-kept : goal.returns-in-Ok-clause-kept
-returns-in-Ok-clause-kept g c = λ m fk fc. appends_keeps c.args.self.now c.note.new.self c.args.k c.args.c m (appends_then c.in-Ok.ensures.ok c.note.ensures) fk fc
+pub returns-clause-kept : goal.returns-clause-kept
+returns-clause-kept g c = λ m fk fc. appends_keeps c.args.self.now c.note.new.self c.args.k c.args.c m (appends_then c.in_ok-append.ensures.ok c.note.ensures) fk fc
 
-pub returns-in-Err-clause-kept : goal.returns-in-Err-clause-kept
-returns-in-Err-clause-kept g c = λ m _ _. record { same = λ o _. c.in-Err.ensures.err o; age = λ o. ap (is_older m) (c.in-Err.ensures.err o).same_what }
+pub returns-in_err-append-clause-kept : goal.returns-in_err-append-clause-kept
+returns-in_err-append-clause-kept g c = λ m _ _. record { same = λ o _. c.in_err-append.ensures.err o; age = λ o. ap (is_older m) (c.in_err-append.ensures.err o).same_what }

@@ -1,4 +1,4 @@
-use Rattle.std.proofs.Common.{◌≡◌, refl, sym, ap, subst, arith, inl, inr, Some}
+use Rattle.std.proofs.Common.{◌≡◌, ◌∙◌, refl, sym, ap, subst, arith, inl, inr, Some}
 use Rattle.irtext_graph.specs.Nested.{Within}
 use Rattle.irtext_graph.specs.Objects.{up, Lives}
 use Rattle.irtext_graph.specs.Uses.{use_at, val, prv, nxt, next_of}
@@ -10,7 +10,7 @@ use Rattle.irtext_graph.proofs.objects.Objects.is_used_inside.Goals as goal
 
 pub loop-at-init : goal.loop-at-init
 loop-at-init g c =
-    let k = list_of c.args.self.now c.args.d c.requires.linked c.head_of-at.result c.head_of-at.ensures in
+    let k = list_of c.args.self.now c.args.d c.requires.linked c.site-at.result (c.head_of.ensures ∙ ap Some (sym c.site-at.ensures.value)) in
     record { rest = k.0; path = k.1; looked = λ u e. inr (k.2 u e) }
 
 pub is_inside-requires-clause-lives : goal.is_inside-requires-clause-lives
@@ -27,7 +27,7 @@ loop-at-smaller g c =
     let x = c.args.self.now in
     let n = nearer x c.in-Some.u c.requires.linked c.requires.used in
     let a : to_end x c.loop-at.at ≡ to_end x (Some c.in-Some.u) = ap (to_end x) c.in-Some.is in
-    let b : to_end x c.use_of.result.links.next ≡ to_end x (next_of (use_at x c.in-Some.u)) = ap (λ s. to_end x (next_of s)) (sym c.use_of.ensures) in
+    let b : to_end x c.site-at-in-Some.result ≡ to_end x (next_of (use_at x c.in-Some.u)) = ap (to_end x) (c.site-at-in-Some.ensures.value ∙ ap next_of (sym c.use_of.ensures)) in
     omega (arith, n, a, b)
 
 pub loop-at-preserved : goal.loop-at-preserved
@@ -39,7 +39,7 @@ loop-at-preserved g c =
     let here : Within (up x) c.args.o (user u) = subst (Within (up x) c.args.o) c.user_of.ensures (c.is_inside.ensures.0 c.if-not-is_inside.false) in
     record {
       rest = k.0;
-      path = subst (λ z. Path (val x) (prv x) (nxt x) c.args.d z k.0) (ap next_of c.use_of.ensures) k.1;
+      path = subst (λ z. Path (val x) (prv x) (nxt x) c.args.d z k.0) (ap next_of c.use_of.ensures ∙ sym c.site-at-in-Some.ensures.value) k.1;
       looked = λ w e. elim (i.looked w e) [
         | inl inside ↦ inl inside
         | inr m ↦ elim (k.2 w m) [ inl same ↦ inl (subst (λ z. Within (up x) c.args.o (user z)) (sym same) here) | inr later ↦ inr later ]
