@@ -1,0 +1,5 @@
+-- trial
+use Rattle.std.specs.Prelude.{◌≡◌, ℕ}
+
+abbrev pub two : ℕ
+two = 2
