@@ -11,6 +11,8 @@ use std::fmt;
 impl<T: IrText<A>, A: AttrText<A>, U> Printable<U, T, A> for usize {
     ghost gives = { λ n _ s. Some (decimal n, s) };
 
+    ghost refuses = { λ _ _ s _ t _. t ≡ s };
+
     fn fmt(&self, _ctx: &Context<T, A>, _state: &mut State<U>, f: &mut String) -> fmt::Result {
         write!(f, "{}", *self)?;
         Ok(())
@@ -19,6 +21,8 @@ impl<T: IrText<A>, A: AttrText<A>, U> Printable<U, T, A> for usize {
 
 impl<T: IrText<A>, A: AttrText<A>, U> Printable<U, T, A> for u8 {
     ghost gives = { λ n _ s. Some (decimal n, s) };
+
+    ghost refuses = { λ _ _ s _ t _. t ≡ s };
 
     fn fmt(&self, _ctx: &Context<T, A>, _state: &mut State<U>, f: &mut String) -> fmt::Result {
         write!(f, "{}", *self)?;
@@ -29,6 +33,8 @@ impl<T: IrText<A>, A: AttrText<A>, U> Printable<U, T, A> for u8 {
 impl<T: IrText<A>, A: AttrText<A>, U> Printable<U, T, A> for u16 {
     ghost gives = { λ n _ s. Some (decimal n, s) };
 
+    ghost refuses = { λ _ _ s _ t _. t ≡ s };
+
     fn fmt(&self, _ctx: &Context<T, A>, _state: &mut State<U>, f: &mut String) -> fmt::Result {
         write!(f, "{}", *self)?;
         Ok(())
@@ -37,6 +43,8 @@ impl<T: IrText<A>, A: AttrText<A>, U> Printable<U, T, A> for u16 {
 
 impl<T: IrText<A>, A: AttrText<A>, U> Printable<U, T, A> for u32 {
     ghost gives = { λ n _ s. Some (decimal n, s) };
+
+    ghost refuses = { λ _ _ s _ t _. t ≡ s };
 
     fn fmt(&self, _ctx: &Context<T, A>, _state: &mut State<U>, f: &mut String) -> fmt::Result {
         write!(f, "{}", *self)?;
@@ -47,6 +55,8 @@ impl<T: IrText<A>, A: AttrText<A>, U> Printable<U, T, A> for u32 {
 impl<T: IrText<A>, A: AttrText<A>, U> Printable<U, T, A> for u64 {
     ghost gives = { λ n _ s. Some (decimal n, s) };
 
+    ghost refuses = { λ _ _ s _ t _. t ≡ s };
+
     fn fmt(&self, _ctx: &Context<T, A>, _state: &mut State<U>, f: &mut String) -> fmt::Result {
         write!(f, "{}", *self)?;
         Ok(())
@@ -55,6 +65,8 @@ impl<T: IrText<A>, A: AttrText<A>, U> Printable<U, T, A> for u64 {
 
 impl<T: IrText<A>, A: AttrText<A>, U> Printable<U, T, A> for i8 {
     ghost gives = { λ n _ s. Some (signed_decimal n, s) };
+
+    ghost refuses = { λ _ _ s _ t _. t ≡ s };
 
     fn fmt(&self, _ctx: &Context<T, A>, _state: &mut State<U>, f: &mut String) -> fmt::Result {
         write!(f, "{}", *self)?;
@@ -65,6 +77,8 @@ impl<T: IrText<A>, A: AttrText<A>, U> Printable<U, T, A> for i8 {
 impl<T: IrText<A>, A: AttrText<A>, U> Printable<U, T, A> for i16 {
     ghost gives = { λ n _ s. Some (signed_decimal n, s) };
 
+    ghost refuses = { λ _ _ s _ t _. t ≡ s };
+
     fn fmt(&self, _ctx: &Context<T, A>, _state: &mut State<U>, f: &mut String) -> fmt::Result {
         write!(f, "{}", *self)?;
         Ok(())
@@ -74,6 +88,8 @@ impl<T: IrText<A>, A: AttrText<A>, U> Printable<U, T, A> for i16 {
 impl<T: IrText<A>, A: AttrText<A>, U> Printable<U, T, A> for i32 {
     ghost gives = { λ n _ s. Some (signed_decimal n, s) };
 
+    ghost refuses = { λ _ _ s _ t _. t ≡ s };
+
     fn fmt(&self, _ctx: &Context<T, A>, _state: &mut State<U>, f: &mut String) -> fmt::Result {
         write!(f, "{}", *self)?;
         Ok(())
@@ -82,6 +98,8 @@ impl<T: IrText<A>, A: AttrText<A>, U> Printable<U, T, A> for i32 {
 
 impl<T: IrText<A>, A: AttrText<A>, U> Printable<U, T, A> for i64 {
     ghost gives = { λ n _ s. Some (signed_decimal n, s) };
+
+    ghost refuses = { λ _ _ s _ t _. t ≡ s };
 
     fn fmt(&self, _ctx: &Context<T, A>, _state: &mut State<U>, f: &mut String) -> fmt::Result {
         write!(f, "{}", *self)?;
