@@ -25,7 +25,7 @@ const BEFORE: &str = "test.parts";
 
 /// Two regions with marks, and a root whose section has their entries.
 const TEXT: &str =
-    "{ ^a() !3: test.br ^b !4 ^b() !5: } { ^c() !6: } builtin.module @n {} outlined_attributes: !3 = @[?], [builtin_block_label = builtin.identifier one] !4 = @[<in-memory>: line: 7, column: 8], [] !5 = @[?], [builtin_block_label = builtin.identifier two] !6 = @[?], [builtin_block_label = builtin.identifier three]";
+    "{ ^a() !3: test.br ^b !4 ^b() !5: }{ ^c() !6: }builtin.module @n {} outlined_attributes: !3 = @[?], [builtin_block_label = builtin.identifier one] !4 = @[<in-memory>: line: 7, column: 8], [] !5 = @[?], [builtin_block_label = builtin.identifier two] !6 = @[?], [builtin_block_label = builtin.identifier three]";
 
 /// What carries the mark with each index after the two regions.
 const CARRIERS: &[&str] = &[
