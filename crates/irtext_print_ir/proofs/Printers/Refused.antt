@@ -20,7 +20,7 @@ weaker (Ok x) f p = tt
 weaker (Err e) f p = f p
 
 -- a list of which these items were printed, and which failed at the next one
-module _ {I U X : Type 0} (steps : I → Option X → I → Type 0) (call stop : X → Shown U → String Global → Shown U → String Global → Type 0) (sep : ListSeparator) {i i' j k : I} {xs : List X} {x : X} {s t : Shown U} {b d : String Global} {p : Place U}
+module _ {I U X : Type 0} (steps : I → Option X → I → Type 0) (call stop : X → Shown U → String Global → Shown U → String Global → Type 0) (sep : ListSeparator) {i i' j k : I} (xs : List X) {x : X} {s t : Shown U} {b d : String Global} (p : Place U)
     (same : i ≡ i') (yielded : Yields steps i xs j) (step : steps j (Some x) k) (printed : FoldsTo (WritesItem call sep) (record { first = true; state = s; text = b }) xs p) where
   given : (t ≡ p.state) ⊎ ((between : String Global) × Separates p.first sep p.state p.text between × stop x p.state between t d) → StopsGiven steps call stop i' sep s b t d
   given stopped = record {

@@ -26,10 +26,10 @@ loop-item-preserved g c =
 
 pub returns-in_err-fmt_between-clause-refused : goal.returns-in_err-fmt_between-clause-refused
 returns-in_err-fmt_between-clause-refused g c =
-    always c.from_residual-in_err-fmt_between.result (at_separator g.I.Iterator.next_gives (PrintsItem g.I.Item.Printable.prints g.I.Item.Printable.gives c.args.ctx.now) (λ x. g.I.Item.Printable.refuses x c.args.ctx.now) c.args.sep
-    c.into_iter-item-iterator.ensures.into_iter_gives c.loop-item.yielded_by c.in-Some.ensures.steps c.loop-item.invariant c.fmt_between.ensures.state)
+    always c.from_residual.result (at_separator g.I.Iterator.next_gives (PrintsItem g.I.Item.Printable.prints g.I.Item.Printable.gives c.args.ctx.now) (λ x. g.I.Item.Printable.refuses x c.args.ctx.now) c.args.sep
+    c.loop-item.yielded _ c.into_iter-item-iterator.ensures.into_iter_gives c.loop-item.yielded_by c.in-Some.ensures.steps c.loop-item.invariant c.fmt_between.ensures.state)
 
 pub returns-in_err-fmt-clause-refused : goal.returns-in_err-fmt-clause-refused
 returns-in_err-fmt-clause-refused g c =
     always c.from_residual-in_err-fmt.result (at_item g.I.Iterator.next_gives (PrintsItem g.I.Item.Printable.prints g.I.Item.Printable.gives c.args.ctx.now) (λ x. g.I.Item.Printable.refuses x c.args.ctx.now) c.args.sep
-    c.into_iter-item-iterator.ensures.into_iter_gives c.loop-item.yielded_by c.in-Some.ensures.steps c.loop-item.invariant c.in_ok-fmt_between.ensures.text c.fmt_between.ensures.state c.in_err-fmt.ensures.refused)
+    c.loop-item.yielded _ c.into_iter-item-iterator.ensures.into_iter_gives c.loop-item.yielded_by c.in-Some.ensures.steps c.loop-item.invariant c.in_ok-fmt_between.ensures.text c.fmt_between.ensures.state c.in_err-fmt.ensures.refused)
