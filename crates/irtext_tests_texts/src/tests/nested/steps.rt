@@ -248,7 +248,13 @@ pub(crate) fn built(rt: &impl Abort, alloc: Global, ctx: &mut Ctx, steps: &[Step
 }
 
 /// Makes further steps.
-pub(crate) fn build(rt: &impl Abort, alloc: Global, ctx: &mut Ctx, made: &mut Made, steps: &[Step]) {
+pub(crate) fn build(
+    rt: &impl Abort,
+    alloc: Global,
+    ctx: &mut Ctx,
+    made: &mut Made,
+    steps: &[Step],
+) {
     for step in steps {
         make(rt, alloc, ctx, made, *step);
     }
