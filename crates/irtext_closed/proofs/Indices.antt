@@ -4,20 +4,18 @@ use Rattle.std.specs.Prelude.{◌↔◌}
 use Rattle.irtext_context.specs.Context.{ContextView}
 use Rattle.irtext_graph.specs.declared.arena.Ptr.{Ptr}
 use Rattle.irtext_graph.specs.declared.object.BasicBlock.{BasicBlock}
-use Rattle.irtext_graph.specs.declared.object.Defined.{Defined}
 use Rattle.irtext_graph.specs.declared.object.Defined.TheVariants.{OfValue, OfBlock}
 use Rattle.irtext_graph.specs.declared.object.Object.{Object}
 use Rattle.irtext_graph.specs.declared.object.Object.TheVariants.{TheOperation, TheBlock}
 use Rattle.irtext_graph.specs.declared.object.Operation.{Operation}
 use Rattle.irtext_graph.specs.declared.object.Site.TheVariants.{AtOperand, AtSuccessor}
 use Rattle.irtext_graph.specs.declared.object.Value.{Value}
-use Rattle.irtext_graph.specs.declared.object.Value.TheVariants.{Result, Argument}
 use Rattle.irtext_graph.specs.Erasing.{owner}
 use Rattle.irtext_graph.specs.Graph.{parent, ancestor}
-use Rattle.irtext_graph.specs.Parts.{operands, successors, results, arguments}
+use Rattle.irtext_graph.specs.Parts.{operands, successors}
 use Rattle.irtext_graph.proofs.Nests.{some_eq}
 use Rattle.irtext_closed.specs.Closing.{Shares, Reaches}
-use Rattle.irtext_closed.specs.Closed.{isolated_data, IsTyped, IsUseReached}
+use Rattle.irtext_closed.specs.Closed.{isolated_data, IsUseReached}
 
 -- an element at an index is within the list
 within : {X : Type 0} (xs : List X) (i : ℕ) (x : X) → slice_get xs i ≡ Some x → i < length xs
@@ -50,14 +48,6 @@ module _ {T A : Type 0} (ctx : ContextView T A) where
   -- no successor is left
   pub successors_reached : (p : Ptr Operation) → ((j : ℕ) → j < length (successors ctx.graph p) → IsUseReached ctx (AtSuccessor p j)) → (j : ℕ) → IsUseReached ctx (AtSuccessor p j)
   successors_reached p all j = λ d e. all j (mapped_within OfBlock (successors ctx.graph p) j d e) d e
-
-  -- no result is left
-  pub results_typed : (p : Ptr Operation) → ((j : ℕ) → j < length (results ctx.graph p) → IsTyped ctx (Result p j)) → (j : ℕ) → IsTyped ctx (Result p j)
-  results_typed p all j = λ t e. all j (within (results ctx.graph p) j t e) t e
-
-  -- no argument is left
-  pub arguments_typed : (b : Ptr BasicBlock) → ((j : ℕ) → j < length (arguments ctx.graph b) → IsTyped ctx (Argument b j)) → (j : ℕ) → IsTyped ctx (Argument b j)
-  arguments_typed b all j = λ t e. all j (within (arguments ctx.graph b) j t e) t e
 
   -- an operand is reached if its owner is in the same isolated scope
   pub operand_reached : (p : Ptr Operation) (i : ℕ) (v : Value) (o : Object) (found : Bool) → slice_get (operands ctx.graph p) i ≡ Some v → o ≡ owner (OfValue v)

@@ -1,14 +1,13 @@
 -- The walk over the objects of a root, and what its first reason says of the root.
-use Rattle.std.proofs.Common.{◌≡◌, ◌≢◌, ◌∙◌, ◌<◌, ◌⊎◌, ℕ, zero, suc, inl, inr, refl, sym, ap, subst, arith, Bool, true, false, List, [], ◌∷◌, length, map, slice_get, Option, Some, None, IsSome, option_map, Result, Ok, Err}
+use Rattle.std.proofs.Common.{◌≡◌, ◌≢◌, ◌∙◌, ◌<◌, ◌⊎◌, ℕ, inl, inr, refl, sym, ap, subst, arith, List, [], ◌∷◌, length, map, slice_get, Option, Some, None, IsSome, option_map, Result, Ok, Err}
 use Rattle.std.specs.Prelude.{◌↔◌, IsOk}
 use Rattle.std.specs.Result.{IsErrAnd}
 use Rattle.irtext_context.specs.Context.{ContextView, operation}
 use Rattle.irtext_graph.specs.declared.arena.Ptr.{Ptr}
-use Rattle.irtext_graph.specs.declared.object.BasicBlock.{BasicBlock}
 use Rattle.irtext_graph.specs.declared.object.Defined.{Defined}
 use Rattle.irtext_graph.specs.declared.object.Defined.TheVariants.{OfValue, OfBlock}
 use Rattle.irtext_graph.specs.declared.object.Object.{Object}
-use Rattle.irtext_graph.specs.declared.object.Object.TheVariants.{TheOperation, TheBlock, TheRegion}
+use Rattle.irtext_graph.specs.declared.object.Object.TheVariants.{TheOperation, TheRegion}
 use Rattle.irtext_graph.specs.declared.object.Operation.{Operation}
 use Rattle.irtext_graph.specs.declared.object.Region.{Region}
 use Rattle.irtext_graph.specs.declared.object.Site.{Site}
@@ -16,16 +15,15 @@ use Rattle.irtext_graph.specs.declared.object.Site.TheVariants.{AtOperand, AtSuc
 use Rattle.irtext_graph.specs.declared.object.Value.{Value}
 use Rattle.irtext_graph.specs.declared.object.Value.TheVariants as value
 use Rattle.irtext_graph.specs.Chained.{Among}
-use Rattle.irtext_graph.specs.Erasing.{owner, user, sibling}
-use Rattle.irtext_graph.specs.Graph.{IsInside, parent, children, content}
+use Rattle.irtext_graph.specs.Erasing.{owner, user}
+use Rattle.irtext_graph.specs.Graph.{IsInside, parent, children}
 use Rattle.irtext_graph.specs.Nested.{Nested}
 use Rattle.irtext_graph.specs.Parts.{regions, results, operands, successors}
 use Rattle.irtext_graph.specs.Throughout.{all_from}
 use Rattle.irtext_graph.specs.Used.{used_at}
 use Rattle.irtext_graph.proofs.Inside.{within_self}
-use Rattle.irtext_closed.specs.Closing.{is_isolated}
-use Rattle.irtext_closed.specs.Closed.{isolated_data, IsPlain, IsTyped, IsUseReached, IsClosedRoot}
-use Rattle.irtext_closed.specs.First.{IsBareRoot, IsRootReason, IsClosedAt, IsReasonAt, IsNext, IsFirstReason}
+use Rattle.irtext_closed.specs.Closed.{IsTyped, IsUseReached, IsClosedRoot}
+use Rattle.irtext_closed.specs.First.{IsBareRoot, IsRootReason, IsClosedAt, IsReasonAt, IsFirstReason}
 use Rattle.irtext_closed.specs.declared.not_closed.NotClosed.{NotClosed}
 use Rattle.irtext_closed.specs.declared.not_closed.NotClosed.TheVariants as why
 
@@ -43,11 +41,6 @@ first_of : {X : Type 0} (xs : List X) → xs ≢ [] → (x : X) × (slice_get xs
 first_of [] h = absurd (h refl)
 first_of (x ∷ xs) h = (x, refl)
 
--- if no element can be there, the list is empty
-empty_of : {X : Type 0} (xs : List X) → ((i : ℕ) (x : X) → slice_get xs i ≡ Some x → ⊥) → xs ≡ []
-empty_of [] h = refl
-empty_of (x ∷ xs) h = absurd (h 0 x refl)
-
 -- an error that is returned, where what `Ok` says does not hold
 pub refused : {X E P : Type 0} (e : E) (r : Result X E) → IsErrAnd r (λ y. y ≡ e) → (P → ⊥) → IsOk r ↔ P
 refused e (Ok x) h none = absurd h
@@ -55,9 +48,6 @@ refused e (Err f) h none = ((λ t. absurd (cc)), (λ p. absurd (none p)))
 
 operation_eq : (p q : Ptr Operation) → TheOperation p ≡ TheOperation q → p ≡ q
 operation_eq p q e = cc
-
-block_eq : (p q : Ptr BasicBlock) → TheBlock p ≡ TheBlock q → p ≡ q
-block_eq p q e = cc
 
 module _ {T A : Type 0} (ctx : ContextView T A) where
   -- ---- one object
@@ -72,30 +62,6 @@ module _ {T A : Type 0} (ctx : ContextView T A) where
       uses : (u : Site) → user u ≡ TheOperation p → IsUseReached ctx u
       uses (AtOperand q i) e = subst (λ z. IsUseReached ctx (AtOperand z i)) (sym (operation_eq q p e)) (values i)
       uses (AtSuccessor q i) e = subst (λ z. IsUseReached ctx (AtSuccessor z i)) (sym (operation_eq q p e)) (blocks i)
-
-  -- a block without a label among its attributes, whose arguments have types
-  pub block_closed : (b : Ptr BasicBlock) → IsPlain ctx (TheBlock b) → ((i : ℕ) → IsTyped ctx (value.Argument b i)) → IsClosedAt ctx (TheBlock b)
-  block_closed b plain types = record { plain = plain; typed = typed; uses = uses }
-    where
-      typed : (v : Value) → owner (OfValue v) ≡ TheBlock b → IsTyped ctx v
-      typed (value.Result q i) e = absurd (cc)
-      typed (value.Argument c i) e = subst (λ z. IsTyped ctx (value.Argument z i)) (sym (block_eq c b e)) (types i)
-
-      uses : (u : Site) → user u ≡ TheBlock b → IsUseReached ctx u
-      uses (AtOperand q i) e = absurd (cc)
-      uses (AtSuccessor q i) e = absurd (cc)
-
-  -- nothing is asked of a region
-  pub region_closed : (r : Ptr Region) → IsClosedAt ctx (TheRegion r)
-  region_closed r = record { plain = tt; typed = typed; uses = uses }
-    where
-      typed : (v : Value) → owner (OfValue v) ≡ TheRegion r → IsTyped ctx v
-      typed (value.Result q i) e = absurd (cc)
-      typed (value.Argument b i) e = absurd (cc)
-
-      uses : (u : Site) → user u ≡ TheRegion r → IsUseReached ctx u
-      uses (AtOperand q i) e = absurd (cc)
-      uses (AtSuccessor q i) e = absurd (cc)
 
   module _ (p : Ptr Operation) where
     -- ---- the walk

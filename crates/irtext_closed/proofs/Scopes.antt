@@ -1,6 +1,6 @@
 -- The innermost isolated region around an object.
-use Rattle.std.proofs.Common.{◌≡◌, ◌≢◌, ◌∙◌, ◌⊎◌, ℕ, zero, suc, inl, inr, refl, sym, ap, subst, arith, Bool, true, false, Option, Some, None}
-use Rattle.std.specs.Prelude.{◌↔◌, ◌≤◌, ◌+◌}
+use Rattle.std.proofs.Common.{◌≡◌, ◌≢◌, ◌∙◌, ℕ, zero, suc, refl, sym, ap, subst, arith, Bool, true, false, Option, Some, None}
+use Rattle.std.specs.Prelude.{◌+◌}
 use Rattle.irtext_graph.specs.declared.object.Object.{Object}
 use Rattle.irtext_graph.specs.Graph.{GraphView, parent, children, content, IsInside}
 use Rattle.irtext_graph.specs.Nested.{climb, Nested}
@@ -19,9 +19,6 @@ module _ {O B T : Type 0} (isolated : O → Bool) (g : GraphView O B T) where
     pub inside : IsInside g at o
     pub later : (s : Object) → IsBarrier isolated g s → IsInside g s o → IsInside g s at
 
-  pub climbs_first : (o : Object) → Climbed o o
-  climbs_first o = record { inside = within_self (parent g) o; later = λ s b w. w }
-
   -- what is around x and is not x is around its parent
   above : (x k s : Object) → parent g x ≡ Some k → s ≢ x → IsInside g s x → IsInside g s k
   above x k s e ne w = go w.0 w.1
@@ -39,9 +36,6 @@ module _ {O B T : Type 0} (isolated : O → Bool) (g : GraphView O B T) where
         let opens = open_ in
         cc) (c.later s b w);
   }
-
-  pub climbs_to : (o x k : Object) → Climbed o x → parent g x ≡ Some k → is_isolated isolated (content g k) ≡ true → IsScope isolated g o (Some x)
-  climbs_to o x k c e closed = (record { holder = k; held = e; closes = closed }, c.inside, c.later)
 
   pub climbs_out : (o x : Object) → Climbed o x → parent g x ≡ None → IsScope isolated g o None
   climbs_out o x c e = λ r b w. go r b (c.later r b w).0 (c.later r b w).1

@@ -1,5 +1,5 @@
 -- For callers: when a root of a context is closed, said of its objects.
-use Rattle.std.specs.Prelude.{◌≡◌, Bool, true, false, List, [], Option, Some, None, IsSome, IfSome}
+use Rattle.std.specs.Prelude.{◌≡◌, Bool, false, List, [], Option, Some, None, IsSome, IfSome}
 use Rattle.std.specs.Map.{lookup}
 use Rattle.std.specs.Str.{bytes_eq}
 use Rattle.irtext_base.specs.Format.{block_label_key}
@@ -16,7 +16,7 @@ use Rattle.irtext_graph.specs.declared.object.Operation.{Operation}
 use Rattle.irtext_graph.specs.declared.object.Site.{Site}
 use Rattle.irtext_graph.specs.declared.object.Value.{Value}
 use Rattle.irtext_graph.specs.Content.{Typed}
-use Rattle.irtext_graph.specs.Erasing.{owner, user}
+use Rattle.irtext_graph.specs.Erasing.{owner}
 use Rattle.irtext_graph.specs.Graph.{IsInside}
 use Rattle.irtext_graph.specs.Parts.{results, value_at}
 use Rattle.irtext_closed.specs.Closing.{IsReached, IsSelfContained}

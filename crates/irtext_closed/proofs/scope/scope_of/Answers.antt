@@ -1,9 +1,9 @@
-use Rattle.std.proofs.Common.{◌≡◌, ◌∙◌, sym, None, Some, subst, rules}
+use Rattle.std.proofs.Common.{◌∙◌, sym, None, Some, subst, rules}
 use Rattle.irtext_graph.specs.Graph.{parent, children}
 use Rattle.irtext_graph.specs.Nested.{Nested}
 use Rattle.irtext_closed.specs.Closed.{isolated_data}
 use Rattle.irtext_closed.proofs.Depth.{parent_less}
-use Rattle.irtext_closed.proofs.Scopes.{parent_is, climbs_on, climbs_to, climbs_out}
+use Rattle.irtext_closed.proofs.Scopes.{parent_is, climbs_on, climbs_out}
 use Rattle.irtext_closed.proofs.scope.scope_of.Goals as goal
 
 pub loop-holder-smaller : goal.loop-holder-smaller
