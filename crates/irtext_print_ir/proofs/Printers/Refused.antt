@@ -24,14 +24,14 @@ module _ {I U X : Type 0} (steps : I → Option X → I → Type 0) (call stop :
     (same : i ≡ i') (yielded : Yields steps i xs j) (step : steps j (Some x) k) (printed : FoldsTo (WritesItem call sep) (record { first = true; state = s; text = b }) xs p) where
   given : (t ≡ p.state) ⊎ ((between : String Global) × Separates p.first sep p.state p.text between × stop x p.state between t d) → StopsGiven steps call stop i' sep s b t d
   given stopped = record {
-      items = xs;
-      next = x;
-      before = j;
-      after = k;
-      yields = subst (λ i. Yields steps i xs j) same yielded;
-      step = step;
-      stops = record { reached = p; printed = printed; stopped = stopped };
-    }
+    items = xs;
+    next = x;
+    before = j;
+    after = k;
+    yields = subst (λ i. Yields steps i xs j) same yielded;
+    step = step;
+    stops = record { reached = p; printed = printed; stopped = stopped };
+  }
 
   -- at the separator
   pub at_separator : t ≡ p.state → StopsGiven steps call stop i' sep s b t d

@@ -21,7 +21,7 @@ IsUntouched s b t d = (t ≡ s) × (string_bytes d ≡ string_bytes b)
 abbrev pub RefusesEnclosed : {U : Type 0} → (Shown U → String Global → Shown U → String Global → Type 0) → (Shown U → String Global → Shown U → String Global → Type 0) → List ℕ → Shown U → String Global → Shown U → String Global → Type 0
 RefusesEnclosed call stop left s b t d = IsUntouched s b t d
     ⊎ ((begun : String Global) × (string_bytes begun ≡ string_bytes b ++ left) × (stop s begun t d
-        ⊎ ((filled : String Global) × call s begun t filled × (string_bytes d ≡ string_bytes filled))))
+    ⊎ ((filled : String Global) × call s begun t filled × (string_bytes d ≡ string_bytes filled))))
 
 -- a list: these items were printed, and it failed at the separator before the next one, or in the call that prints the next one
 pub record StopsAfter {U X : Type 0} (call stop : X → Shown U → String Global → Shown U → String Global → Type 0) (sep : ListSeparator) (xs : List X) (x : X) (s : Shown U) (b : String Global) (t : Shown U) (d : String Global) : Type 0 where

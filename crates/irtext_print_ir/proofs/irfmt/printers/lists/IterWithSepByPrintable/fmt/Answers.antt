@@ -15,11 +15,19 @@ loop-item-preserved g c =
 
 pub returns-in_err-fmt_between-clause-refused : goal.returns-in_err-fmt_between-clause-refused
 returns-in_err-fmt_between-clause-refused g c =
-    always c.from_residual-in_err-fmt_between.result (inr (c.in_ok-items.items, c.in_ok-items.ensures.cases, at_separator g.I.Iterator.next_gives _ _ _
-    c.loop-item.yielded _ c.into_iter-item-iterator.ensures.into_iter_gives c.loop-item.yielded_by c.in-Some.ensures.steps c.loop-item.invariant c.fmt_between.ensures.state))
+    always c.from_residual-in_err-fmt_between.result (inr (
+      c.in_ok-items.items,
+      c.in_ok-items.ensures.cases,
+      at_separator g.I.Iterator.next_gives _ _ _
+          c.loop-item.yielded _ c.into_iter-item-iterator.ensures.into_iter_gives c.loop-item.yielded_by c.in-Some.ensures.steps c.loop-item.invariant c.fmt_between.ensures.state,
+    ))
 
 pub returns-in_err-print_item-clause-refused : goal.returns-in_err-print_item-clause-refused
 returns-in_err-print_item-clause-refused g c =
-    always c.from_residual-in_err-print_item.result (inr (c.in_ok-items.items, c.in_ok-items.ensures.cases, at_item g.I.Iterator.next_gives _ _ _
-    c.loop-item.yielded _ c.into_iter-item-iterator.ensures.into_iter_gives c.loop-item.yielded_by c.in-Some.ensures.steps c.loop-item.invariant c.in_ok-fmt_between.ensures.text c.fmt_between.ensures.state
-    (FnRefusesItem-at g.F.Fn _ _ _ _ _ _ _ _ _ _ c.print_item.ensures c.in_err-print_item.was refl)))
+    always c.from_residual-in_err-print_item.result (inr (
+      c.in_ok-items.items,
+      c.in_ok-items.ensures.cases,
+      at_item g.I.Iterator.next_gives _ _ _
+          c.loop-item.yielded _ c.into_iter-item-iterator.ensures.into_iter_gives c.loop-item.yielded_by c.in-Some.ensures.steps c.loop-item.invariant c.in_ok-fmt_between.ensures.text c.fmt_between.ensures.state
+          (FnRefusesItem-at g.F.Fn _ _ _ _ _ _ _ _ _ _ c.print_item.ensures c.in_err-print_item.was refl),
+    ))
