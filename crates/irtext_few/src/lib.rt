@@ -1,15 +1,17 @@
-//! Lists that are mostly short. `Few` stores up to two elements in place and `Lone` one; more are in a vector. `Growing` is a list to which
-//! elements are added, with its first element stored in place.
+//! Lists that are mostly short. `Few` stores up to two elements in place and `Lone` one; more are in a vector. `Rare` stores none in place.
+//! `Growing` is a list to which elements are added, with its first element stored in place.
 #![tactic(auto)]
 
 pub mod growing;
 pub mod lone;
+pub mod rare;
 
 ghost use Rattle.std.specs.Prelude.{◌≡◌, ◌<◌, ◌∷◌, [], length, slice_index_or, slice_set};
 ghost use Rattle.std.specs.Borrow.{Lends, sem};
 
 pub use crate::growing::Growing;
 pub use crate::lone::Lone;
+pub use crate::rare::Rare;
 use std::marker::Model;
 use std::ops::{Index, IndexMut};
 

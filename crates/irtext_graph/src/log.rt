@@ -84,10 +84,9 @@ impl<O: Drop, B: Drop, T: Drop> Objects<O, B, T> {
         ensures kept { (w : _) → w ≢ u → val self.new w ≡ val self.old w }
         ensures seen { seen self.new ≡ seen self.old }
     {
-        if !self.use_of(u).links.linked {
-            return;
+        if self.use_of(u).links.linked {
+            self.detach(u);
         }
-        self.detach(u);
     }
 
     /// The number of operands or successors of an operation.

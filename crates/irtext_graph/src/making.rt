@@ -15,10 +15,10 @@ use crate::held::Kind;
 use crate::log::{Made, note};
 use crate::near::Near;
 use crate::nest::Nest;
-use crate::new_uses::{Side, unlinked_uses};
+use crate::new_uses::{Side, lone_uses, rare_uses};
 use crate::object::{BasicBlock, Operation, Region, Value};
 use crate::objects::{BlockData, Definition, OperationData, RegionData, Use};
-use irtext_few::{Few, Growing, Items, Lone};
+use irtext_few::{Few, Growing, Items, Lone, Rare};
 use std::alloc::{AllocError, Global};
 
 /// Makes a value with this type and this number, without uses.
@@ -90,14 +90,6 @@ fn store<X: Drop, K: Kind>(
     Ok(p)
 }
 
-/// Returns the number of the next value when so many are numbered from `from`. Fails if it is too large.
-#[inline(always)]
-fn number_after(from: u64, count: usize) -> Result<u64, AllocError>
-    ensures { IfOk result (λ next. next ≡ from + count) }
-{
-    from.checked_add(count as u64).ok_or(AllocError)
-}
-
 /// Makes values with these types, numbered from `from`, without uses. It allocates nothing for up to one.
 #[inline(always)]
 fn definitions<T: Drop>(
@@ -131,7 +123,7 @@ fn next_definitions<T: Drop>(
     ensures defines { IfOk result (λ ds. Defines ds types from) }
     ensures room { OnOk result (from + length types ≤ 18446744073709551615) }
 {
-    number_after(from, types.len())?;
+    from.checked_add(types.len() as u64).ok_or(AllocError)?;
     definitions(alloc, types, from)
 }
 
@@ -141,8 +133,8 @@ fn blank_operation<O: Drop, T: Drop>(
     alloc: Global,
     value: O,
     results: Lone<Definition<T>>,
-    operands: Few<Use<Value>>,
-    successors: Lone<Use<Ptr<BasicBlock>>>,
+    operands: Lone<Use<Value>>,
+    successors: Rare<Use<Ptr<BasicBlock>>>,
 ) -> Nest<BasicBlock, Region, OperationData<O, T>>
     ensures parent { result.parent ≡ None }
     ensures children { listed result.children ≡ [] }
@@ -179,9 +171,8 @@ fn new_operation<O: Drop, T: Drop>(
     ensures room { OnOk result (from + length types ≤ 18446744073709551615) }
 {
     let results = next_definitions(alloc, types, from)?;
-    let used = unlinked_uses(alloc, operands)?;
-    let leads = unlinked_uses(alloc, successors)?;
-    let led_to = Lone::from_few(alloc, leads)?;
+    let used = lone_uses(alloc, operands)?;
+    let led_to = rare_uses(alloc, successors)?;
     Ok(blank_operation(alloc, value, results, used, led_to))
 }
 

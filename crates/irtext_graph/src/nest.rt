@@ -9,9 +9,9 @@ use std::alloc::AllocError;
 #[derive(Drop)]
 pub(crate) struct Nest<P, C, D> {
     pub(crate) parent: Option<Ptr<P>>,
-    pub(crate) children: Growing<Ptr<C>>,
     // the index in the parent as it was recorded last: a hint that is tried first, and may be wrong
     pub(crate) noted: u32,
+    pub(crate) children: Growing<Ptr<C>>,
     pub(crate) data: D,
 }
 

@@ -6,7 +6,7 @@ use crate::arena::Ptr;
 use crate::near::Near;
 use crate::object::{Operation, Site};
 use crate::objects::{Links, Objects, Use};
-use irtext_few::Few;
+use irtext_few::{Lone, Rare};
 use std::alloc::{AllocError, Global};
 
 /// The operands or the successors of an operation.
@@ -56,20 +56,35 @@ fn many_unlinked_uses<D: Copy + Drop>(alloc: Global, defs: &[D]) -> Result<Vec<U
     Ok(uses)
 }
 
-/// Makes uses of these that are in no use list. It allocates nothing for up to two. Fails if they are too many.
+/// Makes uses of these that are in no use list. It allocates nothing for up to one. Fails if they are too many.
 #[inline(always)]
-pub(crate) fn unlinked_uses<D: Copy + Drop>(
+pub(crate) fn lone_uses<D: Copy + Drop>(
     alloc: Global,
     defs: &[D],
-) -> Result<Few<Use<D>>, AllocError>
+) -> Result<Lone<Use<D>>, AllocError>
     ensures uses { IfOk result (λ uses. uses ≡ map unlinked defs.now) }
     ensures few { OnOk result (length defs.now < 2147483648) }
 {
     match defs {
-        [] => Ok(Few::none()),
-        [def] => Ok(Few::one(unlinked_use(*def))),
-        [first, second] => Ok(Few::two(unlinked_use(*first), unlinked_use(*second))),
-        _ => Ok(Few::from_vec(many_unlinked_uses(alloc, defs)?)),
+        [] => Ok(Lone::none()),
+        [def] => Ok(Lone::one(unlinked_use(*def))),
+        _ => Ok(Lone::many(many_unlinked_uses(alloc, defs)?)),
+    }
+}
+
+/// Makes uses of these that are in no use list. It allocates nothing for none. Fails if they are too many.
+#[inline(always)]
+pub(crate) fn rare_uses<D: Copy + Drop>(
+    alloc: Global,
+    defs: &[D],
+) -> Result<Rare<Use<D>>, AllocError>
+    ensures uses { IfOk result (λ uses. uses ≡ map unlinked defs.now) }
+    ensures few { OnOk result (length defs.now < 2147483648) }
+{
+    match defs {
+        [] => Ok(Rare::none()),
+        [def] => Rare::one(alloc, unlinked_use(*def)),
+        _ => Rare::many(alloc, many_unlinked_uses(alloc, defs)?),
     }
 }
 

@@ -5,7 +5,7 @@ use crate::arena::{Arena, Ptr};
 use crate::near::Near;
 use crate::nest::Nest;
 use crate::object::{BasicBlock, Object, Operation, Region, Value};
-use irtext_few::{Few, Lone};
+use irtext_few::{Lone, Rare};
 use std::alloc::AllocError;
 
 /// The links of a use: whether it is in a use list, and the uses before and after it there.
@@ -35,8 +35,8 @@ pub(crate) struct Definition<T> {
 #[derive(Drop)]
 pub(crate) struct OperationData<O, T> {
     pub(crate) data: O,
-    pub(crate) operands: Few<Use<Value>>,
-    pub(crate) successors: Lone<Use<Ptr<BasicBlock>>>,
+    pub(crate) operands: Lone<Use<Value>>,
+    pub(crate) successors: Rare<Use<Ptr<BasicBlock>>>,
     pub(crate) results: Lone<Definition<T>>,
 }
 
@@ -90,18 +90,9 @@ impl<O: Drop, B: Drop, T: Drop> Objects<O, B, T> {
         ensures { result ≡ up self.now o }
     {
         match o {
-            Object::TheOperation(p) => match self.operations.parent_of(p) {
-                Some(b) => Some(Object::TheBlock(b)),
-                None => None,
-            },
-            Object::TheBlock(p) => match self.blocks.parent_of(p) {
-                Some(r) => Some(Object::TheRegion(r)),
-                None => None,
-            },
-            Object::TheRegion(p) => match self.regions.parent_of(p) {
-                Some(q) => Some(Object::TheOperation(q)),
-                None => None,
-            },
+            Object::TheOperation(p) => Some(Object::TheBlock(self.operations.parent_of(p)?)),
+            Object::TheBlock(p) => Some(Object::TheRegion(self.blocks.parent_of(p)?)),
+            Object::TheRegion(p) => Some(Object::TheOperation(self.regions.parent_of(p)?)),
         }
     }
 
