@@ -1,5 +1,5 @@
 //! The entries of a dictionary beside the given names: a few are in a vector, which is searched, and more are in a map.
-ghost use Rattle.std.specs.Prelude.{◌≡◌, ◌+◌, ◌<◌, ◌≤◌, [], true, IfOk, OnOk, OnErr, IfSome, option_copied, length, slice_get, position};
+ghost use Rattle.std.specs.Prelude.{◌≡◌, ◌+◌, ◌<◌, ◌≤◌, ◌∷◌, [], true, IfOk, OnOk, OnErr, IfSome, IfNone, MatchOption, option_copied, length, slice_get, position};
 ghost use Rattle.std.specs.Map.{lookup, keys_of};
 ghost use Rattle.std.specs.Map.Iter.{deref_pair};
 ghost use Rattle.std.specs.Option.{option_map};
@@ -17,13 +17,25 @@ use std::marker::Model;
 /// The largest number of entries that are kept in a vector. With one more they are moved to a map.
 const FEW: usize = 8;
 
+/// The number of entries that there is room for with the first.
+const FIRST: usize = 3;
+
 type Entry<A> = (Identifier, AttrObj<A>);
 
 type Table<A> = IndexMap<Identifier, AttrObj<A>, Seed>;
 
+/// A few entries, and the seed of the map that they are moved to with one more than `FEW`.
+#[derive(Drop)]
+struct Short<A> {
+    entries: Vec<Entry<A>>,
+    seed: Seed,
+}
+
+/// Boxed, since most dictionaries have none.
 #[derive(Drop)]
 enum Stored<A> {
-    Few(Vec<Entry<A>>),
+    Nothing(Seed),
+    Few(Box<Short<A>>),
     Many(Box<Table<A>>),
 }
 
@@ -32,7 +44,6 @@ enum Stored<A> {
 pub(crate) struct Others<A> {
     stored: Stored<A>,
     alloc: Global,
-    seed: Seed,
 }
 
 impl<A> Model for Others<A> {
@@ -81,6 +92,14 @@ fn take_out<A: Drop>(few: &mut Vec<Entry<A>>, key: &str) -> Option<(usize, AttrO
     Some((place, attr))
 }
 
+fn seed_of<A>(stored: &Stored<A>) -> Seed {
+    match stored {
+        Stored::Nothing(seed) => *seed,
+        Stored::Few(few) => few.seed,
+        Stored::Many(map) => *map.hasher(),
+    }
+}
+
 fn put_in<A: Drop>(map: &mut Table<A>, key: Identifier, attr: AttrObj<A>) -> Result<(), AllocError>
     ensures ok { OnOk result (map.new.entries ≡ insert_entry bytes_eq map.old.entries key attr) }
     ensures err { OnErr result (map.new.entries ≡ map.old.entries) }
@@ -123,19 +142,22 @@ fn put_all<A: Drop>(map: &mut Table<A>, entries: Vec<Entry<A>>)
 
 /// Moves the entries to a map, and puts one more into it. When out of memory, the entries are unchanged.
 fn widened<A: Drop>(
-    few: &mut Vec<Entry<A>>,
+    few: &mut Short<A>,
     alloc: Global,
-    seed: Seed,
     key: Identifier,
     attr: AttrObj<A>,
 ) -> Result<Box<Table<A>>, AllocError>
-    requires few { length few.old.items ≤ 8 }
-    requires differ { distinct bytes_eq (keys_of few.old.items) ≡ true }
-    ensures ok { IfOk result (λ map. map.value.entries ≡ insert_entry bytes_eq few.old.items key attr) }
-    ensures err { OnErr result (few.new.items ≡ few.old.items) }
+    requires few { length few.old.entries.items ≤ 8 }
+    requires differ { distinct bytes_eq (keys_of few.old.entries.items) ≡ true }
+    ensures ok { IfOk result (λ map. map.value.entries ≡ insert_entry bytes_eq few.old.entries.items
+        key attr) }
+    ensures err { OnErr result (few.new.entries.items ≡ few.old.entries.items) }
 {
-    let mut map = roomy(alloc, seed)?;
-    put_all(&mut map, std::mem::replace(few, Vec::new(alloc)));
+    let mut map = roomy(alloc, few.seed)?;
+    put_all(
+        &mut map,
+        std::mem::replace(&mut few.entries, Vec::new(alloc)),
+    );
     put_within(&mut map, key, attr);
     Ok(map)
 }
@@ -149,10 +171,50 @@ fn replace<A: Drop>(few: &mut Vec<Entry<A>>, place: usize, key: &Identifier, att
     few[place].1 = attr;
 }
 
+/// Returns a list of one entry, with room for `FIRST`.
+fn begun<A: Drop>(
+    alloc: Global,
+    seed: Seed,
+    key: Identifier,
+    attr: AttrObj<A>,
+) -> Result<Box<Short<A>>, AllocError>
+    ensures { IfOk result (λ few. few.value.entries.items ≡ (key, attr) ∷ []) }
+{
+    let mut entries = Vec::with_capacity(alloc, FIRST)?;
+    entries.push((key, attr))?;
+    Ok(Box::new(alloc, Short { entries, seed })?)
+}
+
+/// Puts an entry among a few. If there is no room for it among them, all of them are moved to a map with it, which is returned.
+fn put_among<A: Drop>(
+    few: &mut Short<A>,
+    alloc: Global,
+    key: Identifier,
+    attr: AttrObj<A>,
+) -> Result<Option<Box<Table<A>>>, AllocError>
+    requires few { length few.old.entries.items ≤ 8 }
+    requires differ { distinct bytes_eq (keys_of few.old.entries.items) ≡ true }
+    ensures ok { IfOk result (λ moved. MatchOption moved
+        (few.new.entries.items ≡ insert_entry bytes_eq few.old.entries.items key attr)
+        (λ map. map.value.entries ≡ insert_entry bytes_eq few.old.entries.items key attr)) }
+    ensures err { OnErr result (few.new.entries.items ≡ few.old.entries.items) }
+    ensures few { IfOk result (λ moved. IfNone moved (length few.new.entries.items ≤ 8)) }
+{
+    if let Some(place) = place_of(&few.entries, key.as_str()) {
+        replace(&mut few.entries, place, &key, attr);
+        return Ok(None);
+    }
+    if few.entries.len() < FEW {
+        few.entries.push((key, attr))?;
+        return Ok(None);
+    }
+    let map = widened(few, alloc, key, attr)?;
+    Ok(Some(map))
+}
+
 fn put<A: Drop>(
     stored: &mut Stored<A>,
     alloc: Global,
-    seed: Seed,
     key: Identifier,
     attr: AttrObj<A>,
 ) -> Result<(), AllocError>
@@ -163,20 +225,18 @@ fn put<A: Drop>(
     ensures err { OnErr result (entries_of stored.new ≡ entries_of stored.old) }
     ensures few { IsFew stored.new }
 {
-    let few = match stored {
-        Stored::Many(map) => return put_in(map, key, attr),
-        Stored::Few(few) => few,
-    };
-    if let Some(place) = place_of(few, key.as_str()) {
-        replace(few, place, &key, attr);
-        return Ok(());
+    match stored {
+        Stored::Nothing(seed) => {
+            let few = begun(alloc, *seed, key, attr)?;
+            *stored = Stored::Few(few);
+        }
+        Stored::Few(few) => {
+            if let Some(map) = put_among(few, alloc, key, attr)? {
+                *stored = Stored::Many(map);
+            }
+        }
+        Stored::Many(map) => put_in(map, key, attr)?,
     }
-    if few.len() < FEW {
-        few.push((key, attr))?;
-        return Ok(());
-    }
-    let map = widened(few, alloc, seed, key, attr)?;
-    *stored = Stored::Many(map);
     Ok(())
 }
 
@@ -188,7 +248,8 @@ fn take<A: Drop>(stored: &mut Stored<A>, key: &Identifier) -> Option<(usize, Att
     ensures few { IsFew stored.old → IsFew stored.new }
 {
     match stored {
-        Stored::Few(few) => take_out(few, key.as_str()),
+        Stored::Nothing(_) => None,
+        Stored::Few(few) => take_out(&mut few.entries, key.as_str()),
         Stored::Many(map) => {
             let (index, _, attr) = map.shift_remove_full(key)?;
             Some((index, attr))
@@ -202,9 +263,8 @@ impl<A: Drop> Others<A> {
         ensures { result ≡ [] }
     {
         Others {
-            stored: Stored::Few(Vec::new(alloc)),
+            stored: Stored::Nothing(seed),
             alloc,
-            seed,
         }
     }
 
@@ -212,7 +272,7 @@ impl<A: Drop> Others<A> {
     pub(crate) fn none_of(&self) -> Self
         ensures { result ≡ [] }
     {
-        Others::new(self.alloc, self.seed)
+        Others::new(self.alloc, seed_of(&self.stored))
     }
 
     /// The allocator of the entries.
@@ -226,7 +286,7 @@ impl<A: Drop> Others<A> {
         ensures ok { OnOk result (self.new ≡ insert_entry bytes_eq self.old key attr) }
         ensures err { OnErr result (self.new ≡ self.old) }
     {
-        put(&mut self.stored, self.alloc, self.seed, key, attr)
+        put(&mut self.stored, self.alloc, key, attr)
     }
 
     /// Returns the attribute under the key with this text, or `None` if there is none.
@@ -234,7 +294,8 @@ impl<A: Drop> Others<A> {
         ensures { option_copied result ≡ lookup (bytes_eq key.now) self.now }
     {
         match &self.stored {
-            Stored::Few(few) => attr_of(few, key),
+            Stored::Nothing(_) => None,
+            Stored::Few(few) => attr_of(&few.entries, key),
             Stored::Many(map) => map.get(key),
         }
     }
@@ -245,7 +306,8 @@ impl<A: Drop> Others<A> {
         ensures small { result < 9223372036854775808 }
     {
         match &self.stored {
-            Stored::Few(few) => few.len(),
+            Stored::Nothing(_) => 0,
+            Stored::Few(few) => few.entries.len(),
             Stored::Many(map) => map.len(),
         }
     }
@@ -255,7 +317,8 @@ impl<A: Drop> Others<A> {
         ensures { option_map deref_pair result ≡ slice_get self.now i }
     {
         match &self.stored {
-            Stored::Few(few) => entry_at(few, i),
+            Stored::Nothing(_) => None,
+            Stored::Few(few) => entry_at(&few.entries, i),
             Stored::Many(map) => map.get_index(i),
         }
     }

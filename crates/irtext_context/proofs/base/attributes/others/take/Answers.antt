@@ -6,6 +6,7 @@ use Rattle.irtext_context.proofs.base.attributes.others.take.Goals as goal
 
 pub returns-in-Few-clause-few : goal.returns-in-Few-clause-few
 returns-in-Few-clause-few g c few =
-    let less = length-removed (bytes_eq c.as_str.result.now) c.in-Few.few.items in
-    let before : length c.in-Few.few.items ≤ 8 = subst IsFew c.in-Few.is few in
+    let listed = c.deref_mut.result.now.entries.items in
+    let less = length-removed (bytes_eq c.as_str.result.now) listed in
+    let before : length listed ≤ 8 = subst (λ v. length v.entries.items ≤ 8) (sym c.deref_mut.ensures.value) (subst IsFew c.in-Few.is few) in
     subst (λ es. length es ≤ 8) (sym c.take_out.ensures.entries) (omega (arith, less, before))

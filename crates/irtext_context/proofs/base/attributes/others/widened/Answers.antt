@@ -11,4 +11,4 @@ returns-clause-ok g c =
     (ap (λ m. m.entries) c.deref_mut-2.ensures.value
     ∙ c.put_all.ensures.entries
     ∙ ap₂ (insert_all bytes_eq) (ap (λ m. m.entries) c.deref_mut.ensures.value ∙ c.in_ok-map.ensures.empty) (ap (λ v. v.items) c.replace.ensures.value)
-    ∙ all_put c.args.few.now.items c.requires.differ)
+    ∙ all_put c.args.few.now.entries.items c.requires.differ)
