@@ -1,6 +1,6 @@
-//! Lists whose first item is held in place.
+//! Lists whose first item is held in place, and lists whose items are all in a box.
 
-use irtext_few::{Few, Growing, Lone};
+use irtext_few::{Few, Growing, Lone, Rare};
 use std::alloc::Global;
 use std::process::Abort;
 
@@ -63,9 +63,30 @@ fn alone(rt: &impl Abort, alloc: Global) -> bool {
     is_of_items(rt, alloc) & one & two
 }
 
+/// The only item of a list in a box is changed.
+fn changes_boxed(rt: &impl Abort, alloc: Global) -> bool {
+    let none: Rare<u8> = Rare::none();
+    let mut one: Rare<u8> = Rare::one(alloc, 3).expect(rt, "out of memory");
+    one[0] = 5;
+    none.len() == 0 && one.len() == 1 && one[0] == 5
+}
+
+/// One of two items in a box is changed, and then both are removed.
+fn changes_two_boxed(rt: &impl Abort, alloc: Global) -> bool {
+    let mut many = Vec::new(alloc);
+    many.push(1).expect(rt, "out of memory");
+    many.push(2).expect(rt, "out of memory");
+    let mut two: Rare<u8> = Rare::many(alloc, many).expect(rt, "out of memory");
+    two[1] = 4;
+    let items = two.len() == 2 && two[0] == 1 && two[1] == 4;
+    two.clear();
+    items & (two.len() == 0)
+}
+
 #[test]
 fn lists_grow(rt: HostRuntime) {
     let grown = grows(&rt, rt.alloc());
     let lone = alone(&rt, rt.alloc());
-    assert!(rt; grown && lone);
+    let boxed = changes_boxed(&rt, rt.alloc()) & changes_two_boxed(&rt, rt.alloc());
+    assert!(rt; grown && lone && boxed);
 }
