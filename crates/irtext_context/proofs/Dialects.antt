@@ -7,7 +7,7 @@ use Rattle.indexmap.specs.IndexMap.{insert_entry}
 use Rattle.irtext_base.specs.Text.{Text}
 use Rattle.irtext_base.specs.Format.{Accepted}
 use Rattle.irtext_base.specs.FormatViews.{format_of}
-use Rattle.irtext_context.specs.Dialects.{Known, Table, AreAccepted, AllAccepted, known_of, known_entries, same_id}
+use Rattle.irtext_context.specs.Dialects.{Known, Table, AreAccepted, AllAccepted, IsKeyed, AreKeyed, known_of, known_entries, same_id}
 use Rattle.irtext_base.specs.declared.base.identifier.OpId.{OpId}
 use Rattle.irtext_context.specs.declared.dialect.OpInfo.{OpInfo}
 
@@ -73,6 +73,38 @@ pub accepted_put : {X E : Type 0} (r : Result X E) (name : Text) (old new : List
     → AreAccepted name (known_entries old) → id.dialect ≡ name → OnOk r (Accepted known.format) → AreAccepted name (known_entries new)
 accepted_put (Ok x) name old new id known e f a d k = subst (λ es. AreAccepted name es) (sym e) (accepted_more name (known_entries old) id known a d k)
 accepted_put (Err x) name old new id known e f a d k = subst (λ es. AreAccepted name (known_entries es)) (sym f) a
+
+-- one more entry for which a key is kept exactly if it has a symbol's name
+pub keyed_more : (es : List (OpId × OpInfo)) (id : OpId) (info : OpInfo) → AreKeyed es → IsKeyed info → AreKeyed (insert_entry same_id es id info)
+keyed_more [] id info a k = (k, tt)
+keyed_more (e ∷ es) id info a k = go (same_id id e.0) (keyed_more es id info a.1 k)
+  where
+    go : (b : Bool) → AreKeyed (insert_entry same_id es id info) → AreKeyed (cond b ((e.0, info) ∷ es) (e ∷ insert_entry same_id es id info))
+    go true r = (k, a.1)
+    go false r = (a.0, r)
+
+-- the entries after one was put, or not
+pub keyed_put : {X E : Type 0} (r : Result X E) (old new : List (OpId × OpInfo)) (id : OpId) (info : OpInfo)
+    → OnOk r (new ≡ insert_entry same_id old id info) → OnErr r (new ≡ old) → IsKeyed info → AreKeyed old → AreKeyed new
+keyed_put (Ok x) old new id info e f k a = subst AreKeyed (sym e) (keyed_more old id info a k)
+keyed_put (Err x) old new id info e f k a = subst AreKeyed (sym f) a
+
+-- what is found is such an entry
+pub keyed_found : (test : OpId → Bool) (es : List (OpId × OpInfo)) → AreKeyed es → IfSome (lookup test es) IsKeyed
+keyed_found test [] a = tt
+keyed_found test (e ∷ es) a = go (test e.0) (keyed_found test es a.1)
+  where
+    go : (b : Bool) → IfSome (lookup test es) IsKeyed → IfSome (cond b (Some e.1) (lookup test es)) IsKeyed
+    go true r = a.0
+    go false r = r
+
+-- the same for the value under the reference that a look-up returns
+pub keyed_after : (r : Option (Bor OpInfo)) (test : OpId → Bool) (es : List (OpId × OpInfo)) → option_copied r ≡ lookup test es → AreKeyed es → IfSome r (λ info. IsKeyed info.now)
+keyed_after r test es e a = by r (subst (λ o. IfSome o IsKeyed) (sym e) (keyed_found test es a))
+  where
+    by : (r : Option (Bor OpInfo)) → IfSome (option_copied r) IsKeyed → IfSome r (λ info. IsKeyed info.now)
+    by None h = tt
+    by (Some info) h = h
 
 -- what holds of the dialect at an index and of those after it holds from that index on
 pub accepted_from : (i : ℕ) (ds : List (Text × Table)) (x : Table) → slice_get (values_of ds) i ≡ Some x → AreAccepted x.name x.entries → AllAccepted (drop (suc i) ds) → AllAccepted (drop i ds)

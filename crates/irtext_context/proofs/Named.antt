@@ -8,11 +8,11 @@ use denote.Ref.{Bor}
 use Rattle.irtext_base.specs.Text.{Text}
 use Rattle.irtext_base.specs.Format.{Accepted}
 use Rattle.irtext_base.specs.FormatViews.{format_of}
-use Rattle.irtext_context.specs.Dialects.{AreAccepted, known_of, known_entries, same_id}
+use Rattle.irtext_context.specs.Dialects.{AreAccepted, IsKeyed, AreKeyed, known_of, known_entries, same_id}
 use Rattle.irtext_context.specs.Named.{id_of_texts, same_texts}
 use Rattle.irtext_base.specs.declared.base.identifier.OpId.{OpId}
 use Rattle.irtext_context.specs.declared.dialect.OpInfo.{OpInfo}
-use Rattle.irtext_context.proofs.Dialects.{IsAccepted, known_found, accepted_found}
+use Rattle.irtext_context.proofs.Dialects.{IsAccepted, known_found, accepted_found, keyed_found}
 
 module _ {K X : Type 0} (test : K → Bool) where
   passes : (es : List (K × X)) → IfSome (lookup_key test es) (λ k. test k ≡ true)
@@ -60,5 +60,13 @@ pub accepted_with_id : (r : Option (Bor OpId × Bor OpInfo)) (name : Text) (test
 accepted_with_id r name test es e a = by r (subst (λ o. IsAccepted o) (sym (known_with_id r test es e)) (accepted_found name test (known_entries es) a))
   where
     by : (r : Option (Bor OpId × Bor OpInfo)) → IsAccepted (option_map (λ e. known_of e.1.now) r) → IfSome r (λ e. Accepted (format_of e.1.now.format))
+    by None h = tt
+    by (Some e) h = h
+
+-- and a key is kept exactly if it has a symbol's name
+pub keyed_with_id : (r : Option (Bor OpId × Bor OpInfo)) (test : OpId → Bool) (es : List (OpId × OpInfo)) → option_map (λ e. e.1.now) r ≡ lookup test es → AreKeyed es → IfSome r (λ e. IsKeyed e.1.now)
+keyed_with_id r test es e a = by r (subst (λ o. IfSome o IsKeyed) (sym e) (keyed_found test es a))
+  where
+    by : (r : Option (Bor OpId × Bor OpInfo)) → IfSome (option_map (λ e. e.1.now) r) IsKeyed → IfSome r (λ e. IsKeyed e.1.now)
     by None h = tt
     by (Some e) h = h

@@ -1,9 +1,10 @@
 -- A dialect as contracts see it: its name, and its operations with their formats.
-use Rattle.std.specs.Prelude.{◌≡◌, Bool, false, ◌&&◌, List, [], ◌∷◌, map}
+use Rattle.std.specs.Prelude.{◌≡◌, Bool, false, ◌&&◌, nat_lt, List, [], ◌∷◌, map, is_some}
 use Rattle.std.specs.Str.{bytes_eq}
 use Rattle.indexmap.specs.IndexMap.{insert_entry}
 use Rattle.irtext_base.specs.Text.{Text}
-use Rattle.irtext_base.specs.Format.{Format, Accepted, first_fault}
+use Rattle.irtext_base.specs.Format as format
+use Rattle.irtext_base.specs.Format.{Format, Accepted, count, is_header, first_fault}
 use Rattle.irtext_base.specs.FormatViews.{format_of}
 use Rattle.irtext_format_check.specs.Directives.{condition_number}
 use Rattle.irtext_base.specs.declared.base.identifier.OpId.{OpId}
@@ -24,6 +25,20 @@ pub record Table : Type 0 where
 -- what the code keeps of an operation, with its format as the definitions have it
 abbrev pub known_of : OpInfo → Known
 known_of info = record { format = format_of info.format; isolated = info.isolated }
+
+-- operations with this format have a symbol's name
+abbrev pub has_symbol : Format → Bool
+has_symbol format.canonical = false
+has_symbol (format.custom ds) = nat_lt 0 (count is_header ds)
+
+-- the key of a symbol's name is kept exactly for an operation that has one
+abbrev pub IsKeyed : OpInfo → Type 0
+IsKeyed info = is_some info.sym_name_key ≡ has_symbol (format_of info.format)
+
+-- the same for each operation that the code keeps
+abbrev pub AreKeyed : List (OpId × OpInfo) → Type 0
+AreKeyed [] = Unit {0}
+AreKeyed (e ∷ es) = IsKeyed e.1 × AreKeyed es
 
 -- the operations that the code keeps, each with what is recorded of it
 abbrev pub known_entries : List (OpId × OpInfo) → List (OpId × Known)

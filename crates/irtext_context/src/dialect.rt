@@ -8,7 +8,7 @@ ghost use Rattle.std.specs.Map.{lookup};
 ghost use Rattle.std.specs.Str.{bytes_eq};
 ghost use Rattle.indexmap.specs.IndexMap.{insert_entry};
 ghost use Rattle.std.proofs.Common.{rules, ap};
-ghost use Rattle.irtext_context.specs.Dialects.{same_id, known_of, known_entries, with_op, IsRefusedBy, AreAccepted};
+ghost use Rattle.irtext_context.specs.Dialects.{same_id, known_of, known_entries, with_op, IsRefusedBy, AreAccepted, IsKeyed, AreKeyed};
 ghost use Rattle.irtext_base.specs.FormatViews.{format_of};
 ghost use Rattle.irtext_base.specs.Faults.{fault_of, name_refused};
 ghost use Rattle.irtext_base.specs.Format.{Accepted};
@@ -181,13 +181,13 @@ impl Drop for Dialect {
 }
 
 impl Model for Dialect {
-    ghost use Rattle.irtext_context.specs.Dialects.{Table, known_entries, AreAccepted};
+    ghost use Rattle.irtext_context.specs.Dialects.{Table, known_entries, AreAccepted, AreKeyed};
 
     ghost Value = { Table };
 
     ghost view = { λ d. record { name = d.name; entries = known_entries d.ops.entries } };
 
-    ghost invariant = { λ d. AreAccepted d.name (known_entries d.ops.entries) };
+    ghost invariant = { λ d. AreAccepted d.name (known_entries d.ops.entries) × AreKeyed d.ops.entries };
 }
 
 /// An error of kind invalid argument without a location.
@@ -247,6 +247,7 @@ fn put(
 fn info_of<A>(alloc: Global, format: OpFormat, isolated: bool) -> Result<OpInfo, Cause<A>>
     ensures ok { IfOk result (λ info. known_of info ≡ record
         { format = format_of format; isolated = isolated }) }
+    ensures keyed { IfOk result (λ info. IsKeyed info) }
     ensures accepted { OnOk result (Accepted (format_of format)) }
     ensures refused { IfErr result (λ cause. (own : _) (id : _) → id.dialect ≡ own
         → IsRefusedBy own id format cause) }
@@ -275,6 +276,7 @@ fn put_accepted<A>(
     requires { id.now.dialect ≡ name.now }
     ensures ok { OnOk result (known_entries ops.new.entries ≡ insert_entry same_id
         (known_entries ops.old.entries) id.now (record { format = format_of format; isolated = isolated })) }
+    ensures keyed { AreKeyed ops.old.entries → AreKeyed ops.new.entries }
     ensures accepted { OnOk result (Accepted (format_of format)) }
     ensures err { OnErr result (ops.new.entries ≡ ops.old.entries) }
     ensures refused { IfErr result (λ cause. IsRefusedBy name.now id.now format cause) }
@@ -350,6 +352,7 @@ impl Dialect {
         ensures found { option_map (λ info. known_of info.now) result ≡ lookup (same_id id.now)
             self.now.entries }
         ensures accepted { IfSome result (λ info. Accepted (format_of info.now.format)) }
+        ensures keyed { IfSome result (λ info. IsKeyed info.now) }
     {
         found(&self.ops, id)
     }

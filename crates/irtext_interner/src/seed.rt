@@ -23,7 +23,9 @@ impl Seed {
     pub const FIXED: Seed = Seed { number: 0 };
 
     /// Makes a seed from a number. All 64 bits count.
-    pub fn new(number: u64) -> Seed {
+    pub fn new(number: u64) -> Seed
+        ensures { result ≡ record { number = number } }
+    {
         Seed { number }
     }
 

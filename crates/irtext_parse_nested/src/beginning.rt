@@ -29,7 +29,6 @@ use irtext_base::base::{Identifier, OpId};
 use irtext_base::location::Location;
 use irtext_base::parsable::{CharStream, ParseFault, ParseResult, Place, TextStream};
 use irtext_base::result::Cause;
-use irtext_base::seed::Seed;
 use irtext_base::text::{AttrText, IrText};
 use irtext_context::base::context::making::Making;
 use irtext_context::base::{BasicBlock, Context, Operation, Ptr};
@@ -52,14 +51,8 @@ use irtext_parse_pieces::fronts::front_parse;
 use irtext_parse_pieces::ids::results_and_id_parse;
 use irtext_parse_pieces::keys::Keys;
 use irtext_parse_state::parsable::state::StreamLocation;
-use irtext_parse_state::parsable::{State, StateStream};
+use irtext_parse_state::parsable::StateStream;
 use irtext_tokens::irfmt::faults::{commit, out_of_memory, refuse_at};
-
-/// Returns the seed of the state's context.
-#[inline(always)]
-pub fn seed_of<T: IrText<A>, A: AttrText<A>, U>(state: &State<'_, T, A, U>) -> Seed {
-    state.ctx.seed()
-}
 
 /// What precedes an operation's first region.
 #[derive(Drop)]
@@ -188,7 +181,7 @@ fn pieces_created<T: IrText<A>, A: AttrText<A>, U>(
         → KeepsOlder m s.old.state.ctx.now s.new.state.ctx.now }
 {
     let alloc = s.stream.allocator();
-    let mut gathered = nothing(alloc, seed_of(&s.state));
+    let mut gathered = nothing(alloc, s.state.seed());
     let ctx = &mut *s.state.ctx;
     ctx.made();
     match gather(alloc, names, ctx.graph_mut(), &mut gathered, key, pieces) {
@@ -232,7 +225,7 @@ fn created<T: IrText<A>, A: AttrText<A>, U>(
         return pieces_created(s, names, id, key, loc, pieces);
     }
     ended(pieces);
-    let none: Gathered<T, A> = nothing(s.stream.allocator(), seed_of(&s.state));
+    let none: Gathered<T, A> = nothing(s.stream.allocator(), s.state.seed());
     let attributes = attributes_of(none);
     let ctx = &mut *s.state.ctx;
     let made = make_bare(ctx, id, loc, attributes);

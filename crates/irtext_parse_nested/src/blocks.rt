@@ -29,7 +29,6 @@ ghost use Rattle.irtext_names.specs.Items.{IsSound, KeepsLive, KeepsDepths};
 ghost use Rattle.irtext_names.specs.Located.{IsLocated};
 ghost use Rattle.irtext_parse_nested.specs.Read.{BeginsBlock, RefusesBlock};
 
-use crate::beginning::seed_of;
 use crate::frame::BegunBlock;
 use crate::operation_end::note_mark;
 use irtext_base::location::Location;
@@ -137,7 +136,7 @@ fn head_made<T: IrText<A>, A: AttrText<A>, U>(
         ended(entries);
         return Err(NotGathered::Memory);
     };
-    let attributes = match block_attributes(alloc, seed_of(&s.state), names, entries, &arguments) {
+    let attributes = match block_attributes(alloc, s.state.seed(), names, entries, &arguments) {
         Ok(attributes) => attributes,
         Err(refusal) => {
             ended((arguments, types));

@@ -33,7 +33,6 @@ use irtext_context::base::{BasicBlock, Ptr};
 use irtext_grammar::parsed::{Key, ReadEntry, ReadMark, ReadName};
 use irtext_names::kinds::Names;
 use irtext_parse_locations::rules::{is_given, is_label_key, is_names_key};
-use irtext_parse_nested::beginning::seed_of;
 use irtext_parse_pieces::headers::{BlockHead, block_head_parse};
 use irtext_parse_state::parsable::{State, StateStream};
 use irtext_scopes::tracker::NameTracker;
@@ -209,7 +208,7 @@ impl<T: IrText<A>, A: AttrText<A>, U> Parsable<T, A, U> for BasicBlock {
         if stream.stream.has_failed() {
             return Err(failed_fault(&stream.stream));
         }
-        let mut names = NameTracker::with_seed(stream.stream.allocator(), seed_of(&stream.state));
+        let mut names = NameTracker::with_seed(stream.stream.allocator(), stream.state.seed());
         match header_parse(&mut stream.stream, &mut names) {
             Ok(head) => ended(
                 Err(header_fault(&mut stream.stream, &stream.state, &names, &head)),

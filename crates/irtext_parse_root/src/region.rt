@@ -15,7 +15,6 @@ use irtext_base::parsable::{CharStream, ParseResult, SourcePosition};
 use irtext_base::text::{AttrText, IrText};
 use irtext_context::base::operation::OperationAccess;
 use irtext_context::base::{Context, Operation, Ptr, Region};
-use irtext_parse_nested::beginning::seed_of;
 use irtext_parse_state::parsable::{State, StateStream};
 use irtext_scopes::tracker::NameTracker;
 
@@ -60,7 +59,7 @@ fn alone_parse<T: IrText<A>, A: AttrText<A>, U>(
     if let Some(at) = unisolated_here(&s.state, parent) {
         return Err(not_isolated(&mut s.stream, at));
     }
-    let mut names = NameTracker::with_seed(s.stream.allocator(), seed_of(&s.state));
+    let mut names = NameTracker::with_seed(s.stream.allocator(), s.state.seed());
     context_keeps(&s.state);
     match items::region_parse(s, &mut names, parent) {
         Ok(region) => {

@@ -25,7 +25,6 @@ use irtext_context::base::context::making::Making;
 use irtext_context::base::{Operation, Ptr};
 use irtext_graph::held::HasGraph;
 use irtext_names::kinds::Names;
-use irtext_parse_nested::beginning::seed_of;
 use irtext_parse_state::parsable::{State, StateStream};
 use irtext_scopes::tracker::NameTracker;
 
@@ -77,7 +76,7 @@ pub fn tree_parse<T: IrText<A>, A: AttrText<A>, U>(
     ensures noted { (more : List (ℕ × Item)) × (marks_of s.new.state ≡ marks_of s.old.state ++ more) }
     ensures kept { KeepsOlder s.old.state.ctx.now.graph.made s.old.state.ctx.now s.new.state.ctx.now }
 {
-    let mut names = NameTracker::with_seed(s.stream.allocator(), seed_of(&s.state));
+    let mut names = NameTracker::with_seed(s.stream.allocator(), s.state.seed());
     context_keeps(&s.state);
     match nested_parse(s, &mut names) {
         Ok(op) => {

@@ -16,7 +16,7 @@ use irtext_base::text::{AttrText, IrText};
 use irtext_parse_locations::said::{Entries, NotedEntries, ReadEntry};
 use irtext_parse_pieces::keys::Keys;
 use irtext_parse_state::parsable::numbered::Numbered;
-use irtext_parse_state::parsable::{State, StateStream};
+use irtext_parse_state::parsable::StateStream;
 use irtext_tokens::irfmt::faults::{next_is, out_of_memory};
 use irtext_tokens::irfmt::parsers::skip_white_space;
 use std::alloc::{AllocError, Global};
@@ -97,12 +97,6 @@ fn more_parse<T: IrText<A>, A: AttrText<A>, U>(
     }
 }
 
-/// Returns the seed of the state's context.
-#[inline(always)]
-fn seed_of<T: IrText<A>, A: AttrText<A>, U>(state: &State<'_, T, A, U>) -> Seed {
-    state.ctx.seed()
-}
-
 /// Parses more entries after the first one, as long as `!` comes next.
 #[inline(never)]
 fn first_and_more<T: IrText<A>, A: AttrText<A>, U>(
@@ -113,7 +107,7 @@ fn first_and_more<T: IrText<A>, A: AttrText<A>, U>(
     ensures only { AddsOnlyPaths s.old.state s.new.state }
     ensures read { MustGoOn (attr_at A.IrText.reading) (one_noted first) s.old result s.new }
 {
-    match first_noted(s.stream.allocator(), seed_of(&s.state), first) {
+    match first_noted(s.stream.allocator(), s.state.seed(), first) {
         Ok(entries) => more_parse(s, entries, keys),
         Err(AllocError) => Err(out_of_memory(&mut s.stream)),
     }

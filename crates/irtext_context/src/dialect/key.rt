@@ -1,6 +1,8 @@
 //! The attribute key of a symbol's name. It is made once for each registered operation that has a symbol's name.
-ghost use Rattle.std.specs.Prelude.{◌≡◌, IfSome};
+ghost use Rattle.std.specs.Prelude.{◌≡◌, IfOk, IfSome, is_some};
 ghost use Rattle.irtext_base.specs.Format.{sym_name_key};
+ghost use Rattle.irtext_base.specs.FormatViews.{format_of};
+ghost use Rattle.irtext_context.specs.Dialects.{has_symbol};
 
 use crate::dialect::OpInfo;
 use irtext_base::base::Identifier;
@@ -37,7 +39,9 @@ impl SymNameKey {
 }
 
 /// Whether a format has a symbol's name.
-fn has_header(format: &OpFormat) -> bool {
+fn has_header(format: &OpFormat) -> bool
+    ensures { result ≡ has_symbol (format_of format.now) }
+{
     match format {
         OpFormat::Canonical => false,
         OpFormat::Custom(directives) => 0 < parts::count_sole(Sole::Header, directives.as_slice()),
@@ -45,7 +49,9 @@ fn has_header(format: &OpFormat) -> bool {
 }
 
 /// Returns the key if the format has a symbol's name.
-pub(crate) fn key_for(alloc: Global, format: &OpFormat) -> Result<Option<SymNameKey>, AllocError> {
+pub(crate) fn key_for(alloc: Global, format: &OpFormat) -> Result<Option<SymNameKey>, AllocError>
+    ensures { IfOk result (λ key. is_some key ≡ has_symbol (format_of format.now)) }
+{
     if !has_header(format) {
         return Ok(None);
     }
@@ -54,9 +60,10 @@ pub(crate) fn key_for(alloc: Global, format: &OpFormat) -> Result<Option<SymName
 }
 
 impl OpInfo {
-    /// Returns the key `builtin_sym_name` if the operation's format has a symbol's name.
+    /// Returns the key `builtin_sym_name` if the operation's format has a symbol's name, otherwise `None`.
     pub fn sym_name_key(&self) -> Option<&Identifier>
-        ensures { IfSome result (λ key. key.now ≡ sym_name_key) }
+        ensures key { IfSome result (λ key. key.now ≡ sym_name_key) }
+        ensures found { is_some result ≡ is_some self.now.sym_name_key }
     {
         match &self.sym_name_key {
             Some(key) => Some(key.get()),

@@ -5,7 +5,7 @@ ghost use Rattle.std.specs.Hash as fed;
 ghost use Rattle.std.specs.Map.{lookup};
 ghost use Rattle.std.specs.Str.{bytes_eq};
 ghost use Rattle.std.proofs.Common.{ap};
-ghost use Rattle.irtext_context.specs.Dialects.{known_of, same_id};
+ghost use Rattle.irtext_context.specs.Dialects.{known_of, same_id, IsKeyed};
 ghost use Rattle.irtext_context.specs.DialectTable.{dialect_of};
 ghost use Rattle.irtext_base.specs.FormatViews.{format_of};
 ghost use Rattle.irtext_context.specs.Named.{id_of_texts, fed_alike, tested_alike};
@@ -56,6 +56,7 @@ impl Dialect {
             (same_id (id_of_texts dialect.now name.now)) self.now.entries }
         ensures id { IfSome result (λ e. e.0.now ≡ id_of_texts dialect.now name.now) }
         ensures accepted { IfSome result (λ e. Accepted (format_of e.1.now.format)) }
+        ensures keyed { IfSome result (λ e. IsKeyed e.1.now) }
     {
         self.ops.get_key_value(IdTexts { dialect, name })
     }

@@ -4,7 +4,7 @@ ghost use Rattle.std.specs.Prelude.{length, slice_get, is_some, option_copied, o
 ghost use Rattle.std.specs.Borrow.{sem};
 ghost use Rattle.std.specs.Map.{lookup, values_of};
 ghost use Rattle.std.specs.Str.{bytes_eq};
-ghost use Rattle.irtext_context.specs.Dialects.{known_of, AllAccepted};
+ghost use Rattle.irtext_context.specs.Dialects.{known_of, AllAccepted, IsKeyed};
 ghost use Rattle.irtext_context.specs.DialectTable.{IsKeptAt, no_operations, dialect_of, dialect_or_new, registered};
 ghost use Rattle.irtext_base.specs.FormatViews.{format_of};
 ghost use Rattle.irtext_base.specs.Format.{Accepted};
@@ -134,6 +134,7 @@ impl<T: IrText<A>, A: AttrText<A>> Context<T, A> {
     pub fn op_info(&self, id: &OpId) -> Option<&OpInfo>
         ensures found { option_map (λ info. known_of info.now) result ≡ registered self.now.dialects id.now }
         ensures accepted { IfSome result (λ info. Accepted (format_of info.now.format)) }
+        ensures keyed { IfSome result (λ info. IsKeyed info.now) }
     {
         let dialect = dialect_by(&self.dialects, &id.dialect)?;
         dialect.op(id)

@@ -11,6 +11,7 @@ ghost use Rattle.irtext_base.specs.declared.location.Location.{Location};
 use crate::parsable::numbered::Numbered;
 use irtext_base::location::{Location, Source};
 use irtext_base::parsable::{CharStream, Class, ParseResult, Place, SourcePosition, TextStream};
+use irtext_base::seed::Seed;
 use irtext_base::text::{AttrText, IrText};
 use irtext_context::base::{Context, Item};
 use irtext_tokens::parsable::OwnStream;
@@ -26,7 +27,7 @@ pub struct State<'c, T, A, U> {
     /// The caller's own data.
     pub aux_data: U,
     // the items whose section was not parsed yet, by the indices of their marks
-    marks: Numbered<Item>,
+    pub(crate) marks: Numbered<Item>,
 }
 
 impl<'c, T: IrText<A>, A: AttrText<A>, U> State<'c, T, A, U> {
@@ -45,6 +46,12 @@ impl<'c, T: IrText<A>, A: AttrText<A>, U> State<'c, T, A, U> {
             aux_data,
             marks,
         }
+    }
+
+    /// Returns the seed of the context, for the tables of whoever parses into the state.
+    #[inline(always)]
+    pub fn seed(&self) -> Seed {
+        self.ctx.seed()
     }
 
     /// Returns the operation or block that carries the mark with this index, if one is recorded.

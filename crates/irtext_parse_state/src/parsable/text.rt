@@ -1,7 +1,9 @@
 //! Runs a parser on a text in memory, or on the characters of an iterator.
 ghost use Rattle.std.specs.Prelude.{◌≡◌, ◌⊎◌, ℕ, List, IfOk, string_bytes};
+ghost use Rattle.std.specs.Borrow.{sem, RestsIfErr};
 ghost use Rattle.std.specs.Iterator.{Drains, IsFinite};
 ghost use Rattle.std.specs.Str.{encode_utf8_all};
+ghost use Rattle.irtext_context.specs.contracts.base.context.Context.{the_row};
 ghost use Rattle.irtext_parse_state.specs.FromText.{at_beginning, Begins, IsCauseOf, IsErrorOf, IsOutOfMemory, Passes, Runs, Ran};
 
 use crate::parsable::{State, StateStream};
@@ -166,7 +168,44 @@ fn stream_of<I: Iterator<Item = char>>(
     TextStream::from_string(alloc, text)
 }
 
-/// Makes a stream of the characters of a finite iterator, which are collected first. Fails only if an allocation fails.
+impl<'c, T: IrText<A>, A: AttrText<A>, U: Drop> State<'c, T, A, U> {
+    /// Makes a stream of this state and of the characters of a finite iterator, which are collected first. Fails only if an allocation
+    /// fails; then the context is unchanged.
+    pub fn stream_from_iterator<I: Iterator<Item = char>>(
+        self,
+        iterator: I,
+    ) -> std::result::Result<StateStream<'c, T, A, U>, AllocError>
+        requires can { I.can_next iterator }
+        requires finite { IsFinite (I.remaining iterator) }
+        ensures* unchanged_at_err { sem 𝓛 (RestsIfErr (the_row T.row A.row) self.entry.ctx
+            (λ s. s.state.ctx.ghost_name) result (λ ctx. ctx ≡ self.entry.ctx.now)) }
+        ensures same_reference { IfOk result (λ s. s.state.ctx.ghost_name ≡ self.entry.ctx.ghost_name) }
+        ensures text { IfOk result (λ s. (items : List ℕ) × Drains I.next_gives iterator items
+            × (s.stream ≡ at_beginning (encode_utf8_all items))) }
+        ensures state { IfOk result (λ s. s.state ≡ self.entry) }
+    {
+        let State {
+            ctx,
+            src,
+            aux_data,
+            marks,
+        } = self;
+        match stream_of(ctx.allocator(), iterator) {
+            Ok(stream) => Ok(StateStream {
+                stream,
+                state: State {
+                    ctx,
+                    src,
+                    aux_data,
+                    marks,
+                },
+            }),
+            Err(error) => Err(error),
+        }
+    }
+}
+
+/// Does what [`State::stream_from_iterator`] does.
 pub fn state_stream_from_iterator<
     'c,
     T: IrText<A>,
@@ -184,8 +223,5 @@ pub fn state_stream_from_iterator<
         × (s.stream ≡ at_beginning (encode_utf8_all items))) }
     ensures state { IfOk result (λ s. s.state ≡ state.entry) }
 {
-    match stream_of(state.ctx.allocator(), iterator) {
-        Ok(stream) => Ok(StateStream { stream, state }),
-        Err(error) => Err(error),
-    }
+    state.stream_from_iterator(iterator)
 }
