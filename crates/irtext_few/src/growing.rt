@@ -4,7 +4,8 @@ ghost use Rattle.std.specs.Prelude.{◌≡◌, ◌<◌, ◌++◌, ◌∷◌, [],
 ghost use Rattle.std.specs.List.{remove};
 ghost use Rattle.irtext_few.specs.Growing.{listed, HasPlace};
 
-use std::alloc::{AllocError, Global};
+use irtext_memory::{OutOfMemory, boxed, vec};
+use std::alloc::Global;
 
 /// A list. An allocator takes no room.
 #[derive(Drop)]
@@ -47,20 +48,20 @@ impl<X: Copy> Growing<X> {
     }
 
     /// Makes room for one more element. The elements are unchanged. Fails only when out of memory.
-    pub fn make_room(&mut self) -> Result<(), AllocError>
+    pub fn make_room(&mut self) -> Result<(), OutOfMemory>
         ensures same { listed self.new ≡ listed self.old }
         ensures room { OnOk result (HasPlace self.new) }
     {
         match self {
             Growing::Nothing(_) => Ok(()),
             Growing::One(alloc, only) => {
-                let mut more = Vec::with_capacity(*alloc, 4)?;
-                more.push(*only)?;
-                let boxed = Box::new(*alloc, more)?;
-                *self = Growing::Many(boxed);
+                let mut more = vec::with_capacity(*alloc, 4)?;
+                vec::push(&mut more, *only)?;
+                let many = boxed::new(*alloc, more)?;
+                *self = Growing::Many(many);
                 Ok(())
             }
-            Growing::Many(more) => more.reserve(1),
+            Growing::Many(more) => vec::reserve_one(more),
         }
     }
 
@@ -79,7 +80,7 @@ impl<X: Copy> Growing<X> {
     }
 
     /// Adds an element at the end. When out of memory, it fails and the elements are unchanged.
-    pub fn push(&mut self, x: X) -> Result<(), AllocError>
+    pub fn push(&mut self, x: X) -> Result<(), OutOfMemory>
         ensures here { OnOk result (listed self.new ≡ listed self.old ++ x ∷ []) }
         ensures err { OnErr result (listed self.new ≡ listed self.old) }
     {

@@ -3,7 +3,8 @@ ghost use Rattle.std.specs.Prelude.{◌≡◌, ◌<◌, ◌∷◌, [], IfOk, len
 ghost use Rattle.std.specs.Borrow.{Lends, sem};
 
 use crate::{Few, Items};
-use std::alloc::{AllocError, Global};
+use irtext_memory::{OutOfMemory, vec};
+use std::alloc::Global;
 use std::marker::Model;
 use std::ops::{Index, IndexMut};
 
@@ -131,16 +132,16 @@ impl<X: Drop> Lone<X> {
 
     /// Returns a list of the elements of a short list. Allocates only for two elements. Fails only if that allocation fails.
     #[inline(always)]
-    pub fn from_few(alloc: Global, few: Few<X>) -> Result<Lone<X>, AllocError>
+    pub fn from_few(alloc: Global, few: Few<X>) -> Result<Lone<X>, OutOfMemory>
         ensures { IfOk result (λ items. items ≡ few) }
     {
         match few.into_items() {
             Items::Nothing => Ok(Lone::none()),
             Items::One(only) => Ok(Lone::one(only)),
             Items::Two(first, second) => {
-                let mut two = Vec::with_capacity(alloc, 2)?;
-                two.push(first)?;
-                two.push(second)?;
+                let mut two = vec::with_capacity(alloc, 2)?;
+                vec::push(&mut two, first)?;
+                vec::push(&mut two, second)?;
                 Ok(Lone::many(two))
             }
             Items::Many(items) => Ok(Lone::many(items)),

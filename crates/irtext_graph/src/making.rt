@@ -19,6 +19,7 @@ use crate::new_uses::{Side, lone_uses, rare_uses};
 use crate::object::{BasicBlock, Operation, Region, Value};
 use crate::objects::{BlockData, Definition, OperationData, RegionData, Use};
 use irtext_few::{Few, Growing, Items, Lone, Rare};
+use irtext_memory::unsealed;
 use std::alloc::{AllocError, Global};
 
 /// Makes a value with this type and this number, without uses.
@@ -191,7 +192,7 @@ impl<O: Drop, T: Drop> Arena<Nest<BasicBlock, Region, OperationData<O, T>>> {
         ensures only { OnlyLists self.old self.new p }
         ensures seen { seen self.new ≡ seen self.old }
     {
-        self.content_mut(p).children.make_room()
+        unsealed(self.content_mut(p).children.make_room())
     }
 
     /// Appends a region to an operation. There is room for it.

@@ -3,6 +3,7 @@ ghost use Rattle.std.specs.Prelude.{◌≡◌, ◌≢◌, ◌<◌, ◌≤◌, �
 
 use crate::arena::{Arena, Ptr};
 use irtext_few::Growing;
+use irtext_memory::unsealed;
 use std::alloc::AllocError;
 
 /// An object's parent, of kind P, its children in order, of kind C, and its data.
@@ -70,7 +71,7 @@ impl<P, C, D: Drop> Arena<Nest<P, C, D>> {
         ensures refused { OnErr result (nodes self.new ≡ nodes self.old) }
         ensures only { OnlyLists self.old self.new p }
     {
-        self.content_mut(p).children.push(c)
+        unsealed(self.content_mut(p).children.push(c))
     }
 
     /// The number of children of an object.

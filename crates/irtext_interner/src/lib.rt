@@ -12,7 +12,8 @@ ghost use Rattle.irtext_interner.specs.Interned.{texts_of, number_of, with_text,
 use crate::seed::Seed;
 use crate::text::ShortText;
 use indexmap::IndexSet;
-use std::alloc::{AllocError, Global};
+use irtext_memory::{OutOfMemory, set};
+use std::alloc::Global;
 use std::marker::Model;
 
 /// A set of texts. Each is kept once, with its index as its number.
@@ -47,13 +48,13 @@ fn put_last(
     texts: &mut IndexSet<ShortText, Seed>,
     alloc: Global,
     text: &str,
-) -> Result<(), AllocError>
+) -> Result<(), OutOfMemory>
     requires { list_any (bytes_eq text.now) (texts_of texts.old) ≡ false }
     ensures ok { OnOk result (texts_of texts.new ≡ texts_of texts.old ++ text.now ∷ []) }
     ensures err { OnErr result (texts_of texts.new ≡ texts_of texts.old) }
 {
     let text = ShortText::of(alloc, text)?;
-    texts.insert(text)?;
+    set::insert(texts, text)?;
     Ok(())
 }
 
@@ -61,7 +62,7 @@ fn keep(
     texts: &mut IndexSet<ShortText, Seed>,
     alloc: Global,
     text: &str,
-) -> Result<usize, AllocError>
+) -> Result<usize, OutOfMemory>
     ensures number { IfOk result (λ i. i ≡ number_of (texts_of texts.old) text.now) }
     ensures kept { OnOk result (texts_of texts.new ≡ with_text (texts_of texts.old) text.now) }
     ensures err { OnErr result (texts_of texts.new ≡ texts_of texts.old) }
@@ -103,7 +104,7 @@ impl Interner {
 
     /// Returns the number of a text, which is kept from then on. A text that is kept already has the number that it had, and needs no
     /// allocation. When out of memory, it fails and the texts are unchanged.
-    pub fn intern(&mut self, text: &str) -> Result<usize, AllocError>
+    pub fn intern(&mut self, text: &str) -> Result<usize, OutOfMemory>
         ensures number { IfOk result (λ i. i ≡ number_of self.old text.now) }
         ensures kept { OnOk result (self.new ≡ with_text self.old text.now) }
         ensures err { OnErr result (self.new ≡ self.old) }

@@ -9,7 +9,8 @@ ghost use Rattle.std.proofs.Common.{rules, ap};
 
 use arrayvec::ArrayString;
 use indexmap::Equivalent;
-use std::alloc::{AllocError, Global};
+use irtext_memory::{OutOfMemory, string};
+use std::alloc::Global;
 use std::hash::{Hash, Hasher};
 use std::marker::Model;
 
@@ -39,13 +40,13 @@ impl Kept {
     ghost use Rattle.irtext_interner.specs.Texts.{kept_bytes};
 
     /// Copies a text. Only a text of more than 24 bytes is allocated. Fails only if that allocation fails.
-    fn of(alloc: Global, text: &str) -> Result<Kept, AllocError>
+    fn of(alloc: Global, text: &str) -> Result<Kept, OutOfMemory>
         ensures { IfOk result (λ kept. kept_bytes kept ≡ text.now) }
     {
         if let Ok(short) = ArrayString::from(text) {
             return Ok(Kept::Short(short));
         }
-        let long = String::from_str(alloc, text)?;
+        let long = string::from_str(alloc, text)?;
         Ok(Kept::Long(long))
     }
 
@@ -61,7 +62,7 @@ impl Kept {
 
 impl ShortText {
     /// Copies a text. Only a text of more than 24 bytes is allocated. Fails only if that allocation fails.
-    pub(crate) fn of(alloc: Global, text: &str) -> Result<ShortText, AllocError>
+    pub(crate) fn of(alloc: Global, text: &str) -> Result<ShortText, OutOfMemory>
         ensures { IfOk result (λ t. t ≡ text.now) }
     {
         let kept = Kept::of(alloc, text)?;

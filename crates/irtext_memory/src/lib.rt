@@ -1,0 +1,101 @@
+//! Calls that allocate, each with the contract that std's call has, and an error that only a refused allocation makes: `OutOfMemory` has a
+//! private field, and these calls alone make it, each where std's call failed. What a call asks for is what it stores, or at most as many
+//! elements as a slice that is given has (`vec::with_capacity`). So no caller can make the error by asking for more than it needs.
+#![tactic(auto)]
+
+pub mod boxed;
+pub mod map;
+pub mod rc;
+pub mod set;
+pub mod string;
+pub mod vec;
+
+ghost use Rattle.std.specs.Prelude.{◌≡◌, Ok, IfOk, OnErr, IsErr};
+
+use std::alloc::{AllocError, AllocFailed};
+use std::fmt;
+
+/// An allocation was refused.
+#[derive(PartialEq, Eq, Debug, Drop)]
+pub struct OutOfMemory {
+    made_here: (),
+}
+
+/// An allocation was refused, and this was not stored. `?` drops it.
+#[derive(Drop)]
+pub struct Refused<X> {
+    pub value: X,
+    error: OutOfMemory,
+}
+
+impl<X> Refused<X> {
+    /// Returns what was not stored, and the error.
+    pub fn into_parts(self) -> (X, OutOfMemory)
+        ensures { result.0 ≡ self.value }
+    {
+        let Refused { value, error } = self;
+        (value, error)
+    }
+}
+
+impl<X: Drop> From<Refused<X>> for OutOfMemory {
+    #[inline(always)]
+    fn from(refused: Refused<X>) -> OutOfMemory {
+        let Refused {
+            value: _value,
+            error,
+        } = refused;
+        error
+    }
+}
+
+impl From<OutOfMemory> for AllocError {
+    #[inline(always)]
+    fn from(_: OutOfMemory) -> AllocError {
+        AllocError
+    }
+}
+
+impl<X: Drop> From<Refused<X>> for AllocError {
+    #[inline(always)]
+    fn from(_: Refused<X>) -> AllocError {
+        AllocError
+    }
+}
+
+impl From<OutOfMemory> for fmt::Error {
+    #[inline(always)]
+    fn from(_: OutOfMemory) -> fmt::Error {
+        fmt::Error
+    }
+}
+
+/// Returns the same with an error that anyone can make, for a caller whose own error is not sealed.
+#[inline(always)]
+pub fn unsealed<X>(sealed: Result<X, OutOfMemory>) -> Result<X, AllocError>
+    ensures ok { IfOk result (λ x. sealed ≡ Ok x) }
+    ensures err { OnErr result (IsErr sealed) }
+{
+    match sealed {
+        Ok(x) => Ok(x),
+        Err(_) => Err(AllocError),
+    }
+}
+
+// the error of a call of std that failed
+#[inline(always)]
+fn no_memory(_: AllocError) -> OutOfMemory {
+    OutOfMemory { made_here: () }
+}
+
+// the same with what was not stored
+#[inline(always)]
+fn not_stored<X>(failed: AllocFailed<X>) -> Refused<X>
+    ensures { result.value ≡ failed.value }
+{
+    let AllocFailed { value } = failed;
+    Refused {
+        value,
+        error: OutOfMemory { made_here: () },
+    }
+}
