@@ -120,7 +120,7 @@ impl<V: Copy, B: Copy> NameTracker<V, B> {
         ensures distinct { AreDistinct self.new.names }
         ensures rest { (self.new.values ≡ self.old.values) × (self.new.labels ≡ self.old.labels) }
     {
-        self.names.intern(text)
+        Ok(self.names.intern(text)?)
     }
 
     /// No name has two numbers. The call does nothing: its contract says this of the names.
