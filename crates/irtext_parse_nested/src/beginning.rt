@@ -50,8 +50,8 @@ use irtext_parse_pieces::counting::step_count;
 use irtext_parse_pieces::fronts::front_parse;
 use irtext_parse_pieces::ids::results_and_id_parse;
 use irtext_parse_pieces::keys::Keys;
-use irtext_parse_state::parsable::state::StreamLocation;
 use irtext_parse_state::parsable::StateStream;
+use irtext_parse_state::parsable::state::StreamLocation;
 use irtext_tokens::irfmt::faults::{commit, out_of_memory, refuse_at};
 
 /// What precedes an operation's first region.

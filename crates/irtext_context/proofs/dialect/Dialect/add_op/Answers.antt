@@ -11,9 +11,10 @@ pub invariant_of-self : goal.invariant_of-self
 invariant_of-self g c =
     let i = c.self.inside in
     let d : c.args.id.dialect ≡ i.name = first_of (search rules, grind (arith, common_steps)) in
-    let e = c.put_accepted.ensures in
-    (accepted_put c.put_accepted.result i.name i.ops.entries c.put_accepted.new.ops.entries c.args.id (record { format = format_of c.args.format; isolated = c.args.isolated }) e.ok e.err c.self.invariant.0 d e.accepted,
-    e.keyed c.self.invariant.1)
+    let e = c.put_accepted.ensures in (
+      accepted_put c.put_accepted.result i.name i.ops.entries c.put_accepted.new.ops.entries c.args.id (record { format = format_of c.args.format; isolated = c.args.isolated }) e.ok e.err c.self.invariant.0 d e.accepted,
+      e.keyed c.self.invariant.1,
+    )
 
 pub returns-in-Ok-clause-ok : goal.returns-in-Ok-clause-ok
 returns-in-Ok-clause-ok g c = rw (← c.self.view_is) (ap (λ es. record { name = c.self.inside.name; entries = es }) c.in-Ok.ensures.ok)
