@@ -1,5 +1,6 @@
 //! Why a call has no text.
 use irtext_demo::DemoAttr;
+use irtext_memory::OutOfMemory;
 use pliron_text::result;
 use pliron_text::result::{Cause, Error};
 use std::alloc::AllocError;
@@ -18,6 +19,12 @@ pub(crate) enum Fault {
 
 impl From<AllocError> for Fault {
     fn from(_: AllocError) -> Fault {
+        Fault::Memory
+    }
+}
+
+impl From<OutOfMemory> for Fault {
+    fn from(_: OutOfMemory) -> Fault {
         Fault::Memory
     }
 }

@@ -1,9 +1,11 @@
 -- The open scopes, the innermost first. Each is a finite map from names to what they refer to, in the order in which the names were first
 -- mentioned.
-use Rattle.std.specs.Prelude.{ℕ, Bool, true, false, cond, List, [], ◌∷◌, ◌++◌, Option, Some, None, nat_eq}
+use Rattle.std.specs.Prelude.{ℕ, Bool, true, false, cond, List, [], ◌∷◌, ◌++◌, Option, Some, None, Result, Ok, Err, nat_eq}
 use Rattle.std.specs.Option.{option_or}
 use Rattle.irtext_scopes.specs.declared.scopes.Entry.{Entry}
 use Rattle.irtext_scopes.specs.declared.scopes.Entry.TheVariants.{Defined, Pending}
+use Rattle.irtext_scopes.specs.declared.scopes.DefineFault.{DefineFault}
+use Rattle.irtext_scopes.specs.declared.scopes.DefineFault.TheVariants.{NoRoom, MultipleDefinitions}
 
 -- a scope: its names in the order in which they were first mentioned, each with what it refers to
 abbrev pub Scope : Type 0 → Type 0
@@ -78,3 +80,9 @@ if_pending n (Pending h) = Some n
 abbrev pub first_pending : {V : Type 0} → Scope V → Option ℕ
 first_pending [] = None
 first_pending (e ∷ es) = option_or (if_pending e.0 e.1) (first_pending es)
+
+-- a name was not defined, since there is no room for it
+abbrev pub LacksRoom : {A : Type 0} → Result A DefineFault → Type 0
+LacksRoom (Ok x) = ⊥
+LacksRoom (Err (NoRoom e)) = Unit {0}
+LacksRoom (Err MultipleDefinitions) = ⊥

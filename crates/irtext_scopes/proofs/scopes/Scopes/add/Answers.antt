@@ -21,17 +21,17 @@ pub invariant_of-self-2 : goal.invariant_of-self-2
 invariant_of-self-2 g c =
     let t = c.self.inside in
     let b : Binding g.row.V.Denot = record { name = c.args.name; entry = c.args.entry; hidden = c.head_of-hidden.result } in
-    let e : c.push.new.self.items ≡ t.bindings.items ++ b ∷ [] = c.in_ok-push.ensures.items in
+    let e : c.push.new.items.items ≡ t.bindings.items ++ b ∷ [] = c.in_ok-push.ensures.items in
     let n : c.len-place.result ≡ length t.bindings.items = c.len-place.ensures ∙ t.bindings.ok.0 in
     let hid : b.hidden ≡ head_at t.heads.items b.name = c.head_of-hidden.ensures ∙ ap (λ h. head_at h c.args.name) c.deref.ensures.value in
     let none : find b.name (innermost (scopes_at t.marks t.bindings.items)) ≡ None = ap (λ s. find c.args.name (innermost s)) c.self.view_is ∙ c.requires.unknown in
     subst (λ z. IsSound c.set_head.new.heads.items z t.marks) (sym e)
     (added_sound t.heads.items c.set_head.new.heads.items t.marks t.bindings.items b c.self.invariant hid
-    (λ m. c.set_head.ensures m ∙ (ap (λ o. cond (nat_eq b.name m) o (head_at c.grow.new.heads.items m)) (c.in_ok-head.ensures ∙ ap (λ k. Some k) n) ∙ ap (cond (nat_eq b.name m) (Some (length t.bindings.items))) (c.grow.ensures.same m))) none)
+    (λ m. c.set_head.ensures m ∙ (ap (λ o. cond (nat_eq b.name m) o (head_at c.grow.new.heads.items m)) (c.in_ok-head.ensures.ok ∙ ap (λ k. Some k) n) ∙ ap (cond (nat_eq b.name m) (Some (length t.bindings.items))) (c.grow.ensures.same m))) none)
 
 pub returns-clause-ok : goal.returns-clause-ok
 returns-clause-ok g c =
     let t = c.self.inside in
     let b : Binding g.row.V.Denot = record { name = c.args.name; entry = c.args.entry; hidden = c.head_of-hidden.result } in
-    let e : c.push.new.self.items ≡ t.bindings.items ++ b ∷ [] = c.in_ok-push.ensures.items in
+    let e : c.push.new.items.items ≡ t.bindings.items ++ b ∷ [] = c.in_ok-push.ensures.items in
     ap (scopes_at t.marks) e ∙ (added_scopes t.heads.items t.marks t.bindings.items b c.self.invariant ∙ ap (in_innermost (mentioned b.name b.entry)) c.self.view_is)
