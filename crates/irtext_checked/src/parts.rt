@@ -35,7 +35,7 @@ fn given_kept(name: &Option<Identifier>)
     }
 }
 
-fn names_kept(names: &Vec<Option<Identifier>>)
+fn names_kept(names: &[Option<Identifier>])
     ensures { Each IsGiven names.now.items }
 {
     for name in names {
@@ -49,7 +49,7 @@ fn attr_kept<A>(attr: &AttrObj<A>)
     ensures tree { IsSpellableAttribute (attribute_of attr.now) }
 {
     match attr {
-        AttrObj::GivenNames(names) => names_kept(names),
+        AttrObj::GivenNames(names) => names_kept(names.as_slice()),
         AttrObj::Ident(name) => identifier_kept(name),
         AttrObj::Own(_) => {}
     }

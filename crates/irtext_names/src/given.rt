@@ -12,7 +12,7 @@ use crate::keys::{key_of, stored};
 use crate::kinds::Names;
 use crate::making::failed;
 use crate::name_errors::identifier_of;
-use irtext_base::base::{AttrObj, Identifier};
+use irtext_base::base::{AttrObj, Identifier, Listed};
 use irtext_context::base::AttributeDict;
 use irtext_few::Few;
 use irtext_grammar::parsed::ReadName;
@@ -24,10 +24,16 @@ fn given_names(
     alloc: Global,
     names: &Names,
     read: &Few<ReadName>,
-) -> Result<Vec<Option<Identifier>>, AllocError>
+) -> Result<Listed<Option<Identifier>>, AllocError>
     requires { AreKnown (length names.now.names) (numbers_of read.now) }
     ensures { IfOk result (λ given. given.items ≡ map (slice_get names.now.names) (numbers_of read.now)) }
 {
+    if read.len() == 1 {
+        let Some(name) = identifier_of(alloc, names.name(number_at(read, 0))) else {
+            return Err(AllocError);
+        };
+        return Ok(Listed::one(Some(name)));
+    }
     let mut given = match Vec::with_capacity(alloc, read.len()) {
         Ok(given) => given,
         Err(error) => return Err(error),
@@ -41,7 +47,7 @@ fn given_names(
             return failed(given, AllocError);
         };
     }
-    Ok(given)
+    Ok(Listed::many(given))
 }
 
 /// Stores the names as given names, if there are any, under this key or a new one.
