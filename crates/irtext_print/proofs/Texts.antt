@@ -145,10 +145,3 @@ module _ {T A : Type 0} (L : Language ⊤ T A) (C : Printing T A) where
       ∙ ap (λ z. old ++ encode_utf8_all z) (sym (once_joins (count + place) (get_or rs place d).now (referred (drop (place + 1) rs))))
       ∙ ap (λ z. old ++ encode_utf8_all (once_texts L C (count + place) z)) (sym split) ∙ h
 
-  -- nothing of them is written so far
-  pub once_none : (count : ℕ) (rs : List (Bor A)) (old : List ℕ) → old ++ encode_utf8_all (once_texts L C (count + 0) (referred (drop 0 rs))) ≡ old ++ encode_utf8_all (once_texts L C count (referred rs))
-  once_none count rs old = let same : count + 0 ≡ count = omega arith in ap (λ n. old ++ encode_utf8_all (once_texts L C n (referred rs))) same
-
-  -- all are written
-  pub once_end : (count place : ℕ) (rs : List (Bor A)) (now all : List ℕ) → length rs ≤ place → now ++ encode_utf8_all (once_texts L C (count + place) (referred (drop place rs))) ≡ all → now ≡ all
-  once_end count place rs now all h e = sym (append-nil now) ∙ ap (λ z. now ++ encode_utf8_all (once_texts L C (count + place) (referred z))) (sym (drop_all place rs h)) ∙ e

@@ -2,6 +2,7 @@
 use Rattle.std.proofs.Common.{◌≡◌, ℕ, Bool, true, false, true≢false, ◌+◌, ◌<◌, ◌==◌, cond, zero, suc, List, [], ◌∷◌, ◌++◌, map, drop, length, get_or, codes, arith, ◌≤◌, Option, Some, None, refl, sym, ap, ap₂, ◌∙◌}
 use Rattle.std.proofs.Math.Seq.{drop-cons}
 use Rattle.std.proofs.lemmas.List.{append-nil, drop_all, length-map}
+use Rattle.std.specs.Borrow.{Bor}
 use Rattle.std.specs.Fmt.{decimal}
 use Rattle.std.specs.Prelude.{⊤}
 use Rattle.std.specs.Str.{encode_utf8_all}
@@ -14,10 +15,20 @@ use Rattle.irtext_grammar.specs.Spelling.Spell.{joined, comma}
 use Rattle.irtext_print.proofs.Printers.Locations.{more, worded, left_text}
 use Rattle.irtext_print.specs.Printers.PieceText.{words}
 use Rattle.irtext_print.proofs.Noted.{GoesOn, on_with, all_on, items_on, noted_shared}
-use Rattle.irtext_print.proofs.Texts.{pair_more, pairs_end}
+use Rattle.irtext_print.proofs.Texts.{referred, pair_more, pairs_end}
 use Rattle.irtext_print.specs.Entries.{pair_text, pairs_text, entry_with}
 use Rattle.irtext_print.specs.Items.{shared_by, given_text, given_texts, section_of}
 use Rattle.irtext_print.specs.Mentions.{asking, noted, all_noted, one_noted, items_noted}
+
+-- nothing is left of a text that is printed until it is longer than it can be
+pub finished : (left : Bool) (rest : Text) (limit size : ℕ) → (left ≡ false → rest ≡ []) → (left ≡ true → limit < size) → size ≤ limit → rest ≡ []
+finished false rest limit size none long fits = none refl
+finished true rest limit size none long fits = absurd (let more = long refl in omega (arith, more, fits))
+
+-- a count that is 0
+pub empty : (n : ℕ) → true ≡ (n == 0) → n ≡ 0
+empty zero h = refl
+empty (suc n) h = absurd (true≢false h)
 
 -- a count that is not 0
 pub not_empty : (n : ℕ) → false ≡ (n == 0) → 0 < n
@@ -66,6 +77,11 @@ module _ {T A : Type 0} (L : Language ⊤ T A) (C : Printing T A) (items : ℕ) 
       pairs_end L C items (all_noted C first_known given ++ following) first left now (old ++ encode_utf8_all (pairs_text C items (all_noted C first_known given ++ following) L given)) is (so.text following)
       ∙ ap (λ z. old ++ encode_utf8_all (pairs_text C items (z ++ following) L given)) (sym (pairs_known known left first old now is so))
 
+drop_referred : {X : Type 0} (n : ℕ) (rs : List (Bor X)) → drop n (referred rs) ≡ referred (drop n rs)
+drop_referred zero rs = refl
+drop_referred (suc n) [] = refl
+drop_referred (suc n) (r ∷ rs) = drop_referred n rs
+
 module _ {T A : Type 0} (L : Language ⊤ T A) (C : Printing T A) where
   -- what printing requires of the caller's attributes alone
   abbrev alone : Printing ⊤ A
@@ -109,19 +125,19 @@ module _ {T A : Type 0} (L : Language ⊤ T A) (C : Printing T A) where
   once_alone n [] = refl
   once_alone n (a ∷ rest) = ap (λ z. codes "!" ++ (decimal n ++ (codes " = " ++ (L.owns.written a ++ (10 ∷ z))))) (once_alone (suc n) rest)
 
-  module _ {X : Type 0} (gives : X → Option (Entry C)) (items : ℕ) (all : List X) (first_known : List A) where
+  module _ {X : Type 0} (gives : X → Option (Entry C)) (items : ℕ) (all : List X) (from : ℕ) (first_known : List A) where
     -- what is known after all items
     abbrev last_known : List A
-    last_known = items_noted C first_known (map gives all)
+    last_known = items_noted C first_known (map gives (drop from all))
 
-    -- What was written of items, and what is left: together they are all; the same of what is recorded.
+    -- What was written of items from one on, and what is left: together they are all of these; the same of what is recorded.
     pub record ItemsSoFar (known : List A) (i : ℕ) (old now : List ℕ) : Type 0 where
-      pub known_all : items_noted C known (map gives (drop i all)) ≡ items_noted C first_known (map gives all)
-      pub text : (following : List A) → now ++ encode_utf8_all (given_texts C L items (items_noted C first_known (map gives all) ++ following) i (map gives (drop i all)))
-          ≡ old ++ encode_utf8_all (given_texts C L items (items_noted C first_known (map gives all) ++ following) 0 (map gives all))
+      pub known_all : items_noted C known (map gives (drop i all)) ≡ items_noted C first_known (map gives (drop from all))
+      pub text : (following : List A) → now ++ encode_utf8_all (given_texts C L items (items_noted C first_known (map gives (drop from all)) ++ following) i (map gives (drop i all)))
+          ≡ old ++ encode_utf8_all (given_texts C L items (items_noted C first_known (map gives (drop from all)) ++ following) from (map gives (drop from all)))
 
     -- nothing was written so far
-    pub items_none : (old : List ℕ) → ItemsSoFar first_known 0 old old
+    pub items_none : (old : List ℕ) → ItemsSoFar first_known from old old
     items_none old = record { known_all = refl; text = λ following. refl }
 
     -- one item more was written
@@ -148,45 +164,71 @@ module _ {T A : Type 0} (L : Language ⊤ T A) (C : Printing T A) where
               ∙ ap (λ z. now ++ encode_utf8_all (given_texts C L items once i z)) (sym split) ∙ so.text following;
         }
 
-    nothing_left : (i : ℕ) → length all ≤ i → map gives (drop i all) ≡ []
-    nothing_left i h = ap (map gives) (drop_all i all h)
+  -- the same text after two
+  with_tail : (a b : List ℕ) (x y z : Text) → a ++ encode_utf8_all x ≡ b ++ encode_utf8_all y → a ++ encode_utf8_all (x ++ z) ≡ b ++ encode_utf8_all (y ++ z)
+  with_tail a b x y z e = sym (more a (a ++ encode_utf8_all x) _ x z refl refl) ∙ ap (λ w. w ++ encode_utf8_all z) e ∙ more b (b ++ encode_utf8_all y) _ y z refl refl
 
-    -- all were recorded
-    pub items_known : (known : List A) (i : ℕ) (old now : List ℕ) → length all ≤ i → ItemsSoFar known i old now → known ≡ last_known
-    items_known known i old now h so = ap (items_noted C known) (sym (nothing_left i h)) ∙ so.known_all
+  module _ {X : Type 0} (gives : X → Option (Entry C)) (all : List X) where
+    -- what is left of a section from an item and a print-once attribute on, where these attributes are known
+    abbrev pub left_from : ℕ → List A → ℕ → ℕ → Text
+    left_from count known i k = let once = items_noted C known (map gives (drop i all)) in
+        given_texts C L count once i (map gives (drop i all)) ++ once_texts L C (count + k) (drop k once)
 
-    -- all were written
-    pub items_written : (known : List A) (i : ℕ) (old now : List ℕ) → length all ≤ i → ItemsSoFar known i old now
-        → (following : List A) → now ≡ old ++ encode_utf8_all (given_texts C L items (known ++ following) 0 (map gives all))
-    items_written known i old now h so following =
-        sym (append-nil now) ∙ ap (λ z. now ++ encode_utf8_all (given_texts C L items (last_known ++ following) i z)) (sym (nothing_left i h)) ∙ so.text following
-        ∙ ap (λ z. old ++ encode_utf8_all (given_texts C L items (z ++ following) 0 (map gives all))) (sym (items_known known i old now h so))
+    -- entries were written
+    pub entries_on : (count count' : ℕ) (known known' : List A) (from next k : ℕ) (old new : List ℕ) → count' ≡ count → ItemsSoFar gives count all from known known' next old new
+        → new ++ encode_utf8_all (left_from count' known' next k) ≡ old ++ encode_utf8_all (left_from count known from k)
+    entries_on count count' known known' from next k old new is so =
+        let first = items_noted C known (map gives (drop from all)) in
+        let tail = once_texts L C (count + k) (drop k first) in
+        ap (λ n. new ++ encode_utf8_all (left_from n known' next k)) is
+        ∙ ap (λ z. new ++ encode_utf8_all (given_texts C L count z next (map gives (drop next all)) ++ once_texts L C (count + k) (drop k z))) so.known_all
+        ∙ with_tail new old _ _ tail (ap (λ z. new ++ encode_utf8_all (given_texts C L count z next (map gives (drop next all)))) (sym (append-nil first)) ∙ so.text []
+        ∙ ap (λ z. old ++ encode_utf8_all (given_texts C L count z from (map gives (drop from all)))) (append-nil first))
 
-    -- the section, where there are items
-    section_some : 0 < length all → section_of C L (map gives all)
-        ≡ codes "\n\noutlined_attributes:\n" ++ (given_texts C L (length (map gives all)) (shared_by C (map gives all)) 0 (map gives all) ++ once_texts L C (length (map gives all)) (shared_by C (map gives all)))
-    section_some h = go all h
+    -- where no item is left, print-once attributes are
+    pub once_left : (count : ℕ) (known : List A) (i k : ℕ) → length all ≤ i → left_from count known i k ≡ once_texts L C (count + k) (drop k known)
+    once_left count known i k h = ap (λ (z : List X). given_texts C L count (items_noted C known (map gives z)) i (map gives z) ++ once_texts L C (count + k) (drop k (items_noted C known (map gives z)))) (drop_all i all h)
+
+    -- print-once attributes were written
+    pub once_on : (count : ℕ) (keys : List (Bor A)) (i k next : ℕ) (old new : List ℕ) → length all ≤ i
+        → new ++ encode_utf8_all (once_texts (words L.owns.written) alone (count + next) (referred (drop next keys))) ≡ old ++ encode_utf8_all (once_texts (words L.owns.written) alone (count + k) (referred (drop k keys)))
+        → new ++ encode_utf8_all (left_from count (referred keys) i next) ≡ old ++ encode_utf8_all (left_from count (referred keys) i k)
+    once_on count keys i k next old new none e = ap (λ z. new ++ encode_utf8_all z) (at next) ∙ e ∙ ap (λ z. old ++ encode_utf8_all z) (sym (at k))
       where
-        go : (xs : List X) → 0 < length xs → section_of C L (map gives xs)
-            ≡ codes "\n\noutlined_attributes:\n" ++ (given_texts C L (length (map gives xs)) (shared_by C (map gives xs)) 0 (map gives xs) ++ once_texts L C (length (map gives xs)) (shared_by C (map gives xs)))
-        go [] h = absurd (omega (arith, h))
-        go (x ∷ xs) h = refl
+        at : (n : ℕ) → left_from count (referred keys) i n ≡ once_texts (words L.owns.written) alone (count + n) (referred (drop n keys))
+        at n = once_left count (referred keys) i n none ∙ ap (once_texts L C (count + n)) (drop_referred n keys) ∙ sym (once_alone (count + n) (referred (drop n keys)))
 
-  -- the section is written: its head, the entries of items, and what is written once
-  pub section_written : {X : Type 0} (gives : X → Option (Entry C)) (all : List X) (known : List A) (f0 f1 f2 f3 : List ℕ) → 0 < length all
-      → f1 ≡ f0 ++ codes "\n\noutlined_attributes:\n"
-      → known ≡ items_noted C [] (map gives all)
-      → ((following : List A) → f2 ≡ f1 ++ encode_utf8_all (given_texts C L (length all) (known ++ following) 0 (map gives all)))
-      → f3 ≡ f2 ++ encode_utf8_all (once_texts (words L.owns.written) alone (length all) known)
-      → f3 ≡ f0 ++ encode_utf8_all (section_of C L (map gives all))
-  section_written gives all known f0 f1 f2 f3 some p k q r =
-      let gs = map gives all in
-      let is : known ≡ shared_by C gs = k ∙ noted_shared C gs in
-      let count : length all ≡ length gs = sym (length-map all gives) in
-      let entries : f2 ≡ f1 ++ encode_utf8_all (given_texts C L (length gs) (shared_by C gs) 0 gs) = q [] ∙ ap (λ z. f1 ++ encode_utf8_all (given_texts C L (length all) z 0 gs)) (append-nil known ∙ is)
-      ∙ ap (λ n. f1 ++ encode_utf8_all (given_texts C L n (shared_by C gs) 0 gs)) count in
-      let onces : f3 ≡ f2 ++ encode_utf8_all (once_texts L C (length gs) (shared_by C gs)) = r ∙ ap (λ z. f2 ++ encode_utf8_all z) (once_alone (length all) known)
-      ∙ ap₂ (λ n z. f2 ++ encode_utf8_all (once_texts L C n z)) count is in
-      worded f0 f1 f3 (codes "\n\noutlined_attributes:\n") (given_texts C L (length gs) (shared_by C gs) 0 gs ++ once_texts L C (length gs) (shared_by C gs)) refl p
-      (more f1 f2 f3 (given_texts C L (length gs) (shared_by C gs) 0 gs) (once_texts L C (length gs) (shared_by C gs)) entries onces)
-      ∙ ap (λ z. f0 ++ encode_utf8_all z) (sym (section_some gives (length all) all [] some))
+    -- and nothing is left
+    pub nothing_left : (count : ℕ) (keys : List (Bor A)) (i k : ℕ) → length all ≤ i → length keys ≤ k → left_from count (referred keys) i k ≡ []
+    nothing_left count keys i k none last = once_left count (referred keys) i k none ∙ ap (once_texts L C (count + k)) (drop_referred k keys ∙ ap referred (drop_all k keys last))
+
+    -- what is left at the beginning is what follows the head of the section
+    pub section_begun : (known : List A) (old new : List ℕ) → known ≡ [] → 0 < length all → new ≡ old ++ codes "\n\noutlined_attributes:\n"
+        → new ++ encode_utf8_all (left_from (length all) known 0 0) ≡ old ++ encode_utf8_all (section_of C L (map gives all))
+    section_begun known old new none some p =
+        let gs = map gives all in
+        let count : length all ≡ length gs = sym (length-map all gives) in
+        let zero_more : length gs + 0 ≡ length gs = omega arith in
+        worded old new (new ++ encode_utf8_all (left_from (length all) known 0 0)) (codes "\n\noutlined_attributes:\n") (left_from (length all) known 0 0) refl p refl
+        ∙ ap (λ z. old ++ encode_utf8_all (codes "\n\noutlined_attributes:\n" ++ (given_texts C L (length all) (items_noted C z gs) 0 gs ++ once_texts L C (length all + 0) (items_noted C z gs)))) none
+        ∙ ap (λ z. old ++ encode_utf8_all (codes "\n\noutlined_attributes:\n" ++ (given_texts C L (length all) z 0 gs ++ once_texts L C (length all + 0) z))) (noted_shared C gs)
+        ∙ ap (λ n. old ++ encode_utf8_all (codes "\n\noutlined_attributes:\n" ++ (given_texts C L n (shared_by C gs) 0 gs ++ once_texts L C (n + 0) (shared_by C gs)))) count
+        ∙ ap (λ n. old ++ encode_utf8_all (codes "\n\noutlined_attributes:\n" ++ (given_texts C L (length gs) (shared_by C gs) 0 gs ++ once_texts L C n (shared_by C gs)))) zero_more
+        ∙ ap (λ z. old ++ encode_utf8_all z) (sym (section_some some))
+      where
+        section_some : 0 < length all → section_of C L (map gives all)
+            ≡ codes "\n\noutlined_attributes:\n" ++ (given_texts C L (length (map gives all)) (shared_by C (map gives all)) 0 (map gives all) ++ once_texts L C (length (map gives all)) (shared_by C (map gives all)))
+        section_some h = go all h
+          where
+            go : (xs : List X) → 0 < length xs → section_of C L (map gives xs)
+                ≡ codes "\n\noutlined_attributes:\n" ++ (given_texts C L (length (map gives xs)) (shared_by C (map gives xs)) 0 (map gives xs) ++ once_texts L C (length (map gives xs)) (shared_by C (map gives xs)))
+            go [] h = absurd (omega (arith, h))
+            go (x ∷ xs) h = refl
+
+    -- a section of no items is empty
+    pub section_none : (known : List A) (count : ℕ) (old : List ℕ) → known ≡ [] → length all ≡ 0 → old ++ encode_utf8_all (left_from count known 0 0) ≡ old ++ encode_utf8_all (section_of C L (map gives all))
+    section_none known count old none empty = ap (λ z. old ++ encode_utf8_all z) (ap (λ z. left_from count z 0 0) none ∙ go all empty)
+      where
+        go : (xs : List X) → length xs ≡ 0 → given_texts C L count (items_noted C [] (map gives xs)) 0 (map gives xs) ++ once_texts L C (count + 0) (items_noted C [] (map gives xs)) ≡ section_of C L (map gives xs)
+        go [] h = refl
+        go (x ∷ xs) h = absurd (omega (arith, h))

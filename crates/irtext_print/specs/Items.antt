@@ -1,7 +1,8 @@
 -- For callers: the section's text for items of which some may have been erased, and its entries.
 use Rattle.std.specs.declared.alloc.Global.{Global}
 use Rattle.std.specs.declared.string.String.{String}
-use Rattle.std.specs.Prelude.{ℕ, Bool, cond, suc, ◌+◌, List, [], ◌∷◌, ◌++◌, map, length, filter_map, Option, Some, None, codes, decimal, ⊤}
+use Rattle.std.specs.Prelude.{◌≡◌, ℕ, Bool, cond, suc, ◌+◌, List, [], ◌∷◌, ◌++◌, map, drop, length, filter_map, Option, Some, None, codes, decimal, string_bytes, ⊤}
+use Rattle.std.specs.Str.{encode_utf8_all}
 use Rattle.irtext_base.specs.Own.{Language}
 use Rattle.irtext_base.specs.Text.{Text}
 use Rattle.irtext_base.specs.declared.text.AttrText as attr_text
@@ -15,8 +16,10 @@ use Rattle.irtext_grammar.specs.Spelling.SectionEntries.{mark_of, written_pair, 
 use Rattle.irtext_print.specs.Printers.PrintedOperation.{language_in}
 use Rattle.irtext_print.specs.Entries.{Mentioned}
 use Rattle.irtext_print.specs.Given.{printing_of, given_at, is_marked_by}
-use Rattle.irtext_print.specs.Mentions.{one_noted, items_noted}
+use Rattle.irtext_print.specs.Mentions.{asking, known_in, one_noted, items_noted}
+use Rattle.irtext_print.specs.Printers.PieceText.{words}
 use Rattle.irtext_print.specs.declared.mentions.Mentions.{Mentions}
+use Rattle.irtext_print.specs.declared.section.Outlined.{Outlined}
 use Rattle.irtext_context.specs.declared.base.item.Item.{Item}
 
 module _ {T A : Type 0} (C : Printing T A) where
@@ -77,6 +80,13 @@ module _ {T A : Type 0} (C : Printing T A) where
     abbrev pub alone_of : Option (Entry C) → Text
     alone_of g = cond (is_marked_by C g) (codes " !0" ++ section_of (g ∷ [])) []
 
+-- Print-once attributes were appended, from this one to before that one, numbered on after all items. With those that are left they are
+-- all that was left before.
+abbrev pub WritesOnce : {A : Type 0} → ir_text.Ghosts A A → attr_text.Ghosts A A → (A → A → Bool) → Mentions A → String Global → String Global → ℕ → ℕ → Type 0
+WritesOnce owns attributes same m before after from next = let W = words owns.written in let C = asking attributes.print_once same in
+    string_bytes after ++ encode_utf8_all (once_texts W C (m.items + next) (map (λ r. r.now) (drop next m.known.keys)))
+    ≡ string_bytes before ++ encode_utf8_all (once_texts W C (m.items + from) (map (λ r. r.now) (drop from m.known.keys)))
+
 module _ {T A : Type 0} (types : ir_text.Ghosts T A) (owns : ir_text.Ghosts A A) (attributes : attr_text.Ghosts A A) (same : A → A → Bool) (ctx : ContextView T A) where
   -- what the texts of the caller's types and attributes mean, and the formats of the context
   abbrev pub language_of : Language ⊤ T A
@@ -106,9 +116,22 @@ module _ {T A : Type 0} (types : ir_text.Ghosts T A) (owns : ir_text.Ghosts A A)
   abbrev pub WritesItemEntry : Mentions A → Mentions A → String Global → String Global → ℕ → Item → Type 0
   WritesItemEntry old new before after n i = Mentioned old new before after (λ known. item_known known i) (λ once. item_entry old.items once n i)
 
-  -- the entries of items were appended, numbered from 0 on
-  abbrev pub WritesEntries : Mentions A → Mentions A → String Global → String Global → List Item → Type 0
-  WritesEntries old new before after items = Mentioned old new before after (λ known. all_known known items) (λ once. all_entries old.items once 0 items)
+  -- Entries of items were appended, from this item to before that one. With those that are left they are all that was left before, and so
+  -- are the print-once attributes that are known in the end. References stay the same as more attributes become known.
+  pub record WritesEntries (old new : Mentions A) (before after : String Global) (items : List Item) (from next : ℕ) : Type 0 where
+    pub count : new.items ≡ old.items
+    pub known : all_known (known_in new.known) (drop next items) ≡ all_known (known_in old.known) (drop from items)
+    pub text : (more : List A) → let once = all_known (known_in old.known) (drop from items) ++ more in
+        string_bytes after ++ encode_utf8_all (all_entries old.items once next (drop next items)) ≡ string_bytes before ++ encode_utf8_all (all_entries old.items once from (drop from items))
+
+  -- what is left of the section of these items: the entries that are left, and the print-once attributes that are left
+  abbrev pub section_left : List Item → Outlined A → Text
+  section_left items s = let once = all_known (known_in s.mentions.known) (drop s.item items) in
+      all_entries s.mentions.items once s.item (drop s.item items) ++ once_texts language_of (printing_of types owns attributes same ctx) (s.mentions.items + s.once) (drop s.once once)
+
+  -- some of what was left of the section was appended
+  abbrev pub GoesOnIn : List Item → Outlined A → Outlined A → List ℕ → List ℕ → Type 0
+  GoesOnIn items s s' old new = new ++ encode_utf8_all (section_left items s') ≡ old ++ encode_utf8_all (section_left items s)
 
   -- the mark of an item and the section with its entry alone; nothing if it has no mark
   abbrev pub alone_at : Item → Text
@@ -117,3 +140,7 @@ module _ {T A : Type 0} (types : ir_text.Ghosts T A) (owns : ir_text.Ghosts A A)
   -- the section of these items
   abbrev pub section_at : List Item → Text
   section_at items = section_of (printing_of types owns attributes same ctx) language_of (all_given items)
+
+  -- the section of these items was begun: what was appended and what is left are the section
+  abbrev pub BeginsSection : List Item → List ℕ → List ℕ → Outlined A → Type 0
+  BeginsSection items old new s = new ++ encode_utf8_all (section_left items s) ≡ old ++ encode_utf8_all (section_at items)

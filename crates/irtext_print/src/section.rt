@@ -1,13 +1,10 @@
 //! The section after a root. An item is an operation or a block that carries a mark.
-ghost use Rattle.std.specs.Prelude.{◌≡◌, ◌++◌, ◌<◌, ◌^◌, OnOk, IfErr, codes, string_bytes};
+ghost use Rattle.std.specs.Prelude.{◌≡◌, ◌++◌, ◌<◌, ◌^◌, [], OnOk, IfOk, IfErr, codes, length, string_bytes, true, false};
 ghost use Rattle.irtext_grammar.specs.Spelling.Locations.{known_text};
-ghost use Rattle.irtext_grammar.specs.Spelling.Section.{once_texts};
 ghost use Rattle.irtext_print.specs.Entries as texts;
 ghost use Rattle.irtext_print.specs.Errors.Located.{framed};
 ghost use Rattle.irtext_print.specs.Items as section;
-ghost use Rattle.irtext_print.specs.Mentions as mentions;
 ghost use Rattle.irtext_print.specs.Printers.Appended.{AppendsText};
-ghost use Rattle.irtext_print.specs.Printers.PieceText.{words};
 ghost use Rattle.irtext_print.specs.declared.printable.refusal.Refusal.TheVariants as refusal;
 
 use crate::entries::is_in_memory;
@@ -54,35 +51,112 @@ impl<'c, A: AttrText<A>> Mentions<'c, A> {
         }
     }
 
-    /// Appends the entries of items.
+    /// Appends the entries of items from this one on, until none is left or the text is longer than `limit`. Returns the place of the item
+    /// that is next.
     fn fmt_items<T: IrText<A>>(
         &mut self,
         ctx: &'c Context<T, A>,
         items: &[Item],
+        from: usize,
+        limit: usize,
         f: &mut String,
-    ) -> fmt::Result
+    ) -> Result<usize, fmt::Error>
         requires { self.old.items < 2 ^ 63 }
-        ensures { OnOk result (section.WritesEntries T.IrText.own A.IrText.own A.AttrText.own A.eq ctx.now
-            self.old self.new f.old f.new items.now) }
+        ensures text { IfOk result (section.WritesEntries T.IrText.own A.IrText.own A.AttrText.own A.eq ctx.now
+            self.old self.new f.old f.new items.now from) }
+        ensures long { IfOk result (λ next. next < length items.now → limit < length (string_bytes f.new)) }
     {
-        for (index, item) in items.iter().enumerate() {
-            self.fmt_item(ctx, index, *item, f)?;
+        let mut index = from;
+        while index < items.len() {
+            self.fmt_item(ctx, index, items[index], f)?;
+            index += 1;
+            if f.len() > limit {
+                return Ok(index);
+            }
         }
-        Ok(())
+        Ok(index)
     }
 
-    /// Appends the print-once attributes, numbered on after all items.
-    fn fmt_all_once(&self, f: &mut String) -> fmt::Result
+    /// Appends the print-once attributes from this one on, numbered on after all items, until none is left or the text is longer than
+    /// `limit`. Returns the place of the one that is next.
+    fn fmt_all_once(&self, from: usize, limit: usize, f: &mut String) -> Result<usize, fmt::Error>
         requires { self.now.items < 2 ^ 63 }
-        ensures { OnOk result (AppendsText f.old (once_texts (words A.IrText.written) (mentions.asking
-            A.print_once A.eq)
-            self.now.items (mentions.known_in self.now.known)) f.new) }
+        ensures text { IfOk result (section.WritesOnce A.IrText.own A.AttrText.own A.eq self.now f.old f.new from) }
+        ensures long { IfOk result (λ next. next < length self.now.known.keys → limit < length (string_bytes f.new)) }
     {
         let attrs = self.known.as_slice();
-        for (place, attr) in attrs.iter().enumerate() {
-            fmt_once(self.items + place, *attr, f)?;
+        let mut place = from;
+        while place < attrs.len() {
+            fmt_once(self.items + place, attrs[place], f)?;
+            place += 1;
+            if f.len() > limit {
+                return Ok(place);
+            }
         }
-        Ok(())
+        Ok(place)
+    }
+}
+
+/// How far the section of items was printed, piece by piece.
+#[derive(Drop)]
+pub struct Outlined<'c, A: AttrText<A>> {
+    mentions: Mentions<'c, A>,
+    item: usize,
+    once: usize,
+}
+
+/// Begins the section of items that is printed piece by piece: appends what comes before its entries, if there are items. Fails only if out
+/// of memory; what was appended up to the error remains.
+pub fn begin_section<'c, T: IrText<A>, A: AttrText<A>>(
+    ctx: &'c Context<T, A>,
+    items: &[Item],
+    f: &mut String,
+) -> Result<Outlined<'c, A>, fmt::Error>
+    ensures text { IfOk result (section.BeginsSection T.IrText.own A.IrText.own A.AttrText.own A.eq ctx.now items.now
+        (string_bytes f.old) (string_bytes f.new)) }
+    ensures few { IfOk result (λ section. section.mentions.items < 2 ^ 63) }
+{
+    let section = Outlined {
+        mentions: Mentions {
+            items: items.len(),
+            known: IndexSet::with_hasher(ctx.allocator(), ctx.seed()),
+        },
+        item: 0,
+        once: 0,
+    };
+    if items.is_empty() {
+        return Ok(section);
+    }
+    f.push_str("\n\noutlined_attributes:\n")?;
+    Ok(section)
+}
+
+impl<'c, A: AttrText<A>> Outlined<'c, A> {
+    /// Appends what comes next of the section of these items, until nothing is left or the text is longer than `limit`, and returns whether
+    /// something is left. Fails only if out of memory; what was appended up to the error remains, and nothing can be printed after it.
+    pub fn print_some<T: IrText<A>>(
+        &mut self,
+        ctx: &'c Context<T, A>,
+        items: &[Item],
+        limit: usize,
+        f: &mut String,
+    ) -> Result<bool, fmt::Error>
+        requires { self.old.mentions.items < 2 ^ 63 }
+        ensures text { OnOk result (section.GoesOnIn T.IrText.own A.IrText.own A.AttrText.own A.eq ctx.now items.now
+            self.old self.new (string_bytes f.old) (string_bytes f.new)) }
+        ensures few { OnOk result (self.new.mentions.items < 2 ^ 63) }
+        ensures left { IfOk result (λ left. left ≡ false → section.section_left T.IrText.own A.IrText.own A.AttrText.own
+            A.eq ctx.now items.now self.new ≡ []) }
+        ensures long { IfOk result (λ left. left ≡ true → limit < length (string_bytes f.new)) }
+    {
+        let next = self.mentions.fmt_items(ctx, items, self.item, limit, f)?;
+        self.item = next;
+        if next < items.len() {
+            return Ok(true);
+        }
+        let once = self.mentions.fmt_all_once(self.once, limit, f)?;
+        self.once = once;
+        Ok(once < self.mentions.known.len())
     }
 }
 
@@ -95,16 +169,9 @@ fn fmt_section<T: IrText<A>, A: AttrText<A>>(
     ensures { OnOk result (AppendsText f.old (section.section_at T.IrText.own A.IrText.own A.AttrText.own A.eq
         ctx.now items.now) f.new) }
 {
-    if items.is_empty() {
-        return Ok(());
-    }
-    f.push_str("\n\noutlined_attributes:\n")?;
-    let mut mentions = Mentions {
-        items: items.len(),
-        known: IndexSet::with_hasher(ctx.allocator(), ctx.seed()),
-    };
-    mentions.fmt_items(ctx, items, f)?;
-    mentions.fmt_all_once(f)
+    let mut section = begin_section(ctx, items, f)?;
+    let _left = section.print_some(ctx, items, usize::MAX, f)?;
+    Ok(())
 }
 
 /// Appends the section of items. The index of each is its place among them; an erased one has no entry, and keeps its index. After them

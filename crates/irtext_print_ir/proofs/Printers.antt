@@ -5,3 +5,4 @@ pub mod OpPrinters
 pub mod Roots
 pub mod Gathered
 pub mod Ends
+pub mod Pieces

@@ -6,3 +6,4 @@ pub mod Items
 pub mod Enclosed
 pub mod OpPrinters
 pub mod Printed
+pub mod Pieces

@@ -53,6 +53,13 @@ module _ {T A : Type 0} (C : Printing T A) (L : Language ⊤ T A) (ctx : Context
       steps = subst (λ z. Steps C L ctx width first items items2 [] z old new) (sym (append_assoc d.opened t.opened (next ∷ []))) (descended_more items2 (t.opened ++ next ∷ []) new t.steps);
     }
 
+  -- a frame that steps lead to is opened inside of the others
+  pub left_open : (first here : Frame) (items items1 : List Item) (gs gs1 gs2 : List Frame) (old mid : List ℕ) → Descends C L ctx width first here items items1 gs gs1 old mid
+      → gs2 ≡ gs1 ++ here ∷ [] → Steps C L ctx width first items items1 gs gs2 old mid
+  left_open first here items items1 gs gs1 gs2 old mid d e =
+      let whole : gs ++ (d.opened ++ here ∷ []) ≡ gs2 = sym (append_assoc gs d.opened (here ∷ [])) ∙ (ap (λ z. z ++ here ∷ []) (sym d.stack) ∙ sym e) in
+      subst (λ z. Steps C L ctx width first items items1 gs z old mid) whole (inside_others C L ctx width first items items1 gs (d.opened ++ here ∷ []) old mid d.steps)
+
   module _ (first here : Frame) (items items1 : List Item) (gs gs1 : List Frame) (old mid : List ℕ) where
     -- what is reached fits
     pub reached_fits : FrameFits C L ctx first → Arrives C L ctx width first here items items1 gs gs1 old mid → FrameFits C L ctx here

@@ -1,5 +1,5 @@
 -- What printing something promises, and what it gives of what was printed before: an operation, a region or a block as a whole.
-use Rattle.std.proofs.Common.{◌≡◌, ◌∙◌, ◌++◌, ◌∷◌, [], ℕ, List, Result, Ok, OnOk, IfErr, IsSome, Bool, true, refl, sym, ap, subst, length, append-nil, inl, inr}
+use Rattle.std.proofs.Common.{◌≡◌, ◌∙◌, ◌++◌, ◌∷◌, [], ℕ, List, Result, Ok, Err, OnOk, IfErr, IsSome, Bool, true, refl, sym, ap, subst, length, append-nil, inl, inr}
 use Rattle.std.specs.Prelude.{⊤, ◌+◌, ◌≢◌, ◌≤◌, ◌^◌}
 use Rattle.std.specs.Str.{encode_utf8_all}
 use Rattle.irtext_base.specs.Own.{Language}
@@ -24,7 +24,7 @@ use Rattle.irtext_print.specs.declared.printable.state.RegionPrintDepthLimit.{Re
 use Rattle.irtext_print_ops.specs.Heads as heads
 use Rattle.irtext_print_ops.specs.Opened.{open_rest}
 use Rattle.irtext_print_ops.specs.Steps.{IsTooDeep, region_front, region_frames}
-use Rattle.irtext_print_ops.specs.Walk.{AllFit, FrameFits, open_of, items_left, Steps}
+use Rattle.irtext_print_ops.specs.Walk.{AllFit, FrameFits, open_of, items_left, Steps, GoesOn}
 use Rattle.irtext_print_ops.specs.declared.frame.Frame.{Frame}
 use Rattle.irtext_print_ops.specs.declared.frame.Frame.TheVariants as frame
 use Rattle.irtext_print_ops.specs.declared.frame.OperationFrame.{OperationFrame}
@@ -57,6 +57,17 @@ module _ {T A : Type 0} (C : Printing T A) (L : Language ⊤ T A) (ctx : Context
   -- frames are printed
   abbrev pub PrintsFrames : {X : Type 0} → List Frame → List Item → List Item → List ℕ → List ℕ → Result X Refusal → Type 0
   PrintsFrames frames items items' old new r = Prints (frames_text C L ctx width frames items) (items_left C L ctx frames) (FramesFault C L ctx width Misfit frames) (λ e. e ≢ Memory → FramesFault C L ctx width e frames) items items' old new r
+
+  -- what was open was printed, and nothing is left of it
+  pub all_printed : {X : Type 0} (r : Result X Refusal) (opened frames frames' : List Frame) (items items' : List Item) (old new : List ℕ) → frames ≡ opened → OnOk r (GoesOn C L ctx width frames frames' items items' old new)
+      → OnOk r (frames' ≡ []) → IfErr r (λ e. e ≢ Memory → FramesFault C L ctx width e frames) → PrintsFrames opened items items' old new r
+  all_printed (Ok x) opened frames frames' items items' old new opens so none refused = record {
+    text = sym (append-nil new) ∙ ap (λ z. new ++ frames_text C L ctx width z items') (sym none) ∙ so.text ∙ ap (λ z. old ++ frames_text C L ctx width z items) opens;
+    items = sym (append-nil items') ∙ ap (λ z. items' ++ items_left C L ctx z) (sym none) ∙ so.marks ∙ ap (λ z. items ++ items_left C L ctx z) opens;
+    fits = λ x. subst (FramesFault C L ctx width Misfit) none (so.misfits (subst (FramesFault C L ctx width Misfit) (sym opens) x));
+    refused = tt;
+  }
+  all_printed (Err e) opened frames frames' items items' old new opens so none refused = record { text = tt; items = tt; fits = tt; refused = λ other. subst (FramesFault C L ctx width e) opens (refused other) }
 
   module _ (here : Frame) (items items1 : List Item) (pushed : List Frame) (old mid : List ℕ) (s : Steps C L ctx width here items items1 [] pushed old mid) where
     -- steps from a frame, and what they leave, print the frame
@@ -146,6 +157,21 @@ module _ {T A : Type 0} (types : ir_text.Ghosts T A) (owns : ir_text.Ghosts A A)
           (λ e h other. lone.block_fault C L ctx w i p l e (h other)))
 
   module _ {U : Type 0} (s : Shown U) (w i : ℕ) (l : RegionPrintDepthLimit) (width_is : w ≡ s.width) (indent_is : i ≡ s.indent) (limit_is : l ≡ s.limit) where
+    -- what comes before its parts was printed of an operation, and it is open
+    pub operation_opened : (p : Ptr Operation) (marked : Bool) (begun : OperationFrame) (frames : List Frame) (old mid : List ℕ) → mid ≡ old ++ encode_utf8_all (heads.operation_front_at types owns attributes same ctx p)
+        → begun ≡ heads.begun_at types owns attributes same ctx p begun.directives marked i l → IsSome (operation ctx p) → heads.AreDirectivesAt types owns attributes same ctx p begun.directives → heads.FitsAt types owns attributes same ctx p
+        → frames ≡ frame.Operation begun ∷ [] → heads.Begins types owns attributes same ctx p s marked old mid w frames
+    operation_opened p marked begun frames old mid front is live found fits opens =
+        let first = frame.Operation (heads.begun_at types owns attributes same ctx p begun.directives marked i l) in
+        let here : frames ≡ first ∷ [] = opens ∙ ap (λ b. frame.Operation b ∷ []) is in
+        at_state s w i l width_is indent_is limit_is (λ z. heads.Begins types owns attributes same ctx p z marked old mid w frames) (subst (λ fs. heads.Begins types owns attributes same ctx p (record s { width = w; indent = i; limit = l }) marked old mid w fs) (sym here) (record {
+          text = λ before. first_text C L ctx w p begun.directives marked i l (length before) before old mid refl front;
+          marks = refl;
+          fit = first_fit C L ctx w p begun.directives marked i l 0 (isolated ctx.dialects) (live, found) fits;
+          faults = λ e h. under_refuses types owns attributes same ctx p (record s { width = w; indent = i; limit = l }) e (λ other. inr (only_fault C (isolated ctx.dialects) w e (open_of C L ctx first) (h other)));
+          misfits = λ x. elim x [ inl other ↦ absurd (other (fits_seen C L ctx w p fits)) | inr y ↦ inl y ];
+        }))
+
     -- a region, or a block, that is too deep is not printed
     pub region_unprinted : (p : Ptr Region) (e : Refusal) → (e ≢ Memory → (e ≡ Depth) × IsTooDeep w i l) → heads.RefusesRegionUnder types owns attributes same ctx p s e
     region_unprinted p e deep = at_state s w i l width_is indent_is limit_is (λ z. heads.RefusesRegionUnder types owns attributes same ctx p z e) (lone.region_refused C L ctx w i p l e deep)

@@ -26,7 +26,7 @@ use Rattle.irtext_print_ops.proofs.Turns.{operation_begins}
 use Rattle.irtext_print_ops.specs.Opened.{open_rest, rest, opened, operation_front, mark_text}
 use Rattle.irtext_print_ops.specs.Faults.{OpenFault, AnyFault}
 use Rattle.irtext_print_ops.proofs.Faults.{only_fault, any_both, any_front, any_back}
-use Rattle.irtext_print_ops.specs.Walk.{is_canonical, IsBegun, seen_at, regions_left, inside_of, marked_own, open_of, AllFit, FrameFits, items_of, items_left, turns_left, Steps}
+use Rattle.irtext_print_ops.specs.Walk.{is_canonical, IsBegun, seen_at, regions_left, inside_of, marked_own, open_of, AllFit, FrameFits, items_of, items_left, turns_left, GoesOn, Steps}
 use Rattle.irtext_print_ops.specs.declared.frame.Frame.{Frame}
 use Rattle.irtext_print_ops.specs.declared.frame.Frame.TheVariants as frame
 use Rattle.irtext_context.specs.declared.base.item.Item.{Item}
@@ -129,6 +129,21 @@ module _ {T A : Type 0} (C : Printing T A) (L : Language ⊤ T A) (ctx : Context
         let b = ap (turns_left C L ctx) e ∙ turns_both gs (f ∷ []) in
         let m = s.step.fewer in
         omega (arith, a, b, m)
+
+  -- nothing was printed so far
+  pub goes_none : (frames : List Frame) (items : List Item) (old : List ℕ) → AllFit C L ctx frames → GoesOn C L ctx width frames frames items items old old
+  goes_none frames items old a = record { text = refl; marks = refl; fit = a; faults = λ e x. x; misfits = λ x. x }
+
+  -- and then a step of the innermost frame was made
+  pub goes_more : (f : Frame) (first frames gs frames' : List Frame) (items0 items items' : List Item) (old mid new : List ℕ) → frames ≡ gs ++ f ∷ []
+      → Steps C L ctx width f items items' gs frames' mid new → GoesOn C L ctx width first frames items0 items old mid → GoesOn C L ctx width first frames' items0 items' old new
+  goes_more f first frames gs frames' items0 items items' old mid new e s so = record {
+    text = stepped_text f items items' frames gs frames' mid new e s _ so.text;
+    marks = stepped_items f items items' frames gs frames' mid new e s _ so.marks;
+    fit = stepped_fit f items items' frames gs frames' mid new e s so.fit;
+    faults = λ why x. so.faults why (stepped_fault f items items' frames gs frames' mid new e s why x);
+    misfits = λ x. stepped_misfits f items items' frames gs frames' mid new e s (so.misfits x);
+  }
 
   module _ (p : Ptr Operation) (known : Option (Bor (List code.Directive))) (marked : Bool) (i : ℕ) (limit : RegionPrintDepthLimit) (n : ℕ) where
     abbrev first_frame : Frame

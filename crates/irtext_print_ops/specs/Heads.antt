@@ -1,7 +1,7 @@
 -- For callers: what is printed of an operation itself and of a block's head, by the formats of a context and the texts of the caller's
 -- types and attributes; and the text of everything nested in an operation, or why printing fails. An item is an operation or a block
 -- that carries a mark.
-use Rattle.std.specs.Prelude.{◌≢◌, ◌+◌, ◌⊎◌, ℕ, Bool, cond, List, [], ◌++◌, length, map, Option, Some, None, codes, ⊤}
+use Rattle.std.specs.Prelude.{◌≡◌, ◌≢◌, ◌+◌, ◌⊎◌, ℕ, Bool, cond, List, [], ◌++◌, length, map, Option, Some, None, codes, ⊤}
 use Rattle.std.specs.Borrow.{Bor}
 use Rattle.irtext_base.specs.Format.{Directive}
 use Rattle.irtext_base.specs.Own.{Language}
@@ -29,13 +29,14 @@ use Rattle.irtext_print.specs.declared.printable.refusal.Refusal.TheVariants.{Me
 use Rattle.irtext_print.specs.declared.printable.state.RegionPrintDepthLimit.{RegionPrintDepthLimit}
 use Rattle.irtext_print_ops.specs.Opened.{operation_front, block_head, mark_text, open_rest}
 use Rattle.irtext_print_ops.specs.Faults.{IndentFault, OperationFault, RegionsFault, OperationsFault, OpenFault, AnyFault}
-use Rattle.irtext_print_ops.specs.Walk.{is_canonical, directives_in, AreDirectives, part_text, pieces_text, part_at, parts_left, seen_at, regions_left, blocks_left, operations_left, marked_own, open_of, FrameFits, AllFit, marked_operation, marked_block, items_in_regions, items_in_blocks, items_in_operations, items_left, Leads, Reaches, Steps, StopsBefore}
+use Rattle.irtext_print_ops.specs.Walk.{is_canonical, directives_in, AreDirectives, part_text, pieces_text, part_at, parts_left, seen_at, regions_left, blocks_left, operations_left, marked_own, open_of, FrameFits, AllFit, marked_operation, marked_block, items_in_regions, items_in_blocks, items_in_operations, items_left, GoesOn, Leads, Reaches, Steps, StopsBefore}
 use Rattle.irtext_print_ops.specs.declared.frame.Frame.{Frame}
 use Rattle.irtext_context.specs.declared.base.item.Item.{Item}
 use Rattle.irtext_print_ops.specs.declared.frame.OperationFrame.{OperationFrame}
 use Rattle.irtext_print_ops.specs.declared.step.Stop.{Stop}
 use Rattle.std.specs.declared.string.String.{String}
 use Rattle.std.specs.declared.alloc.Global.{Global}
+use Rattle.std.specs.Str.{encode_utf8_all}
 use Rattle.std.specs.String.{string_bytes}
 
 -- what printing sees of a block that is not live
@@ -195,9 +196,23 @@ module _ {T A : Type 0} (types : ir_text.Ghosts T A) (owns : ir_text.Ghosts A A)
   abbrev pub frames_items_at : List Frame → List Item
   frames_items_at frames = items_left printing_of language_of ctx frames
 
+  -- some of what the frames leave open was printed
+  abbrev pub GoesOnAt : ℕ → List Frame → List Frame → List Item → List Item → String Global → String Global → Type 0
+  GoesOnAt width frames frames' items items' old new = GoesOn printing_of language_of ctx width frames frames' items items' (string_bytes old) (string_bytes new)
+
   -- the rest of the frames gives this reason to fail
   abbrev pub FramesFault : ℕ → Refusal → List Frame → Type 0
   FramesFault width e frames = AnyFault printing_of (isolated ctx.dialects) width e (map (open_of printing_of language_of ctx) frames)
+
+  -- What comes before an operation's parts was printed, and these frames are open. What was appended and what is left of them are the text
+  -- of the operation with everything nested in it; the same of the items. They are at fault only if that is, and whatever in it does not
+  -- fit its format is left.
+  pub record Begins {U : Type 0} (p : Ptr Operation) (s : Shown U) (marked : Bool) (old new : List ℕ) (width : ℕ) (frames : List Frame) : Type 0 where
+    pub text : (before : List Item) → new ++ encode_utf8_all (frames_text_at width frames (length before)) ≡ old ++ encode_utf8_all (text_under p s marked (length before))
+    pub marks : frames_items_at frames ≡ items_under p s marked
+    pub fit : FramesFitAt frames
+    pub faults : (e : Refusal) → (e ≢ Memory → FramesFault width e frames) → RefusesUnder p s e
+    pub misfits : MisfitsUnder p s → FramesFault width Misfit frames
 
   -- ---- a region
 

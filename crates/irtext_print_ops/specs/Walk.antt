@@ -28,7 +28,7 @@ use Rattle.irtext_grammar.specs.Spelling.Spell.{space, piece}
 use Rattle.irtext_print.specs.Printers.PrintedOperation.{levels}
 use Rattle.irtext_print.specs.declared.printable.refusal.Refusal.{Refusal}
 use Rattle.irtext_print.specs.declared.printable.refusal.Refusal.TheVariants.{Misfit}
-use Rattle.irtext_print_ops.specs.Opened.{Open, an_operation, a_region, a_block, covers, Turns}
+use Rattle.irtext_print_ops.specs.Opened.{Open, an_operation, a_region, a_block, covers, open_rest, Turns}
 use Rattle.irtext_print_ops.specs.Faults.{OpenFault, AnyFault}
 use Rattle.irtext_print_ops.specs.Steps.{custom_directives}
 use Rattle.irtext_print_ops.specs.declared.frame.Frame.{Frame}
@@ -242,6 +242,15 @@ module _ {T A : Type 0} (C : Printing T A) where
       pub pushed : List Frame
       pub stack : frames' ≡ frames ++ pushed
       pub step : Replaces width (open_of f) (items_of f) (turns_of f) items items' pushed old new
+
+    -- Some of what was open was printed: the text that was appended and the text that is left are together what was left before, and so are
+    -- the items. A reason for what is left to fail is a reason for what was open; what did not fit in that is left.
+    pub record GoesOn (width : ℕ) (frames frames' : List Frame) (items items' : List Item) (old new : List ℕ) : Type 0 where
+      pub text : new ++ encode_utf8_all (open_rest C L width (map open_of frames') (length items')) ≡ old ++ encode_utf8_all (open_rest C L width (map open_of frames) (length items))
+      pub marks : items' ++ items_left frames' ≡ items ++ items_left frames
+      pub fit : AllFit frames'
+      pub faults : (e : Refusal) → AnyFault C (isolated ctx.dialects) width e (map open_of frames') → AnyFault C (isolated ctx.dialects) width e (map open_of frames)
+      pub misfits : AnyFault C (isolated ctx.dialects) width Misfit (map open_of frames) → AnyFault C (isolated ctx.dialects) width Misfit (map open_of frames')
 
     -- Steps from a frame lead to one inside of it, which is innermost after them. The frames between the two were opened inside of
     -- those that are open.

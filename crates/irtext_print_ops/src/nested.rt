@@ -1,5 +1,5 @@
 //! Printing of an operation, a block or a region with everything nested in it. An item is an operation or a block that carries a mark.
-ghost use Rattle.std.specs.Prelude.{◌≡◌, ◌++◌, OnOk, IfErr, IsSome, length, true};
+ghost use Rattle.std.specs.Prelude.{◌≡◌, ◌≢◌, ◌<◌, ◌++◌, [], OnOk, IfOk, IfErr, IsSome, length, string_bytes, true, false};
 ghost use Rattle.irtext_context.specs.Context.{operation};
 ghost use Rattle.irtext_context.specs.Context as context;
 ghost use Rattle.irtext_graph.specs.Graph.{IsLive};
@@ -10,11 +10,11 @@ ghost use Rattle.irtext_print_ops.specs.Heads as heads;
 ghost use Rattle.irtext_print_ops.specs.Steps.{begun_frames, listed};
 
 use crate::block_heads::fmt_block_head;
-use crate::frame::{BlockFrame, Frame, RegionFrame};
+use crate::frame::{BlockFrame, Frame, RegionFrame, open};
 use crate::opening::{begin_region, deeper, fmt_colon};
 use crate::printer::Printer;
 use crate::step::begin_operation;
-use crate::walk::{print_frames, print_operation};
+use crate::walk::{print_frames, print_operation, print_some};
 use irtext_base::text::{AttrText, IrText};
 use irtext_context::base::{BasicBlock, Context, Item, Operation, Ptr, Region};
 use irtext_print::printable::{Refusal, State};
@@ -59,6 +59,68 @@ pub fn print_nested<T: IrText<A>, A: AttrText<A>, U>(
     let limit = state.current_region_print_depth_limit();
     let begun = begin_operation(ctx, op, marked, indent, limit, f)?;
     print_operation(ctx, width, begun, items, f)
+}
+
+/// What is open of an operation that is printed piece by piece, with everything nested in it.
+#[derive(Drop)]
+pub struct Opened<'c> {
+    /// The number of spaces of a step of indentation.
+    width: u16,
+    frames: Vec<Frame<'c>>,
+}
+
+/// Begins an operation that is printed piece by piece, at the state's indentation and under its limit: appends what comes before its
+/// parts. Its mark is printed after it, if `marked`. Does not recurse, so no nesting is too deep for it.
+///
+/// The error is `Misfit` if the operation does not fit its format; otherwise `Memory`. What was appended up to the error remains.
+pub fn begin_nested<'c, T: IrText<A>, A: AttrText<A>, U>(
+    ctx: &'c Context<T, A>,
+    op: Ptr<Operation>,
+    marked: bool,
+    state: &State<U>,
+    f: &mut String,
+) -> Result<Opened<'c>, Refusal>
+    requires live { IsSome (operation ctx.now op) }
+    ensures begins { IfOk result (λ begun. heads.Begins T.IrText.own A.IrText.own A.AttrText.own A.eq ctx.now op
+        state.now marked (string_bytes f.old) (string_bytes f.new) begun.width begun.frames.items) }
+    ensures refused { IfErr result (heads.RefusesUnder T.IrText.own A.IrText.own A.AttrText.own A.eq ctx.now
+        op state.now) }
+{
+    let width = state.indent_width();
+    let indent = state.current_indent();
+    let limit = state.current_region_print_depth_limit();
+    let begun = begin_operation(ctx, op, marked, indent, limit, f)?;
+    let mut frames = Vec::new(ctx.allocator());
+    open(&mut frames, Frame::Operation(begun))?;
+    Ok(Opened { width, frames })
+}
+
+impl<'c> Opened<'c> {
+    /// Appends what comes next, until nothing is left or the text is longer than `limit`, and returns whether something is left. Items in
+    /// it are added to `items`, in the order of their marks; the index of a mark is its item's place in `items`.
+    ///
+    /// The error is `Depth` if the spaces before a line inside a region that is shown do not fit 16 bits; `Misfit` if an operation does
+    /// not fit its format; otherwise `Memory`. What was appended and gathered up to the error remains; nothing can be printed after it.
+    pub fn print_some<T: IrText<A>, A: AttrText<A>>(
+        &mut self,
+        ctx: &'c Context<T, A>,
+        limit: usize,
+        items: &mut Vec<Item>,
+        f: &mut String,
+    ) -> Result<bool, Refusal>
+        requires fit { heads.FramesFitAt T.IrText.own A.IrText.own A.AttrText.own A.eq ctx.now self.old.frames.items }
+        ensures goes_on { OnOk result (heads.GoesOnAt T.IrText.own A.IrText.own A.AttrText.own A.eq ctx.now
+            self.old.width self.old.frames.items self.new.frames.items items.old.items items.new.items f.old f.new) }
+        ensures width { self.new.width ≡ self.old.width }
+        ensures left { IfOk result (λ left. left ≡ false → self.new.frames.items ≡ []) }
+        ensures long { IfOk result (λ left. left ≡ true → limit < length (string_bytes f.new)) }
+        ensures refused { IfErr result (λ e. e ≢ refusal.Memory →
+            heads.FramesFault T.IrText.own A.IrText.own A.AttrText.own A.eq ctx.now self.old.width e
+            self.old.frames.items) }
+    {
+        print_some(ctx, self.width, limit, &mut self.frames, items, f)?;
+        Ok(!self.frames.is_empty())
+    }
 }
 
 /// Appends the text of a block with everything nested in it, at the state's indentation and under its limit, with its mark if it has

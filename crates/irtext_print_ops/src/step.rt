@@ -426,10 +426,12 @@ fn next_block<'c, T: IrText<A>, A: AttrText<A>>(
     }
 }
 
-/// Prints what comes next of a block, and of the blocks that begin inside of it, up to the last operation of the innermost one.
+/// Prints what comes next of a block, and of the blocks that begin inside of it, up to the last operation of the innermost one, or until
+/// the text is longer than `limit`. What is still open after that was pushed.
 fn block_step<'c, T: IrText<A>, A: AttrText<A>>(
     ctx: &'c Context<T, A>,
     width: u16,
+    limit: usize,
     frame: BlockFrame,
     frames: &mut Vec<Frame<'c>>,
     items: &mut Vec<Item>,
@@ -448,6 +450,9 @@ fn block_step<'c, T: IrText<A>, A: AttrText<A>>(
         let Some(next) = next_block(ctx, width, left, frames, items, f)? else {
             return Ok(());
         };
+        if f.len() > limit {
+            return open(frames, Frame::Block(next));
+        }
         left = next;
     }
 }
@@ -482,12 +487,13 @@ fn innermost_block<'c, T: IrText<A>, A: AttrText<A>>(
     }
 }
 
-/// Prints what comes next of the innermost open frame, which was popped from the open ones, and of the blocks that begin inside of it.
-/// What is still open after that was pushed.
+/// Prints what comes next of the innermost open frame, which was popped from the open ones, and of the blocks that begin inside of it,
+/// until the text is longer than `limit`. What is still open after that was pushed.
 #[inline(always)]
 pub(crate) fn step<'c, T: IrText<A>, A: AttrText<A>>(
     ctx: &'c Context<T, A>,
     width: u16,
+    limit: usize,
     frame: Frame<'c>,
     frames: &mut Vec<Frame<'c>>,
     items: &mut Vec<Item>,
@@ -503,5 +509,5 @@ pub(crate) fn step<'c, T: IrText<A>, A: AttrText<A>>(
     let Some(block) = innermost_block(ctx, width, frame, frames, items, f)? else {
         return Ok(());
     };
-    block_step(ctx, width, block, frames, items, f)
+    block_step(ctx, width, limit, block, frames, items, f)
 }

@@ -1,5 +1,5 @@
 //! The loop over the open frames, which prints what is left of them. An item is an operation or a block that carries a mark.
-ghost use Rattle.std.specs.Prelude.{◌≡◌, ◌≢◌, ◌++◌, ◌∷◌, [], OnOk, IfErr, IfNone, length};
+ghost use Rattle.std.specs.Prelude.{◌≡◌, ◌≢◌, ◌<◌, ◌⊎◌, ◌++◌, ◌∷◌, [], OnOk, IfErr, IfNone, length, string_bytes};
 ghost use Rattle.irtext_print.specs.Printers.Appended.{AppendsText};
 ghost use Rattle.irtext_print.specs.declared.printable.refusal.Refusal.TheVariants as refusal;
 ghost use Rattle.irtext_print_ops.specs.Heads as heads;
@@ -33,6 +33,33 @@ fn close<'c>(frames: &mut Vec<Frame<'c>>) -> Option<Frame<'c>>
     frames.pop()
 }
 
+/// Prints what is left of the open frames, the innermost first, until nothing is open or the text is longer than `limit`. Items in it are
+/// added to `items`, in the order of their marks; the index of a mark is its item's place in `items`. What was appended and gathered up to
+/// an error remains.
+pub(crate) fn print_some<'c, T: IrText<A>, A: AttrText<A>>(
+    ctx: &'c Context<T, A>,
+    width: u16,
+    limit: usize,
+    frames: &mut Vec<Frame<'c>>,
+    items: &mut Vec<Item>,
+    f: &mut String,
+) -> Result<(), Refusal>
+    requires fit { heads.FramesFitAt T.IrText.own A.IrText.own A.AttrText.own A.eq ctx.now frames.old.items }
+    ensures goes_on { OnOk result (heads.GoesOnAt T.IrText.own A.IrText.own A.AttrText.own A.eq ctx.now width
+        frames.old.items frames.new.items items.old.items items.new.items f.old f.new) }
+    ensures stops { OnOk result ((frames.new.items ≡ []) ⊎ (limit < length (string_bytes f.new))) }
+    ensures refused { IfErr result (λ e. e ≢ refusal.Memory →
+        heads.FramesFault T.IrText.own A.IrText.own A.AttrText.own A.eq ctx.now width e frames.old.items) }
+{
+    while let Some(frame) = close(frames) {
+        step(ctx, width, limit, frame, frames, items, f)?;
+        if f.len() > limit {
+            return Ok(());
+        }
+    }
+    Ok(())
+}
+
 /// Appends the text that is left of the open frames, the innermost first, until nothing is open. Items in it are added to `items`, in
 /// the order of their marks; the index of a mark is its item's place in `items`. What was appended and gathered up to an error remains.
 pub(crate) fn print_frames<'c, T: IrText<A>, A: AttrText<A>>(
@@ -60,10 +87,7 @@ pub(crate) fn print_frames<'c, T: IrText<A>, A: AttrText<A>>(
         (frames.old.items ++ listed first.entry)) }
 {
     open_first(first, frames)?;
-    while let Some(frame) = close(frames) {
-        step(ctx, width, frame, frames, items, f)?;
-    }
-    Ok(())
+    print_some(ctx, width, usize::MAX, frames, items, f)
 }
 
 /// Appends the text that is left of an operation. Items in it are added to `items`, in the order of their marks; the index of a mark is

@@ -24,6 +24,7 @@ use std::fmt;
 
 pub mod debug;
 pub(crate) mod nesting;
+pub mod pieces;
 
 /// Appends the concrete text of an operation with everything nested in it, and its mark after that, if `marked`. Items are gathered.
 fn gather_operation<T: IrText<A>, A: AttrText<A>, U>(

@@ -1,23 +1,16 @@
-use Rattle.std.proofs.Common.{◌<◌, ◌++◌, ◌∙◌, ap, length, map, string_bytes}
+use Rattle.std.proofs.Common.{◌≡◌, ◌∙◌, ◌++◌, ◌≤◌, [], append-nil, ap, arith, length, sym, string_bytes}
 use Rattle.std.specs.Str.{encode_utf8_all}
-use Rattle.irtext_grammar.specs.Spelling.Section.{once_texts}
-use Rattle.irtext_print.specs.Printers.PieceText.{words}
-use Rattle.irtext_print.proofs.Printers.Appended.{then}
-use Rattle.irtext_print.specs.Given.{printing_of, given_at}
-use Rattle.irtext_print.specs.Items.{language_of}
-use Rattle.irtext_print.specs.Mentions as mentions
-use Rattle.irtext_print.proofs.Written.{not_empty, section_written}
+use Rattle.irtext_print.specs.Items.{section_left}
+use Rattle.irtext_print.proofs.Written.{finished}
 use Rattle.irtext_print.proofs.section.fmt_section.Goals as goal
 
 pub returns : goal.returns
 returns g c =
-    let C = printing_of g.T.IrText g.A.IrText g.A.AttrText g.A.PartialEq.eq c.args.ctx.now in
-    let L = language_of g.T.IrText g.A.IrText g.A.AttrText g.A.PartialEq.eq c.args.ctx.now in
-    let gives = given_at g.T.IrText g.A.IrText g.A.AttrText g.A.PartialEq.eq c.args.ctx.now in
-    let some : 0 < length c.args.items.now = not_empty (length c.args.items.now) c.if-is_empty.ensures in
-    then c.fmt_all_once.result
-    (λ r. section_written L C gives c.args.items.now (mentions.known_in c.fmt_items.new.self.known) (string_bytes c.args.f.now) (string_bytes c.push_str.new.self) (string_bytes c.fmt_items.new.f) (string_bytes c.fmt_all_once.new.f)
-    some c.in_ok-push_str.ensures.bytes
-    (c.in_ok-fmt_items.ensures.known ∙ ap (λ ks. mentions.items_noted C (map (λ r. r.now) ks) (map gives c.args.items.now)) c.with_hasher.ensures.empty)
-    c.in_ok-fmt_items.ensures.text (r ∙ ap (λ n. string_bytes c.fmt_items.new.f ++ encode_utf8_all (once_texts (words g.A.IrText.written) (mentions.asking g.A.AttrText.print_once g.A.PartialEq.eq) n (mentions.known_in c.fmt_items.new.self.known))) c.in_ok-fmt_items.ensures.items))
-    c.fmt_all_once.ensures
+    let text = c.print_some.new.f.bytes in
+    let len = text.ok.0 in
+    let room = text.ok.1 in
+    let small = text.small in
+    let new = string_bytes c.print_some.new.f in
+    let fits : length new ≤ 18446744073709551615 = omega (arith, len, room, small) in
+    let none : section_left g.T.IrText g.A.IrText g.A.AttrText g.A.PartialEq.eq c.args.ctx.now c.args.items.now c.print_some.new.self ≡ [] = finished c.in_ok-_left._left _ 18446744073709551615 (length new) c.in_ok-_left.ensures.left c.in_ok-_left.ensures.long fits in
+    sym (append-nil new) ∙ ap (λ z. new ++ encode_utf8_all z) (sym none) ∙ c.in_ok-_left.ensures.text ∙ c.in_ok-section.ensures.text

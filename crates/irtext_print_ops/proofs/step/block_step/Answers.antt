@@ -2,7 +2,8 @@ use Rattle.std.proofs.Common.{refl, inl, inr, option_map, subst, string_bytes}
 use Rattle.irtext_print_ops.specs.Heads as heads
 use Rattle.irtext_print_ops.specs.Walk.{Leads}
 use Rattle.irtext_print_ops.specs.declared.frame.Frame.TheVariants as framed
-use Rattle.irtext_print_ops.proofs.Descents.{fewer_inside, reached_end, reached_fits, reached_fault, reached_on}
+use Rattle.irtext_print.proofs.Printers.Appended.{then}
+use Rattle.irtext_print_ops.proofs.Descents.{fewer_inside, left_open, reached_end, reached_fits, reached_fault, reached_on}
 use Rattle.irtext_print_ops.proofs.Refused.{propagated}
 use Rattle.irtext_print_ops.proofs.step.block_step.Goals as goal
 
@@ -37,3 +38,10 @@ returns-in_err-next-clause-refused g c =
     let ctx = c.args.ctx.now in
     let e = c.in_err-next.field-0.0 in
     propagated _ c.from_residual.result e c.from_residual.ensures.1 (λ other. reached_fault (heads.printing_of g.T.IrText g.A.IrText g.A.AttrText g.A.PartialEq.eq ctx) (heads.language_of g.T.IrText g.A.IrText g.A.AttrText g.A.PartialEq.eq ctx) ctx c.args.width (framed.Block c.args.frame) (framed.Block c.loop-next.left) c.args.items.now.items c.loop-next.items.items c.args.frames.now.items c.loop-next.frames.items (string_bytes c.args.f.now) (string_bytes c.loop-next.f) c.loop-next.invariant e (c.in_err-next.ensures.refused other))
+
+pub returns-then-len-limit-clause-steps : goal.returns-then-len-limit-clause-steps
+returns-then-len-limit-clause-steps g c =
+    let ctx = c.args.ctx.now in
+    let d = subst (λ z. Leads (heads.printing_of g.T.IrText g.A.IrText g.A.AttrText g.A.PartialEq.eq ctx) (heads.language_of g.T.IrText g.A.IrText g.A.AttrText g.A.PartialEq.eq ctx) ctx c.args.width (framed.Block c.loop-next.left) (option_map framed.Block z) c.loop-next.items.items c.next_block.new.items.items c.loop-next.frames.items c.next_block.new.frames.items (string_bytes c.loop-next.f) (string_bytes c.next_block.new.f)) c.in-Some.is c.in_ok-next.ensures.steps in
+    then c.open.result (λ e. left_open (heads.printing_of g.T.IrText g.A.IrText g.A.AttrText g.A.PartialEq.eq ctx) (heads.language_of g.T.IrText g.A.IrText g.A.AttrText g.A.PartialEq.eq ctx) ctx c.args.width (framed.Block c.args.frame) (framed.Block c.in-Some.next) c.args.items.now.items c.next_block.new.items.items c.args.frames.now.items c.next_block.new.frames.items c.open.new.frames.items (string_bytes c.args.f.now) (string_bytes c.next_block.new.f)
+    (reached_on (heads.printing_of g.T.IrText g.A.IrText g.A.AttrText g.A.PartialEq.eq ctx) (heads.language_of g.T.IrText g.A.IrText g.A.AttrText g.A.PartialEq.eq ctx) ctx c.args.width (framed.Block c.args.frame) (framed.Block c.loop-next.left) c.args.items.now.items c.loop-next.items.items c.args.frames.now.items c.loop-next.frames.items (string_bytes c.args.f.now) (string_bytes c.loop-next.f) (framed.Block c.in-Some.next) c.next_block.new.items.items c.next_block.new.frames.items (string_bytes c.next_block.new.f) c.loop-next.invariant d) e) c.open.ensures.ok

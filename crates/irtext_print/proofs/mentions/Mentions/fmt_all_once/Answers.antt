@@ -1,15 +1,14 @@
-use Rattle.std.proofs.Common.{◌∙◌, ◌+◌, ◌++◌, ap, string_bytes}
+use Rattle.std.proofs.Common.{◌≡◌, ◌∙◌, ◌+◌, ◌++◌, ap, drop, refl, subst, string_bytes}
 use Rattle.std.specs.Str.{encode_utf8_all}
 use Rattle.irtext_grammar.specs.Spelling.Section.{once_texts}
 use Rattle.irtext_print.specs.Printers.PieceText.{words}
 use Rattle.irtext_print.specs.Entries.{once_text}
 use Rattle.irtext_print.specs.Mentions as mentions
-use Rattle.irtext_print.proofs.Texts.{referred, once_none, once_more, once_end}
+use Rattle.irtext_print.proofs.Texts.{referred, once_more}
 use Rattle.irtext_print.proofs.mentions.Mentions.fmt_all_once.Goals as goal
 
 pub loop-place-init : goal.loop-place-init
-loop-place-init g c =
-    once_none (words g.A.IrText.written) (mentions.asking g.A.AttrText.print_once g.A.PartialEq.eq) c.args.self.now.items c.as_slice-attrs.result.now (string_bytes c.args.f.now)
+loop-place-init g c = refl
 
 pub loop-place-preserved : goal.loop-place-preserved
 loop-place-preserved g c =
@@ -17,14 +16,6 @@ loop-place-preserved g c =
     let C = mentions.asking g.A.AttrText.print_once g.A.PartialEq.eq in
     let rs = c.as_slice-attrs.result.now in
     once_more W C c.args.self.now.items c.loop-place.place rs c.index-attrs-place.result (string_bytes c.loop-place.f) (string_bytes c.fmt_once.new.f)
-    (string_bytes c.args.f.now ++ encode_utf8_all (once_texts W C c.args.self.now.items (referred rs))) c.loop-place-test.true
+    (string_bytes c.args.f.now ++ encode_utf8_all (once_texts W C (c.args.self.now.items + c.args.from) (referred (drop c.args.from rs)))) c.loop-place-test.true
     (c.in_ok-fmt_once.ensures ∙ ap (λ r. string_bytes c.loop-place.f ++ encode_utf8_all (once_text g.A.IrText.written (c.args.self.now.items + c.loop-place.place) r.now)) c.index-attrs-place.is)
     c.loop-place.invariant
-
-pub returns : goal.returns
-returns g c =
-    let W = words g.A.IrText.written in
-    let C = mentions.asking g.A.AttrText.print_once g.A.PartialEq.eq in
-    let rs = c.as_slice-attrs.result.now in
-    once_end W C c.args.self.now.items c.loop-place.place rs (string_bytes c.loop-place.f) (string_bytes c.args.f.now ++ encode_utf8_all (once_texts W C c.args.self.now.items (referred rs))) c.loop-place-test.false c.loop-place.invariant
-    ∙ ap (λ ks. string_bytes c.args.f.now ++ encode_utf8_all (once_texts W C c.args.self.now.items (referred ks))) c.as_slice-attrs.ensures.keys

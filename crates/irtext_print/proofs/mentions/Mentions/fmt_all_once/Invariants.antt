@@ -1,4 +1,4 @@
-use Rattle.std.proofs.Common.{◌≡◌, ◌+◌, ◌++◌, drop, string_bytes}
+use Rattle.std.proofs.Common.{◌≡◌, ◌+◌, ◌++◌, ◌-◌, drop, length, string_bytes}
 use Rattle.std.specs.Str.{encode_utf8_all}
 use Rattle.irtext_grammar.specs.Spelling.Section.{once_texts}
 use Rattle.irtext_print.specs.Printers.PieceText.{words}
@@ -6,8 +6,11 @@ use Rattle.irtext_print.specs.Mentions as mentions
 use Rattle.irtext_print.proofs.Texts.{referred}
 use Rattle.irtext_print.proofs.mentions.Mentions.fmt_all_once.Given as goal
 
--- what is written, and then the rest, is all
+-- what is written, and then the rest, is all from the first one on
 abbrev pub invariant-loop-place : goal.invariant-loop-place
 invariant-loop-place g l =
     string_bytes l.f ++ encode_utf8_all (once_texts (words g.A.IrText.written) (mentions.asking g.A.AttrText.print_once g.A.PartialEq.eq) (l.self.items + l.place) (referred (drop l.place l.attrs)))
-    ≡ string_bytes l.fn.f ++ encode_utf8_all (once_texts (words g.A.IrText.written) (mentions.asking g.A.AttrText.print_once g.A.PartialEq.eq) l.self.items (referred l.attrs))
+    ≡ string_bytes l.fn.f ++ encode_utf8_all (once_texts (words g.A.IrText.written) (mentions.asking g.A.AttrText.print_once g.A.PartialEq.eq) (l.self.items + l.from) (referred (drop l.from l.attrs)))
+
+abbrev pub decreases-loop-place : goal.decreases-loop-place
+decreases-loop-place g l = length l.attrs - l.place
