@@ -1,11 +1,9 @@
 //! Calls that allocate, each with the contract that std's call has, and an error that only a refused allocation makes: `OutOfMemory` has a
-//! private field, and these calls alone make it, each where std's call failed. What a call asks for is what it stores, or at most as many
-//! elements as a slice that is given has (`vec::with_capacity`). So no caller can make the error by asking for more than it needs.
+//! private field, and these calls alone make it, each where std's call failed. What a call asks for is what it stores, or room for at
+//! most 16 elements (`vec::with_capacity`). So no caller can make the error by asking for more than it needs.
 #![tactic(auto)]
 
 pub mod boxed;
-pub mod map;
-pub mod rc;
 pub mod set;
 pub mod string;
 pub mod vec;
@@ -13,7 +11,6 @@ pub mod vec;
 ghost use Rattle.std.specs.Prelude.{◌≡◌, Ok, IfOk, OnErr, IsErr};
 
 use std::alloc::{AllocError, AllocFailed};
-use std::fmt;
 
 /// An allocation was refused.
 #[derive(PartialEq, Eq, Debug, Drop)]
@@ -26,16 +23,6 @@ pub struct OutOfMemory {
 pub struct Refused<X> {
     pub value: X,
     error: OutOfMemory,
-}
-
-impl<X> Refused<X> {
-    /// Returns what was not stored, and the error.
-    pub fn into_parts(self) -> (X, OutOfMemory)
-        ensures { result.0 ≡ self.value }
-    {
-        let Refused { value, error } = self;
-        (value, error)
-    }
 }
 
 impl<X: Drop> From<Refused<X>> for OutOfMemory {
@@ -53,20 +40,6 @@ impl From<OutOfMemory> for AllocError {
     #[inline(always)]
     fn from(_: OutOfMemory) -> AllocError {
         AllocError
-    }
-}
-
-impl<X: Drop> From<Refused<X>> for AllocError {
-    #[inline(always)]
-    fn from(_: Refused<X>) -> AllocError {
-        AllocError
-    }
-}
-
-impl From<OutOfMemory> for fmt::Error {
-    #[inline(always)]
-    fn from(_: OutOfMemory) -> fmt::Error {
-        fmt::Error
     }
 }
 
