@@ -1,17 +1,18 @@
 -- What the parser of notations takes: each directive takes a character and has a notation. And how far the parser of directives has come.
-use Rattle.std.proofs.Common.{◌≡◌, ℕ, ◌+◌, ◌^◌, ◌<◌, ◌≤◌, suc, zero, Bool, true, false, cond, ◌&&◌, ◌==◌, Option, Some, None, List, [], ◌∷◌, ◌++◌, length, refl, sym, ◌∙◌, ap, ap₂, subst, arith}
+use Rattle.std.proofs.Common.{◌≡◌, ℕ, ◌+◌, ◌^◌, ◌<◌, ◌≤◌, suc, zero, Bool, true, false, cond, ◌&&◌, ◌==◌, Result, Ok, Err, Option, Some, None, List, [], ◌∷◌, ◌++◌, length, refl, sym, ◌∙◌, ap, ap₂, subst, arith}
 use Rattle.std.proofs.lemmas.Bool.Decides.{nat_tests}
 use Rattle.std.proofs.lemmas.Str.{chars_from_encodes, encodes-chars}
 use Rattle.std.specs.Prelude.{nat_lt, codes}
 use Rattle.std.specs.Char.{is_ascii_digit, is_ascii_graphic, is_whitespace}
 use Rattle.std.specs.List.{list_all}
+use Rattle.std.specs.Result.{IsErrAnd}
 use Rattle.std.specs.Str.{chars, IsUtf8, encode_utf8_all}
 use Rattle.irtext_base.specs.Text.{Text, begins, front, after, after_space, begins_word, in_word, is_identifier}
 use Rattle.irtext_base.specs.Stream.{StreamView, after_taken}
 use Rattle.irtext_base.specs.Format.{Directive, canonical, custom, word, operand, operands, successor, successors, attribute, dictionary, result_type, region, regions, header}
 use Rattle.irtext_stream.specs.NotationPieces.{Meaning, means, unmet, mapped, followed, is_end, past, led, index_of, index_at, closed_at, letters_after}
 use Rattle.irtext_base.specs.Notation.{variable_at, filled, literal_at, directive_at, directives_after, canonical_at, format_at, notation_at, has_text}
-use Rattle.irtext_stream.specs.NotationFaults.{whole, Faults}
+use Rattle.irtext_stream.specs.NotationFaults.{whole, Faults, Reads, IsMemory}
 use Rattle.irtext_stream.specs.declared.notation.fault.NotationPart.{NotationPart}
 use Rattle.irtext_stream.specs.declared.notation.fault.NotationPart.TheVariants as part
 use Rattle.irtext_stream.specs.declared.notation.fault.NotationFault.{NotationFault}
@@ -166,7 +167,13 @@ literal_some text rest bytes u n h = ap (λ m. followed m (filled text)) h ∙ g
 -- what a part lacks, the whole lacks
 pub faults_followed : {X Y : Type 0} (text : Text) (m : Meaning X) (next : X → Text → Meaning Y) (e : NotationFault) → Faults text m e → Faults text (followed m next) e
 faults_followed text m next (fault.Unexpected at expected) h = (h.0, ap (λ z. followed z next) h.1, h.2)
-faults_followed text m next fault.Memory h = tt
+faults_followed text m next (fault.Memory e) h = tt
+
+-- an allocation that was refused
+pub refused : {X Y : Type 0} (see : Y → X) (text : Text) (m : Meaning X) (new : StreamView) (r : Result Y NotationFault) → IsErrAnd r IsMemory → Reads see text m r new
+refused see text m new (Ok y) h = absurd h
+refused see text m new (Err (fault.Unexpected at expected)) h = absurd h
+refused see text m new (Err (fault.Memory e)) h = tt
 
 -- ---- directives
 -- the directives found so far, with a bound on how many come

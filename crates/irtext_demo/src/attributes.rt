@@ -8,6 +8,7 @@ use crate::attributes::integer::IntegerAttr;
 use irtext_base::parsable::{ParseResult, TextStream};
 use irtext_base::result::Expected;
 use irtext_base::text::{AttrText, Family, IrText, Worded};
+use irtext_syntax::boxed::Boxed;
 use irtext_syntax::characters::Characters;
 use irtext_syntax::part::TryClone;
 use irtext_syntax::table::{Table, after_word, table_parse, write_row};
@@ -23,7 +24,7 @@ pub enum DemoAttr {
     /// Printed as `builtin.string "S"`.
     String(Characters),
     /// Printed as `builtin.function <(T, ..)->(T, ..)>`.
-    Function(FunctionAttr),
+    Function(Boxed<FunctionAttr>),
     /// Printed as `test.dbg "S"`, once, in the section after the root.
     Debug(Characters),
 }
@@ -85,7 +86,11 @@ impl<B: Drop> IrText<B> for DemoAttr {
         match self {
             DemoAttr::Integer(attr) => write_row::<IntegerAttr, B>("builtin.integer", attr, f),
             DemoAttr::String(text) => write_row::<Characters, B>("builtin.string", text, f),
-            DemoAttr::Function(attr) => write_row::<FunctionAttr, B>("builtin.function", attr, f),
+            DemoAttr::Function(attr) => write_row::<Boxed<FunctionAttr>, B>(
+                "builtin.function",
+                attr,
+                f,
+            ),
             DemoAttr::Debug(text) => write_row::<Characters, B>("test.dbg", text, f),
         }
     }

@@ -9,7 +9,6 @@ use Rattle.irtext_graph.specs.Arena.{HasFew, KeepsPlaces}
 use Rattle.irtext_graph.specs.declared.arena.Arena.{Arena}
 use Rattle.irtext_graph.specs.declared.arena.Entry.{Entry}
 use Rattle.irtext_graph.specs.declared.arena.Ptr.{Ptr}
-use Rattle.irtext_graph.specs.declared.log.Made.{Made}
 use Rattle.irtext_graph.specs.declared.nest.Nest.{Nest}
 use Rattle.irtext_graph.specs.declared.object.BasicBlock.{BasicBlock}
 use Rattle.irtext_graph.specs.declared.object.Operation.{Operation}
@@ -87,13 +86,13 @@ module _ {O B T : Type 0} where
     room_what (TheRegion q) = refl
 
     -- with more room all is kept
-    pub room_kept : (made : ℕ) (v : Counters) (log : List Made) → IsKept made v log x → IsKept made v log roomy
+    pub room_kept : (made : ℕ) (v : Counters) (log : List Object) → IsKept made v log x → IsKept made v log roomy
     room_kept made v log i =
         moved_kept made v log x roomy (record { operation_data = r.only.all_data; block_data = λ q. refl }) (renested eq_object object_tells i.sound.forest room_kids room_up)
         (record { operation_places = r.only.places; block_places = same_places x.blocks; region_places = same_places x.regions }) room_what i
 
     -- if inserting the region is an error, all is unchanged too
-    pub refused_kept : (made : ℕ) (v : Counters) (log after : List Made) (a : Arena (Nest Operation BasicBlock RegionData)) → after ≡ log → a.slots.items ≡ x.regions.slots.items → IsKept made v log x
+    pub refused_kept : (made : ℕ) (v : Counters) (log after : List Object) (a : Arena (Nest Operation BasicBlock RegionData)) → after ≡ log → a.slots.items ≡ x.regions.slots.items → IsKept made v log x
         → IsKept made v after (record x { operations = room; regions = a })
     refused_kept made v log after a f e i =
         let k = room_kept made v log i in
@@ -187,7 +186,7 @@ module _ {O B T : Type 0} where
     what_same (TheRegion q) = refl
 
     -- with the region all is kept
-    pub added_kept : (v : Counters) (log noted : List Made) → noted ≡ log ++ record { born = made; object = TheRegion p } ∷ [] → e.born ≡ made → HasFew after → IsKept made v log x → IsKept (made + 1) v noted added
+    pub added_kept : (v : Counters) (log noted : List Object) → noted ≡ log ++ TheRegion p ∷ [] → e.born ≡ made → HasFew after → IsKept made v log x → IsKept (made + 1) v noted added
     added_kept v log noted n born few k = record {
       sound = sound_added k.sound (omega (arith, born)) few;
       logged = region_noted made log noted (record x { operations = grown }) after p e n (logged_same made log x (record x { operations = grown }) k.logged what_same) i.updates born;

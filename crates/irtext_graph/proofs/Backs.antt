@@ -10,7 +10,7 @@ use Rattle.irtext_graph.specs.Back.{ShedsAll, owner, operands_of, successors_of,
 use Rattle.irtext_graph.specs.Content.{Content, Content.{AnOperation}, node_of, operation_content, block_content, region_content}
 use Rattle.irtext_graph.specs.Graph.{no_counters, GraphView, graph_of, seen, parent, children, content, IsNew}
 use Rattle.irtext_graph.specs.Graph as graph
-use Rattle.irtext_graph.specs.Log.{age, IsLogged}
+use Rattle.irtext_graph.specs.Log.{age, IsBelow, IsLogged}
 use Rattle.irtext_graph.specs.Nest.{parent_in, children_in}
 use Rattle.irtext_graph.specs.Nested.{climb}
 use Rattle.irtext_graph.specs.Objects.{up, kids, what, born_of, is_older, IsForest, Lives}
@@ -21,7 +21,6 @@ use Rattle.irtext_graph.specs.Uses.{use_at, head_at, val, operand_in, successor_
 use Rattle.irtext_graph.specs.declared.arena.Arena.{Arena}
 use Rattle.irtext_graph.specs.declared.arena.Entry.{Entry}
 use Rattle.irtext_graph.specs.declared.arena.Ptr.{Ptr}
-use Rattle.irtext_graph.specs.declared.log.Made.{Made}
 use Rattle.irtext_graph.specs.declared.nest.Nest.{Nest}
 use Rattle.irtext_graph.specs.declared.object.BasicBlock.{BasicBlock}
 use Rattle.irtext_graph.specs.declared.object.Operation.{Operation}
@@ -336,7 +335,7 @@ module _ {O B T : Type 0} where
     was_age (TheRegion p) b e = elim (r.sheds.regions.at p.index p.generation) [ inl s ↦ ap born_in (sym s) ∙ e | inr g ↦ absurd (let n : age y (TheRegion p) ≡ None = ap born_in g.0 in cc) ]
 
     -- the list of what was made, cut at what is new
-    pub logged_left : (n : ℕ) (log : List Made) → IsLogged made log x → ((k : ℕ) (a : Made) → n ≤ k → slice_get log k ≡ Some a → mark ≤ a.born) → IsLogged made (take n log) y
+    pub logged_left : (n : ℕ) (log : List Object) → IsLogged made log x → ((k : ℕ) (o : Object) → n ≤ k → slice_get log k ≡ Some o → IsBelow mark (age x o) → ⊥) → IsLogged made (take n log) y
     logged_left n log i since = logged_cut made n mark log x y i since (λ o b e.
         (sym (d_age o) ∙ was_age o b e, elim (lower b mark) [ inl l ↦ l | inr h ↦ absurd (r.none o (subst (AtLeast mark) (sym e) h)) ]))
 
@@ -353,30 +352,19 @@ back_keeps m mark g h up r = record {
 }
 
 module _ {O B T : Type 0} where
-  -- an object that is no older than the mark is listed after all that are older
-  pub listed_since : (made mark n : ℕ) (log : List Made) (x : Objects O B T) → IsLogged made log x → ((k : ℕ) (a : Made) → k < n → slice_get log k ≡ Some a → a.born < mark)
-      → (o : Object) → AtLeast mark (age x o) → (k : ℕ) × (b : ℕ) × (n ≤ k) × (slice_get log k ≡ Some (record { born = b; object = o }))
-  listed_since made mark n log x i before o l = go (age x o) refl l
-    where
-      go : (s : Option ℕ) → age x o ≡ s → AtLeast mark s → (k : ℕ) × (b : ℕ) × (n ≤ k) × (slice_get log k ≡ Some (record { born = b; object = o }))
-      go None e l = absurd l
-      go (Some b) e l =
-          let f = i.listed o b e in
-          (f.0, b, elim (lower f.0 n) [ inl low ↦ absurd (let m = before f.0 (record { born = b; object = o }) low f.1 in omega (arith, m, l)) | inr high ↦ high ], f.1)
-
   -- what a roll-back leaves
-  pub record GivenBack (made : ℕ) (values : Counters) (mark : ℕ) (log : List Made) (x y : Objects O B T) : Type 0 where
+  pub record GivenBack (made : ℕ) (values : Counters) (mark : ℕ) (log : List Object) (x y : Objects O B T) : Type 0 where
     pub sound : IsSound made y
     pub logged : IsLogged made log y
     pub view : RollsBack mark (graph_of made values x) (graph_of made values y)
 
   -- the steps of a roll-back, put together
-  pub given_back : (made : ℕ) (values : Counters) (mark n : ℕ) (log : List Made) (x d y : Objects O B T) → IsSound made x → IsLogged made log x → IsClosedBelow mark (graph_of made values x)
-      → ((k : ℕ) (a : Made) → k < n → slice_get log k ≡ Some a → a.born < mark) → ((k : ℕ) (a : Made) → n ≤ k → slice_get log k ≡ Some a → mark ≤ a.born) → seen d ≡ seen x → AreUsesLinked d
-      → ((k : ℕ) (a : Made) (u : Site) → n ≤ k → slice_get log k ≡ Some a → a.object ≡ TheOperation (user u) → AtLeast mark (age x a.object) → val d u ≡ None)
+  pub given_back : (made : ℕ) (values : Counters) (mark n : ℕ) (log : List Object) (x d y : Objects O B T) → IsSound made x → IsLogged made log x → IsClosedBelow mark (graph_of made values x)
+      → ((o : Object) → AtLeast mark (age x o) → (k : ℕ) × (n ≤ k) × (slice_get log k ≡ Some o)) → ((k : ℕ) (o : Object) → n ≤ k → slice_get log k ≡ Some o → IsBelow mark (age x o) → ⊥) → seen d ≡ seen x → AreUsesLinked d
+      → ((k : ℕ) (o : Object) (u : Site) → n ≤ k → slice_get log k ≡ Some o → o ≡ TheOperation (user u) → AtLeast mark (age x o) → val d u ≡ None)
       → ((u : Site) → (AtLeast mark (age x (TheOperation (user u))) → ⊥) → val d u ≡ val x u) → ShedsAll mark d y
-      → ((k : ℕ) (a : Made) → n ≤ k → slice_get log k ≡ Some a → AtLeast mark (age y a.object) → ⊥) → GivenBack made values mark (take n log) x y
-  given_back made values mark n log x d y s i closed before since same linked gone kept sheds out =
+      → ((k : ℕ) (o : Object) → n ≤ k → slice_get log k ≡ Some o → AtLeast mark (age y o) → ⊥) → GivenBack made values mark (take n log) x y
+  given_back made values mark n log x d y s i closed all since same linked gone kept sheds out =
       record {
         sound = sound_left made values mark x d y r;
         logged = logged_left made values mark x d y r n log i since;
@@ -388,12 +376,12 @@ module _ {O B T : Type 0} where
         sound = s;
         same = same;
         linked = linked;
-        gone = λ u l. let f = listed_since made mark n log x i before (TheOperation (user u)) l in gone f.0 (record { born = f.1; object = TheOperation (user u) }) u f.2 f.3 refl l;
+        gone = λ u l. let f = all (TheOperation (user u)) l in gone f.0 (TheOperation (user u)) u f.1 f.2 refl l;
         kept = kept;
         sheds = sheds;
         none = λ o l.
             let was : AtLeast mark (age x o) = subst (AtLeast mark) (same_age x d o (seen_what x d same o)) (shed_object mark d y sheds o l) in
-            let f = listed_since made mark n log x i before o was in
-            out f.0 (record { born = f.1; object = o }) f.2 f.3 l;
+            let f = all o was in
+            out f.0 o f.1 f.2 l;
         closed = closed;
       }

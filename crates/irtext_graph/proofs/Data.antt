@@ -10,7 +10,6 @@ use Rattle.irtext_graph.specs.declared.arena.Arena.{Arena}
 use Rattle.irtext_graph.specs.declared.arena.Entry.{Entry}
 use Rattle.irtext_graph.specs.declared.arena.Ptr.{Ptr}
 use Rattle.irtext_graph.specs.declared.arena.Slot.TheVariants.{Full}
-use Rattle.irtext_graph.specs.declared.log.Made.{Made}
 use Rattle.irtext_graph.specs.declared.nest.Nest.{Nest}
 use Rattle.irtext_graph.specs.declared.object.BasicBlock.{BasicBlock}
 use Rattle.irtext_graph.specs.declared.object.Operation.{Operation}
@@ -241,7 +240,7 @@ module _ {O B T : Type 0} where
 
 module _ {O B T : Type 0} where
   -- all is kept where the objects are as old, and are seen as a graph that keeps the numbers of values
-  kept_as : (made : ℕ) (v : Counters) (log : List Made) (x y : Objects O B T) (g : GraphView O B T) → IsSound made y → ((o : Object) → age y o ≡ age x o) → graph_of made v y ≡ g → KeepsNumbers (graph_of made v x) g → IsKept made v log x → IsKept made v log y
+  kept_as : (made : ℕ) (v : Counters) (log : List Object) (x y : Objects O B T) (g : GraphView O B T) → IsSound made y → ((o : Object) → age y o ≡ age x o) → graph_of made v y ≡ g → KeepsNumbers (graph_of made v x) g → IsKept made v log x → IsKept made v log y
   kept_as made v log x y g sound ages seen keeps i = record {
     sound = sound;
     logged = logged_kept made log x y i.logged (λ o b f. sym (ages o) ∙ f);
@@ -295,7 +294,7 @@ module _ {O B T : Type 0} (x : Objects O B T) (p : Ptr Operation) (n : Nest Basi
       (content_set (node_of operation_content) (with_data (λ _. d)) x.operations p n with_d e refl)
 
   -- with other data of an operation all is kept
-  pub data_kept : (made : ℕ) (v : Counters) (log : List Made) → IsKept made v log x → IsKept made v log after
+  pub data_kept : (made : ℕ) (v : Counters) (log : List Object) → IsKept made v log x → IsKept made v log after
   data_kept made v log i =
       kept_as made v log x after _ (sound_data made i.sound) same_age (data_seen made v)
       (edited_numbers (graph_of made v x) _ p (λ _. d) (edited (graph_of made v x) p n.data.«data» (λ _. d) (ap (option_map (λ c. c.data_of)) (operation_seen made v x p n e)))) i
@@ -355,7 +354,7 @@ module _ {O B T : Type 0} (x : Objects O B T) (p : Ptr BasicBlock) (n : Nest Reg
   block_data_lent made v g is = block_data_seen made v ∙ ap (λ g. with_block_data g p d) is
 
   -- with other data of a block all is kept
-  pub block_data_kept : (made : ℕ) (v : Counters) (log : List Made) → IsKept made v log x → IsKept made v log then
+  pub block_data_kept : (made : ℕ) (v : Counters) (log : List Object) → IsKept made v log x → IsKept made v log then
   block_data_kept made v log i =
       kept_as made v log x then _ (sound_block_data made i.sound) block_age (block_data_seen made v)
       (edited_block_numbers (graph_of made v x) _ p (λ _. d) (edited_block (graph_of made v x) p n.data.«data» (λ _. d) (ap (option_map (λ c. c.data_of)) (block_seen made v x p n e)))) i

@@ -1,11 +1,10 @@
 -- The list of what was made, without what was erased, keeps all live objects.
-use Rattle.std.proofs.Common.{◌≡◌, ◌≤◌, ◌∙◌, ◌∷◌, ℕ, zero, suc, refl, sym, ap, subst, arith, Bool, true, false, cond, is_some, filter, Option, Some, None, List, [], slice_get}
+use Rattle.std.proofs.Common.{◌≡◌, ◌≤◌, ◌∙◌, ◌∷◌, ℕ, zero, suc, refl, sym, ap, subst, arith, Bool, true, false, cond, is_some, filter, Option, Some, None, List, [], map, slice_get}
 use Rattle.std.specs.Option.{option_map}
-use Rattle.irtext_graph.specs.declared.log.Made.{Made}
 use Rattle.irtext_graph.specs.declared.object.Object.{Object}
 use Rattle.irtext_graph.specs.declared.objects.Objects.{Objects}
 use Rattle.irtext_graph.specs.Content.{Content}
-use Rattle.irtext_graph.specs.Log.{age, IsByAge, IsLogged, is_live_in}
+use Rattle.irtext_graph.specs.Log.{Made, age, IsByAge, IsLogged, is_live}
 use Rattle.irtext_graph.specs.Objects.{what, born_of}
 use Rattle.irtext_graph.proofs.Logs.{age_what}
 
@@ -33,6 +32,15 @@ module _ {X : Type 0} (p : X → Bool) where
       go true j e = (suc j, e)
       go false j e = (j, e)
 
+-- the images of what passes
+filter_images : {X Y : Type 0} (f : X → Y) (p : Y → Bool) (xs : List X) → filter p (map f xs) ≡ map f (filter (λ x. p (f x)) xs)
+filter_images f p [] = refl
+filter_images f p (x ∷ xs) = go (filter_images f p xs) (p (f x))
+  where
+    go : filter p (map f xs) ≡ map f (filter (λ x. p (f x)) xs) → (t : Bool) → cond t (f x ∷ filter p (map f xs)) (filter p (map f xs)) ≡ map f (cond t (x ∷ filter (λ x. p (f x)) xs) (filter (λ x. p (f x)) xs))
+    go rest true = ap (λ ys. f x ∷ ys) rest
+    go rest false = rest
+
 -- the shorter list goes by age too
 by_age : (p : Made → Bool) (xs : List Made) → IsByAge xs → IsByAge (filter p xs)
 by_age p [] h = h
@@ -57,9 +65,18 @@ module _ {O B T : Type 0} where
       go None e = absurd (cc)
       go (Some c) e = refl
 
-  pub logged_live : (made : ℕ) (log after : List Made) (x : Objects O B T) → after ≡ filter (is_live_in x) log → IsLogged made log x → IsLogged made after x
-  logged_live made log after x e i = rw e (record {
-    listed = λ o b f. let k = i.listed o b f in in_filter (is_live_in x) log k.0 (record { born = b; object = o }) k.1 (aged x o b f);
-    by_age = by_age (is_live_in x) log i.by_age;
-    below = λ k a f. let j = in_list (is_live_in x) log k a f in i.below j.0 a j.1;
-  })
+  -- whether the object of an entry is live
+  abbrev live_in : Objects O B T → Made → Bool
+  live_in x m = is_live x m.object
+
+  pub logged_live : (made : ℕ) (log after : List Object) (x : Objects O B T) → after ≡ filter (is_live x) log → IsLogged made log x → IsLogged made after x
+  logged_live made log after x e i = record {
+    entries = filter (live_in x) i.entries;
+    objects = e ∙ ap (filter (is_live x)) i.objects ∙ filter_images (λ (m : Made). m.object) (is_live x) i.entries;
+    all = record {
+      listed = λ o b f. let k = i.all.listed o b f in in_filter (live_in x) i.entries k.0 (record { born = b; object = o }) k.1 (aged x o b f);
+      by_age = by_age (live_in x) i.entries i.all.by_age;
+      below = λ k a f. let j = in_list (live_in x) i.entries k a f in i.all.below j.0 a j.1;
+      reached = λ k a b f g. let j = in_list (live_in x) i.entries k a f in i.all.reached j.0 a b j.1 g;
+    };
+  }

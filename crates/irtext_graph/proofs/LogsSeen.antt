@@ -4,7 +4,6 @@ use Rattle.std.specs.Option.{option_map}
 use Rattle.irtext_graph.specs.Arena as arena
 use Rattle.irtext_graph.specs.Arena.{born_in}
 use Rattle.irtext_graph.specs.declared.arena.Entry.{Entry}
-use Rattle.irtext_graph.specs.declared.log.Made.{Made}
 use Rattle.irtext_graph.specs.declared.object.Object.{Object}
 use Rattle.irtext_graph.specs.declared.object.Object.TheVariants.{TheOperation, TheBlock, TheRegion}
 use Rattle.irtext_graph.specs.declared.objects.Objects.{Objects}
@@ -42,11 +41,11 @@ module _ {O B T : Type 0} where
   age_bare x (TheBlock p) = ap born_in (get_seen (node_of block_content) x.blocks p) ∙ as_old (node_of block_content) (arena.get x.blocks p)
   age_bare x (TheRegion p) = ap born_in (get_seen (node_of region_content) x.regions p) ∙ as_old (node_of region_content) (arena.get x.regions p)
 
-  pub logged_bare : (made : ℕ) (log : List Made) (x y : Objects O B T) → bare y ≡ bare x → IsLogged made log x → IsLogged made log y
+  pub logged_bare : (made : ℕ) (log : List Object) (x y : Objects O B T) → bare y ≡ bare x → IsLogged made log x → IsLogged made log y
   logged_bare made log x y e i = logged_kept made log x y i (λ o b f. sym (age_bare x o) ∙ ap (λ g. age_in g o) (sym e) ∙ age_bare y o ∙ f)
 
   -- what all inside an object used was dropped
-  pub logged_dropped : (made : ℕ) (log : List Made) (x y : Objects O B T) (o : Object) → IsForest x
+  pub logged_dropped : (made : ℕ) (log : List Object) (x y : Objects O B T) (o : Object) → IsForest x
       → ((q : Object) → Within (up x) o q → what y q ≡ option_map erasing.without_uses (what x q)) → ((q : Object) → (Within (up x) o q → ⊥) → what y q ≡ what x q)
       → IsLogged made log x → IsLogged made log y
   logged_dropped made log x y o f inside others i = logged_kept made log x y i (λ q b e. sym (same q) ∙ e)
@@ -64,7 +63,7 @@ module _ {O B T : Type 0} where
       ]
 
   -- all objects inside an object are erased
-  pub logged_erased : (made : ℕ) (log : List Made) (x y : Objects O B T) (o : Object) → IsForest x
+  pub logged_erased : (made : ℕ) (log : List Object) (x y : Objects O B T) (o : Object) → IsForest x
       → ((q : Object) → Within (up x) o q → IsGone y q) → ((q : Object) → (Within (up x) o q → ⊥) → what y q ≡ what x q)
       → IsLogged made log x → IsLogged made log y
   logged_erased made log x y o f gone others i = logged_kept made log x y i old

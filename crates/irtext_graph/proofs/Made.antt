@@ -25,7 +25,6 @@ use Rattle.irtext_graph.proofs.Linkings.{unlinked_defs}
 use Rattle.irtext_graph.proofs.Logs.{logged_kept, logged_list}
 use Rattle.irtext_graph.proofs.Sounds.{sound_same}
 use Rattle.irtext_graph.specs.Arena.{born_in, found}
-use Rattle.irtext_graph.specs.declared.log.Made.{Made}
 use Rattle.irtext_graph.specs.declared.object.Object.{Object}
 use Rattle.irtext_graph.specs.declared.object.Object.TheVariants.{TheOperation, TheBlock, TheRegion}
 use Rattle.irtext_graph.specs.Log.{age}
@@ -70,7 +69,7 @@ module _ {O B T : Type 0} where
   slots_seen m v x y o b r =
       rw (store_same (node_of operation_content) x.operations y.operations o.items o.free, store_same (node_of block_content) x.blocks y.blocks b.items b.free, store_same (node_of region_content) x.regions y.regions r.items r.free) refl
 
-  pub slots_kept : (m : ℕ) (v : Counters) (log after : List Made) (x y : Objects O B T) → after ≡ log → SameSlots x.operations y.operations → SameSlots x.blocks y.blocks → SameSlots x.regions y.regions → IsKept m v log x → IsKept m v after y
+  pub slots_kept : (m : ℕ) (v : Counters) (log after : List Object) (x y : Objects O B T) → after ≡ log → SameSlots x.operations y.operations → SameSlots x.blocks y.blocks → SameSlots x.regions y.regions → IsKept m v log x → IsKept m v after y
   slots_kept m v log after x y e o b r i = record {
     sound = sound_same m x y o.items b.items r.items i.sound;
     logged = logged_list m log after y e (logged_kept m log x y i.logged (λ q n f. sym (ages q) ∙ f));

@@ -28,7 +28,6 @@ use Rattle.irtext_graph.proofs.Logs.{logged_same}
 use Rattle.irtext_graph.proofs.Nests.{same_or_other}
 use Rattle.irtext_graph.proofs.Same.{ptr_tells}
 use Rattle.irtext_graph.proofs.Sounds.{sound_moved}
-use Rattle.irtext_graph.specs.declared.log.Made.{Made}
 use Rattle.irtext_graph.specs.Objects as objects
 use Rattle.irtext_graph.specs.Objects.{SameData, IsForest}
 use Rattle.irtext_graph.specs.Sound.{IsKept}
@@ -120,7 +119,7 @@ module _ {O B T : Type 0} where
   what_kept m n v x y same k = numbers_kept _ _ (contents_keep (graph_of m v x) (graph_of n v y) refl (λ q. what_seen n v y q ∙ same q ∙ sym (what_seen m v x q))) k
 
   -- where the same objects have other parents and children, all is kept
-  pub moved_kept : (made : ℕ) (v : Counters) (log : List Made) (x y : Objects O B T) → SameData x y → IsForest y → objects.SamePlaces x y → ((q : Object) → what y q ≡ what x q) → IsKept made v log x → IsKept made v log y
+  pub moved_kept : (made : ℕ) (v : Counters) (log : List Object) (x y : Objects O B T) → SameData x y → IsForest y → objects.SamePlaces x y → ((q : Object) → what y q ≡ what x q) → IsKept made v log x → IsKept made v log y
   moved_kept made v log x y alike forest places same i = record {
     sound = sound_moved x y alike made i.sound forest places;
     logged = logged_same made log x y i.logged same;

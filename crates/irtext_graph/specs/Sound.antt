@@ -1,7 +1,7 @@
 -- The invariants of a graph's objects.
 use Rattle.std.specs.Prelude.{ℕ, List}
 use Rattle.irtext_graph.specs.declared.graph.Counters.{Counters}
-use Rattle.irtext_graph.specs.declared.log.Made.{Made}
+use Rattle.irtext_graph.specs.declared.object.Object.{Object}
 use Rattle.irtext_graph.specs.declared.objects.Objects.{Objects}
 use Rattle.irtext_graph.specs.Arena.{HasFew, AreOlder}
 use Rattle.irtext_graph.specs.Graph.{graph_of}
@@ -23,7 +23,7 @@ pub record IsSound {O B T : Type 0} (made : ℕ) (x : Objects O B T) : Type 0 wh
   pub older_regions : AreOlder made x.regions
 
 -- the objects are sound, the log has all of them, and the numbers of values differ and are less than the counter
-pub record IsKept {O B T : Type 0} (made : ℕ) (counters : Counters) (log : List Made) (x : Objects O B T) : Type 0 where
+pub record IsKept {O B T : Type 0} (made : ℕ) (counters : Counters) (log : List Object) (x : Objects O B T) : Type 0 where
   pub sound : IsSound made x
   pub logged : IsLogged made log x
   pub numbered : AreNumbered (graph_of made counters x)

@@ -14,7 +14,7 @@ ghost use Rattle.irtext_graph.specs.Numbers.{NumbersDiffer};
 ghost use Rattle.irtext_graph.specs.declared.object.Value.{Value};
 
 use crate::arena::{Arena, Ptr};
-use crate::log::{Made, forget_gone};
+use crate::log::forget_gone;
 use crate::object::Object;
 use crate::objects::Objects;
 use std::alloc::{AllocError, Global};
@@ -32,7 +32,7 @@ pub(crate) struct Counters {
 pub struct Graph<O, B, T> {
     pub(crate) objects: Objects<O, B, T>,
     // what was made, in order; it may have objects that are gone
-    pub(crate) log: Vec<Made>,
+    pub(crate) log: Vec<Object>,
     // an upper bound for the number of erased objects in `log`
     pub(crate) gone: usize,
     pub(crate) made: u64,
@@ -154,8 +154,7 @@ impl<O: Drop, B: Drop, T: Drop> Graph<O, B, T> {
         let _objects = &self.objects;
     }
 
-    /// States invariants of the values' numbers, and does nothing: each is less than the number of the next value, and values with the
-    /// same number are the same value.
+    /// States invariants of the values' numbers, and does nothing: each is below that of the next value, and no two values have the same.
     pub fn keeps_numbers(&self)
         ensures below { (v : Value) (t : _) → value_at self.now v ≡ Some t → t.number < self.now.values }
         ensures differ { NumbersDiffer self.now }

@@ -1,7 +1,7 @@
-//! The log of what was made, in order, each with its age, and rolling back: removing what was made since a mark.
-ghost use Rattle.std.specs.Prelude.{◌≡◌, ◌≢◌, ◌<◌, ◌≤◌, ◌++◌, ◌∷◌, ℕ, Some, None, [], IsSome, length, slice_get};
-ghost use Rattle.std.specs.Vec.{vec_len, vec_capacity};
-ghost use Rattle.irtext_graph.specs.Log.{IsByAge, IsLogged};
+//! The log of what was made, in order, and rolling back: removing what was made since a mark.
+ghost use Rattle.std.specs.Prelude.{◌≡◌, ◌≢◌, ◌<◌, ◌≤◌, ◌↔◌, ℕ, Some, None, IsSome, IsTrue, length, slice_get};
+ghost use Rattle.irtext_graph.specs.Arena.{AtLeast};
+ghost use Rattle.irtext_graph.specs.Log.{IsBelow, IsLogged, age};
 
 use crate::arena::Ptr;
 use crate::graph::Graph;
@@ -9,31 +9,31 @@ use crate::new_uses::{Side, site_at};
 use crate::object::{Object, Operation, Site};
 use crate::objects::Objects;
 
-/// An object that was made, and the number of objects that were made before it.
-#[derive(Clone, Copy)]
-pub(crate) struct Made {
-    pub(crate) born: u64,
-    pub(crate) object: Object,
-}
-
-/// Records an object that was made. There is room for it.
-pub(crate) fn note(log: &mut Vec<Made>, born: u64, object: Object)
-    requires { vec_len log.old < vec_capacity log.old }
-    ensures { log.new.items ≡ log.old.items ++ record { born = born; object = object } ∷ [] }
+/// Returns the object of a log at an index.
+pub(crate) fn object_at(log: &[Object], index: usize) -> Object
+    requires { index < length log.now }
+    ensures { (o : _) → slice_get log.now index ≡ Some o → o ≡ result }
 {
-    log.push_reserved(Made { born, object });
+    log[index]
 }
 
-/// Returns how many entries of a log were made before the mark. Its time grows with the number of the others.
-pub(crate) fn count_before(log: &[Made], mark: u64) -> usize
-    requires { IsByAge log.now }
-    ensures before { (k : ℕ) (a : _) → k < result → slice_get log.now k ≡ Some a → a.born < mark }
-    ensures since { (k : ℕ) (a : _) → result ≤ k → slice_get log.now k ≡ Some a → mark ≤ a.born }
+/// Returns an index in a log: the live objects from there on are those that were not made before the mark. Looks at these entries alone.
+pub(crate) fn count_before<O: Drop, B: Drop, T: Drop>(
+    log: &[Object],
+    objects: &Objects<O, B, T>,
+    mark: u64,
+) -> usize
+    requires { (made : ℕ) × IsLogged made log.now objects.now }
+    ensures all { (o : _) → AtLeast mark (age objects.now o)
+        → (k : ℕ) × (result ≤ k) × (slice_get log.now k ≡ Some o) }
+    ensures since { (k : ℕ) (o : _) → result ≤ k → slice_get log.now k ≡ Some o
+        → IsBelow mark (age objects.now o) → ⊥ }
     ensures len { result ≤ length log.now }
 {
     let mut count = log.len();
     while count > 0 {
-        if log[count - 1].born < mark {
+        let last = object_at(log, count - 1);
+        if objects.is_older(last, mark) {
             return count;
         }
         count -= 1;
@@ -41,17 +41,9 @@ pub(crate) fn count_before(log: &[Made], mark: u64) -> usize
     count
 }
 
-/// Returns the object of a log at an index.
-pub(crate) fn object_at(log: &[Made], index: usize) -> Object
-    requires { index < length log.now }
-    ensures { (a : _) → slice_get log.now index ≡ Some a → a.object ≡ result }
-{
-    log[index].object
-}
-
 /// Removes erased objects from a log if they may be more than half of it, and returns how many may still be in it.
 pub(crate) fn forget_gone<O: Drop, B: Drop, T: Drop>(
-    log: &mut Vec<Made>,
+    log: &mut Vec<Object>,
     objects: &Objects<O, B, T>,
     gone: usize,
 ) -> usize
@@ -60,20 +52,34 @@ pub(crate) fn forget_gone<O: Drop, B: Drop, T: Drop>(
     if gone <= log.len() / 2 {
         return gone;
     }
-    log.retain(|made| objects.contains(made.object));
+    log.retain(|o| objects.contains(*o));
     0
 }
 
 impl<O: Drop, B: Drop, T: Drop> Objects<O, B, T> {
     ghost use Rattle.irtext_graph.specs.declared.object.Object.TheVariants.{TheOperation};
-    ghost use Rattle.irtext_graph.specs.Arena.{get, AtLeast};
+    ghost use Rattle.irtext_graph.specs.Arena.{get};
     ghost use Rattle.irtext_graph.specs.Back.{ShedsAll};
     ghost use Rattle.irtext_graph.specs.Erasing.{user as object_of};
     ghost use Rattle.irtext_graph.specs.Linking.{site_of};
     ghost use Rattle.irtext_graph.specs.Used.{user};
     ghost use Rattle.irtext_graph.specs.Graph.{seen};
-    ghost use Rattle.irtext_graph.specs.Log.{age};
     ghost use Rattle.irtext_graph.specs.Uses.{use_at, val, AreUsesLinked};
+
+    /// Whether an object is live and was made before the mark.
+    fn is_older(&self, o: Object, mark: u64) -> bool
+        ensures { IsTrue result ↔ IsBelow mark (age self.now o) }
+    {
+        let age = match o {
+            Object::TheOperation(p) => self.operations.born(p),
+            Object::TheBlock(p) => self.blocks.born(p),
+            Object::TheRegion(p) => self.regions.born(p),
+        };
+        match age {
+            Some(born) => born < mark,
+            None => false,
+        }
+    }
 
     /// Removes a use from its use list, if it is in one.
     fn detach_linked(&mut self, u: Site)
@@ -152,13 +158,12 @@ impl<O: Drop, B: Drop, T: Drop> Objects<O, B, T> {
     }
 
     /// Removes the uses of those operations in a log, from an index on, that were not made before the mark from their use lists.
-    pub(crate) fn detach_since(&mut self, log: &[Made], start: usize, mark: u64)
+    pub(crate) fn detach_since(&mut self, log: &[Object], start: usize, mark: u64)
         requires linked { AreUsesLinked self.old }
         requires start { start ≤ length log.now }
         ensures linked { AreUsesLinked self.new }
-        ensures gone { (k : ℕ) (a : _) (u : _) → start ≤ k → slice_get log.now k ≡ Some a
-            → a.object ≡ TheOperation (user u)
-            → AtLeast mark (age self.old a.object) → val self.new u ≡ None }
+        ensures gone { (k : ℕ) (o : _) (u : _) → start ≤ k → slice_get log.now k ≡ Some o
+            → o ≡ TheOperation (user u) → AtLeast mark (age self.old o) → val self.new u ≡ None }
         ensures kept { (u : _) → (AtLeast mark (age self.old (TheOperation (user u))) → ⊥)
             → val self.new u ≡ val self.old u }
         ensures seen { seen self.new ≡ seen self.old }
@@ -182,11 +187,11 @@ impl<O: Drop, B: Drop, T: Drop> Objects<O, B, T> {
     }
 
     /// Removes those objects in a log, from an index on, that were not made before the mark.
-    pub(crate) fn take_out_since(&mut self, log: &[Made], start: usize, mark: u64)
+    pub(crate) fn take_out_since(&mut self, log: &[Object], start: usize, mark: u64)
         requires { start ≤ length log.now }
         ensures sheds { ShedsAll mark self.old self.new }
-        ensures gone { (k : ℕ) (a : _) → start ≤ k → slice_get log.now k ≡ Some a
-            → AtLeast mark (age self.new a.object) → ⊥ }
+        ensures gone { (k : ℕ) (o : _) → start ≤ k → slice_get log.now k ≡ Some o
+            → AtLeast mark (age self.new o) → ⊥ }
     {
         for k in start..log.len() {
             let o = object_at(log, k);
@@ -201,14 +206,14 @@ impl<O: Drop, B: Drop, T: Drop> Graph<O, B, T> {
 
     /// Removes every object that was not made before the mark, a value that `made` returned. Older objects are unchanged. No pointer is
     /// reused, and `made` and the number of the next value are unchanged. It allocates nothing. Its time grows with the number of objects
-    /// that were made since.
+    /// that were made since, and of older ones that were erased since the last roll-back.
     pub fn roll_back(&mut self, mark: u64)
         requires closed { IsClosedBelow mark self.old }
         ensures back { RollsBack mark self.old self.new }
         ensures kept { (m : ℕ) → m ≤ mark → KeepsOlder m self.old self.new }
     {
         let log = self.log.as_slice();
-        let start = count_before(log, mark);
+        let start = count_before(log, &self.objects, mark);
         self.objects.detach_since(log, start, mark);
         self.objects.take_out_since(log, start, mark);
         self.log.truncate(start);

@@ -12,11 +12,10 @@ ghost use Rattle.irtext_graph.specs.Arena.{Inserts, HasFew};
 use crate::arena::{Arena, Ptr};
 use crate::graph::Graph;
 use crate::held::Kind;
-use crate::log::{Made, note};
 use crate::near::Near;
 use crate::nest::Nest;
 use crate::new_uses::{Side, lone_uses, rare_uses};
-use crate::object::{BasicBlock, Operation, Region, Value};
+use crate::object::{BasicBlock, Object, Operation, Region, Value};
 use crate::objects::{BlockData, Definition, OperationData, RegionData, Use};
 use irtext_few::{Few, Growing, Items, Lone, Rare};
 use irtext_memory::unsealed;
@@ -54,7 +53,7 @@ fn many_definitions<T: Drop>(
 
 /// Reserves room in the log for one more object. Fails if no more objects can be counted.
 #[inline(always)]
-fn make_place(log: &mut Vec<Made>, made: u64) -> Result<(), AllocError>
+fn make_place(log: &mut Vec<Object>, made: u64) -> Result<(), AllocError>
     ensures same { log.new.items ≡ log.old.items }
     ensures room { OnOk result (vec_len log.new < vec_capacity log.new) }
     ensures below { OnOk result (made < 18446744073709551615) }
@@ -70,7 +69,7 @@ fn make_place(log: &mut Vec<Made>, made: u64) -> Result<(), AllocError>
 #[inline(always)]
 fn store<X: Drop, K: Kind>(
     arena: &mut Arena<X>,
-    log: &mut Vec<Made>,
+    log: &mut Vec<Object>,
     first: u32,
     made: u64,
     content: X,
@@ -78,8 +77,7 @@ fn store<X: Drop, K: Kind>(
     ensures inserts { IfOk result (λ p. Inserts arena.old arena.new p
         (record { born = made; content = content })) }
     ensures few { HasFew arena.old → HasFew arena.new }
-    ensures noted { IfOk result (λ p. log.new.items ≡ log.old.items ++
-        (record { born = made; object = K.object p }) ∷ []) }
+    ensures noted { IfOk result (λ p. log.new.items ≡ log.old.items ++ K.object p ∷ []) }
     ensures below { OnOk result (made < 18446744073709551615) }
     ensures err { OnErr result (arena.new.slots.items ≡ arena.old.slots.items) }
     ensures err_free { OnErr result (arena.new.free ≡ arena.old.free) }
@@ -87,7 +85,7 @@ fn store<X: Drop, K: Kind>(
 {
     make_place(log, made)?;
     let p = arena.insert(first, made, content)?;
-    note(log, made, K::object(p));
+    log.push_reserved(K::object(p));
     Ok(p)
 }
 

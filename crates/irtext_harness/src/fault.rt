@@ -1,5 +1,6 @@
 //! Why a call has no text.
 use irtext_demo::DemoAttr;
+use irtext_memory::OutOfMemory;
 use pliron_text::result;
 use pliron_text::result::{Cause, Error};
 use std::alloc::AllocError;
@@ -22,6 +23,12 @@ impl From<AllocError> for Fault {
     }
 }
 
+impl From<OutOfMemory> for Fault {
+    fn from(_: OutOfMemory) -> Fault {
+        Fault::Memory
+    }
+}
+
 impl From<io::Error> for Fault {
     fn from(error: io::Error) -> Fault {
         match error.kind() {
@@ -40,14 +47,6 @@ pub(crate) fn cause_of(error: &Error<DemoAttr>) -> &Cause<DemoAttr> {
 }
 
 impl Fault {
-    /// Returns the fault for an error: `Memory` if its cause is out of memory, in parsing or for its text; otherwise `Wrong`.
-    fn of(error: &Error<DemoAttr>) -> Fault {
-        match cause_of(error) {
-            Cause::Memory => Fault::Memory,
-            _ => Fault::Wrong,
-        }
-    }
-
     /// Returns the exit status, after a word on standard error if memory ran out.
     pub(crate) fn status(self, rt: &HostRuntime) -> ExitCode {
         match self {
@@ -60,9 +59,12 @@ impl Fault {
     }
 }
 
-/// Returns the fault for an error, which ends here.
+/// Returns the fault for an error, which ends here: `Memory` if its cause is out of memory, in parsing or for its text; otherwise `Wrong`.
 pub(crate) fn fault_of(error: Error<DemoAttr>) -> Fault {
-    let fault = Fault::of(&error);
+    let fault = match cause_of(&error) {
+        Cause::Memory => Fault::Memory,
+        _ => Fault::Wrong,
+    };
     drop(error);
     fault
 }

@@ -4,6 +4,7 @@
 #![tactic(auto)]
 
 pub mod boxed;
+pub mod rc;
 pub mod set;
 pub mod string;
 pub mod vec;

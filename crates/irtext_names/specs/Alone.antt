@@ -24,7 +24,7 @@ use Rattle.irtext_graph.specs.declared.object.Object.{Object}
 use Rattle.irtext_graph.specs.declared.object.Object.TheVariants.{TheOperation, TheRegion}
 use Rattle.irtext_graph.specs.declared.object.Defined.{Defined}
 use Rattle.irtext_graph.specs.declared.object.Site.{Site}
-use Rattle.irtext_graph.specs.Graph.{parent, IsLive, IsInside}
+use Rattle.irtext_graph.specs.Graph.{parent, CountsOn, IsLive, IsInside}
 use Rattle.irtext_graph.specs.Regions.{with_child}
 use Rattle.irtext_graph.specs.Store.{get, object_of}
 use Rattle.irtext_graph.specs.Used.{IsDefined, IsUse}
@@ -72,7 +72,7 @@ abbrev pub region_alone : {T A : Type 0} → List (Text × Table) → ℕ → Bl
 region_alone dialects place bs = script.within true place (blocks_script (isolated dialects) (0 ∷ []) 0 bs) done
 
 -- The region is the last one of the operation, and only it and what is nested in it is new: each older object is unchanged, except the
--- operation, which has one more region, and what is older has no new uses.
+-- operation, which has one more region, and what is older has no new uses. Nothing that was given is given again.
 pub record OnlyNewIn {T A : Type 0} (op : Ptr Operation) (r : Ptr Region) (old new : ContextView T A) : Type 0 where
   pub live : (q : Object) → IsLive new.graph q → IsLive old.graph q ⊎ IsInside new.graph (TheRegion r) q
   pub is_new : (q : Object) → IsInside new.graph (TheRegion r) q → IsLive old.graph q → ⊥
@@ -81,6 +81,7 @@ pub record OnlyNewIn {T A : Type 0} (op : Ptr Operation) (r : Ptr Region) (old n
   pub blocks : (b : Ptr BasicBlock) → IsSome (get old.graph.blocks b) → get new.graph.blocks b ≡ get old.graph.blocks b
   pub regions : (q : Ptr Region) → IsSome (get old.graph.regions q) → get new.graph.regions q ≡ get old.graph.regions q
   pub uses : (d : Defined) (s : Site) → IsDefined old.graph d → IsUse new.graph d s → IsUse old.graph d s
+  pub counts : CountsOn old.graph new.graph
   pub paths : KeepsPaths old.paths new.paths
   pub dialects : new.dialects ≡ old.dialects
 

@@ -52,7 +52,7 @@ pub fn label_block<O: Drop, B: Drop, T: Drop, A>(
 {
     match define_name(names, graph, label.name, block) {
         Ok(()) => Ok(()),
-        Err(DefineFault::Memory) => Err(out_of_memory(stream)),
+        Err(DefineFault::NoRoom(_)) => Err(out_of_memory(stream)),
         Err(DefineFault::MultipleDefinitions) => Err(name_error(
             stream,
             names,

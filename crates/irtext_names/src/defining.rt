@@ -94,7 +94,7 @@ pub fn undefined_error<A>(
     ensures { UnlessMemory (RefusesTwice names.now.names (whole stream.old) defined.now undefined) result }
 {
     match undefined.fault {
-        DefineFault::Memory => out_of_memory(stream),
+        DefineFault::NoRoom(_) => out_of_memory(stream),
         DefineFault::MultipleDefinitions => name_error(
             stream,
             names,

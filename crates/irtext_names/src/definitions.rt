@@ -5,7 +5,7 @@ ghost use Rattle.irtext_graph.specs.declared.object.Value.TheVariants.{Result};
 ghost use Rattle.irtext_grammar.specs.Names.History.{act};
 ghost use Rattle.irtext_grammar.specs.Names.Script.{Place, MultipleDefinitions};
 ghost use Rattle.irtext_grammar.specs.Names.TextScopes.{Word};
-ghost use Rattle.irtext_scopes.specs.Scopes.{innermost, is_open, find, is_defined};
+ghost use Rattle.irtext_scopes.specs.Scopes.{LacksRoom, innermost, is_open, find, is_defined};
 ghost use Rattle.irtext_scopes.specs.declared.scopes.DefineFault.{DefineFault};
 ghost use Rattle.irtext_names.specs.Kinds.{scopes_of, other, defined_as, definition_of};
 ghost use Rattle.irtext_names.specs.Linked.{TakesDefinition, FailsBy};
@@ -23,8 +23,8 @@ use irtext_scopes::scopes::DefineFault;
 
 /// Defines a name as this value, or a label as this block. A scope of the name's kind must be open. If the name was used before, the
 /// definition replaces the placeholder in all uses, and the placeholder is erased. Fails with `MultipleDefinitions` if the scope defines
-/// the name already, and with `Memory` if an allocation fails, which can happen only for a name that is new in the scope. On an error the
-/// scopes and the graph are unchanged.
+/// the name already, and with `NoRoom` if there is no room for the name, which can happen only for one that is new in the scope. On an
+/// error the scopes and the graph are unchanged.
 #[inline(always)]
 pub fn define_name<K: Referent<B>, O: Drop, B: Drop, T: Drop>(
     names: &mut Names,
@@ -39,7 +39,7 @@ pub fn define_name<K: Referent<B>, O: Drop, B: Drop, T: Drop>(
     requires no_placeholder { IsNoPlaceholder (scopes_of K.kind names.old) def }
     ensures twice { (result ≡ Err DefineFault.MultipleDefinitions) ↔
         (is_defined (find name (innermost (scopes_of K.kind names.old))) ≡ true) }
-    ensures memory { result ≡ Err DefineFault.Memory
+    ensures room { LacksRoom result
         → find name (innermost (scopes_of K.kind names.old)) ≡ None }
     ensures defines { OnOk result (Defines (defined_as K.kind) (scopes_of K.kind names.old)
         (scopes_of K.kind names.new) graph.old graph.new name def) }
@@ -63,7 +63,7 @@ pub fn define_name<K: Referent<B>, O: Drop, B: Drop, T: Drop>(
 }
 
 /// Why names were not defined: the fault of the first name that failed, and the index of this name in the list, from 0.
-#[derive(Clone, Copy, Debug)]
+#[derive(Debug, Drop)]
 pub struct UndefinedName {
     pub fault: DefineFault,
     pub index: usize,
@@ -71,7 +71,7 @@ pub struct UndefinedName {
 
 /// Defines names as the results of an operation, one after another, from result 0 on. The operation must have a result for each name, and
 /// a scope of values must be open. Each result replaces the placeholder of its name, if the name was used before. Fails with
-/// `MultipleDefinitions` at the first name that its scope defines already, and with `Memory` if an allocation fails; the names before
+/// `MultipleDefinitions` at the first name that its scope defines already, and with `NoRoom` if there is no room for a name; the names before
 /// that one are defined then.
 pub fn process_parsed_ssa_defs<N: Named, O: Drop, B: Drop, T: Drop>(
     names: &mut Names,

@@ -97,7 +97,7 @@ pub fn enter_here<T: IrText<A>, A: AttrText<A>, U>(
 {
     match enter_region(names, graph_of(&s.state), isolated) {
         Ok(()) => Ok(()),
-        Err(EnterFault::Memory) => Err(out_of_memory(&mut s.stream)),
+        Err(EnterFault::Memory(_)) => Err(out_of_memory(&mut s.stream)),
         Err(EnterFault::TopLevelOpRegionNotIsolatedFromAbove) => Err(not_isolated(&mut s.stream)),
     }
 }

@@ -18,6 +18,7 @@ use irtext_context::dialect::OpInfo;
 use irtext_graph::graph::Graph;
 use irtext_graph::held::HasGraph;
 use irtext_graph::object::Object;
+use irtext_memory::unsealed;
 use std::alloc::{AllocError, Global};
 
 /// Stores an attribute under a key. On an error nothing changes.
@@ -41,7 +42,7 @@ pub fn symbol_key(alloc: Global, key: &Option<Identifier>) -> Result<Identifier,
 {
     match key {
         Some(key) => key.clone(),
-        None => Identifier::from_word(alloc, "builtin_sym_name"),
+        None => unsealed(Identifier::from_word(alloc, "builtin_sym_name")),
     }
 }
 
@@ -135,7 +136,7 @@ pub fn key_of(alloc: Global, shared: Option<Identifier>) -> Result<Identifier, A
 {
     match shared {
         Some(key) => Ok(key),
-        None => Identifier::from_word(alloc, GIVEN_NAMES_KEY),
+        None => unsealed(Identifier::from_word(alloc, GIVEN_NAMES_KEY)),
     }
 }
 

@@ -4,7 +4,7 @@ use irtext_few::Few;
 use irtext_graph::arena::Ptr;
 use irtext_graph::graph::Graph;
 use irtext_graph::object::{BasicBlock, Defined, Value};
-use irtext_scopes::scopes::DefineFault;
+use irtext_scopes::scopes::{DefineFault, NoRoom};
 use irtext_scopes::tracker::NameTracker;
 use std::alloc::{AllocError, Global};
 
@@ -17,7 +17,7 @@ pub trait Referent<B: Drop>: Copy {
     ghost use Rattle.irtext_graph.specs.Graph.{KeepsOlder};
     ghost use Rattle.irtext_scopes.specs.declared.scopes.DefineFault.{DefineFault};
     ghost use Rattle.irtext_scopes.specs.declared.scopes.Entry.TheVariants.{Pending};
-    ghost use Rattle.irtext_scopes.specs.Scopes.{innermost, in_innermost, is_open, find, mentioned, defined, is_defined, placeholder_of, value_of};
+    ghost use Rattle.irtext_scopes.specs.Scopes.{LacksRoom, innermost, in_innermost, is_open, find, mentioned, defined, is_defined, placeholder_of, value_of};
     ghost use Rattle.irtext_names.specs.Kinds.{NamesOf, BlankOf, Makes, scopes_of, other, defined_as};
 
     /// What a placeholder is made with.
@@ -38,8 +38,8 @@ pub trait Referent<B: Drop>: Copy {
         ensures value { result ≡ option_map value_of (find name (innermost (scopes_of kind names.now))) }
         ensures unknown { IfNone result (find name (innermost (scopes_of kind names.now)) ≡ None) };
 
-    /// Lets a name that is new in the innermost scope wait with a placeholder. When out of memory, it fails and nothing changes.
-    fn wait(names: &mut Names, name: usize, placeholder: Self) -> Result<(), AllocError>
+    /// Lets a name that is new in the innermost scope wait with a placeholder. If there is no room for it, it fails and nothing changes.
+    fn wait(names: &mut Names, name: usize, placeholder: Self) -> Result<(), NoRoom>
         requires open { is_open (scopes_of kind names.old) ≡ true }
         requires known { name < length names.old.names }
         requires unknown { find name (innermost (scopes_of kind names.old)) ≡ None }
@@ -55,7 +55,7 @@ pub trait Referent<B: Drop>: Copy {
         requires known { name < length names.old.names }
         ensures twice { (result ≡ Err DefineFault.MultipleDefinitions) ↔
             (is_defined (find name (innermost (scopes_of kind names.old))) ≡ true) }
-        ensures memory { result ≡ Err DefineFault.Memory
+        ensures room { LacksRoom result
             → find name (innermost (scopes_of kind names.old)) ≡ None }
         ensures placeholder { IfOk result
             (λ h. h ≡ placeholder_of (find name (innermost (scopes_of kind names.old)))) }
@@ -96,7 +96,7 @@ impl<B: Drop> Referent<B> for Value {
         names.ssa_use(name)
     }
 
-    fn wait(names: &mut Names, name: usize, placeholder: Value) -> Result<(), AllocError> {
+    fn wait(names: &mut Names, name: usize, placeholder: Value) -> Result<(), NoRoom> {
         names.ssa_forward(name, placeholder)
     }
 
@@ -135,11 +135,7 @@ impl<B: Drop> Referent<B> for Ptr<BasicBlock> {
         names.block_use(name)
     }
 
-    fn wait(
-        names: &mut Names,
-        name: usize,
-        placeholder: Ptr<BasicBlock>,
-    ) -> Result<(), AllocError> {
+    fn wait(names: &mut Names, name: usize, placeholder: Ptr<BasicBlock>) -> Result<(), NoRoom> {
         names.block_forward(name, placeholder)
     }
 

@@ -4,7 +4,8 @@ ghost use Rattle.irtext_base.specs.Text.{is_identifier};
 
 use irtext_base::base::Identifier;
 use irtext_base::base::identifier::is_identifier;
-use std::alloc::{AllocError, Global};
+use irtext_memory::OutOfMemory;
+use std::alloc::Global;
 
 /// How many keys are kept: those at the first places of a dictionary.
 const PLACES: usize = 8;
@@ -119,7 +120,7 @@ impl Keys {
     }
 
     /// Returns a new key with this text, and keeps it at this place.
-    fn made(&mut self, alloc: Global, index: usize, text: &str) -> Result<Identifier, AllocError>
+    fn made(&mut self, alloc: Global, index: usize, text: &str) -> Result<Identifier, OutOfMemory>
         requires { IsTrue (is_identifier text.now) }
         ensures { IfOk result (λ key. key ≡ text.now) }
     {
@@ -139,7 +140,7 @@ impl Keys {
         alloc: Global,
         index: usize,
         text: &str,
-    ) -> Result<Identifier, AllocError>
+    ) -> Result<Identifier, OutOfMemory>
         requires { IsTrue (is_identifier text.now) }
         ensures { IfOk result (λ key. key ≡ text.now) }
     {

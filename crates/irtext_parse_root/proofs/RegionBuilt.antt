@@ -1,6 +1,6 @@
 -- A region that was parsed alone satisfies its promise: its contents are what its blocks build, without placeholders; the items of its
 -- marks are in it; and only the region and what is nested in it are new.
-use Rattle.std.proofs.Common.{◌≡◌, ◌∙◌, ◌⊎◌, ℕ, Bool, true, List, [], ◌∷◌, Some, None, IsSome, option_map, append-nil, refl, sym, ap, subst, inl, inr}
+use Rattle.std.proofs.Common.{◌≡◌, ◌∙◌, ◌⊎◌, ℕ, arith, Bool, true, List, [], ◌∷◌, Some, None, IsSome, option_map, append-nil, refl, sym, ap, subst, inl, inr}
 use Rattle.std.specs.Prelude.{⊤}
 use Rattle.irtext_base.specs.Text.{Text}
 use Rattle.irtext_base.specs.Format.{Id}
@@ -18,7 +18,7 @@ use Rattle.irtext_graph.specs.declared.object.Object.TheVariants.{TheOperation, 
 use Rattle.irtext_graph.specs.declared.object.Value.{Value}
 use Rattle.irtext_graph.specs.Back.{AllOlder}
 use Rattle.irtext_graph.specs.Chained.{Among}
-use Rattle.irtext_graph.specs.Graph.{children, parent, IsLive, Appends}
+use Rattle.irtext_graph.specs.Graph.{children, parent, IsLive, Appends, CountsOn}
 use Rattle.irtext_graph.specs.Nested as graphs
 use Rattle.irtext_graph.specs.Regions.{with_child}
 use Rattle.irtext_graph.specs.Store.{get, object_of}
@@ -47,6 +47,8 @@ use Rattle.irtext_names.specs.Tied.{NoneIsLeft}
 use Rattle.irtext_names.specs.Alone.{OnlyNewIn, IsWholeRegion, pointers_in, held_region, in_braces}
 use Rattle.irtext_names.specs.Carriers.{marks_on_regions}
 use Rattle.irtext_names.specs.OnlyNew.{BlanksDefine}
+use Rattle.irtext_graph.proofs.Marks.{counts_kept, counts_on}
+use Rattle.irtext_graph.proofs.Once.{gives_rest}
 use Rattle.irtext_names.proofs.Ages.{operation_stays, block_stays, region_stays}
 use Rattle.irtext_names.proofs.AloneBuilds as builds
 use Rattle.irtext_names.proofs.Kept.{accepts}
@@ -102,6 +104,14 @@ module _ {T A : Type 0} (L : ℕ → Location A → Type 0) (start mid now : Con
   linked_now : AllRegions OpLinked (λ b. ⊤) (λ q. ⊤) (held_region now r)
   linked_now = subst (λ z. AllRegions OpLinked (λ b. ⊤) (λ q. ⊤) z) (sym builds_now) (builds.region_linked first isolated id id_closed place bs formed st ran)
 
+  -- nothing is given where the region becomes a child
+  appended_counts : CountsOn mid.graph now.graph
+  appended_counts =
+      let rest = a.objects.rest in
+      let made = rest.made in
+      let values = rest.values in
+      record { made = omega (arith, made); values = omega (arith, values); first_place = rest.first_place; pointers = gives_rest mid.graph now.graph rest (λ q e. a.objects.contents q ∙ e) }
+
   -- only the region and what is nested in it are new
   only_now : now ≡ with_graph mid now.graph → OnlyNewIn op r start now
   only_now is = record {
@@ -117,6 +127,7 @@ module _ {T A : Type 0} (L : ℕ → Location A → Type 0) (start mid now : Con
         (builds.is_region L now items whole r place bs hold_now tracks.known tracks.once inside_now nest path said) linked_now path
         (builds.placed L now items whole r place bs hold_now tracks.known tracks.once inside_now nest path said)
         (builds.occurs_whole L now items whole r place bs hold_now tracks.known tracks.once inside_now nest path said);
+    counts = counts_on start.graph mid.graph now.graph (counts_kept m start.graph mid.graph kept.graph) appended_counts;
     paths = subst (λ (c : ContextView T A). KeepsPaths start.paths c.paths) (sym is) kept.paths;
     dialects = ap (λ (c : ContextView T A). c.dialects) is ∙ kept.dialects;
   }

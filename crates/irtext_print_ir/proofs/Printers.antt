@@ -1,6 +1,7 @@
 -- What is printable.
 pub mod Requirements
 pub mod Calls
+pub mod Refused
 pub mod OpPrinters
 pub mod Roots
 pub mod Gathered

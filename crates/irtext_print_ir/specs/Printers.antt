@@ -5,4 +5,5 @@ pub mod Calls
 pub mod Items
 pub mod Enclosed
 pub mod OpPrinters
+pub mod Refused
 pub mod Printed

@@ -1,5 +1,5 @@
 //! How sources, positions and locations are printed.
-ghost use Rattle.std.specs.Prelude.{Some};
+ghost use Rattle.std.specs.Prelude.{◌≡◌, Some};
 ghost use Rattle.std.specs.Str.{encode_utf8_all};
 ghost use Rattle.irtext_base.specs.Causes.{position_text};
 ghost use Rattle.irtext_base.specs.Paths.{path_of};
@@ -17,6 +17,8 @@ use std::fmt;
 impl<T: IrText<A>, A: AttrText<A>, U> Printable<U, T, A> for Source {
     ghost gives = { λ src ctx s. Some (encode_utf8_all (source_text (path_of ctx.paths src)), s) };
 
+    ghost refuses = { λ _ _ s _ t _. t ≡ s };
+
     fn fmt(&self, ctx: &Context<T, A>, _state: &mut State<U>, f: &mut String) -> fmt::Result {
         fmt_source(*self, ctx, f)
     }
@@ -25,6 +27,8 @@ impl<T: IrText<A>, A: AttrText<A>, U> Printable<U, T, A> for Source {
 /// Prints line and column, both from 1, in characters: `line: 1, column: 21`. Fails only if out of memory.
 impl<T: IrText<A>, A: AttrText<A>, U> Printable<U, T, A> for SourcePosition {
     ghost gives = { λ pos _ s. Some (position_text pos, s) };
+
+    ghost refuses = { λ _ _ s _ t _. t ≡ s };
 
     fn fmt(&self, _ctx: &Context<T, A>, _state: &mut State<U>, f: &mut String) -> fmt::Result {
         write!(f, "{self}")?;
@@ -36,6 +40,8 @@ impl<T: IrText<A>, A: AttrText<A>, U> Printable<U, T, A> for SourcePosition {
 /// Fails only if out of memory.
 impl<T: IrText<A>, A: AttrText<A>, U> Printable<U, T, A> for Location<A> {
     ghost gives = { λ location ctx s. Some (encode_utf8_all (location_text A.written ctx.paths location), s) };
+
+    ghost refuses = { λ _ _ s _ t _. t ≡ s };
 
     fn fmt(&self, ctx: &Context<T, A>, _state: &mut State<U>, f: &mut String) -> fmt::Result {
         fmt_location(self, ctx, f)

@@ -1,7 +1,8 @@
 //! Printable values: the trait, the printing state with its guards, values as a `Display`, and plain values.
-ghost use Rattle.std.specs.Prelude.{List, ℕ, OnOk, None, Option, ⊤, string_bytes};
+ghost use Rattle.std.specs.Prelude.{List, ℕ, OnOk, OnErr, None, Option, ⊤, string_bytes};
 ghost use Rattle.irtext_print.specs.Printers.Shown.{Shown};
 ghost use Rattle.irtext_print.specs.Printers.Appended.{Writes};
+ghost use Rattle.irtext_print_ir.specs.Printers.Refused.{KeepsLayout};
 ghost use Rattle.std.specs.declared.string.String.{String};
 ghost use Rattle.std.specs.declared.alloc.Global.{Global};
 ghost use Rattle.irtext_context.specs.declared.base.context.Context.{Context};
@@ -38,11 +39,16 @@ pub trait Printable<U, T: IrText<A>, A: AttrText<A>> {
     // what one printing may do: the state and the text before it, and both after it
     ghost prints: { Self → Context T A → Shown U → String Global → Shown U → String Global → Type 0 } = { λ _ _ _ _ _ _. ⊤ };
 
+    // what one printing that fails may leave: the state and the text before it, and both after it
+    ghost refuses: { Self → Context T A → Shown U → String Global → Shown U → String Global → Type 0 } = { λ _ _ s _ t _. KeepsLayout s t };
+
     /// Appends the text. Fails if out of memory, if the indentation does not fit 16 bits, if an operation does not fit its format, or
-    /// if a stored closure fails. What was appended up to the error remains.
+    /// if a stored closure fails. What was appended up to the error remains. Apart from gathered items an error leaves the state as it was,
+    /// unless a stored closure changed it.
     fn fmt(&self, ctx: &Context<T, A>, state: &mut State<U>, f: &mut String) -> fmt::Result
         requires { can_print self.now ctx.now }
         ensures prints { OnOk result (prints self.now ctx.now state.old f.old state.new f.new) }
         ensures text { OnOk result (Writes (gives self.now ctx.now state.old) state.new (string_bytes f.old)
-            (string_bytes f.new)) };
+            (string_bytes f.new)) }
+        ensures refused { OnErr result (refuses self.now ctx.now state.old f.old state.new f.new) };
 }

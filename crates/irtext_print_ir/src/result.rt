@@ -43,6 +43,8 @@ impl<T: IrText<A>, A: AttrText<A>, U> Printable<U, T, A> for Error<A> {
 
     ghost gives = { λ error ctx s. given_of A.written ctx.paths error s };
 
+    ghost refuses = { λ _ _ s _ t _. t ≡ s };
+
     fn fmt(&self, ctx: &Context<T, A>, _state: &mut State<U>, f: &mut String) -> fmt::Result {
         fmt_error(self, ctx, f)
     }
@@ -50,13 +52,15 @@ impl<T: IrText<A>, A: AttrText<A>, U> Printable<U, T, A> for Error<A> {
 
 /// Prints the value, or the error.
 impl<X: Printable<U, T, A>, T: IrText<A>, A: AttrText<A>, U> Printable<U, T, A> for Result<X, A> {
-    ghost use Rattle.irtext_print_ir.specs.Errors.Printed.{can_be, given, may_print};
+    ghost use Rattle.irtext_print_ir.specs.Errors.Printed.{can_be, given, may_print, may_refuse};
 
     ghost can_print = { can_be X.can_print };
 
     ghost gives = { given A.written X.gives };
 
     ghost prints = { may_print A.written X.prints };
+
+    ghost refuses = { may_refuse X.refuses };
 
     fn fmt(&self, ctx: &Context<T, A>, state: &mut State<U>, f: &mut String) -> fmt::Result {
         match self {

@@ -1,13 +1,13 @@
 -- Heads and links agree with the bindings: one more binding, the last one taken away, one rebound.
-use Rattle.std.proofs.Common.{◌≡◌, ℕ, zero, suc, ◌<◌, ◌≤◌, Bool, true, false, cond, List, [], ◌∷◌, ◌++◌, reverse, length, take, drop, set, length-set, length-append, Option, Some, None, nat_eq, nat_le, nat_lt, ltb-true, ltb-false, refl, sym, ap, ◌∙◌, subst, arith, eq-eqb, eqb-true, leb-true, le-leb, ⊎_elim}
-use Rattle.std.proofs.lemmas.List.{reverse-append, length-take-le, take_all, drop_all}
+use Rattle.std.proofs.Common.{◌≡◌, ◌+◌, ◌-◌, ℕ, zero, suc, ◌<◌, ◌≤◌, Bool, true, false, cond, List, [], ◌∷◌, ◌++◌, reverse, length, take, drop, set, length-set, length-append, Option, Some, None, nat_eq, nat_le, nat_lt, ltb-true, ltb-false, refl, sym, ap, ◌∙◌, subst, arith, eq-eqb, eqb-true, leb-true, le-leb, ⊎_elim}
+use Rattle.std.proofs.lemmas.List.{reverse-append, length-take-le, length-drop, take_all, drop_all}
 use Rattle.std.specs.List.{slice_get}
 use Rattle.std.specs.Option.{option_or, option_map}
 use Rattle.irtext_scopes.specs.declared.scopes.Binding.{Binding}
-use Rattle.irtext_scopes.specs.Scopes.{find, innermost, in_innermost, mentioned, resolved}
+use Rattle.irtext_scopes.specs.Scopes.{find, innermost, in_innermost, is_open, mentioned, resolved, names_held}
 use Rattle.irtext_scopes.specs.Bindings.{entries_of, scopes_from, scopes_at, newest, head_at, first, from_mark, place_in, falls, are_apart, are_maps, rebound, Chained, IsSound}
 use Rattle.irtext_interner.proofs.Lists.{get_within, get_or_there, get_snoc, take_snoc, take_whole, drop_snoc, get_last, get_front, set_there}
-use Rattle.irtext_scopes.proofs.Maps.{innermost_apart, maps_tail, mentioned_maps, resolved_maps}
+use Rattle.irtext_scopes.proofs.Maps.{innermost_apart, maps_tail, mentioned_maps, resolved_maps, held_begun, held_mentioned, held_resolved}
 use Rattle.irtext_scopes.proofs.Newest.{newest_there, innermost_at, find_absent, find_hidden, find_there, rebound_scopes}
 
 -- ---- marks
@@ -42,6 +42,10 @@ module _ {V : Type 0} where
   entries_snoc [] b = refl
   entries_snoc (k ∷ bs) b = ap (λ z. (k.name, k.entry) ∷ z) (entries_snoc bs b)
 
+  length_entries : (bs : List (Binding V)) → length (entries_of bs) ≡ length bs
+  length_entries [] = refl
+  length_entries (b ∷ bs) = ap suc (length_entries bs)
+
   added_chained : (heads heads' : List (Option ℕ)) (bs : List (Binding V)) (b : Binding V) → Chained heads bs → b.hidden ≡ head_at heads b.name
       → ((n : ℕ) → head_at heads' n ≡ cond (nat_eq b.name n) (Some (length bs)) (head_at heads n)) → Chained heads' (bs ++ b ∷ [])
   added_chained heads heads' bs b c hid put = record {
@@ -63,11 +67,16 @@ module _ {V : Type 0} where
   added_scopes heads marks bs b s = added_from (reverse marks) bs b s.marks_fall
 
   pub added_sound : (heads heads' : List (Option ℕ)) (marks : List ℕ) (bs : List (Binding V)) (b : Binding V) → IsSound heads bs marks → b.hidden ≡ head_at heads b.name
-      → ((n : ℕ) → head_at heads' n ≡ cond (nat_eq b.name n) (Some (length bs)) (head_at heads n)) → find b.name (innermost (scopes_at marks bs)) ≡ None → IsSound heads' (bs ++ b ∷ []) marks
-  added_sound heads heads' marks bs b s hid put none = record {
+      → ((n : ℕ) → head_at heads' n ≡ cond (nat_eq b.name n) (Some (length bs)) (head_at heads n)) → is_open (scopes_at marks bs) ≡ true → find b.name (innermost (scopes_at marks bs)) ≡ None → IsSound heads' (bs ++ b ∷ []) marks
+  added_sound heads heads' marks bs b s hid put opened none = record {
     chained = added_chained heads heads' bs b s.chained hid put;
     marks_fall = fall_higher (length bs) (length (bs ++ b ∷ [])) (reverse marks) (let k = length-append bs (b ∷ []) in omega arith) s.marks_fall;
     maps = ap are_maps (added_scopes heads marks bs b s) ∙ mentioned_maps b.name b.entry (scopes_at marks bs) s.maps none;
+    counted =
+        let k = length-append bs (b ∷ []) in
+        let held = ap names_held (added_scopes heads marks bs b s) ∙ held_mentioned b.name b.entry (scopes_at marks bs) opened in
+        let counted = s.counted in
+        omega arith;
   }
 
   -- ---- the last binding removed
@@ -95,6 +104,7 @@ module _ {V : Type 0} where
     chained = record { heads_lead = λ n. same n ∙ s.chained.heads_lead n; links_lead = s.chained.links_lead };
     marks_fall = s.marks_fall;
     maps = s.maps;
+    counted = s.counted;
   }
 
   -- ---- a scope begins, and ends
@@ -110,6 +120,7 @@ module _ {V : Type 0} where
         ap (falls (length bs)) (reverse-append marks (length bs ∷ []))
         ∙ (ap (λ c. cond c (falls (length bs) (reverse marks)) false) (le-leb (length bs) (length bs) (omega arith)) ∙ s.marks_fall);
     maps = ap are_maps (begun_scopes marks bs) ∙ s.maps;
+    counted = s.counted ∙ (held_begun (scopes_at marks bs) ∙ sym (ap names_held (begun_scopes marks bs)));
   }
 
   -- the scope that begins at the last mark, and those around it
@@ -129,6 +140,13 @@ module _ {V : Type 0} where
         chained = c;
         marks_fall = ap (λ (z : List (Binding V)). falls (length z) (reverse marks)) k ∙ (ap (λ n. falls n (reverse marks)) (length-take-le m bs f.0) ∙ f.1);
         maps = ap (λ z. are_maps (scopes_at marks z)) k ∙ maps_tail (entries_of (drop m bs)) (scopes_at marks (take m bs)) (sym (ap are_maps (ended_scopes old marks m bs e)) ∙ s.maps);
+        counted =
+            let all : length bs ≡ length (entries_of (drop m bs)) + names_held (scopes_at marks (take m bs)) = s.counted ∙ ap names_held (ended_scopes old marks m bs e) in
+            let inner : length (entries_of (drop m bs)) ≡ length bs - m = length_entries (drop m bs) ∙ length-drop m bs in
+            let outer : length (take m bs) ≡ m = length-take-le m bs f.0 in
+            let within = f.0 in
+            let left : length (take m bs) ≡ names_held (scopes_at marks (take m bs)) = omega arith in
+            subst (λ (z : List (Binding V)). length z ≡ names_held (scopes_at marks z)) (sym k) left;
       }
 
   pub closed_scopes : (marks : List ℕ) (bs : List (Binding V)) → first (reverse marks) ≡ None → scopes_at marks bs ≡ []
@@ -229,4 +247,7 @@ module _ {V : Type 0} where
     chained = rebound_chained heads bs i f.binding v s.chained f.there;
     marks_fall = ap (λ z. falls z (reverse marks)) (length-set bs i (rebound v f.binding)) ∙ s.marks_fall;
     maps = ap are_maps (resolved_scopes heads marks bs n i v s f) ∙ resolved_maps n v (scopes_at marks bs) s.maps;
+    counted =
+        length-set bs i (rebound v f.binding)
+        ∙ (s.counted ∙ sym (ap names_held (resolved_scopes heads marks bs n i v s f) ∙ held_resolved n v (scopes_at marks bs)));
   })

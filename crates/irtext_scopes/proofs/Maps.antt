@@ -1,10 +1,20 @@
--- Scopes in which no name occurs twice: which changes preserve this.
-use Rattle.std.proofs.Common.{◌≡◌, ℕ, Bool, true, false, cond, List, [], ◌∷◌, is_some, Option, Some, None, nat_eq, refl, sym, ap, ◌∙◌, eqb-true, eq-eqb, ne_eqb}
+-- Scopes in which no name occurs twice: which changes preserve this. And how many names scopes have after a change.
+use Rattle.std.proofs.Common.{◌≡◌, ◌+◌, ℕ, suc, length, length-append, arith, ◌<◌, ◌≤◌, ⊎_elim, subst, Result, Ok, Err, Bool, true, false, cond, List, [], ◌∷◌, is_some, Option, Some, None, nat_eq, refl, sym, ap, ◌∙◌, eqb-true, eq-eqb, ne_eqb}
 use Rattle.std.specs.Option.{option_or}
 use Rattle.irtext_scopes.specs.declared.scopes.Entry.{Entry}
 use Rattle.irtext_scopes.specs.declared.scopes.Entry.TheVariants.{Defined}
-use Rattle.irtext_scopes.specs.Scopes.{Scope, find, innermost, in_innermost, mentioned, resolved, defined, defined_from}
+use Rattle.irtext_scopes.specs.Scopes.{Scope, find, innermost, in_innermost, mentioned, resolved, defined, defined_from, is_open, names_held, LacksMemory, IsFull}
+use Rattle.irtext_scopes.specs.declared.scopes.NoRoom.{NoRoom}
+use Rattle.irtext_scopes.specs.declared.scopes.NoRoom.TheVariants.{Memory, Full}
+use Rattle.std.specs.Prelude.{◌↔◌}
+use Rattle.std.specs.Result.{IsErrAnd}
+use Rattle.irtext_memory.specs.declared.OutOfMemory.{OutOfMemory}
 use Rattle.irtext_scopes.specs.Bindings.{are_apart, are_maps}
+
+-- ---- a refused allocation
+pub memory_lacks : {A : Type 0} (r : Result A NoRoom) (e : OutOfMemory) → IsErrAnd r (λ room. room ≡ Memory e) → IsErrAnd r LacksMemory
+memory_lacks (Ok a) e h = absurd h
+memory_lacks (Err room) e h = subst LacksMemory (sym h) tt
 
 module _ {V : Type 0} where
   apart_head : (e : ℕ × Entry V) (s : Scope V) → are_apart (e ∷ s) ≡ true → is_some (find e.0 s) ≡ false
@@ -123,3 +133,26 @@ module _ {V : Type 0} where
   pub defines_known : (n : ℕ) (v : V) (x : Entry V) (ss : List (Scope V)) → Some x ≡ find n (innermost ss) → in_innermost (resolved n v) ss ≡ in_innermost (defined n v) ss
   defines_known n v x [] e = refl
   defines_known n v x (s ∷ ss) e = ap (λ o. defined_from n v s o ∷ ss) e
+
+  -- ---- how many names there are
+  pub held_begun : (ss : List (Scope V)) → names_held ss ≡ names_held ([] ∷ ss)
+  held_begun ss = omega arith
+
+  pub held_mentioned : (n : ℕ) (e : Entry V) (ss : List (Scope V)) → is_open ss ≡ true → names_held (in_innermost (mentioned n e) ss) ≡ suc (names_held ss)
+  held_mentioned n e [] h = cc
+  held_mentioned n e (s ∷ ss) h = let k = length-append s ((n, e) ∷ []) in omega arith
+
+  length_resolved : (n : ℕ) (v : V) (s : Scope V) → length (resolved n v s) ≡ length s
+  length_resolved n v [] = refl
+  length_resolved n v (x ∷ s) = ap suc (length_resolved n v s)
+
+  pub held_resolved : (n : ℕ) (v : V) (ss : List (Scope V)) → names_held (in_innermost (resolved n v) ss) ≡ names_held ss
+  held_resolved n v [] = refl
+  held_resolved n v (s ∷ ss) = ap (λ k. k + names_held ss) (length_resolved n v s)
+
+  -- an allocation was refused, so there was room in 32 bits
+  pub no_memory : {A : Type 0} (name : ℕ) (ss : List (Scope V)) (r : Result A NoRoom) → IsErrAnd r LacksMemory → name ≤ 4294967295 → names_held ss < 4294967295
+      → (r ≡ Err Full) ↔ IsFull name ss
+  no_memory name ss (Ok a) lacks few fewer = absurd lacks
+  no_memory name ss (Err (Memory e)) lacks few fewer = (λ p. cc, ⊎_elim (λ k. absurd (omega arith)) (λ k. absurd (omega arith)))
+  no_memory name ss (Err Full) lacks few fewer = absurd lacks

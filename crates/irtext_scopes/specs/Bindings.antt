@@ -4,7 +4,7 @@ use Rattle.std.specs.Prelude.{◌≡◌, ℕ, suc, Bool, true, false, cond, List
 use Rattle.std.specs.Option.{option_or, option_flatten}
 use Rattle.irtext_scopes.specs.declared.scopes.Binding.{Binding}
 use Rattle.irtext_scopes.specs.declared.scopes.Entry.TheVariants.{Defined}
-use Rattle.irtext_scopes.specs.Scopes.{Scope, find}
+use Rattle.irtext_scopes.specs.Scopes.{Scope, find, names_held}
 
 -- the names of bindings, each with what it refers to
 abbrev pub entries_of : {V : Type 0} → List (Binding V) → Scope V
@@ -68,8 +68,10 @@ pub record Chained {V : Type 0} (heads : List (Option ℕ)) (bs : List (Binding 
   pub heads_lead : (n : ℕ) → head_at heads n ≡ newest n bs
   pub links_lead : (i : ℕ) (b : Binding V) → slice_get bs i ≡ Some b → b.hidden ≡ newest b.name (take i bs)
 
--- heads, bindings and marks that fit together: the indices that are held are right, the marks ascend, and no name comes twice in a scope
+-- heads, bindings and marks that fit together: the indices that are held are right, the marks ascend, no name comes twice in a scope, and
+-- each binding belongs to a scope
 pub record IsSound {V : Type 0} (heads : List (Option ℕ)) (bs : List (Binding V)) (marks : List ℕ) : Type 0 where
   pub chained : Chained heads bs
   pub marks_fall : falls (length bs) (reverse marks) ≡ true
   pub maps : are_maps (scopes_at marks bs) ≡ true
+  pub counted : length bs ≡ names_held (scopes_at marks bs)

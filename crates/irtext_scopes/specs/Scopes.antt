@@ -1,9 +1,13 @@
 -- The open scopes, the innermost first. Each is a finite map from names to what they refer to, in the order in which the names were first
 -- mentioned.
-use Rattle.std.specs.Prelude.{ℕ, Bool, true, false, cond, List, [], ◌∷◌, ◌++◌, Option, Some, None, nat_eq}
+use Rattle.std.specs.Prelude.{◌+◌, ◌<◌, ◌≤◌, ◌⊎◌, ℕ, Bool, true, false, cond, List, [], ◌∷◌, ◌++◌, length, Option, Some, None, Result, Ok, Err, nat_eq}
 use Rattle.std.specs.Option.{option_or}
 use Rattle.irtext_scopes.specs.declared.scopes.Entry.{Entry}
 use Rattle.irtext_scopes.specs.declared.scopes.Entry.TheVariants.{Defined, Pending}
+use Rattle.irtext_scopes.specs.declared.scopes.DefineFault.{DefineFault}
+use Rattle.irtext_scopes.specs.declared.scopes.DefineFault.TheVariants as fault
+use Rattle.irtext_scopes.specs.declared.scopes.NoRoom.{NoRoom}
+use Rattle.irtext_scopes.specs.declared.scopes.NoRoom.TheVariants.{Memory, Full}
 
 -- a scope: its names in the order in which they were first mentioned, each with what it refers to
 abbrev pub Scope : Type 0 → Type 0
@@ -78,3 +82,23 @@ if_pending n (Pending h) = Some n
 abbrev pub first_pending : {V : Type 0} → Scope V → Option ℕ
 first_pending [] = None
 first_pending (e ∷ es) = option_or (if_pending e.0 e.1) (first_pending es)
+
+-- there is no room since an allocation was refused
+abbrev pub LacksMemory : NoRoom → Type 0
+LacksMemory (Memory e) = Unit {0}
+LacksMemory Full = ⊥
+
+-- a name was not defined, since there is no room for it
+abbrev pub LacksRoom : {A : Type 0} → Result A DefineFault → Type 0
+LacksRoom (Ok x) = ⊥
+LacksRoom (Err (fault.NoRoom e)) = Unit {0}
+LacksRoom (Err fault.MultipleDefinitions) = ⊥
+
+-- how many names the scopes have together; a name that two scopes have counts twice
+abbrev pub names_held : {V : Type 0} → List (Scope V) → ℕ
+names_held [] = 0
+names_held (s ∷ ss) = length s + names_held ss
+
+-- there is no room in 32 bits for a name with this number, or for one more in these scopes
+abbrev pub IsFull : {V : Type 0} → ℕ → List (Scope V) → Type 0
+IsFull name scopes = (4294967295 < name) ⊎ (4294967295 ≤ names_held scopes)

@@ -2,7 +2,8 @@
 ghost use Rattle.std.specs.Prelude.{◌≡◌, ◌++◌, ◌∷◌, [], reverse, option_to_list, OnOk, OnErr, IfNone};
 ghost use Rattle.irtext_scopes.specs.Bindings.{first};
 
-use std::alloc::{AllocError, Global};
+use irtext_memory::{OutOfMemory, vec};
+use std::alloc::Global;
 use std::marker::Model;
 
 /// The marks of the open scopes, from the outermost to the innermost. Here a mark is the index at which the bindings of a scope begin; the
@@ -35,7 +36,7 @@ impl Marks {
 
     /// Adds the mark of a scope inside the innermost one. Only a scope inside another needs an allocation. If that fails, the marks are
     /// unchanged.
-    pub(crate) fn push(&mut self, mark: usize) -> Result<(), AllocError>
+    pub(crate) fn push(&mut self, mark: usize) -> Result<(), OutOfMemory>
         ensures ok { OnOk result (self.new ≡ self.old ++ mark ∷ []) }
         ensures err { OnErr result (self.new ≡ self.old) }
     {
@@ -43,7 +44,7 @@ impl Marks {
             self.outermost = Some(mark);
             return Ok(());
         }
-        self.inner.push(mark)?;
+        vec::push(&mut self.inner, mark)?;
         Ok(())
     }
 

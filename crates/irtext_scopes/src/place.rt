@@ -1,7 +1,8 @@
 //! Places in a vector, in 32 bits.
-ghost use Rattle.std.specs.Prelude.{◌≡◌, None, Some, IfOk};
+ghost use Rattle.std.specs.Prelude.{◌≡◌, ◌<◌, ◌≤◌, None, Some, IfOk, IfErr, OnOk};
+ghost use Rattle.irtext_scopes.specs.declared.scopes.NoRoom.{NoRoom};
 
-use std::alloc::AllocError;
+use crate::scopes::NoRoom;
 use std::marker::Model;
 
 /// The index of a binding, or that there is none.
@@ -33,13 +34,15 @@ impl Place {
         Place { next: 0 }
     }
 
-    /// Returns this index as a place. It fails for an index that is greater than 2³² - 2.
+    /// Returns this index as a place. For an index that is greater than 2³² - 2, the error is `Full`.
     #[inline(always)]
-    pub(crate) fn new(index: usize) -> Result<Place, AllocError>
-        ensures { IfOk result (λ p. p ≡ Some index) }
+    pub(crate) fn new(index: usize) -> Result<Place, NoRoom>
+        ensures ok { IfOk result (λ p. p ≡ Some index) }
+        ensures below { OnOk result (index < 4294967295) }
+        ensures full { IfErr result (λ e. (e ≡ NoRoom.Full) × (4294967295 ≤ index)) }
     {
         if index >= u32::MAX as usize {
-            return Err(AllocError);
+            return Err(NoRoom::Full);
         }
         Ok(Place {
             next: index as u32 + 1,

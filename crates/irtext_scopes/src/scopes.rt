@@ -1,12 +1,15 @@
 //! The open scopes of one kind of names, as one vector of bindings. Leaving a scope truncates the vector to where the scope began.
 ghost use Rattle.std.specs.Prelude.{◌≡◌, ℕ, ◌<◌, ◌≤◌, [], ◌∷◌, length, None, Some, true, OnOk, OnErr, IfOk, cond, nat_eq, slice_get, drop, take, set, Err, ◌↔◌};
 ghost use Rattle.irtext_scopes.specs.declared.scopes.DefineFault.{DefineFault};
+ghost use Rattle.irtext_scopes.specs.declared.scopes.NoRoom.{NoRoom};
+ghost use Rattle.irtext_scopes.specs.declared.scopes.NoRoom.TheVariants.{Memory};
 ghost use Rattle.irtext_scopes.specs.declared.scopes.Binding.{Binding};
 ghost use Rattle.irtext_scopes.specs.Bindings.{Chained, entries_of, rebound, head_at, place_in};
-ghost use Rattle.irtext_scopes.specs.Scopes.{innermost, outer, in_innermost, is_open, find, mentioned, resolved, defined, is_defined, placeholder_of, first_pending};
+ghost use Rattle.irtext_scopes.specs.Scopes.{LacksRoom, LacksMemory, IsFull, innermost, outer, in_innermost, is_open, find, mentioned, resolved, defined, is_defined, placeholder_of, first_pending};
 
 use crate::marks::Marks;
 use crate::place::Place;
+use irtext_memory::{OutOfMemory, Refused, vec};
 use std::alloc::{AllocError, Global};
 use std::marker::Model;
 
@@ -19,11 +22,45 @@ pub enum Entry<V> {
     Pending(V),
 }
 
-/// Why a name could not be defined.
-#[derive(Clone, Copy, PartialEq, Eq, Debug)]
-pub enum DefineFault {
+/// Why a name could not be added to the scopes.
+#[derive(PartialEq, Eq, Debug, Drop)]
+pub enum NoRoom {
     /// Out of memory.
-    Memory,
+    Memory(OutOfMemory),
+    /// The number of the name is above 2³² - 1, or the open scopes have 2³² - 1 names.
+    Full,
+}
+
+impl From<OutOfMemory> for NoRoom {
+    ghost from_gives = { λ e room. room ≡ Memory e };
+
+    #[inline(always)]
+    fn from(error: OutOfMemory) -> NoRoom {
+        NoRoom::Memory(error)
+    }
+}
+
+impl<X: Drop> From<Refused<X>> for NoRoom {
+    ghost from_gives = { λ _ room. LacksMemory room };
+
+    #[inline(always)]
+    fn from(refused: Refused<X>) -> NoRoom {
+        NoRoom::Memory(OutOfMemory::from(refused))
+    }
+}
+
+impl From<NoRoom> for AllocError {
+    #[inline(always)]
+    fn from(_: NoRoom) -> AllocError {
+        AllocError
+    }
+}
+
+/// Why a name could not be defined.
+#[derive(PartialEq, Eq, Debug, Drop)]
+pub enum DefineFault {
+    /// There is no room for the name.
+    NoRoom(NoRoom),
     /// The scope has a definition of the name already.
     MultipleDefinitions,
 }
@@ -70,12 +107,12 @@ fn head_of(heads: &[Place], name: usize) -> Place
 }
 
 // makes room for a name that has no binding yet
-fn grow(heads: &mut Vec<Place>, name: usize) -> Result<(), AllocError>
+fn grow(heads: &mut Vec<Place>, name: usize) -> Result<(), OutOfMemory>
     ensures same { (n : ℕ) → head_at heads.new.items n ≡ head_at heads.old.items n }
     ensures ok { OnOk result (name < length heads.new.items) }
 {
     while heads.len() <= name {
-        heads.push(Place::none())?;
+        vec::push(heads, Place::none())?;
     }
     Ok(())
 }
@@ -165,7 +202,7 @@ impl<V: Copy> Scopes<V> {
     }
 
     /// Opens an empty scope inside the innermost one. When out of memory, it fails and the scopes are unchanged.
-    pub fn enter(&mut self) -> Result<(), AllocError>
+    pub fn enter(&mut self) -> Result<(), OutOfMemory>
         ensures ok { OnOk result (self.new ≡ [] ∷ self.old) }
         ensures err { OnErr result (self.new ≡ self.old) }
     {
@@ -195,27 +232,28 @@ impl<V: Copy> Scopes<V> {
         }
     }
 
-    /// Adds a name to the innermost scope. A scope must be open, and the innermost one must not have the name. When out of memory, it fails
-    /// and the scopes are unchanged. The number of a name above 2³² - 1, and more than 2³² - 1
-    /// names in the open scopes, count as out of memory.
-    pub fn add(&mut self, name: usize, entry: Entry<V>) -> Result<(), AllocError>
+    /// Adds a name to the innermost scope. A scope must be open, and the innermost one must not have the name. When it fails, the
+    /// scopes are unchanged.
+    pub fn add(&mut self, name: usize, entry: Entry<V>) -> Result<(), NoRoom>
         requires open { is_open self.old ≡ true }
         requires unknown { find name (innermost self.old) ≡ None }
         ensures ok { OnOk result (self.new ≡ in_innermost (mentioned name entry) self.old) }
         ensures err { OnErr result (self.new ≡ self.old) }
+        ensures full { (result ≡ Err NoRoom.Full) ↔ IsFull name self.old }
     {
         let place = self.bindings.len();
         let head = Place::new(place)?;
         if name > u32::MAX as usize {
-            return Err(AllocError);
+            return Err(NoRoom::Full);
         }
         let hidden = head_of(&self.heads, name);
         grow(&mut self.heads, name)?;
-        self.bindings.push(Binding {
+        let binding = Binding {
             entry,
             name: name as u32,
             hidden,
-        })?;
+        };
+        vec::push(&mut self.bindings, binding)?;
         set_head(&mut self.heads, name, head);
         Ok(())
     }
@@ -231,13 +269,15 @@ impl<V: Copy> Scopes<V> {
     }
 
     /// Defines a name in the innermost scope. A scope must be open. Returns the placeholder that the definition replaces, if the scope has
-    /// one for the name. If the scope has a definition of the name already, the error is `MultipleDefinitions`. When out of memory, which
-    /// happens only for a name that the scope does not have, the error is `Memory`. On an error the scopes are unchanged.
+    /// one for the name. If the scope has a definition of the name already, the error is `MultipleDefinitions`. If there is no room for the
+    /// name, which happens only for one that the scope does not have, the error is `NoRoom`. On an error the scopes are unchanged.
     pub fn define(&mut self, name: usize, value: V) -> Result<Option<V>, DefineFault>
         requires { is_open self.old ≡ true }
         ensures twice { (result ≡ Err DefineFault.MultipleDefinitions) ↔
             (is_defined (find name (innermost self.old)) ≡ true) }
-        ensures memory { result ≡ Err DefineFault.Memory → find name (innermost self.old) ≡ None }
+        ensures room { LacksRoom result → find name (innermost self.old) ≡ None }
+        ensures full { (result ≡ Err (DefineFault.NoRoom NoRoom.Full)) ↔
+            ((find name (innermost self.old) ≡ None) × IsFull name self.old) }
         ensures placeholder { IfOk result (λ h. h ≡ placeholder_of (find name (innermost self.old))) }
         ensures ok { OnOk result (self.new ≡ in_innermost (defined name value) self.old) }
         ensures err { OnErr result (self.new ≡ self.old) }
@@ -250,7 +290,7 @@ impl<V: Copy> Scopes<V> {
             }
             None => match self.add(name, Entry::Defined(value)) {
                 Ok(()) => Ok(None),
-                Err(_) => Err(DefineFault::Memory),
+                Err(e) => Err(DefineFault::NoRoom(e)),
             },
         }
     }

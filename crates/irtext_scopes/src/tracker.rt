@@ -5,21 +5,23 @@ ghost use Rattle.std.specs.Str.{bytes_eq};
 ghost use Rattle.irtext_scopes.specs.declared.scopes.Entry.{Entry};
 ghost use Rattle.irtext_scopes.specs.declared.scopes.Entry.TheVariants.{Defined, Pending};
 ghost use Rattle.irtext_scopes.specs.declared.scopes.DefineFault.{DefineFault};
+ghost use Rattle.irtext_scopes.specs.declared.scopes.NoRoom.{NoRoom};
 ghost use Rattle.irtext_scopes.specs.declared.tracker.EnterFault.{EnterFault};
 ghost use Rattle.irtext_scopes.specs.Names.{number_of, with_name, KeepsNames, AreDistinct};
-ghost use Rattle.irtext_scopes.specs.Scopes.{innermost, outer, in_innermost, is_open, find, mentioned, defined, is_defined, placeholder_of, value_of};
+ghost use Rattle.irtext_scopes.specs.Scopes.{LacksRoom, IsFull, innermost, outer, in_innermost, is_open, find, mentioned, defined, is_defined, placeholder_of, value_of};
 ghost use Rattle.irtext_scopes.specs.Tracker.{EntersRegion, left, unresolved, are_known};
 
-use crate::scopes::{DefineFault, Entry, Scopes};
+use crate::scopes::{DefineFault, Entry, NoRoom, Scopes};
 use irtext_interner::Interner;
 use irtext_interner::seed::Seed;
-use std::alloc::{AllocError, Global};
+use irtext_memory::OutOfMemory;
+use std::alloc::Global;
 
 /// Why a region can't be entered.
-#[derive(Clone, Copy, PartialEq, Eq, Debug)]
+#[derive(PartialEq, Eq, Debug, Drop)]
 pub enum EnterFault {
     /// Out of memory.
-    Memory,
+    Memory(OutOfMemory),
     /// The region's operation is not isolated from above, and no scope of values is open.
     TopLevelOpRegionNotIsolatedFromAbove,
 }
@@ -109,7 +111,7 @@ impl<V: Copy, B: Copy> NameTracker<V, B> {
 
     /// Returns the number of a name, which is kept from then on. A name that was mentioned before in this parse has the number that it had,
     /// and needs no allocation. When out of memory, it fails and nothing changes.
-    pub fn intern(&mut self, text: &str) -> Result<usize, AllocError>
+    pub fn intern(&mut self, text: &str) -> Result<usize, OutOfMemory>
         ensures number { IfOk result (λ i. i ≡ number_of self.old.names text.now) }
         ensures kept { OnOk result (self.new.names ≡ with_name self.old.names text.now) }
         ensures err { OnErr result (self.new.names ≡ self.old.names) }
@@ -170,12 +172,15 @@ impl<V: Copy, B: Copy> NameTracker<V, B> {
         if !isolated && !self.values.is_open() {
             return Err(EnterFault::TopLevelOpRegionNotIsolatedFromAbove);
         }
-        if self.labels.enter().is_err() {
-            return Err(EnterFault::Memory);
+        if let Err(e) = self.labels.enter() {
+            return Err(EnterFault::Memory(e));
         }
-        if isolated && self.values.enter().is_err() {
+        if !isolated {
+            return Ok(());
+        }
+        if let Err(e) = self.values.enter() {
             let _ = self.labels.leave();
-            return Err(EnterFault::Memory);
+            return Err(EnterFault::Memory(e));
         }
         Ok(())
     }
@@ -203,13 +208,14 @@ impl<V: Copy, B: Copy> NameTracker<V, B> {
     }
 
     /// Binds a name to a placeholder, which its use before the definition refers to. A scope of values must be open, and the innermost one
-    /// must not have the name. When out of memory, it fails and nothing changes.
-    pub fn ssa_forward(&mut self, name: usize, placeholder: V) -> Result<(), AllocError>
+    /// must not have the name. If there is no room for it, the call fails and nothing changes.
+    pub fn ssa_forward(&mut self, name: usize, placeholder: V) -> Result<(), NoRoom>
         requires open { is_open self.old.values ≡ true }
         requires known { name < length self.old.names }
         requires unknown { find name (innermost self.old.values) ≡ None }
         ensures ok { OnOk result (self.new.values ≡
             in_innermost (mentioned name (Pending placeholder)) self.old.values) }
+        ensures full { (result ≡ Err NoRoom.Full) ↔ IsFull name self.old.values }
         ensures err { OnErr result (self.new.values ≡ self.old.values) }
         ensures rest { (self.new.names ≡ self.old.names) × (self.new.labels ≡ self.old.labels) }
     {
@@ -217,14 +223,16 @@ impl<V: Copy, B: Copy> NameTracker<V, B> {
     }
 
     /// Defines a name of a value. A scope of values must be open. Returns the placeholder that the definition replaces, if the name was
-    /// used before. If the scope has a definition of the name already, the error is `MultipleDefinitions`. When out of memory, which
-    /// happens only for a name that the scope does not have, the error is `Memory`. On an error nothing changes.
+    /// used before. If the scope has a definition of the name already, the error is `MultipleDefinitions`. If there is no room for the name,
+    /// which happens only for one that the scope does not have, the error is `NoRoom`. On an error nothing changes.
     pub fn ssa_def(&mut self, name: usize, def: V) -> Result<Option<V>, DefineFault>
         requires open { is_open self.old.values ≡ true }
         requires known { name < length self.old.names }
         ensures twice { (result ≡ Err DefineFault.MultipleDefinitions) ↔
             (is_defined (find name (innermost self.old.values)) ≡ true) }
-        ensures memory { result ≡ Err DefineFault.Memory → find name (innermost self.old.values) ≡ None }
+        ensures room { LacksRoom result → find name (innermost self.old.values) ≡ None }
+        ensures full { (result ≡ Err (DefineFault.NoRoom NoRoom.Full)) ↔
+            ((find name (innermost self.old.values) ≡ None) × IsFull name self.old.values) }
         ensures placeholder { IfOk result (λ h. h ≡ placeholder_of (find name (innermost self.old.values))) }
         ensures ok { OnOk result (self.new.values ≡ in_innermost (defined name def) self.old.values) }
         ensures err { OnErr result (self.new.values ≡ self.old.values) }
@@ -243,13 +251,14 @@ impl<V: Copy, B: Copy> NameTracker<V, B> {
     }
 
     /// Binds a label to a placeholder, which its use before the definition refers to. A scope of labels must be open, and the innermost one
-    /// must not have the label. When out of memory, it fails and nothing changes.
-    pub fn block_forward(&mut self, name: usize, placeholder: B) -> Result<(), AllocError>
+    /// must not have the label. If there is no room for it, the call fails and nothing changes.
+    pub fn block_forward(&mut self, name: usize, placeholder: B) -> Result<(), NoRoom>
         requires open { is_open self.old.labels ≡ true }
         requires known { name < length self.old.names }
         requires unknown { find name (innermost self.old.labels) ≡ None }
         ensures ok { OnOk result (self.new.labels ≡
             in_innermost (mentioned name (Pending placeholder)) self.old.labels) }
+        ensures full { (result ≡ Err NoRoom.Full) ↔ IsFull name self.old.labels }
         ensures err { OnErr result (self.new.labels ≡ self.old.labels) }
         ensures rest { (self.new.names ≡ self.old.names) × (self.new.values ≡ self.old.values) }
     {
@@ -257,14 +266,16 @@ impl<V: Copy, B: Copy> NameTracker<V, B> {
     }
 
     /// Defines a label. A scope of labels must be open. Returns the placeholder that the definition replaces, if the label was used before.
-    /// If the scope has a definition of the label already, the error is `MultipleDefinitions`. When out of memory, which happens only for a
-    /// label that the scope does not have, the error is `Memory`. On an error nothing changes.
+    /// If the scope has a definition of the label already, the error is `MultipleDefinitions`. If there is no room for the label, which
+    /// happens only for one that the scope does not have, the error is `NoRoom`. On an error nothing changes.
     pub fn block_def(&mut self, name: usize, def: B) -> Result<Option<B>, DefineFault>
         requires open { is_open self.old.labels ≡ true }
         requires known { name < length self.old.names }
         ensures twice { (result ≡ Err DefineFault.MultipleDefinitions) ↔
             (is_defined (find name (innermost self.old.labels)) ≡ true) }
-        ensures memory { result ≡ Err DefineFault.Memory → find name (innermost self.old.labels) ≡ None }
+        ensures room { LacksRoom result → find name (innermost self.old.labels) ≡ None }
+        ensures full { (result ≡ Err (DefineFault.NoRoom NoRoom.Full)) ↔
+            ((find name (innermost self.old.labels) ≡ None) × IsFull name self.old.labels) }
         ensures placeholder { IfOk result (λ h. h ≡ placeholder_of (find name (innermost self.old.labels))) }
         ensures ok { OnOk result (self.new.labels ≡ in_innermost (defined name def) self.old.labels) }
         ensures err { OnErr result (self.new.labels ≡ self.old.labels) }

@@ -90,7 +90,7 @@ list_all-front p (c ∷ text) =
 -- the error says what the meaning lacks
 pub unmet_so : {X : Type 0} (text rest : Text) (expected : NotationPart) (m : Meaning X) (e : NotationFault) → m ≡ unmet expected rest → IsUnmet text expected rest e → Faults text m e
 unmet_so text rest expected m (fault.Unexpected at part) q h = (rest, q ∙ ap (λ z. unmet z rest) (sym h.0), h.1)
-unmet_so text rest expected m fault.Memory q h = absurd h
+unmet_so text rest expected m (fault.Memory e) q h = absurd h
 
 -- ---- indices
 digit_small : (c : ℕ) → is_ascii_digit c ≡ true → c < 128

@@ -25,7 +25,12 @@ part_text part.End = codes "the end"
 -- the message of an error
 abbrev pub notation_fault_text : NotationFault → List ℕ
 notation_fault_text (fault.Unexpected at expected) = position_text at ++ (codes ": expected " ++ part_text expected)
-notation_fault_text fault.Memory = codes "Out of memory"
+notation_fault_text (fault.Memory e) = codes "Out of memory"
+
+-- the error is that an allocation was refused
+abbrev pub IsMemory : NotationFault → Type 0
+IsMemory (fault.Unexpected at expected) = ⊥
+IsMemory (fault.Memory e) = Unit {0}
 
 -- the rest of the whole text begins at this line and this column of it
 pub record BeginsAt (rest whole : Text) (at : SourcePosition) : Type 0 where
@@ -36,12 +41,12 @@ pub record BeginsAt (rest whole : Text) (at : SourcePosition) : Type 0 where
 -- the error says that this part is expected where the rest of the whole text begins
 abbrev pub IsUnmet : Text → NotationPart → Text → NotationFault → Type 0
 IsUnmet whole expected rest (fault.Unexpected at e) = (e ≡ expected) × BeginsAt rest whole at
-IsUnmet whole expected rest fault.Memory = ⊥
+IsUnmet whole expected rest (fault.Memory e) = ⊥
 
 -- the error says what the meaning lacks, and where in the whole text; or that an allocation failed
 abbrev pub Faults : {X : Type 0} → Text → Meaning X → NotationFault → Type 0
 Faults whole m (fault.Unexpected at expected) = (rest : Text) × (m ≡ unmet expected rest) × BeginsAt rest whole at
-Faults whole m fault.Memory = Unit {0}
+Faults whole m (fault.Memory e) = Unit {0}
 
 -- the whole text of a stream
 abbrev pub whole : StreamView → Text

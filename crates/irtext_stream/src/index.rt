@@ -7,8 +7,9 @@ ghost use Rattle.irtext_stream.specs.Places.{AtOffset};
 ghost use Rattle.irtext_stream.specs.Index.{begins_character, entry_before, AreStarts, AreBlocks, AreLines, BeginUpTo, Indexes};
 
 use crate::position::SourcePosition;
+use irtext_memory::{OutOfMemory, vec};
 use memchr::memchr;
-use std::alloc::{AllocError, Global};
+use std::alloc::Global;
 
 /// Where the lines of a text begin, and how many characters begin before the end of each block of its bytes.
 #[derive(Drop)]
@@ -61,7 +62,7 @@ fn is_ascii(bytes: &[u8]) -> bool
 }
 
 /// Returns the byte offset at which each line but the first begins.
-fn line_starts(alloc: Global, text: &str) -> Result<Vec<usize>, AllocError>
+fn line_starts(alloc: Global, text: &str) -> Result<Vec<usize>, OutOfMemory>
     ensures { IfOk result (λ starts. AreStarts (chars text.now) starts.items) }
 {
     let bytes = text.as_bytes();
@@ -69,13 +70,13 @@ fn line_starts(alloc: Global, text: &str) -> Result<Vec<usize>, AllocError>
     let mut at: usize = 0;
     while let Some(i) = memchr(b'\n', &bytes[at..]) {
         at += i + 1;
-        starts.push(at)?;
+        vec::push(&mut starts, at)?;
     }
     Ok(starts)
 }
 
 /// Returns, for each whole block, how many characters begin before its end.
-fn block_counts(alloc: Global, bytes: &[u8]) -> Result<Vec<usize>, AllocError>
+fn block_counts(alloc: Global, bytes: &[u8]) -> Result<Vec<usize>, OutOfMemory>
     ensures { IfOk result (λ blocks. AreBlocks bytes.now blocks.items) }
 {
     let mut blocks = Vec::new(alloc);
@@ -83,7 +84,7 @@ fn block_counts(alloc: Global, bytes: &[u8]) -> Result<Vec<usize>, AllocError>
     let mut at: usize = 0;
     while BLOCK <= bytes.len() - at {
         count += count_characters(&bytes[at..at + BLOCK]);
-        blocks.push(count)?;
+        vec::push(&mut blocks, count)?;
         at += BLOCK;
     }
     Ok(blocks)
@@ -102,16 +103,16 @@ fn line_at(starts: &[usize], least: usize, offset: usize) -> usize
     line
 }
 
-/// Returns, for each multiple of `STRIDE` up to `size`, how many lines but the first begin at or before it.
-fn line_counts(alloc: Global, starts: &[usize], size: usize) -> Result<Vec<usize>, AllocError>
-    ensures { IfOk result (λ lines. AreLines starts.now size lines.items) }
+/// Returns, for each multiple of `STRIDE` up to the number of bytes, how many lines but the first begin at or before it.
+fn line_counts(alloc: Global, starts: &[usize], bytes: &[u8]) -> Result<Vec<usize>, OutOfMemory>
+    ensures { IfOk result (λ lines. AreLines starts.now (length bytes.now) lines.items) }
 {
-    let strides = size / STRIDE + 1;
-    let mut lines = Vec::with_capacity(alloc, strides)?;
+    let strides = bytes.len() / STRIDE + 1;
+    let mut lines = vec::with_capacity_of(alloc, strides, bytes)?;
     let mut line = 0;
     for i in 0..strides {
         line = line_at(starts, line, i * STRIDE);
-        lines.push(line)?;
+        vec::push(&mut lines, line)?;
     }
     Ok(lines)
 }
@@ -137,12 +138,13 @@ fn shown(following: usize) -> i32
 
 impl TextIndex {
     /// Builds the index of a text. Fails only if an allocation fails.
-    pub(crate) fn new(alloc: Global, text: &str) -> Result<TextIndex, AllocError>
+    pub(crate) fn new(alloc: Global, text: &str) -> Result<TextIndex, OutOfMemory>
         ensures { IfOk result (λ index. Indexes text.now index) }
     {
+        let bytes = text.as_bytes();
         let starts = line_starts(alloc, text)?;
-        let lines = line_counts(alloc, &starts, text.len())?;
-        if is_ascii(text.as_bytes()) {
+        let lines = line_counts(alloc, &starts, bytes)?;
+        if is_ascii(bytes) {
             return Ok(TextIndex {
                 starts,
                 single: true,
@@ -150,7 +152,7 @@ impl TextIndex {
                 lines,
             });
         }
-        let blocks = block_counts(alloc, text.as_bytes())?;
+        let blocks = block_counts(alloc, bytes)?;
         Ok(TextIndex {
             starts,
             single: false,

@@ -10,7 +10,8 @@ use crate::class::Class;
 use crate::index::TextIndex;
 use crate::position::{Place, SourcePosition};
 use crate::scan::{comes_at, decode, end_of};
-use std::alloc::{AllocError, Global};
+use irtext_memory::{OutOfMemory, string};
+use std::alloc::Global;
 use std::marker::Model;
 
 /// A stream of the characters of a text, which it owns; and whether it was marked as failed.
@@ -56,16 +57,16 @@ impl Model for TextStream {
 
 impl TextStream {
     /// Returns a stream at the beginning of a text, which is copied. Fails only if an allocation fails.
-    pub fn new(alloc: Global, text: &str) -> Result<TextStream, AllocError>
+    pub fn new(alloc: Global, text: &str) -> Result<TextStream, OutOfMemory>
         ensures { IfOk result (λ s. s ≡ record { passed = []; rest = chars text.now; failed = false }) }
     {
-        let text = String::from_str(alloc, text)?;
+        let text = string::from_str(alloc, text)?;
         TextStream::from_string(alloc, text)
     }
 
     /// Returns a stream at the beginning of a text, which becomes its own without a copy. Fails only if an allocation fails; the text is
     /// then dropped.
-    pub fn from_string(alloc: Global, text: String) -> Result<TextStream, AllocError>
+    pub fn from_string(alloc: Global, text: String) -> Result<TextStream, OutOfMemory>
         ensures { IfOk result (λ s. s ≡ record {
           passed = [];
           rest = chars (string_bytes text);

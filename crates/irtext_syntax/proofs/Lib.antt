@@ -7,6 +7,7 @@ pub mod ListWritten
 pub mod WordRead
 pub mod DottedRead
 pub mod MaybeRead
+pub mod BoxedRead
 pub mod Rows
 pub mod Composed
 pub mod Restored

@@ -20,6 +20,7 @@
 //! ```
 #![tactic(auto)]
 
+pub mod boxed;
 pub mod characters;
 pub mod fixed;
 pub mod keyword;
@@ -36,6 +37,7 @@ pub mod sequence;
 pub mod table;
 pub mod words;
 
+pub use boxed::Boxed;
 pub use characters::Characters;
 pub use keyword::{Flag, Keyword};
 pub use list::ListOf;

@@ -1,5 +1,5 @@
 -- A dialect with one operation, as it is in a context in which nothing else is registered.
-use Rattle.std.specs.Prelude.{true, List, [], ◌∷◌, codes}
+use Rattle.std.specs.Prelude.{true, false, List, [], ◌∷◌, codes}
 use Rattle.irtext_base.specs.Format.{Format, custom, word, region}
 use Rattle.irtext_base.specs.Text.{Text}
 use Rattle.irtext_base.specs.declared.base.identifier.OpId.{OpId}

@@ -24,8 +24,6 @@ use Rattle.irtext_grammar.specs.Grammar.Marked.{AllShown}
 use Rattle.irtext_grammar.specs.Graphs.Closed.{Fit}
 use Rattle.irtext_grammar.specs.Graphs.Graph.{Graph, Printing, written}
 use Rattle.irtext_grammar.specs.Graphs.Regained.{Named}
-use Rattle.irtext_grammar.specs.Graphs.Represents.{Distinct}
-use Rattle.irtext_grammar.proofs.Graphs.RepresentsClosed.{found_closed}
 use Rattle.irtext_grammar.specs.Promises.Root.{UnlessMemory}
 use Rattle.irtext_print.specs.Printers.PrintedOperation.{levels}
 use Rattle.irtext_print.specs.Printers.Shown.{Shown}
@@ -41,9 +39,11 @@ use Rattle.irtext_parse_state.specs.declared.parsable.state.StateStream.{StateSt
 use Rattle.irtext_tokens.specs.AttrTexts.{attr_at}
 use Rattle.irtext_grammar.specs.Back.{ClosedRoot, HeldBack, HeldWhole}
 use Rattle.irtext_grammar.specs.RootParts.{KeptRoot}
+use Rattle.pliron_text.specs.Alike.{KnowAlike, KnowsRoot, AreKnownAlike}
 use Rattle.pliron_text.specs.PrintedRoot.{PrintedRoot}
+use Rattle.pliron_text.proofs.Alike.Seen.{seen_alike}
 use Rattle.pliron_text.proofs.PrintedBack.{without_limit, gives_back_root, gives_back_whole, not_refused, none_read}
-use Rattle.pliron_text.specs.Calls.{IsClosed, IsPrinted, ShowsAll, ReadsPrinted, ComesBack, ComesBackWhole, ReadsText, RefusesText}
+use Rattle.pliron_text.specs.Calls.{IsPrinted, ShowsAll, ReadsPrinted, ComesBack, ComesBackWhole, ReadsText, RefusesText}
 use Rattle.pliron_text.proofs.Fitting.{fits_whole}
 use Rattle.pliron_text.proofs.Unlimited.{fault_shown}
 
@@ -51,10 +51,6 @@ use Rattle.pliron_text.proofs.Unlimited.{fault_shown}
 pub refused_as : {X A : Type 0} (P Q : ParseFault A → Type 0) → ((f : ParseFault A) → P f → Q f) → (r : Result X (ParseFault A)) → IfErr r (UnlessMemory P) → IfErr r (UnlessMemory Q)
 refused_as P Q as-q (Ok x) h = tt
 refused_as P Q as-q (Err f) h = elim h [ inl m ↦ inl m | inr p ↦ inr (as-q f p) ]
-
--- a root that is alone is closed if its operations fit
-pub closed_where_fits : {T A : Type 0} (written : A → Text) (C : Printing T A) (ctx : ContextView T A) (p : Ptr Operation) (g : Graph T A) → IsClosed written C ctx p g → Distinct C (isolated ctx.dialects) g → Fit C (isolated ctx.dialects) g → ClosedRoot C (isolated ctx.dialects) g
-closed_where_fits written C ctx p g h d f = record { closed = found_closed C (isolated ctx.dialects) g h.found d h.results h.operands h.successors h.alone; fits = f; unlabelled = h.unlabelled }
 
 module _ {T A : Type 0} (types : ir_text.Ghosts T A) (owns : ir_text.Ghosts A A) (attributes : attr_text.Ghosts A A) (same : A → A → Bool)
     (ctx : ContextView T A) (p : Ptr Operation) (nested : Nested (children ctx.graph) (parent ctx.graph)) (layout : Shown (Unit {0})) where
@@ -95,15 +91,15 @@ module _ {T A : Type 0} (types : ir_text.Ghosts T A) (owns : ir_text.Ghosts A A)
       → ReadsPrinted types owns attributes same ctx p layout other q left
   read_printed bytes printed text is other q left r = record { bytes = text; printed = subst (IsPrinted types owns attributes same ctx p layout) (sym is) printed; reads = r }
 
-  -- The facts of what is parsed back from the printed text of a root, in a context with the same dialects.
+  -- The facts of what is parsed back from the printed text of a root, in a context that knows its operations alike.
   pub record IsBack (g : Graph T A) (text : List ℕ) (other : ContextView T A) : Type 0 where
     pub back : ShowsAll types owns attributes same ctx p layout g → (Fit C (isolated ctx.dialects) g → ClosedRoot C (isolated ctx.dialects) g) → (q : Ptr Operation) (left : ContextView T A) → ReadsText texts own_texts attr text other q left → ComesBack types owns attributes same ctx p layout other q left g
     pub whole : ShowsAll types owns attributes same ctx p layout g → (Fit C (isolated ctx.dialects) g → ClosedRoot C (isolated ctx.dialects) g × Named C g) → (q : Ptr Operation) (left : ContextView T A) → ReadsText texts own_texts attr text other q left → ComesBackWhole types owns attributes same ctx p layout other q left g
-    pub limited : Fit C (isolated ctx.dialects) g → (ShowsAll types owns attributes same ctx p layout g → ⊥) → (q : Ptr Operation) (left : ContextView T A) → ReadsText texts own_texts attr text other q left → ⊥
+    pub limited : Fit C (isolated ctx.dialects) g → (ShowsAll types owns attributes same ctx p layout g → ⊥) → KnowAlike other.dialects ctx.dialects → (q : Ptr Operation) (left : ContextView T A) → ReadsText texts own_texts attr text other q left → ⊥
     pub refused : ShowsAll types owns attributes same ctx p layout g → (Fit C (isolated ctx.dialects) g → ClosedRoot C (isolated ctx.dialects) g) → (f : ParseFault A) → UnlessMemory (RefusesText texts own_texts attr text other types.reading) f → fault_of f.cause ≡ faults.Memory
 
   module _ (types_law : Lawful T texts) (owns_law : Lawful A own_texts) (unreserved : Unreserved A own_texts) (sound : (a b : A) → same a b ≡ true → a ≡ b) (reflexive : (a : A) → same a a ≡ true)
-      (bytes : List ℕ) (utf8 : IsUtf8 bytes) (few : length bytes < 2 ^ 64) (printed : IsPrinted types owns attributes same ctx p layout bytes) (text : List ℕ) (text_is : text ≡ bytes) (other : ContextView T A) (same_dialects : other.dialects ≡ ctx.dialects)
+      (bytes : List ℕ) (utf8 : IsUtf8 bytes) (few : length bytes < 2 ^ 64) (printed : IsPrinted types owns attributes same ctx p layout bytes) (text : List ℕ) (text_is : text ≡ bytes) (other : ContextView T A) (knows : KnowsRoot ctx other.dialects p)
       (keeps : (g : Graph T A) → seen_root owns.written ctx p ≡ Some g → KeptRoot attr owns.written C (isolated ctx.dialects) g) (nowhere : block_round ctx p ≡ None) (g : Graph T A) (sees : seen_root owns.written ctx p ≡ Some g) where
     as_printed : Fit C (isolated ctx.dialects) g → PrintedRoot texts own_texts attr C ctx p g layout.width layout.indent (levels layout.limit) bytes
     as_printed fits = record { sees = sees; kept = keeps g sees; fits = fits; utf8 = utf8; few = few; printed = printed.is_text g sees nowhere }
@@ -112,13 +108,14 @@ module _ {T A : Type 0} (types : ir_text.Ghosts T A) (owns : ir_text.Ghosts A A)
     begins : (old : StateStream T A (Unit {0})) → Begins (at_beginning text) other old → old.stream.rest ≡ chars bytes
     begins old s = ap (λ (v : StreamView). v.rest) s.stream_is ∙ ap chars text_is
 
-    dialects_there : (old : StateStream T A (Unit {0})) → Begins (at_beginning text) other old → old.state.ctx.now.dialects ≡ ctx.dialects
-    dialects_there old s = ap (λ (v : ContextView T A). v.dialects) s.context ∙ same_dialects
+    alike_there : (old : StateStream T A (Unit {0})) → Begins (at_beginning text) other old → AreKnownAlike old.state.ctx.now.dialects ctx.dialects g
+    alike_there old s = subst (λ z. AreKnownAlike z ctx.dialects g) (sym (ap (λ (v : ContextView T A). v.dialects) s.context)) (seen_alike ctx owns.written p nested other.dialects knows g sees)
 
     -- nothing is parsed from a root of which a region was left out
-    nothing_back : Fit C (isolated ctx.dialects) g → (ShowsAll types owns attributes same ctx p layout g → ⊥) → (q : Ptr Operation) (left : ContextView T A) → ReadsText texts own_texts attr text other q left → ⊥
-    nothing_back fits out q left r =
-        none_read texts owns.reading owns.written types_law owns_law unreserved attributes.outlined attributes.print_once same sound reflexive ctx p g layout.width layout.indent bytes (levels layout.limit) (as_printed fits) r.old (begins r.old r.begins) (dialects_there r.old r.begins) out q r.new r.builds
+    nothing_back : Fit C (isolated ctx.dialects) g → (ShowsAll types owns attributes same ctx p layout g → ⊥) → KnowAlike other.dialects ctx.dialects → (q : Ptr Operation) (left : ContextView T A) → ReadsText texts own_texts attr text other q left → ⊥
+    nothing_back fits out all q left r =
+        none_read texts owns.reading owns.written types_law owns_law unreserved attributes.outlined attributes.print_once same sound reflexive ctx p g layout.width layout.indent bytes (levels layout.limit) (as_printed fits) r.old (begins r.old r.begins)
+        (subst (λ z. KnowAlike z ctx.dialects) (sym (ap (λ (v : ContextView T A). v.dialects) r.begins.context)) all) out q r.new r.builds
 
     module _ (shown : ShowsAll types owns attributes same ctx p layout g) where
       fits_there : Fit C (isolated ctx.dialects) g
@@ -133,7 +130,7 @@ module _ {T A : Type 0} (types : ir_text.Ghosts T A) (owns : ir_text.Ghosts A A)
       reads_back closed q left r = (
         read_printed bytes printed text text_is other q left r,
         subst (λ (z : ContextView T A). HeldBack texts own_texts attr C (isolated ctx.dialects) g r.new.stream.rest (held_root z q)) r.ends
-            (gives_back_root texts owns.reading owns.written types_law owns_law unreserved attributes.outlined attributes.print_once same sound reflexive ctx p g layout.width layout.indent bytes wholly (closed fits_there) r.old (begins r.old r.begins) (dialects_there r.old r.begins) q r.new r.builds),
+            (gives_back_root texts owns.reading owns.written types_law owns_law unreserved attributes.outlined attributes.print_once same sound reflexive ctx p g layout.width layout.indent bytes wholly (closed fits_there) r.old (begins r.old r.begins) (alike_there r.old r.begins) q r.new r.builds),
       )
 
       -- with nothing filled in but positions, where all has names
@@ -142,7 +139,7 @@ module _ {T A : Type 0} (types : ir_text.Ghosts T A) (owns : ir_text.Ghosts A A)
       reads_whole closed q left r = let k = closed fits_there in (
         read_printed bytes printed text text_is other q left r,
         subst (λ (z : ContextView T A). HeldWhole texts own_texts attr C (isolated ctx.dialects) g r.new.stream.rest (held_root z q)) r.ends
-            (gives_back_whole texts owns.reading owns.written types_law owns_law unreserved attributes.outlined attributes.print_once same sound reflexive ctx p g layout.width layout.indent bytes wholly k.0 r.old (begins r.old r.begins) (dialects_there r.old r.begins) k.1 q r.new r.builds),
+            (gives_back_whole texts owns.reading owns.written types_law owns_law unreserved attributes.outlined attributes.print_once same sound reflexive ctx p g layout.width layout.indent bytes wholly k.0 r.old (begins r.old r.begins) (alike_there r.old r.begins) k.1 q r.new r.builds),
       )
 
       -- and it is an error only if out of memory
@@ -150,7 +147,7 @@ module _ {T A : Type 0} (types : ir_text.Ghosts T A) (owns : ir_text.Ghosts A A)
       memory_alone closed f h =
           elim h [
             | inl m ↦ m.because
-            | inr r ↦ absurd (not_refused texts owns.reading owns.written types_law owns_law unreserved attributes.outlined attributes.print_once same sound reflexive ctx p g layout.width layout.indent bytes wholly (closed fits_there) r.old (begins r.old r.begins) (dialects_there r.old r.begins) types.reading f r.refuses)
+            | inr r ↦ absurd (not_refused texts owns.reading owns.written types_law owns_law unreserved attributes.outlined attributes.print_once same sound reflexive ctx p g layout.width layout.indent bytes wholly (closed fits_there) r.old (begins r.old r.begins) (alike_there r.old r.begins) types.reading f r.refuses)
           ]
 
     pub is_back : IsBack g text other

@@ -32,44 +32,7 @@ use Rattle.irtext_print_ops.specs.Heads.{printing_of, language_of}
 use Rattle.irtext_print_ops.specs.Walk.{inside_of, seen_at}
 use Rattle.pliron_text.specs.Unprinted.{plain}
 use Rattle.pliron_text.specs.Misfits.{AllFit}
-
--- ---- the parts of forests of pointers
-abbrev PtrRegions : Type 0
-PtrRegions = Regions (Ptr Operation) (Ptr BasicBlock) (Ptr Region)
-
-abbrev PtrBlocks : Type 0
-PtrBlocks = Blocks (Ptr Operation) (Ptr BasicBlock) (Ptr Region)
-
-abbrev PtrOperations : Type 0
-PtrOperations = Operations (Ptr Operation) (Ptr BasicBlock) (Ptr Region)
-
-abbrev first_blocks : PtrRegions → PtrBlocks
-first_blocks no_regions = no_blocks
-first_blocks (region r bs more) = bs
-
-abbrev more_regions : PtrRegions → PtrRegions
-more_regions no_regions = no_regions
-more_regions (region r bs more) = more
-
-abbrev first_operations : PtrBlocks → PtrOperations
-first_operations no_blocks = no_operations
-first_operations (forest.block b os more) = os
-
-abbrev more_blocks : PtrBlocks → PtrBlocks
-more_blocks no_blocks = no_blocks
-more_blocks (forest.block b os more) = more
-
-abbrev first_operation : Ptr Operation → PtrOperations → Ptr Operation
-first_operation other no_operations = other
-first_operation other (forest.operation p rs more) = p
-
-abbrev first_regions : PtrOperations → PtrRegions
-first_regions no_operations = no_regions
-first_regions (forest.operation p rs more) = rs
-
-abbrev more_operations : PtrOperations → PtrOperations
-more_operations no_operations = no_operations
-more_operations (forest.operation p rs more) = more
+use Rattle.pliron_text.proofs.Forests.{PtrRegions, PtrBlocks, PtrOperations, first_blocks, more_regions, first_operations, more_blocks, first_operation, first_regions, more_operations}
 
 some_of : {X : Type 0} (o : Option X) → IsSome o → (x : X) × (o ≡ Some x)
 some_of None h = absurd (cc h)

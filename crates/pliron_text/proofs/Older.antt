@@ -1,14 +1,12 @@
--- Where only an operation is new, what is nested in an older one is what it was.
-use Rattle.std.proofs.Common.{◌≡◌, ◌≤◌, ◌+◌, ◌∙◌, ℕ, zero, suc, Bool, true, false, ◌&&◌, Option, Some, None, IsSome, refl, sym, ap, ap₂, subst, arith, List, [], ◌∷◌, length, slice_get, filter_map, option_map}
+-- What is nested in a root that is kept is what it was, as the context holds it and as printing sees it.
+use Rattle.std.proofs.Common.{◌≡◌, ◌+◌, ◌∙◌, ℕ, zero, suc, Option, Some, None, IsSome, refl, sym, ap, ap₂, subst, arith, List, [], ◌∷◌, length, slice_get, filter_map, option_map}
 use Rattle.std.specs.Bool.{⊤}
 use Rattle.std.specs.Option.{option_and_then}
-use borrow.Author.Tests.{ltb-true}
-use Rattle.irtext_base.specs.Locations.{LocationView, LocationViews, src_pos, fused, named, call_site, unknown, no_location, location, location_view, row_sourced}
-use Rattle.irtext_base.specs.Paths.{KeepsPaths, Written, path_of, is_known, are_known, row_known, written_with}
+use Rattle.irtext_base.specs.Locations.{location_view}
+use Rattle.irtext_base.specs.Paths.{Written}
 use Rattle.irtext_base.specs.Text.{Text}
 use Rattle.irtext_base.specs.declared.location.Location.{Location, Unknown}
-use Rattle.irtext_base.specs.declared.location.Source.{Source}
-use Rattle.irtext_base.specs.declared.location.Source.TheVariants.{File, InMemory}
+use Rattle.irtext_base.proofs.PathKeys.{written_same}
 use Rattle.irtext_context.specs.Context.{ContextView, OperationView, BlockView, operation, block, operation_of, block_of}
 use Rattle.irtext_graph.specs.declared.arena.Entry.{Entry}
 use Rattle.irtext_graph.specs.declared.arena.Ptr.{Ptr}
@@ -25,11 +23,10 @@ use Rattle.irtext_graph.specs.declared.object.Defined.{Defined}
 use Rattle.irtext_graph.specs.declared.object.Defined.TheVariants.{OfValue}
 use Rattle.irtext_graph.specs.declared.object.Site.{Site}
 use Rattle.irtext_graph.specs.declared.object.Site.TheVariants.{AtOperand}
-use Rattle.irtext_graph.specs.Graph.{GraphView, children, parent, children_of, parent_of}
-use Rattle.irtext_graph.specs.Nested.{Nested}
+use Rattle.irtext_graph.specs.Graph.{GraphView, IsInside, children, parent, children_of, content_of}
+use Rattle.irtext_graph.specs.Nested.{Nested, Within, climb}
 use Rattle.irtext_graph.specs.Parts.{regions, blocks, operations_in, operands, results_of, arguments_of, value_at}
 use Rattle.irtext_graph.specs.Store.{get}
-use Rattle.irtext_grammar.specs.Contexts.Held.{location_over, entries_of, known_types}
 use Rattle.irtext_grammar.specs.Contexts.Nested.{operations_by, blocks_by, regions_by, within, pointers, number_of, seen_operation, seen_block, seen_regions, seen_blocks, seen_operations, seen_root}
 use Rattle.irtext_grammar.specs.Graphs.Graph.{Graph, GraphOp, GraphBlock}
 use Rattle.irtext_grammar.specs.Spelling.Locations.{written_text, known_text}
@@ -38,45 +35,10 @@ use Rattle.irtext_grammar.specs.Grammar.Forest.{Regions, no_regions, region, Blo
 use Rattle.irtext_grammar.specs.Graphs.Build.{Built, BuiltOp, BuiltBlock}
 use Rattle.irtext_grammar.specs.Names.Script.{Path}
 use Rattle.irtext_names.specs.Held.{PtrRegions, PtrBlocks, PtrOperations, placed_under, held_op, held_head, held_regions, held_blocks, held_operations, held_root, OperationWhole, BlockWhole, IsWhole}
-use Rattle.irtext_names.specs.OnlyNew.{OnlyNew}
-use Rattle.pliron_text.specs.Older.{IsLocatedIn, OperationLocated, BlockLocated, RootLocated, IsOlder}
+use Rattle.pliron_text.specs.Older.{IsLocatedIn, OperationLocated, BlockLocated, KeepsRoot, IsOlder}
+use Rattle.irtext_graph.proofs.Frames.{operation_content_same, block_content_same}
+use Rattle.irtext_names.proofs.Ages.{here_is_live}
 use Rattle.irtext_print_ops.proofs.Depths.{region_up, block_up, operation_up, inside_is}
-
--- ---- locations with more paths
-nothing_at : (xs : List (List ℕ)) (i : ℕ) → slice_get xs i ≡ None → length xs ≤ i
-nothing_at [] i e = omega arith
-nothing_at (x ∷ xs) zero e = absurd (cc)
-nothing_at (x ∷ xs) (suc i) e = let k = nothing_at xs i e in omega (arith, k)
-
-source_same : (before after : List (List ℕ)) → KeepsPaths before after → (s : Source) → is_known (length before) s ≡ true → path_of after s ≡ path_of before s
-source_same before after keeps InMemory k = refl
-source_same before after keeps (File key) k = go (slice_get before key.index) refl
-  where
-    go : (o : Option (List ℕ)) → slice_get before key.index ≡ o → slice_get after key.index ≡ slice_get before key.index
-    go (Some text) e = keeps key.index text e ∙ sym e
-    go None e = let low = nothing_at before key.index e in let less = ltb-true key.index (length before) k in absurd (omega (arith, low, less))
-
-both_left : (a b : Bool) → (a && b) ≡ true → a ≡ true
-both_left true b e = refl
-both_left false b e = absurd (cc)
-
-both_right : (a b : Bool) → (a && b) ≡ true → b ≡ true
-both_right true b e = e
-both_right false b e = absurd (cc)
-
-mutual
-  location_same : {A : Type 0} (before after : List (List ℕ)) → KeepsPaths before after → (l : LocationView A) → are_known (length before) l ≡ true → written_with after l ≡ written_with before l
-  location_same before after keeps (src_pos src pos) k = ap (λ s. src_pos s pos) (source_same before after keeps src k)
-  location_same before after keeps (fused metadata ls) k = ap (fused metadata) (row_same before after keeps ls k)
-  location_same before after keeps (named name child) k = ap (named name) (location_same before after keeps child k)
-  location_same before after keeps (call_site callee caller) k =
-      ap₂ call_site (location_same before after keeps callee (both_left (are_known (length before) callee) (are_known (length before) caller) k)) (location_same before after keeps caller (both_right (are_known (length before) callee) (are_known (length before) caller) k))
-  location_same before after keeps unknown k = refl
-
-  row_same : {A : Type 0} (before after : List (List ℕ)) → KeepsPaths before after → (ls : LocationViews A) → row_known (length before) ls ≡ true → row_sourced (path_of after) ls ≡ row_sourced (path_of before) ls
-  row_same before after keeps no_location k = refl
-  row_same before after keeps (location l ls) k =
-      ap₂ location (location_same before after keeps l (both_left (are_known (length before) l) (row_known (length before) ls) k)) (row_same before after keeps ls (both_right (are_known (length before) l) (row_known (length before) ls) k))
 
 -- ---- forests of pointers
 module _ {O B T : Type 0} (g k : GraphView O B T) (f h : Ptr Operation → Regions (Ptr Operation) (Ptr BasicBlock) (Ptr Region)) where
@@ -92,11 +54,6 @@ module _ {O B T : Type 0} (g k : GraphView O B T) (f h : Ptr Operation → Regio
   regions_frame [] e = refl
   regions_frame (r ∷ rs) e = ap₂ (λ x y. region r x y) (e 0 r refl) (regions_frame rs (λ m s at. e (suc m) s at))
 
--- an object with a parent is live
-parent_lives : {P C E : Type 0} (f : Ptr P → Object) (e : Option (Entry (Node P C E))) (o : Object) → option_map f (parent_of e) ≡ Some o → IsSome e
-parent_lives f None o h = absurd (cc)
-parent_lives f (Some e) o h = refl
-
 -- one level more than there are operations shows all
 enough : {O B T : Type 0} (g : GraphView O B T) → Nested (children g) (parent g) → (d n : ℕ) (p : Ptr Operation) → n ≡ d + suc (length g.operations.cells) → within g n p ≡ within g (suc (length g.operations.cells)) p
 enough g nested zero n p e = let f : n ≡ suc (length g.operations.cells) = omega (arith, e) in ap (λ m. within g m p) f
@@ -109,39 +66,49 @@ enough g nested (suc d) n p e =
     operations_frame g g (within g (d + top)) (within g top) (operations_in g b) (λ i q at. enough g nested d (d + top) q refl)))
     ∙ sym (inside_is g nested p)
 
-module _ {T A : Type 0} (old new : ContextView T A) (op : Ptr Operation) (only : OnlyNew op old new) (nested : Nested (children old.graph) (parent old.graph)) where
-  region_lives : (p : Ptr Operation) (r : Ptr Region) (m : ℕ) → slice_get (regions old.graph p) m ≡ Some r → IsSome (get old.graph.regions r)
-  region_lives p r m at = parent_lives TheOperation (get old.graph.regions r) (TheOperation p) (region_up old.graph nested p r m at)
+-- what is one step further down is inside too
+further_in : (up : Object → Option Object) (p k x : Object) → up x ≡ Some k → Within up p k → Within up p x
+further_in up p k x e (n, h) = (suc n, ap (climb up n) e ∙ h)
 
-  block_lives : (r : Ptr Region) (b : Ptr BasicBlock) (j : ℕ) → slice_get (blocks old.graph r) j ≡ Some b → IsSome (get old.graph.blocks b)
-  block_lives r b j at = parent_lives TheRegion (get old.graph.blocks b) (TheRegion r) (block_up old.graph nested r b j at)
+module _ {T A : Type 0} (old new : ContextView T A) (root : Ptr Operation) (kept : KeepsRoot root old new) (nested : Nested (children old.graph) (parent old.graph)) where
+  -- an object is the root or nested in it
+  abbrev Inside : Object → Type 0
+  Inside q = IsInside old.graph (TheOperation root) q
 
-  operation_lives : (b : Ptr BasicBlock) (q : Ptr Operation) (i : ℕ) → slice_get (operations_in old.graph b) i ≡ Some q → IsSome (get old.graph.operations q)
-  operation_lives b q i at = parent_lives TheBlock (get old.graph.operations q) (TheBlock b) (operation_up old.graph nested b q i at)
+  region_in : (p : Ptr Operation) (r : Ptr Region) (m : ℕ) → slice_get (regions old.graph p) m ≡ Some r → Inside (TheOperation p) → Inside (TheRegion r)
+  region_in p r m at = further_in (parent old.graph) (TheOperation root) (TheOperation p) (TheRegion r) (region_up old.graph nested p r m at)
 
-  inside_frame : (n : ℕ) (p : Ptr Operation) → IsSome (get old.graph.operations p) → within new.graph n p ≡ within old.graph n p
+  block_in : (r : Ptr Region) (b : Ptr BasicBlock) (j : ℕ) → slice_get (blocks old.graph r) j ≡ Some b → Inside (TheRegion r) → Inside (TheBlock b)
+  block_in r b j at = further_in (parent old.graph) (TheOperation root) (TheRegion r) (TheBlock b) (block_up old.graph nested r b j at)
+
+  operation_in : (b : Ptr BasicBlock) (q : Ptr Operation) (i : ℕ) → slice_get (operations_in old.graph b) i ≡ Some q → Inside (TheBlock b) → Inside (TheOperation q)
+  operation_in b q i at = further_in (parent old.graph) (TheOperation root) (TheBlock b) (TheOperation q) (operation_up old.graph nested b q i at)
+
+  inside_frame : (n : ℕ) (p : Ptr Operation) → Inside (TheOperation p) → within new.graph n p ≡ within old.graph n p
   inside_frame zero p l = refl
   inside_frame (suc n) p l =
-      ap (λ e. regions_by new.graph (within new.graph n) (children_of e)) (only.operations p l)
+      ap (λ e. regions_by new.graph (within new.graph n) (children_of e)) (kept.operations p l)
       ∙ regions_frame old.graph new.graph (within new.graph n) (within old.graph n) (regions old.graph p) (λ m r at.
-      ap (λ e. blocks_by new.graph (within new.graph n) (children_of e)) (only.regions r (region_lives p r m at))
+      let s = region_in p r m at l in
+      ap (λ e. blocks_by new.graph (within new.graph n) (children_of e)) (kept.regions r s)
       ∙ blocks_frame old.graph new.graph (within new.graph n) (within old.graph n) (blocks old.graph r) (λ j b at.
-      ap (λ e. operations_by new.graph (within new.graph n) (children_of e)) (only.blocks b (block_lives r b j at))
-      ∙ operations_frame old.graph new.graph (within new.graph n) (within old.graph n) (operations_in old.graph b) (λ i q at. inside_frame n q (operation_lives b q i at))))
+      let t = block_in r b j at s in
+      ap (λ e. operations_by new.graph (within new.graph n) (children_of e)) (kept.blocks b t)
+      ∙ operations_frame old.graph new.graph (within new.graph n) (within old.graph n) (operations_in old.graph b) (λ i q at. inside_frame n q (operation_in b q i at t))))
 
   -- the same pointers are nested in it
-  pointers_frame : Nested (children new.graph) (parent new.graph) → (p : Ptr Operation) → IsSome (get old.graph.operations p) → pointers new.graph p ≡ pointers old.graph p
-  pointers_frame after p l =
+  pub pointers_frame : Nested (children new.graph) (parent new.graph) → pointers new.graph root ≡ pointers old.graph root
+  pointers_frame after =
       let a = length old.graph.operations.cells in
       let b = length new.graph.operations.cells in
-      ap (λ rs. record { own = p; regions = rs }) (
-      sym (enough new.graph after a (suc (a + b)) p (omega arith)) ∙ inside_frame (suc (a + b)) p l ∙ enough old.graph nested b (suc (a + b)) p (omega arith))
+      ap (λ rs. record { own = root; regions = rs }) (
+      sym (enough new.graph after a (suc (a + b)) root (omega arith)) ∙ inside_frame (suc (a + b)) root (0, refl) ∙ enough old.graph nested b (suc (a + b)) root (omega arith))
 
   -- each object nested in it is what it was
-  abbrev SameOp : Ptr Operation → Type 0
+  abbrev pub SameOp : Ptr Operation → Type 0
   SameOp p = get new.graph.operations p ≡ get old.graph.operations p
 
-  abbrev SameBlock : Ptr BasicBlock → Type 0
+  abbrev pub SameBlock : Ptr BasicBlock → Type 0
   SameBlock b = get new.graph.blocks b ≡ get old.graph.blocks b
 
   all_operations : (f : Ptr Operation → PtrRegions) (ps : List (Ptr Operation)) → ((i : ℕ) (q : Ptr Operation) → slice_get ps i ≡ Some q → SameOp q × AllRegions SameOp SameBlock (λ r. ⊤) (f q))
@@ -159,27 +126,29 @@ module _ {T A : Type 0} (old new : ContextView T A) (op : Ptr Operation) (only :
   all_regions f [] e = tt
   all_regions f (r ∷ rs) e = (tt, e 0 r refl, all_regions f rs (λ m s at. e (suc m) s at))
 
-  all_within : (n : ℕ) (p : Ptr Operation) → AllRegions SameOp SameBlock (λ r. ⊤) (within old.graph n p)
-  all_within zero p = tt
-  all_within (suc n) p = all_regions (within old.graph n) (regions old.graph p) (λ m r at.
-      all_blocks (within old.graph n) (blocks old.graph r) (λ j b at. (
-        only.blocks b (block_lives r b j at),
-        all_operations (within old.graph n) (operations_in old.graph b) (λ i q at. (only.operations q (operation_lives b q i at), all_within n q)),
+  all_within : (n : ℕ) (p : Ptr Operation) → Inside (TheOperation p) → AllRegions SameOp SameBlock (λ r. ⊤) (within old.graph n p)
+  all_within zero p l = tt
+  all_within (suc n) p l = all_regions (within old.graph n) (regions old.graph p) (λ m r at.
+      let s = region_in p r m at l in
+      all_blocks (within old.graph n) (blocks old.graph r) (λ j b at.
+      let t = block_in r b j at s in (
+        kept.blocks b t,
+        all_operations (within old.graph n) (operations_in old.graph b) (λ i q at. let u = operation_in b q i at t in (kept.operations q u, all_within n q u)),
       )))
 
   -- ---- the contents
-  operation_same : (p : Ptr Operation) → SameOp p → operation new p ≡ operation old p
+  pub operation_same : (p : Ptr Operation) → SameOp p → operation new p ≡ operation old p
   operation_same p e = ap (option_and_then operation_of) e
 
-  block_same : (b : Ptr BasicBlock) → SameBlock b → block new b ≡ block old b
+  pub block_same : (b : Ptr BasicBlock) → SameBlock b → block new b ≡ block old b
   block_same b e = ap (option_map block_of) e
 
   module _ (all : List (Object × Path)) where
     op_held : (p : Ptr Operation) (view : OperationView T A) → SameOp p → IsLocatedIn old view.loc → held_op new all p view ≡ held_op old all p view
-    op_held p view e l = rw (e, location_same old.paths new.paths only.paths (location_view view.loc) l) refl
+    op_held p view e l = rw (e, written_same old.paths new.paths kept.paths (location_view view.loc) l) refl
 
     head_held : (view : BlockView T A) → IsLocatedIn old view.loc → held_head new all view ≡ held_head old all view
-    head_held view l = rw (location_same old.paths new.paths only.paths (location_view view.loc) l) refl
+    head_held view l = rw (written_same old.paths new.paths kept.paths (location_view view.loc) l) refl
 
     one_block : (v : Option (BlockView T A)) → ((view : BlockView T A) → v ≡ Some view → held_head new all view ≡ held_head old all view)
         → {os ps : Operations (BuiltOp T A (Written A)) (BuiltBlock T A (Written A)) ⊤} {bs cs : Blocks (BuiltOp T A (Written A)) (BuiltBlock T A (Written A)) ⊤} → os ≡ ps → bs ≡ cs
@@ -211,28 +180,44 @@ module _ {T A : Type 0} (old new : ContextView T A) (op : Ptr Operation) (only :
           ∙ one_operation p (operation old p) (λ view e. op_held p view a.0 (l.0 view e)) (regions_held rs a.1 l.1) (operations_held os a.2 l.2)
 
   -- ---- what printing sees
-  results_there : {O T : Type 0} (e : Option (Entry (Node BasicBlock Region (OperationContent O T)))) (i : ℕ) → IsSome (slice_get (results_of (option_map (λ x. x.content.content) e)) i) → IsSome e
+  results_in : {O T : Type 0} (e : Option (Entry (Node BasicBlock Region (OperationContent O T)))) (i : ℕ)
+      → slice_get (results_of (option_map (λ x. x.content.content) e)) i ≡ slice_get (results_of (option_map (λ d. d.1) (content_of e))) i
+  results_in None i = refl
+  results_in (Some e) i = refl
+
+  arguments_in : {B T : Type 0} (e : Option (Entry (Node Region Operation (BlockContent B T)))) (i : ℕ)
+      → slice_get (arguments_of (option_map (λ x. x.content.content) e)) i ≡ slice_get (arguments_of (option_map (λ d. d.1) (content_of e))) i
+  arguments_in None i = refl
+  arguments_in (Some e) i = refl
+
+  pub results_there : {O T : Type 0} (e : Option (Entry (Node BasicBlock Region (OperationContent O T)))) (i : ℕ) → IsSome (slice_get (results_of (option_map (λ x. x.content.content) e)) i) → IsSome e
   results_there None i h = absurd (cc)
   results_there (Some e) i h = refl
 
-  arguments_there : {B T : Type 0} (e : Option (Entry (Node Region Operation (BlockContent B T)))) (i : ℕ) → IsSome (slice_get (arguments_of (option_map (λ x. x.content.content) e)) i) → IsSome e
+  pub arguments_there : {B T : Type 0} (e : Option (Entry (Node Region Operation (BlockContent B T)))) (i : ℕ) → IsSome (slice_get (arguments_of (option_map (λ x. x.content.content) e)) i) → IsSome e
   arguments_there None i h = absurd (cc)
   arguments_there (Some e) i h = refl
 
-  value_same : (v : Value) → IsSome (value_at old.graph v) → value_at new.graph v ≡ value_at old.graph v
-  value_same (Result q i) l = ap (λ e. slice_get (results_of (option_map (λ x. x.content.content) e)) i) (only.operations q (results_there (get old.graph.operations q) i l))
-  value_same (Argument b i) l = ap (λ e. slice_get (arguments_of (option_map (λ x. x.content.content) e)) i) (only.blocks b (arguments_there (get old.graph.blocks b) i l))
+  pub value_same : (v : Value) → IsSome (value_at old.graph v) → value_at new.graph v ≡ value_at old.graph v
+  value_same (Result q i) l =
+      let live = here_is_live old.graph (TheOperation q) (results_there (get old.graph.operations q) i l) in
+      let same = operation_content_same old.graph new.graph q (kept.contents (TheOperation q) live) in
+      results_in (get new.graph.operations q) i ∙ ap (λ d. slice_get (results_of (option_map (λ z. z.1) d)) i) same ∙ sym (results_in (get old.graph.operations q) i)
+  value_same (Argument b i) l =
+      let live = here_is_live old.graph (TheBlock b) (arguments_there (get old.graph.blocks b) i l) in
+      let same = block_content_same old.graph new.graph b (kept.contents (TheBlock b) live) in
+      arguments_in (get new.graph.blocks b) i ∙ ap (λ d. slice_get (arguments_of (option_map (λ z. z.1) d)) i) same ∙ sym (arguments_in (get old.graph.blocks b) i)
 
   module _ (written : A → Text) (first : new.graph.first_place ≡ old.graph.first_place) (used : (u : Site) (d : Defined) → IsUse old.graph d u → IsDefined old.graph d) where
     text_same : (l : Location A) → IsLocatedIn old l → known_text written new.paths l ≡ known_text written old.paths l
     text_same Unknown k = refl
-    text_same l k = ap (λ w. Some (written_text written w)) (location_same old.paths new.paths only.paths (location_view l) k)
+    text_same l k = ap (λ w. Some (written_text written w)) (written_same old.paths new.paths kept.paths (location_view l) k)
 
     numbers_same : (vs : List Value) → ((i : ℕ) (v : Value) → slice_get vs i ≡ Some v → IsSome (value_at old.graph v)) → filter_map (number_of new) vs ≡ filter_map (number_of old) vs
     numbers_same [] h = refl
     numbers_same (v ∷ vs) h = rw (value_same v (h 0 v refl), numbers_same vs (λ i w at. h (suc i) w at)) refl
 
-    op_seen : (p : Ptr Operation) (view : OperationView T A) → SameOp p → IsLocatedIn old view.loc → seen_operation written new p view ≡ seen_operation written old p view
+    pub op_seen : (p : Ptr Operation) (view : OperationView T A) → SameOp p → IsLocatedIn old view.loc → seen_operation written new p view ≡ seen_operation written old p view
     op_seen p view e l =
         let numbers = numbers_same (operands old.graph p) (λ i v at. used (AtOperand p i) (OfValue v) (ap (option_map OfValue) at)) in
         rw (e, numbers, first, text_same view.loc l) refl
@@ -253,7 +238,7 @@ module _ {T A : Type 0} (old new : ContextView T A) (op : Ptr Operation) (only :
     one_operation_seen p (Some view) h e f = rw (h view refl, e, f) refl
 
     mutual
-      regions_seen : (rs : PtrRegions) → AllRegions SameOp SameBlock (λ r. ⊤) rs → AllRegions (OperationLocated old) (BlockLocated old) (λ r. ⊤) rs → seen_regions written new rs ≡ seen_regions written old rs
+      pub regions_seen : (rs : PtrRegions) → AllRegions SameOp SameBlock (λ r. ⊤) rs → AllRegions (OperationLocated old) (BlockLocated old) (λ r. ⊤) rs → seen_regions written new rs ≡ seen_regions written old rs
       regions_seen no_regions a l = refl
       regions_seen (region r bs rs) a l = ap₂ (λ x y. region tt x y) (blocks_seen bs a.1 l.1) (regions_seen rs a.2 l.2)
 
@@ -286,20 +271,16 @@ module _ {T A : Type 0} (old new : ContextView T A) (op : Ptr Operation) (only :
     operations_whole no_operations a w = tt
     operations_whole (forest.operation p rs os) a w = (op_whole p a.0 w.0, regions_whole rs a.1 w.1, operations_whole os a.2 w.2)
 
--- what is there has an entry
-entry_there : {X Y : Type 0} (f : X → Option Y) (e : Option X) → IsSome (option_and_then f e) → IsSome e
-entry_there f None h = absurd (cc)
-entry_there f (Some x) h = refl
-
-module _ {T A : Type 0} (op p : Ptr Operation) (old new : ContextView T A) (older : IsOlder op p old new) where
-  alive : IsSome (get old.graph.operations p)
-  alive = entry_there operation_of (get old.graph.operations p) older.there
+module _ {T A : Type 0} (p : Ptr Operation) (old new : ContextView T A) (older : IsOlder p old new) where
+  -- it is unchanged itself
+  pub own_same : get new.graph.operations p ≡ get old.graph.operations p
+  own_same = older.kept.operations p (0, refl)
 
   pub nested_stays : pointers new.graph p ≡ pointers old.graph p
-  nested_stays = pointers_frame old new op older.only older.before.nested older.after.nested p alive
+  nested_stays = pointers_frame old new p older.kept older.before.nested older.after.nested
 
-  inside : AllRegions (SameOp old new op older.only older.before.nested) (SameBlock old new op older.only older.before.nested) (λ r. ⊤) (pointers old.graph p).regions
-  inside = all_within old new op older.only older.before.nested (suc (length old.graph.operations.cells)) p
+  pub inside : AllRegions (SameOp old new p older.kept older.before.nested) (SameBlock old new p older.kept older.before.nested) (λ r. ⊤) (pointers old.graph p).regions
+  inside = all_within old new p older.kept older.before.nested (suc (length old.graph.operations.cells)) p (0, refl)
 
   -- what is built under these pointers
   abbrev built_under : ContextView T A → Root (Ptr Operation) (Ptr BasicBlock) (Ptr Region) → OperationView T A → Built T A (Written A)
@@ -309,15 +290,15 @@ module _ {T A : Type 0} (op p : Ptr Operation) (old new : ContextView T A) (olde
   held_stays =
       let ps = pointers old.graph p in
       ap (λ qs. option_map (built_under new qs) (operation new p)) nested_stays
-      ∙ ap (option_map (built_under new ps)) (operation_same old new op older.only older.before.nested p (older.only.operations p alive))
+      ∙ ap (option_map (built_under new ps)) (operation_same old new p older.kept older.before.nested p own_same)
       ∙ go (operation old p) refl
     where
       go : (v : Option (OperationView T A)) → operation old p ≡ v → option_map (built_under new (pointers old.graph p)) v ≡ option_map (built_under old (pointers old.graph p)) v
       go None e = refl
       go (Some view) e =
           let all = placed_under (pointers old.graph p) in
-          let o = op_held old new op older.only older.before.nested all p view (older.only.operations p alive) (older.located.0 view e) in
-          let r = regions_held old new op older.only older.before.nested all (pointers old.graph p).regions inside older.located.1 in
+          let o = op_held old new p older.kept older.before.nested all p view own_same (older.located.0 view e) in
+          let r = regions_held old new p older.kept older.before.nested all (pointers old.graph p).regions inside older.located.1 in
           both o r
         where
           both : {x y : BuiltOp T A (Written A)} {rs ss : Regions (BuiltOp T A (Written A)) (BuiltBlock T A (Written A)) ⊤} → x ≡ y → rs ≡ ss
@@ -332,14 +313,14 @@ module _ {T A : Type 0} (op p : Ptr Operation) (old new : ContextView T A) (olde
   seen_stays written =
       let ps = pointers old.graph p in
       ap (λ qs. option_map (seen_under written new qs) (operation new p)) nested_stays
-      ∙ ap (option_map (seen_under written new ps)) (operation_same old new op older.only older.before.nested p (older.only.operations p alive))
+      ∙ ap (option_map (seen_under written new ps)) (operation_same old new p older.kept older.before.nested p own_same)
       ∙ go (operation old p) refl
     where
       go : (v : Option (OperationView T A)) → operation old p ≡ v → option_map (seen_under written new (pointers old.graph p)) v ≡ option_map (seen_under written old (pointers old.graph p)) v
       go None e = refl
       go (Some view) e =
-          let o = op_seen old new op older.only older.before.nested written older.only.counts.first_place older.before.used p view (older.only.operations p alive) (older.located.0 view e) in
-          let r = regions_seen old new op older.only older.before.nested written older.only.counts.first_place older.before.used (pointers old.graph p).regions inside older.located.1 in
+          let o = op_seen old new p older.kept older.before.nested written older.kept.counts.first_place older.before.used p view own_same (older.located.0 view e) in
+          let r = regions_seen old new p older.kept older.before.nested written older.kept.counts.first_place older.before.used (pointers old.graph p).regions inside older.located.1 in
           both o r
         where
           both : {x y : GraphOp T A} {rs ss : Regions (GraphOp T A) (GraphBlock T A) ⊤} → x ≡ y → rs ≡ ss → ◌≡◌ {A = Option (Graph T A)} (Some (record { own = x; regions = rs })) (Some (record { own = y; regions = ss }))
@@ -347,6 +328,6 @@ module _ {T A : Type 0} (op p : Ptr Operation) (old new : ContextView T A) (olde
 
   pub whole_stays : IsWhole old p → IsWhole new p
   whole_stays w = (
-    op_whole old new op older.only older.before.nested p (older.only.operations p alive) w.0,
-    subst (λ ps. AllRegions (OperationWhole new) (BlockWhole new) (λ r. ⊤) ps.regions) (sym nested_stays) (regions_whole old new op older.only older.before.nested (pointers old.graph p).regions inside w.1),
+    op_whole old new p older.kept older.before.nested p own_same w.0,
+    subst (λ ps. AllRegions (OperationWhole new) (BlockWhole new) (λ r. ⊤) ps.regions) (sym nested_stays) (regions_whole old new p older.kept older.before.nested (pointers old.graph p).regions inside w.1),
   )

@@ -1,5 +1,5 @@
 -- For callers: the promises about a root that is printed and parsed again.
-use Rattle.std.specs.Prelude.{◌≡◌, ℕ, Bool, true, List, [], Some, None}
+use Rattle.std.specs.Prelude.{◌≡◌, ℕ, Bool, List, Some, None}
 use Rattle.std.specs.Str.{encode_utf8_all}
 use Rattle.irtext_base.specs.Answers.{Outcome}
 use Rattle.irtext_base.specs.Faults.{fault_of}
@@ -17,9 +17,7 @@ use Rattle.irtext_grammar.specs.Contexts.Formats.{isolated}
 use Rattle.irtext_grammar.specs.Contexts.Nested.{printing_over, seen_root}
 use Rattle.irtext_grammar.specs.Grammar.Marked.{AllShown}
 use Rattle.irtext_grammar.specs.Graphs.Graph.{Graph, Printing, written}
-use Rattle.irtext_grammar.specs.Graphs.Same.{Found, resolved_root}
 use Rattle.irtext_grammar.specs.Spelling.Section.{text}
-use Rattle.irtext_grammar.specs.Spelling.Writable.{has_region}
 use Rattle.irtext_grammar.specs.Promises.Root.{UnlessMemory}
 use Rattle.irtext_print.specs.Printers.PrintedOperation.{levels}
 use Rattle.irtext_print.specs.Printers.Shown.{Shown}
@@ -30,26 +28,12 @@ use Rattle.irtext_names.specs.OnlyNew.{OnlyNew}
 use Rattle.irtext_names.specs.Promises.{BuildsRoot, RefusesRoot}
 use Rattle.irtext_tokens.specs.AttrTexts.{attr_at}
 use Rattle.irtext_grammar.specs.Back.{HeldBack, HeldWhole}
-use Rattle.irtext_grammar.specs.RootParts.{HoldsNoLabels}
 use Rattle.irtext_parse_state.specs.FromText.{at_beginning, Begins}
 use Rattle.irtext_parse_state.specs.declared.parsable.state.StateStream.{StateStream}
 use Rattle.pliron_text.specs.declared.calls.NotAgain.{NotAgain}
 use Rattle.pliron_text.specs.declared.calls.NotAgain.TheVariants.{Refused, Lost}
 use Rattle.pliron_text.specs.declared.calls.NotBack.{NotBack}
 use Rattle.pliron_text.specs.declared.calls.NotBack.TheVariants.{Unprinted, Unread}
-
--- A closed root of a context, as printing sees it: it is in no block, and has no results, operands or successors. It is isolated, or
--- has no region. Each operand inside is a value that its isolated scope defines, and each successor a block that its region defines. No
--- dictionary of a block contains a label.
-pub record IsClosed {T A : Type 0} (written : A → Text) (C : Printing T A) (ctx : ContextView T A) (p : Ptr Operation) (g : Graph T A) : Type 0 where
-  pub sees : seen_root written ctx p ≡ Some g
-  pub nowhere : block_round ctx p ≡ None
-  pub results : g.own.results ≡ []
-  pub operands : g.own.operands ≡ []
-  pub successors : g.own.successors ≡ []
-  pub alone : has_region g.regions ≡ true → isolated ctx.dialects g.own.id ≡ true
-  pub found : Found (resolved_root C (isolated ctx.dialects) g)
-  pub unlabelled : HoldsNoLabels g
 
 module _ {T A : Type 0} (types : ir_text.Ghosts T A) (owns : ir_text.Ghosts A A) (attributes : attr_text.Ghosts A A) (same : A → A → Bool) (ctx : ContextView T A) (p : Ptr Operation) where
   -- The bytes are the text of a root in this layout, as the definitions of printing give it for the root's graph; and every printed

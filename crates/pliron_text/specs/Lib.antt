@@ -1,9 +1,11 @@
 -- The definitions that the law "a printed root parses back" rests on, in reading order: texts and what they parse as, trees, names,
 -- graphs, what is printed of them, what a context holds, and the promises to a caller. Then what functions promise one another:
 -- streams, faults and causes, what a parser returns, what a printer appends.
+pub mod Alike
 pub mod Calls
 pub mod Misfits
 pub mod Older
+pub mod PrintsAsBefore
 pub mod PrintedRoot
 pub mod Promises
 pub mod Unprinted

@@ -1,4 +1,5 @@
-//! The laws of printing and parsing, with bodies that make the calls: a root is printed, and its text is parsed in another context.
+//! The laws of printing and parsing, with bodies that make the calls: a root is printed, and its text is parsed in another context; and a
+//! root is printed before and after a text is parsed in the same context.
 ghost use Rattle.std.specs.Prelude.{◌≡◌, ◌<◌, ◌^◌, None, Some, IsSome, IfErr, IfOk, OnErr, length, string_bytes};
 ghost use Rattle.irtext_base.specs.Own.{texts_of};
 ghost use Rattle.irtext_context.specs.Context.{operation};
@@ -21,7 +22,10 @@ ghost use Rattle.irtext_names.specs.OnlyNew.{OnlyNew};
 ghost use Rattle.irtext_names.specs.Promises.{BuildsRoot, RefusesRoot};
 ghost use Rattle.irtext_tokens.specs.AttrTexts.{attr_at};
 ghost use Rattle.irtext_grammar.specs.Back.{ClosedRoot};
-ghost use Rattle.pliron_text.specs.Calls.{IsClosed, IsPrinted, ReadsPrinted, ComesBack, ComesBackWhole, ReadsText, RefusesText, IsExcused, IsAgain, IsExcusedAgain};
+ghost use Rattle.irtext_closed.specs.Closed.{IsClosedRoot};
+ghost use Rattle.pliron_text.specs.Alike.{KnowAlike, KnowsRoot};
+ghost use Rattle.pliron_text.specs.Calls.{IsPrinted, ReadsPrinted, ComesBack, ComesBackWhole, ReadsText, RefusesText, IsExcused, IsAgain, IsExcusedAgain};
+ghost use Rattle.pliron_text.specs.Older.{IsOlder, KeepsRoot, RootLocated};
 
 use irtext_base::location::Source;
 use irtext_base::parsable::{ParseFault, ParseResult, SourcePosition, TextStream};
@@ -142,16 +146,16 @@ fn read_text<T: IrText<A>, A: AttrText<A>>(
     answer
 }
 
-/// Prints a root and parses the text, as `printed_and_read` does. The clauses assume that the root is closed only if its operations fit
-/// their formats.
-fn there_and_back<T: IrText<A>, A: AttrText<A>>(
+/// Prints a root and parses the text, as `printed_and_read` does. What it promises of a closed root is said of any root in no block that is
+/// closed as printing sees it (`ClosedRoot`), and this is assumed only if its operations fit their formats.
+pub fn there_and_back<T: IrText<A>, A: AttrText<A>>(
     ctx: &Context<T, A>,
     op: Ptr<Operation>,
     layout: &PrintState<()>,
     other: &mut Context<T, A>,
 ) -> Result<Ptr<Operation>, NotBack<A>>
     requires live { IsSome (operation ctx.now op) }
-    requires dialects { other.old.dialects ≡ ctx.now.dialects }
+    requires known { KnowsRoot ctx.now other.old.dialects op }
     ensures reads { IfOk result (λ q. ReadsPrinted T.IrText.own A.IrText.own A.AttrText.own A.eq ctx.now op
         (fresh layout.now.width layout.now.indent layout.now.limit) other.old q other.new) }
     ensures back { block_round ctx.now op ≡ None → (g : Graph T A) → seen_root A.written ctx.now op ≡ Some g →
@@ -166,7 +170,7 @@ fn there_and_back<T: IrText<A>, A: AttrText<A>>(
         (Fit C (isolated ctx.now.dialects) g → ClosedRoot C (isolated ctx.now.dialects) g × Named C g) →
         IfOk result (λ q. ComesBackWhole T.IrText.own A.IrText.own A.AttrText.own A.eq ctx.now op
         (fresh layout.now.width layout.now.indent layout.now.limit) other.old q other.new g) }
-    ensures limited { block_round ctx.now op ≡ None → (g : Graph T A) → seen_root A.written ctx.now
+    ensures limited { KnowAlike other.old.dialects ctx.now.dialects → block_round ctx.now op ≡ None → (g : Graph T A) → seen_root A.written ctx.now
         op ≡ Some g →
         let C = printing_over ctx.now A.outlined A.print_once A.eq in
         Fit C (isolated ctx.now.dialects) g → (AllShown (written C (levels layout.now.limit) g) → ⊥)
@@ -193,16 +197,18 @@ fn there_and_back<T: IrText<A>, A: AttrText<A>>(
     }
 }
 
-/// Prints a root, and parses the text in another context with the same dialects. It prints as `print` does with a state of this layout
+/// Prints a root, and parses the text in another context that knows the root's operations alike: each with the same format and isolation,
+/// in whatever order they were registered. It prints as `print` does with a state of this layout
 /// (as `disp` does if the layout is that of a new state), and parses as `top_level_parse` does.
 ///
-/// If the root is closed and the layout leaves no region out, the returned operation, however deep, is equal to the root up to
-/// fillings, uses inside included, and only white space is left of the printed text. If in addition each block has a label, and
-/// everything that has results or arguments holds given names, only positions are filled in. In both cases an error is one of these: out
-/// of memory, an operation does not fit its format, or an indentation does not fit 16 bits.
+/// If the root is closed, which `check_closed` says, and the layout leaves no region out, the returned operation, however deep, is equal
+/// to the root up to fillings, uses inside included, and only white space is left of the printed text. If in addition each block has a
+/// label, and everything that has results or arguments holds given names, only positions are filled in. In both cases an error is one of
+/// these: out of memory, an operation does not fit its format, or an indentation does not fit 16 bits.
 ///
 /// On success only the returned operation and what is inside it is new in the other context. On an error the objects of the other
-/// context are unchanged. If the root is closed, its operations fit and the layout leaves a region out, the call never succeeds.
+/// context are unchanged. If the root is closed, its operations fit, the layout leaves a region out and both contexts know all operations
+/// alike, the call never succeeds.
 pub fn printed_and_read<T: IrText<A>, A: AttrText<A>>(
     ctx: &Context<T, A>,
     op: Ptr<Operation>,
@@ -210,27 +216,27 @@ pub fn printed_and_read<T: IrText<A>, A: AttrText<A>>(
     other: &mut Context<T, A>,
 ) -> Result<Ptr<Operation>, NotBack<A>>
     requires live { IsSome (operation ctx.now op) }
-    requires dialects { other.old.dialects ≡ ctx.now.dialects }
+    requires known { KnowsRoot ctx.now other.old.dialects op }
     ensures reads { IfOk result (λ q. ReadsPrinted T.IrText.own A.IrText.own A.AttrText.own A.eq ctx.now op
         (fresh layout.now.width layout.now.indent layout.now.limit) other.old q other.new) }
-    ensures back { (g : Graph T A) →
+    ensures back { IsClosedRoot ctx.now op → (g : Graph T A) → seen_root A.written ctx.now op ≡ Some g →
         let C = printing_over ctx.now A.outlined A.print_once A.eq in
-        IsClosed A.written C ctx.now op g → AllShown (written C (levels layout.now.limit) g) →
+        AllShown (written C (levels layout.now.limit) g) →
         IfOk result (λ q. ComesBack T.IrText.own A.IrText.own A.AttrText.own A.eq ctx.now op
         (fresh layout.now.width layout.now.indent layout.now.limit) other.old q other.new g) }
-    ensures whole { (g : Graph T A) →
+    ensures whole { IsClosedRoot ctx.now op → (g : Graph T A) → seen_root A.written ctx.now op ≡ Some g →
         let C = printing_over ctx.now A.outlined A.print_once A.eq in
-        IsClosed A.written C ctx.now op g → AllShown (written C (levels layout.now.limit) g) → Named C g →
+        AllShown (written C (levels layout.now.limit) g) → Named C g →
         IfOk result (λ q. ComesBackWhole T.IrText.own A.IrText.own A.AttrText.own A.eq ctx.now op
         (fresh layout.now.width layout.now.indent layout.now.limit) other.old q other.new g) }
-    ensures limited { (g : Graph T A) →
+    ensures limited { KnowAlike other.old.dialects ctx.now.dialects → IsClosedRoot ctx.now op → (g : Graph T A) → seen_root A.written ctx.now op ≡ Some g →
         let C = printing_over ctx.now A.outlined A.print_once A.eq in
-        IsClosed A.written C ctx.now op g → Fit C (isolated ctx.now.dialects) g →
-        (AllShown (written C (levels layout.now.limit) g) → ⊥) → IfOk result (λ q. ⊥) }
+        Fit C (isolated ctx.now.dialects) g → (AllShown (written C (levels layout.now.limit) g) → ⊥)
+        → IfOk result (λ q. ⊥) }
     ensures only { IfOk result (λ q. OnlyNew q other.old other.new) }
-    ensures refused { (g : Graph T A) →
+    ensures refused { IsClosedRoot ctx.now op → (g : Graph T A) → seen_root A.written ctx.now op ≡ Some g →
         let C = printing_over ctx.now A.outlined A.print_once A.eq in
-        IsClosed A.written C ctx.now op g → AllShown (written C (levels layout.now.limit) g) →
+        AllShown (written C (levels layout.now.limit) g) →
         IfErr result (IsExcused T.IrText.own A.IrText.own A.AttrText.own A.eq ctx.now op
         (fresh layout.now.width layout.now.indent layout.now.limit)) }
     ensures objects { OnErr result (SameObjects other.old other.new) }
@@ -239,7 +245,7 @@ pub fn printed_and_read<T: IrText<A>, A: AttrText<A>>(
     there_and_back(ctx, op, layout, other)
 }
 
-/// Parses a text, prints the root, and parses the printed text in another context with the same dialects. On success returns both
+/// Parses a text, prints the root, and parses the printed text in another context that knows all operations alike. On success returns both
 /// roots. If the layout leaves no region out, the second is equal to the first, with a position if a location was unknown, and with no
 /// name and no label filled in. Then an error is one of these: the text is rejected, out of memory, an operation does not fit its
 /// format, or an indentation does not fit 16 bits. If the layout leaves a region out, the printed text may also be rejected.
@@ -249,7 +255,7 @@ pub fn read_printed_and_read<T: IrText<A>, A: AttrText<A>>(
     layout: &PrintState<()>,
     other: &mut Context<T, A>,
 ) -> Result<(Ptr<Operation>, Ptr<Operation>), NotAgain<A>>
-    requires dialects { other.old.dialects ≡ ctx.old.dialects }
+    requires dialects { KnowAlike other.old.dialects ctx.old.dialects }
     ensures again { IfOk result (λ r. IsAgain T.IrText.own A.IrText.own A.AttrText.own A.eq text.now ctx.old
         (fresh layout.now.width layout.now.indent layout.now.limit) r.0 ctx.new other.old r.1 other.new) }
     ensures refused { IfErr result (IsExcusedAgain T.IrText.own A.IrText.own A.AttrText.own A.eq text.now
@@ -265,4 +271,45 @@ pub fn read_printed_and_read<T: IrText<A>, A: AttrText<A>>(
         Ok(again) => Ok((root, again)),
         Err(lost) => Err(NotAgain::Lost(lost)),
     }
+}
+
+/// Parses a text as a root, in this context, where an operation is already.
+fn read_beside<T: IrText<A>, A: AttrText<A>>(
+    ctx: &mut Context<T, A>,
+    op: Ptr<Operation>,
+    text: &str,
+) -> ParseResult<Ptr<Operation>, A>
+    requires live { IsSome (operation ctx.old op) }
+    requires located { RootLocated ctx.old op }
+    ensures older { IsOlder op ctx.old ctx.new }
+{
+    let _live = op;
+    let answer = read_text(ctx, text);
+    keeps_parts(ctx);
+    answer
+}
+
+/// Prints a root, parses a text in the same context, and prints the root again. The two texts are the same, whether the parsed text is
+/// accepted or rejected. It prints as `print` does with a state of this layout, and parses as `top_level_parse` does.
+///
+/// Each `Err` is the reason why the root is not printed: it is out of memory, or one that the root gives before the text is parsed.
+/// What the parse returns is dropped. The root is unchanged, and where a root was parsed, it stays in the context.
+pub fn printed_before_and_after<T: IrText<A>, A: AttrText<A>>(
+    ctx: &mut Context<T, A>,
+    op: Ptr<Operation>,
+    layout: &PrintState<()>,
+    text: &str,
+) -> (Result<String, Refusal>, Result<String, Refusal>)
+    requires live { IsSome (operation ctx.old op) }
+    requires located { RootLocated ctx.old op }
+    ensures same { block_round ctx.old op ≡ None → IfOk result.0 (λ before. IfOk result.1 (λ after.
+        string_bytes after ≡ string_bytes before)) }
+    ensures refused { IfErr result.1 (heads.RefusesUnder T.IrText.own A.IrText.own A.AttrText.own A.eq ctx.old
+        op (fresh layout.now.width layout.now.indent layout.now.limit)) }
+    ensures kept { KeepsRoot op ctx.old ctx.new }
+{
+    let before = text_of_root(ctx, op, layout);
+    let _answer = read_beside(ctx, op, text);
+    let after = text_of_root(ctx, op, layout);
+    (before, after)
 }

@@ -5,8 +5,10 @@ pub mod printing;
 mod text;
 
 pub use irtext_checked::context::keeps_parts;
+pub use irtext_closed::check::check_closed;
+pub use irtext_closed::not_closed::NotClosed;
 pub use irtext_parse_root::ir::read::OperationParserConfig;
-pub use irtext_print_ir::ir::print::debug::{OpDbg, print_dbg};
+pub use irtext_print_ir::ir::print::debug::{OpDbg, print_dbg, print_elided};
 pub use irtext_print_ir::ir::print::{
     OpObj, print_block, print_concrete, print_region, print_root,
 };

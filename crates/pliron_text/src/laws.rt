@@ -33,6 +33,7 @@ pub mod attributes;
 pub mod building;
 pub mod causes;
 pub mod closed;
+pub mod dialects;
 pub mod entries;
 pub mod headline;
 pub mod locations;

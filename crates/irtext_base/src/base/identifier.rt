@@ -16,6 +16,7 @@ ghost use Rattle.irtext_base.specs.declared.location.Location.{Unknown};
 use crate::result::{Cause, Error, ErrorKind, Expected, invalid};
 use arrayvec::ArrayString;
 use indexmap::Equivalent;
+use irtext_memory::{OutOfMemory, rc, string};
 use std::alloc::{AllocError, Global};
 use std::cmp::Ordering;
 use std::fmt;
@@ -67,13 +68,13 @@ impl Model for Identifier {
 
 impl Word {
     /// Returns the word with this text. Only a text of more than 24 bytes is allocated. Fails only if that allocation fails.
-    fn of(alloc: Global, text: &str) -> Result<Word, AllocError>
+    fn of(alloc: Global, text: &str) -> Result<Word, OutOfMemory>
         ensures { IfOk result (λ word. word_bytes word ≡ text.now) }
     {
         if let Ok(short) = ArrayString::from(text) {
             return Ok(Word::Short(short));
         }
-        let long = String::from_str(alloc, text)?;
+        let long = string::from_str(alloc, text)?;
         Ok(Word::Long(long))
     }
 
@@ -179,7 +180,7 @@ impl Identifier {
     }
 
     /// Returns the identifier with this text, which must be the text of one. Fails only when out of memory.
-    pub fn from_word(alloc: Global, text: &str) -> Result<Identifier, AllocError>
+    pub fn from_word(alloc: Global, text: &str) -> Result<Identifier, OutOfMemory>
         requires { IsTrue (is_identifier text.now) }
         ensures { IfOk result (λ i. i ≡ text.now) }
     {
@@ -188,18 +189,18 @@ impl Identifier {
 
     /// Returns the identifier with this text, which must be the text of one, and with a hint of where a table has it. Fails only when out
     /// of memory.
-    fn with_hint(alloc: Global, text: &str, hint: usize) -> Result<Identifier, AllocError>
+    fn with_hint(alloc: Global, text: &str, hint: usize) -> Result<Identifier, OutOfMemory>
         requires { IsTrue (is_identifier text.now) }
         ensures { IfOk result (λ i. i ≡ text.now) }
     {
         let word = Word::of(alloc, text)?;
         Ok(Identifier {
-            text: Rc::new(alloc, Hinted { word, hint })?,
+            text: rc::new(alloc, Hinted { word, hint })?,
         })
     }
 
     /// Returns the same identifier with a text of its own, whose hint is the index at which a table has it. Fails only when out of memory.
-    pub fn hinted(&self, alloc: Global, index: usize) -> Result<Identifier, AllocError>
+    pub fn hinted(&self, alloc: Global, index: usize) -> Result<Identifier, OutOfMemory>
         ensures { IfOk result (λ i. i ≡ self.now) }
     {
         Identifier::with_hint(alloc, self.as_str(), index)

@@ -12,6 +12,7 @@ use irtext_base::parsable::{ParseFault, ParseResult, TextStream};
 use irtext_base::result::{Cause, Error, ErrorKind, Result};
 use irtext_base::text::{AttrText, IrText};
 use irtext_context::base::Context;
+use irtext_memory::unsealed;
 use std::alloc::{AllocError, Global};
 
 /// Returns the cause of the error for a parser that failed on a text in memory.
@@ -165,7 +166,7 @@ fn stream_of<I: Iterator<Item = char>>(
         × (stream ≡ at_beginning (encode_utf8_all items))) }
 {
     let text: String = iterator.collect(alloc)?;
-    TextStream::from_string(alloc, text)
+    unsealed(TextStream::from_string(alloc, text))
 }
 
 impl<'c, T: IrText<A>, A: AttrText<A>, U: Drop> State<'c, T, A, U> {

@@ -1,5 +1,5 @@
 -- For callers: what errors and results print as.
-use Rattle.std.specs.Prelude.{List, ℕ, Option, Some, Result, Ok, Err, string_bytes, ⊤}
+use Rattle.std.specs.Prelude.{◌≡◌, List, ℕ, Option, Some, Result, Ok, Err, string_bytes, ⊤}
 use Rattle.irtext_base.specs.Text.{Text}
 use Rattle.irtext_context.specs.declared.base.context.Context.{Context}
 use Rattle.irtext_base.specs.declared.result.Error.{Error}
@@ -28,3 +28,8 @@ module _ {X T A : Type 0} where
   abbrev pub may_print : {U : Type 0} → (A → Text) → (X → Context T A → Shown U → String Global → Shown U → String Global → Type 0) → Result X (Error A) → Context T A → Shown U → String Global → Shown U → String Global → Type 0
   may_print written prints (Ok x) ctx s b t d = prints x ctx s b t d
   may_print written prints (Err error) ctx s b t d = Appends (located_error written ctx.paths error, s) t (string_bytes b) (string_bytes d)
+
+  -- what one printing of a result that fails leaves: what that of its value may leave; that of its error leaves the state unchanged
+  abbrev pub may_refuse : {U : Type 0} → (X → Context T A → Shown U → String Global → Shown U → String Global → Type 0) → Result X (Error A) → Context T A → Shown U → String Global → Shown U → String Global → Type 0
+  may_refuse refuses (Ok x) ctx s b t d = refuses x ctx s b t d
+  may_refuse refuses (Err error) ctx s b t d = t ≡ s

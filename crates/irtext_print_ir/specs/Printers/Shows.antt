@@ -11,7 +11,7 @@ use Rattle.irtext_print_ir.specs.declared.printable.displayable.Displayable.{Dis
 abbrev pub shown_by : {X T A : Type 0} {g a b c d e f : _} → (X → Context T A → Shown (Unit {0}) → Option (List ℕ × Shown (Unit {0}))) → Displayable X T A g a b c d e f → Option (List ℕ)
 shown_by gives d = text_of (gives d.value.now d.ctx.now (fresh d.indent_width d.current_indent d.limit))
 
--- printing the value once with a new state of this layout may append this
+-- printing the value once with a new state of this layout may append this, or leave it if it fails
 abbrev pub ShownOnce : {X T A : Type 0} {g a b c d e f : _} → (X → Context T A → Shown (Unit {0}) → String Global → Shown (Unit {0}) → String Global → Type 0) → Displayable X T A g a b c d e f → String Global → String Global → Type 0
 ShownOnce prints d old new = (t : Shown (Unit {0})) × prints d.value.now d.ctx.now (fresh d.indent_width d.current_indent d.limit) old t new
 

@@ -1,5 +1,5 @@
 //! How attributes are printed.
-ghost use Rattle.std.specs.Prelude.{Some};
+ghost use Rattle.std.specs.Prelude.{◌≡◌, Some};
 ghost use Rattle.std.specs.Str.{encode_utf8_all};
 ghost use Rattle.irtext_base.specs.Locations.{attr_view};
 ghost use Rattle.irtext_grammar.specs.Spelling.AttrText.{attr_text};
@@ -15,6 +15,8 @@ use std::fmt;
 /// text. Fails only if out of memory.
 impl<T: IrText<A>, A: AttrText<A>, U> Printable<U, T, A> for AttrObj<A> {
     ghost gives = { λ x _ s. Some (encode_utf8_all (attr_text A.IrText.written (attr_view x)), s) };
+
+    ghost refuses = { λ _ _ s _ t _. t ≡ s };
 
     fn fmt(&self, _ctx: &Context<T, A>, _state: &mut State<U>, f: &mut String) -> fmt::Result {
         fmt_attr(self, f)

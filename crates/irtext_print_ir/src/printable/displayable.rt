@@ -1,5 +1,5 @@
 //! A printable value with its context as a `Display`.
-ghost use Rattle.std.specs.Prelude.{◌≡◌, ◌++◌, List, ℕ, Some, None, Option, OnOk, IfSome, string_bytes};
+ghost use Rattle.std.specs.Prelude.{◌≡◌, ◌++◌, List, ℕ, Some, None, Option, OnOk, OnErr, IfSome, string_bytes};
 ghost use Rattle.irtext_print.specs.Printers.Appended.{fresh, text_of};
 ghost use Rattle.irtext_print.specs.Printers.Shown.{Shown};
 
@@ -38,6 +38,7 @@ impl<'a, X: Printable<(), T, A>, T: IrText<A>, A: AttrText<A>> Displayable<'a, X
         ensures prints { OnOk result (ShownOnce X.prints self.now f.old f.new) }
         ensures text { OnOk result (IfSome (shown_by X.gives self.now) (λ text. string_bytes
             f.new ≡ string_bytes f.old ++ text)) }
+        ensures refused { OnErr result (ShownOnce X.refuses self.now f.old f.new) }
     {
         let mut state = State::with_layout(
             self.alloc,

@@ -39,6 +39,8 @@ impl fmt::Display for IndentedNl {
 impl<T: IrText<A>, A: AttrText<A>, U> Printable<U, T, A> for IndentedNl {
     ghost gives = { λ line _ s. Some (newline line.indent, s) };
 
+    ghost refuses = { λ _ _ s _ t _. t ≡ s };
+
     fn fmt(&self, _ctx: &Context<T, A>, _state: &mut State<U>, f: &mut String) -> fmt::Result {
         fmt_newline(self.indent, f)
     }

@@ -1,8 +1,9 @@
 //! The items of an iterator, with separators between.
-ghost use Rattle.std.specs.Prelude.{◌≡◌, OnOk};
+ghost use Rattle.std.specs.Prelude.{◌≡◌, false, OnOk, OnErr};
 ghost use Rattle.std.specs.Iterator.{HoldsAlong, IsFinite};
 ghost use Rattle.std.specs.List.{All};
 ghost use Rattle.irtext_print_ir.specs.Printers.Items.{WritesGiven, PrintsItem, Separates};
+ghost use Rattle.irtext_print_ir.specs.Printers.Refused.{RefusesSeparator, StopsGiven};
 
 use crate::printable::state::State;
 use crate::printable::{ListSeparator, Printable};
@@ -19,7 +20,8 @@ pub(crate) fn fmt_between<T: IrText<A>, A: AttrText<A>, U>(
     f: &mut String,
 ) -> fmt::Result
     ensures text { OnOk result (Separates first sep state.old f.old f.new) }
-    ensures state { OnOk result (state.new ≡ state.old) }
+    ensures refused { OnErr result ((first ≡ false) × RefusesSeparator sep state.old f.old state.new f.new) }
+    ensures state { state.new ≡ state.old }
 {
     if first {
         return Ok(());
@@ -40,8 +42,11 @@ where
     I::Item: Printable<U, T, A> + Drop,
     requires runs { I.can_next iter × IsFinite (I.remaining iter) }
     requires printable { HoldsAlong I.next_gives iter (All (λ x. I.Item.can_print x ctx.now)) }
-    ensures { OnOk result (WritesGiven I.next_gives
+    ensures prints { OnOk result (WritesGiven I.next_gives
         (PrintsItem I.Item.prints I.Item.gives ctx.now) iter sep state.old f.old state.new f.new) }
+    ensures refused { OnErr result (StopsGiven I.next_gives
+        (PrintsItem I.Item.prints I.Item.gives ctx.now) (λ x. I.Item.refuses x ctx.now) iter sep state.old
+        f.old state.new f.new) }
 {
     let mut first = true;
     for item in iter {

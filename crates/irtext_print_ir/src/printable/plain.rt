@@ -4,6 +4,7 @@ ghost use Rattle.std.specs.Char.{encode_utf8};
 ghost use Rattle.std.specs.String.{string_bytes};
 ghost use Rattle.irtext_tokens.specs.QuotedBytes.{quoted_bytes};
 ghost use Rattle.irtext_print_ir.specs.Printers.Separator.{bool_text};
+ghost use Rattle.irtext_print_ir.specs.Printers.Refused.{HasNoRoom, RefusesSeparator};
 
 use crate::printable::state::State;
 use crate::printable::{ListSeparator, Printable, fmt_indented_newline};
@@ -20,6 +21,8 @@ impl<T: IrText<A>, A: AttrText<A>, U, X: Printable<U, T, A>> Printable<U, T, A> 
 
     ghost prints = { λ x. X.prints x.now };
 
+    ghost refuses = { λ x. X.refuses x.now };
+
     fn fmt(&self, ctx: &Context<T, A>, state: &mut State<U>, f: &mut String) -> fmt::Result {
         (**self).fmt(ctx, state, f)
     }
@@ -28,6 +31,8 @@ impl<T: IrText<A>, A: AttrText<A>, U, X: Printable<U, T, A>> Printable<U, T, A> 
 /// Prints the text unchanged, without quotation marks.
 impl<T: IrText<A>, A: AttrText<A>, U> Printable<U, T, A> for &str {
     ghost gives = { λ x _ s. Some (x.now, s) };
+
+    ghost refuses = { λ x _. HasNoRoom x.now };
 
     fn fmt(&self, _ctx: &Context<T, A>, _state: &mut State<U>, f: &mut String) -> fmt::Result {
         f.push_str(self)?;
@@ -39,6 +44,8 @@ impl<T: IrText<A>, A: AttrText<A>, U> Printable<U, T, A> for &str {
 impl<T: IrText<A>, A: AttrText<A>, U> Printable<U, T, A> for String {
     ghost gives = { λ x _ s. Some (quoted_bytes (string_bytes x), s) };
 
+    ghost refuses = { λ _ _ s _ t _. t ≡ s };
+
     fn fmt(&self, _ctx: &Context<T, A>, _state: &mut State<U>, f: &mut String) -> fmt::Result {
         fmt_quoted(self.as_str(), f)
     }
@@ -47,6 +54,8 @@ impl<T: IrText<A>, A: AttrText<A>, U> Printable<U, T, A> for String {
 /// Prints `true` or `false`.
 impl<T: IrText<A>, A: AttrText<A>, U> Printable<U, T, A> for bool {
     ghost gives = { λ b _ s. Some (bool_text b, s) };
+
+    ghost refuses = { λ b _. HasNoRoom (bool_text b) };
 
     fn fmt(&self, _ctx: &Context<T, A>, _state: &mut State<U>, f: &mut String) -> fmt::Result {
         f.push_str(if *self { "true" } else { "false" })?;
@@ -57,6 +66,8 @@ impl<T: IrText<A>, A: AttrText<A>, U> Printable<U, T, A> for bool {
 /// Prints the character unchanged.
 impl<T: IrText<A>, A: AttrText<A>, U> Printable<U, T, A> for char {
     ghost gives = { λ c _ s. Some (encode_utf8 c, s) };
+
+    ghost refuses = { λ c _. HasNoRoom (encode_utf8 c) };
 
     fn fmt(&self, _ctx: &Context<T, A>, _state: &mut State<U>, f: &mut String) -> fmt::Result {
         f.push(*self)?;
@@ -70,6 +81,8 @@ impl<T: IrText<A>, A: AttrText<A>, U> Printable<U, T, A> for ListSeparator {
     ghost use Rattle.irtext_print_ir.specs.Printers.Separator.{separator_text};
 
     ghost gives = { λ x _ s. Some (separator_text x s, s) };
+
+    ghost refuses = { λ x _. RefusesSeparator x };
 
     fn fmt(&self, _ctx: &Context<T, A>, state: &mut State<U>, f: &mut String) -> fmt::Result {
         match self {

@@ -1,10 +1,10 @@
 //! The errors of the parser of notations.
 ghost use Rattle.std.specs.Prelude.{◌≡◌, Some};
-ghost use Rattle.irtext_stream.specs.NotationFaults.{part_text, notation_fault_text};
+ghost use Rattle.irtext_stream.specs.NotationFaults.{part_text, notation_fault_text, IsMemory};
 ghost use Rattle.irtext_stream.specs.declared.notation.fault.NotationFault.TheVariants.{Memory};
 
 use crate::position::SourcePosition;
-use std::alloc::{AllocError, AllocFailed};
+use irtext_memory::{OutOfMemory, Refused};
 use std::fmt;
 use std::fmt::Display;
 
@@ -30,7 +30,7 @@ pub enum NotationPart {
 }
 
 /// Why a text can't be parsed as the notation of a format.
-#[derive(Clone, Copy, PartialEq, Eq, Debug)]
+#[derive(PartialEq, Eq, Debug, Drop)]
 pub enum NotationFault {
     /// This part is expected at the position, and something else is there, or the end of the text.
     Unexpected {
@@ -38,7 +38,7 @@ pub enum NotationFault {
         expected: NotationPart,
     },
     /// An allocation failed.
-    Memory,
+    Memory(OutOfMemory),
 }
 
 impl Display for NotationPart {
@@ -64,23 +64,23 @@ impl Display for NotationFault {
     fn fmt<W: fmt::Write>(&self, f: &mut fmt::Formatter<W>) -> fmt::Result {
         match self {
             NotationFault::Unexpected { at, expected } => write!(f, "{at}: expected {expected}"),
-            NotationFault::Memory => f.write_str("Out of memory"),
+            NotationFault::Memory(_) => f.write_str("Out of memory"),
         }
     }
 }
 
-impl From<AllocError> for NotationFault {
-    ghost from_gives = { λ _ fault. fault ≡ Memory };
+impl From<OutOfMemory> for NotationFault {
+    ghost from_gives = { λ e fault. fault ≡ Memory e };
 
-    fn from(_: AllocError) -> NotationFault {
-        NotationFault::Memory
+    fn from(e: OutOfMemory) -> NotationFault {
+        NotationFault::Memory(e)
     }
 }
 
-impl<X: Drop> From<AllocFailed<X>> for NotationFault {
-    ghost from_gives = { λ _ fault. fault ≡ Memory };
+impl<X: Drop> From<Refused<X>> for NotationFault {
+    ghost from_gives = { λ _ fault. IsMemory fault };
 
-    fn from(_: AllocFailed<X>) -> NotationFault {
-        NotationFault::Memory
+    fn from(refused: Refused<X>) -> NotationFault {
+        NotationFault::Memory(OutOfMemory::from(refused))
     }
 }

@@ -10,6 +10,7 @@ use crate::class::Class;
 use crate::notation::fault::{NotationFault, NotationPart};
 use crate::position::Place;
 use crate::stream::TextStream;
+use irtext_memory::string;
 
 /// Returns the error that this part is expected at a position that `position` returned on this stream.
 pub fn lack_at(stream: &TextStream, place: Place, expected: NotationPart) -> NotationFault
@@ -106,7 +107,7 @@ pub fn letters(stream: &mut TextStream) -> Result<String, NotationFault>
         if c == '`' && !past(stream, "`") {
             return Ok(text);
         }
-        text.push(c)?;
+        string::push(&mut text, c)?;
     }
     Err(lack(stream, NotationPart::Backquote))
 }

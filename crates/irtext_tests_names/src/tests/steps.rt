@@ -17,8 +17,8 @@ pub(crate) type Names = NameTracker<Value, Ptr<BasicBlock>>;
 
 pub(crate) type Tested = Graph<Option<u32>, u32, Option<u8>>;
 
-/// What a name is defined as, or why it is not.
-pub(crate) type Definition = Result<Defined, DefineFault>;
+/// What a name is defined as, or why it is not: it is defined already, or out of memory.
+pub(crate) type Definition = Result<Defined, Answer>;
 
 /// The result: success, what a name refers to or referred to before, no scope is open for the call, a region is not
 /// isolated where it has to be, a name is defined already, a region lacks a definition of this name or of another one, or
@@ -71,8 +71,7 @@ impl Kind {
                 self.definitions.push(definition)?;
                 Ok(Answer::Done)
             }
-            Err(DefineFault::MultipleDefinitions) => Ok(Answer::Twice),
-            Err(DefineFault::Memory) => Ok(Answer::NoMemory),
+            Err(answer) => Ok(answer),
         }
     }
 }
@@ -115,24 +114,32 @@ fn branches(names: &mut Names, graph: &mut Tested, name: usize) -> Option<Ptr<Op
         .ok()
 }
 
+/// Why a name is not defined.
+pub(crate) fn refused(fault: DefineFault) -> Answer {
+    match fault {
+        DefineFault::MultipleDefinitions => Answer::Twice,
+        DefineFault::NoRoom(_) => Answer::NoMemory,
+    }
+}
+
 /// Makes an operation with one result, and defines a name as this result.
 pub(crate) fn defines(names: &mut Names, graph: &mut Tested, name: usize) -> Definition
     requires { MatchesGraph names.old.values names.old.labels graph.old }
     ensures { MatchesGraph names.new.values names.new.labels graph.new }
 {
     if !names.has_value_scope() || name >= names.num_names() {
-        return Err(DefineFault::Memory);
+        return Err(Answer::NoMemory);
     }
     let Ok(made) = graph.make_operation(Some(2), Few::one(Some(7)), &[], &[]) else {
-        return Err(DefineFault::Memory);
+        return Err(Answer::NoMemory);
     };
     let def = Value::Result(made, 0);
     if !graph.contains_value(def) {
-        return Err(DefineFault::Memory);
+        return Err(Answer::NoMemory);
     }
     match define_name(names, graph, name, def) {
         Ok(()) => Ok(Defined::OfValue(def)),
-        Err(fault) => Err(fault),
+        Err(fault) => Err(refused(fault)),
     }
 }
 
@@ -142,17 +149,17 @@ pub(crate) fn labels(names: &mut Names, graph: &mut Tested, name: usize) -> Defi
     ensures { MatchesGraph names.new.values names.new.labels graph.new }
 {
     if !names.has_label_scope() || name >= names.num_names() {
-        return Err(DefineFault::Memory);
+        return Err(Answer::NoMemory);
     }
     let Ok(made) = graph.make_block(5, Few::one(Some(7))) else {
-        return Err(DefineFault::Memory);
+        return Err(Answer::NoMemory);
     };
     if !graph.contains(Object::TheBlock(made)) {
-        return Err(DefineFault::Memory);
+        return Err(Answer::NoMemory);
     }
     match define_name(names, graph, name, made) {
         Ok(()) => Ok(Defined::OfBlock(made)),
-        Err(fault) => Err(fault),
+        Err(fault) => Err(refused(fault)),
     }
 }
 
@@ -163,7 +170,7 @@ fn entered(names: &mut Names, graph: &Tested, isolated: bool) -> Answer
     match enter_region(names, graph, isolated) {
         Ok(()) => Answer::Done,
         Err(EnterFault::TopLevelOpRegionNotIsolatedFromAbove) => Answer::NotIsolated,
-        Err(EnterFault::Memory) => Answer::NoMemory,
+        Err(EnterFault::Memory(_)) => Answer::NoMemory,
     }
 }
 

@@ -1,6 +1,6 @@
 //! The checks that need a context, and the one place where it is made for them.
 use crate::tests::must::must;
-use crate::tests::nested::{misfits, nested, pieces, printed};
+use crate::tests::nested::{closed, misfits, nested, pieces, printed};
 use crate::tests::sections::rows;
 use crate::tests::{fits, location_texts, roots, separators};
 use irtext_tests_common::contexts::{Ctx, with_demo};
@@ -10,6 +10,7 @@ use std::process::Abort;
 /// What is checked with a context that has the demo dialects and no objects; of a table with a context for each row, a row by its number.
 #[derive(Clone, Copy)]
 pub(crate) enum Check {
+    Closed(usize),
     Misfit(usize),
     Nested(usize),
     Pieces,
@@ -33,6 +34,7 @@ pub(crate) fn in_demo(rt: &impl Abort, alloc: Global, check: Check) {
 /// Makes a check.
 fn make(rt: &impl Abort, alloc: Global, ctx: &mut Ctx, check: Check) {
     match check {
+        Check::Closed(row) => closed::check(rt, alloc, ctx, row),
         Check::Misfit(row) => misfits::check(rt, alloc, ctx, row),
         Check::Nested(row) => nested::check(rt, alloc, ctx, row),
         Check::Pieces => pieces::check(rt, alloc, ctx),

@@ -1,7 +1,6 @@
 //! The notation of formats: which texts denote which formats, how formats are printed, and where a wrong text is rejected.
 use crate::tests::must::{must, same};
 use irtext_base::format::OpFormat;
-use irtext_base::format::notation::NotationFault;
 use irtext_tests_common::formats::format_of;
 use std::alloc::Global;
 use std::process::Abort;
@@ -81,5 +80,4 @@ fn wrong_notations_are_refused(rt: HostRuntime) {
     for row in REFUSED {
         same(&rt, printed(&rt, rt.alloc(), row.0).as_str(), row.1);
     }
-    assert!(rt; NotationFault::Memory == NotationFault::Memory);
 }

@@ -7,6 +7,7 @@ ghost use Rattle.irtext_stream.specs.NotationFaults.{whole, Reads};
 
 use crate::base::Identifier;
 use crate::format::{Directive, OpFormat};
+use irtext_memory::vec;
 use irtext_stream::class::Class;
 use irtext_stream::notation::fault::{NotationFault, NotationPart};
 use irtext_stream::notation::pieces::{
@@ -90,7 +91,7 @@ fn directives(stream: &mut TextStream) -> Result<Vec<Directive>, NotationFault>
 {
     let mut found = Vec::new(stream.allocator());
     while !ended(stream) {
-        found.push(directive(stream)?)?;
+        vec::push(&mut found, directive(stream)?)?;
         stream.skip(Class::WhiteSpace);
     }
     Ok(found)

@@ -10,8 +10,11 @@ use irtext_base::text::{AttrText, IrText};
 use irtext_context::base::{Context, Operation, Ptr};
 use std::fmt;
 
-/// Appends the concrete text of an operation with its regions elided.
-fn fmt_dbg<T: IrText<A>, A: AttrText<A>>(
+/// Appends the concrete text of an operation, without its mark and without a section, with `{..}` for each of its regions: of a module
+/// that is `builtin.module @m {..}`.
+///
+/// The error is `Memory`, or `Misfit` if the operation does not fit its format. What was appended up to the error remains.
+pub fn print_elided<T: IrText<A>, A: AttrText<A>>(
     ctx: &Context<T, A>,
     op: Ptr<Operation>,
     f: &mut String,
@@ -27,9 +30,7 @@ fn fmt_dbg<T: IrText<A>, A: AttrText<A>>(
     print_concrete(ctx, op, &mut state, f)
 }
 
-/// Appends the concrete text of an operation, without its mark and without a section, with `{..}` for each of its regions: of a module
-/// that is `builtin.module @m {..}`. Fails if out of memory or if the operation does not fit its format. What was appended up to the
-/// error remains.
+/// Appends what [`print_elided`] appends, and fails as that call does, which also returns why.
 pub fn print_dbg<T: IrText<A>, A: AttrText<A>>(
     ctx: &Context<T, A>,
     op: Ptr<Operation>,
@@ -41,7 +42,7 @@ pub fn print_dbg<T: IrText<A>, A: AttrText<A>>(
     ensures defined { OnOk result (printed.WritesElided T.IrText.own A.IrText.own A.AttrText.own A.eq ctx.now
         op f.old f.new) }
 {
-    fmt_dbg(ctx, op, f)?;
+    print_elided(ctx, op, f)?;
     Ok(())
 }
 

@@ -1,6 +1,6 @@
 //! A printer that calls a closure.
 ghost use Rattle.std.specs.Prelude.{◌≡◌, Ok};
-ghost use Rattle.irtext_print_ir.specs.Printers.Calls.{FnWrites};
+ghost use Rattle.irtext_print_ir.specs.Printers.Calls.{FnWrites, FnRefuses};
 
 use crate::printable::Printable;
 use crate::printable::state::State;
@@ -23,6 +23,8 @@ impl<
     ghost can_print = { λ p _. F.IsAlwaysCallable p.print };
 
     ghost prints = { λ p c s b t d. FnWrites F.Fn p.print c s b (Ok tt) t d };
+
+    ghost refuses = { λ p. FnRefuses F.Fn p.print };
 
     fn fmt(&self, ctx: &Context<T, A>, state: &mut State<U>, f: &mut String) -> fmt::Result {
         (self.print)(ctx, state, f)

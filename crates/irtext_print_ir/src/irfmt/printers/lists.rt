@@ -1,9 +1,10 @@
 //! The items of an iterator, with separators between.
-ghost use Rattle.std.specs.Prelude.{◌≡◌};
+ghost use Rattle.std.specs.Prelude.{◌≡◌, Ok};
 ghost use Rattle.std.specs.Iterator.{HoldsAlong, IsFinite};
 ghost use Rattle.std.specs.List.{All};
-ghost use Rattle.irtext_print_ir.specs.Printers.Calls.{FnWritesItem};
+ghost use Rattle.irtext_print_ir.specs.Printers.Calls.{FnWritesItem, FnRefusesItem};
 ghost use Rattle.irtext_print_ir.specs.Printers.Items.{WritesCloned, PrintsItem};
+ghost use Rattle.irtext_print_ir.specs.Printers.Refused.{StopsCloned};
 
 use crate::printable::items::fmt_between;
 use crate::printable::state::State;
@@ -30,6 +31,9 @@ where
 
     ghost prints = { λ p c s b t d. WritesCloned I.is_clone I.next_gives
         (PrintsItem I.Item.prints I.Item.gives c) p.iter p.separator s b t d };
+
+    ghost refuses = { λ p c s b t d. StopsCloned I.is_clone I.next_gives
+        (PrintsItem I.Item.prints I.Item.gives c) (λ x. I.Item.refuses x c) p.iter p.separator s b t d };
 
     fn fmt(&self, ctx: &Context<T, A>, state: &mut State<U>, f: &mut String) -> fmt::Result {
         fmt_iter(self.iter.clone()?, ctx, state, self.separator, f)
@@ -58,7 +62,10 @@ where
     ghost can_print = { λ p _. F.IsAlwaysCallable p.print_item
         × ((j : I) → I.is_clone p.iter j → I.can_next j × IsFinite (I.remaining j)) };
 
-    ghost prints = { λ p c s b t d. WritesCloned I.is_clone I.next_gives (FnWritesItem F.Fn p.print_item c) p.iter p.separator s b t d };
+    ghost prints = { λ p c s b t d. WritesCloned I.is_clone I.next_gives (FnWritesItem F.Fn p.print_item (Ok tt) c) p.iter p.separator s b t d };
+
+    ghost refuses = { λ p c s b t d. StopsCloned I.is_clone I.next_gives (FnWritesItem F.Fn p.print_item (Ok tt) c)
+        (FnRefusesItem F.Fn p.print_item c) p.iter p.separator s b t d };
 
     fn fmt(&self, ctx: &Context<T, A>, state: &mut State<U>, f: &mut String) -> fmt::Result {
         let items = self.iter.clone()?;

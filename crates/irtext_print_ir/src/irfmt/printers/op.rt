@@ -135,6 +135,8 @@ impl<T: IrText<A>, A: AttrText<A>, U> Printable<U, T, A> for SymbHeader {
 
     ghost prints = { λ h ctx s b t d. PrintsPart parts.header_of ctx h.op s b t d };
 
+    ghost refuses = { λ _ _ s _ t _. t ≡ s };
+
     fn fmt(&self, ctx: &Context<T, A>, _state: &mut State<U>, f: &mut String) -> fmt::Result {
         print_symb_op_header(ctx, self.op, f)?;
         Ok(())
@@ -148,6 +150,8 @@ impl<T: IrText<A>, A: AttrText<A>, U> Printable<U, T, A> for TypedSymbHeader<'_,
     ghost gives = { λ h ctx s. parts.printed_part (parts.typed_header_of (T.written h.ty.now)) ctx h.op s };
 
     ghost prints = { λ h ctx s b t d. PrintsPart (parts.typed_header_of (T.written h.ty.now)) ctx h.op s b t d };
+
+    ghost refuses = { λ _ _ s _ t _. t ≡ s };
 
     fn fmt(&self, ctx: &Context<T, A>, _state: &mut State<U>, f: &mut String) -> fmt::Result {
         print_typed_symb_op_header(ctx, self.op, self.ty, f)?;

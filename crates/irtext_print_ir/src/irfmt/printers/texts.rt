@@ -1,6 +1,7 @@
 //! A quoted text, and a text between two others.
 ghost use Rattle.std.specs.Prelude.{◌≡◌, Some};
 ghost use Rattle.irtext_print_ir.specs.Printers.Enclosed.{around, Encloses};
+ghost use Rattle.irtext_print_ir.specs.Printers.Refused.{RefusesEnclosed};
 ghost use Rattle.irtext_tokens.specs.QuotedBytes.{quoted_bytes};
 
 use crate::printable::state::State;
@@ -17,6 +18,8 @@ pub struct Quoted<'a> {
 
 impl<T: IrText<A>, A: AttrText<A>, U> Printable<U, T, A> for Quoted<'_> {
     ghost gives = { λ q _ s. Some (quoted_bytes q.text.now, s) };
+
+    ghost refuses = { λ _ _ s _ t _. t ≡ s };
 
     fn fmt(&self, _ctx: &Context<T, A>, _state: &mut State<U>, f: &mut String) -> fmt::Result {
         fmt_quoted(self.text, f)
@@ -38,6 +41,8 @@ impl<'a, T: IrText<A>, A: AttrText<A>, U, P: Printable<U, T, A>> Printable<U, T,
     ghost gives = { λ e c s. around e.left.now e.right.now (P.gives e.inside c s) };
 
     ghost prints = { λ e c s b t d. Encloses (P.prints e.inside c) e.left.now e.right.now s b t d };
+
+    ghost refuses = { λ e c. RefusesEnclosed (P.prints e.inside c) (P.refuses e.inside c) e.left.now e.right.now };
 
     fn fmt(&self, ctx: &Context<T, A>, state: &mut State<U>, f: &mut String) -> fmt::Result {
         f.push_str(self.left)?;

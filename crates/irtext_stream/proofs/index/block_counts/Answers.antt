@@ -14,7 +14,7 @@ loop-at-preserved c =
     let width : (at + 512) - at ≡ 512 = omega arith in
     let part : c.count_characters-count.result ≡ count_by begins_character (take 512 (drop at bs)) = c.count_characters-count.ensures ∙ ap (λ k. count_by begins_character (take k (drop at bs))) width in
     let all : n ≡ count_by begins_character (take (at + 512) bs) = omega (arith, v.counted, part, counted_more bs at 512) in
-    let size : length c.push.new.self.items ≡ suc (length xs) = ap length p ∙ omega (arith, length-append xs (n ∷ [])) in
+    let size : length c.push.new.items.items ≡ suc (length xs) = ap length p ∙ omega (arith, length-append xs (n ∷ [])) in
     let here : at + 512 ≡ 512 * suc (length xs) = omega (arith, v.so_far) in
     record {
       so_far = omega (arith, v.so_far, size);

@@ -14,7 +14,7 @@ loop-i-preserved c =
     let xs = c.loop-i.starts.items in
     let n : BeginsLine (chars bs) (c.loop-i.at + (c.in-Some.i + 1)) (suc (length xs)) = line_found bs _ c.loop-i.at (length xs) c.in-Some.i c.utf8.text v.here (rest_of c.args.text.now c.as_bytes-bytes.result.now c.loop-i.at v.is) c.in-Some.ensures in
     let p = c.in_ok-push.ensures.items in
-    let size : length c.push.new.self.items ≡ suc (length xs) = ap length p ∙ omega (arith, length-append xs ((c.loop-i.at + (c.in-Some.i + 1)) ∷ [])) in
+    let size : length c.push.new.items.items ≡ suc (length xs) = ap length p ∙ omega (arith, length-append xs ((c.loop-i.at + (c.in-Some.i + 1)) ∷ [])) in
     record {
       is = v.is;
       within = omega (arith, (coming bs _ _ c.utf8.text n).within, ap length v.is);

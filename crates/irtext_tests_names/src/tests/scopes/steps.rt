@@ -2,7 +2,7 @@
 ghost use Rattle.std.specs.Prelude.{◌<◌, length};
 
 use crate::tests::rows::refusal;
-use crate::tests::steps::Answer;
+use crate::tests::steps::{Answer, refused};
 use irtext_scopes::scopes::DefineFault;
 use irtext_scopes::tracker::{EnterFault, NameTracker};
 use irtext_tests_common::calls::{Call, call_of};
@@ -14,7 +14,7 @@ fn entered(tracker: &mut Tracker, isolated: bool) -> Answer {
     match tracker.enter_region(isolated) {
         Ok(()) => Answer::Done,
         Err(EnterFault::TopLevelOpRegionNotIsolatedFromAbove) => Answer::NotIsolated,
-        Err(EnterFault::Memory) => Answer::NoMemory,
+        Err(EnterFault::Memory(_)) => Answer::NoMemory,
     }
 }
 
@@ -82,8 +82,7 @@ fn replaced(definition: Result<Option<u32>, DefineFault>) -> Answer {
     match definition {
         Ok(Some(placeholder)) => Answer::Holds(placeholder),
         Ok(None) => Answer::Done,
-        Err(DefineFault::MultipleDefinitions) => Answer::Twice,
-        Err(DefineFault::Memory) => Answer::NoMemory,
+        Err(fault) => refused(fault),
     }
 }
 

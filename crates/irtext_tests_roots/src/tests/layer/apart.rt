@@ -1,10 +1,14 @@
-//! The laws of the two calls over two contexts. If the same dialect is registered with each separately, they have the same dialects, and the
-//! printed text of the one is parsed back in the other; if they have no dialects, no root is printed.
+//! The laws of the two calls over two contexts. If the same operations are registered with each separately, they know
+//! them alike, and the printed text of the one is parsed back in the other; if they have no dialects, no root is printed.
 ghost use Rattle.std.specs.Prelude.{◌≡◌, [], IfOk, codes};
 ghost use Rattle.irtext_base.specs.Format as format;
 ghost use Rattle.irtext_base.specs.FormatViews.{directive_of, format_of};
+ghost use Rattle.irtext_context.specs.Dialects.{with_op};
+ghost use Rattle.irtext_context.specs.DialectTable.{dialect_or_new, with_dialect};
+ghost use Rattle.pliron_text.specs.Alike.{KnowAlike};
 ghost use Rattle.irtext_tests_roots.specs.Apart.{lab_dialects, lab_format, lab_id};
 
+use crate::tests::layer::carried::{NotCarried, carried};
 use crate::tests::reading::concrete;
 use crate::tests::registering::register_operation;
 use crate::tests::value::{name_of, same, value_of};
@@ -15,7 +19,8 @@ use irtext_tests_common::contexts::Ctx;
 use pliron_text::base::{AttributeDict, Context, NewBareOperation, OpId, Operation, Ptr};
 use pliron_text::dialect::DialectName;
 use pliron_text::format::{Directive, OpFormat};
-use pliron_text::laws::two_calls::{NotBack, printed_and_read, read_printed_and_read};
+use pliron_text::laws::dialects::registered_in_any_order;
+use pliron_text::laws::two_calls::{NotBack, read_printed_and_read};
 use pliron_text::location::Location;
 use pliron_text::printable::State;
 use pliron_text::result::Result as Answer;
@@ -53,17 +58,25 @@ fn word_and_region(rt: &impl Abort, alloc: Global) -> OpFormat
     OpFormat::Custom(directives)
 }
 
-/// Registers `lab.d`, which is isolated, with its dialect.
+/// Registers an operation with the dialect `lab`.
+fn put(rt: &impl Abort, alloc: Global, ctx: &mut Ctx, id: OpId, isolated: bool)
+    ensures { ctx.new.dialects ≡ with_dialect ctx.old.dialects (codes "lab")
+        (with_op (dialect_or_new ctx.old.dialects (codes "lab")) id lab_format isolated) }
+{
+    let name = DialectName::from(name_of(rt, alloc, "lab"));
+    let format = word_and_region(rt, alloc);
+    let answer: Answer<(), DemoAttr> = register_operation(ctx, &name, id, format, isolated);
+    drop(name);
+    answer.expect(rt, "not registered");
+}
+
+/// Registers `lab.d`, which is isolated.
 fn register(rt: &impl Abort, alloc: Global, ctx: &mut Ctx)
     requires { ctx.old.dialects ≡ [] }
     ensures { ctx.new.dialects ≡ lab_dialects }
 {
     let id = id(rt, alloc);
-    let name = DialectName::from(name_of(rt, alloc, "lab"));
-    let format = word_and_region(rt, alloc);
-    let answer: Answer<(), DemoAttr> = register_operation(ctx, &name, id, format, true);
-    drop(name);
-    answer.expect(rt, "not registered");
+    put(rt, alloc, ctx, id, true);
 }
 
 /// Makes `lab.d` with one region.
@@ -89,21 +102,40 @@ fn answered(
     rt: &impl Abort,
     alloc: Global,
     other: &Ctx,
-    answer: Result<Ptr<Operation>, NotBack<DemoAttr>>,
+    answer: Result<Ptr<Operation>, NotCarried<DemoAttr>>,
 ) -> String {
     let text = match &answer {
         Ok(root) => value_of(rt, concrete(alloc, other, *root), "no text"),
-        Err(NotBack::Unprinted(refusal)) => {
+        Err(NotCarried::Open(reason)) => format!(in alloc; "{reason}").expect(rt, "out of memory"),
+        Err(NotCarried::Lost(NotBack::Unprinted(refusal))) => {
             format!(in alloc; "{refusal:?}").expect(rt, "out of memory")
         }
-        Err(NotBack::Unread(fault)) => value_of(rt, result_text(alloc, fault), "out of memory"),
+        Err(NotCarried::Lost(NotBack::Unread(fault))) => {
+            value_of(rt, result_text(alloc, fault), "out of memory")
+        }
     };
     drop(answer);
     text
 }
 
-/// The same, after an operation of the one context is printed and parsed.
+/// The same, after an operation of the one context is checked, printed and parsed.
 fn brought_over(
+    rt: &impl Abort,
+    alloc: Global,
+    ctx: &mut Ctx,
+    op: Ptr<Operation>,
+    other: &mut Ctx,
+) -> String
+    requires { KnowAlike other.old.dialects ctx.old.dialects }
+{
+    let layout = State::new(alloc, ());
+    let answer = carried(ctx, op, &layout, other);
+    drop(layout);
+    answered(rt, alloc, other, answer)
+}
+
+/// The same, where the dialects were registered in one order.
+fn brought_over_there(
     rt: &impl Abort,
     alloc: Global,
     ctx: &mut Ctx,
@@ -112,11 +144,8 @@ fn brought_over(
 ) -> String
     requires { other.old.dialects ≡ ctx.old.dialects }
 {
-    assert!(rt; ctx.contains_operation(op));
-    let layout = State::new(alloc, ());
-    let answer = printed_and_read(ctx, op, &layout, other);
-    drop(layout);
-    answered(rt, alloc, other, answer)
+    registered_in_any_order();
+    brought_over(rt, alloc, ctx, op, other)
 }
 
 /// The text that is parsed, printed and parsed again: an operation in a block of another.
@@ -154,7 +183,7 @@ fn brought(rt: &impl Abort, alloc: Global, ctx: &mut Ctx, other: &mut Ctx, case:
 {
     if matches!(case, Case::Unregistered) {
         let op = make_unregistered(rt, alloc, ctx);
-        return brought_over(rt, alloc, ctx, op, other);
+        return brought_over_there(rt, alloc, ctx, op, other);
     }
     register(rt, alloc, ctx);
     register(rt, alloc, other);
@@ -162,7 +191,7 @@ fn brought(rt: &impl Abort, alloc: Global, ctx: &mut Ctx, other: &mut Ctx, case:
         return read_again(rt, alloc, ctx, other);
     }
     let op = make(rt, alloc, ctx);
-    brought_over(rt, alloc, ctx, op, other)
+    brought_over_there(rt, alloc, ctx, op, other)
 }
 
 /// Checks the result for a case, with two contexts that had no dialects before.

@@ -5,7 +5,7 @@ use irtext_context::base::{BasicBlock, Item, Operation, Ptr, Value};
 use irtext_few::Few;
 use irtext_graph::held::HasGraph;
 use irtext_tests_common::building::{
-    attribute, block, give, id, into_block, into_region, operation, place, register, types,
+    attribute, block, erase, give, id, into_block, into_region, operation, place, register, types,
 };
 use irtext_tests_common::contexts::Ctx;
 use std::alloc::Global;
@@ -31,12 +31,16 @@ pub(crate) enum Part {
 pub(crate) enum Step {
     /// Registers an operation of the dialect `lab` with the format of these letters.
     Register(&'static str, &'static str),
+    /// Registers such an operation with the canonical format, isolated from above.
+    Isolated(&'static str),
     /// Makes an operation with so many regions.
     Root(&'static str, usize),
     /// Makes such an operation last in a block.
     Inner(usize, &'static str, usize),
     /// Makes an operation last in a block, with results of these types, that uses these values and blocks.
     Using(usize, &'static str, &'static str, &'static [Used]),
+    /// Makes such an operation in no block.
+    Loose(&'static str, &'static str, &'static [Used]),
     /// Makes a block last in the region of an operation, with this label or none, and arguments of these types.
     Block(usize, usize, &'static str, &'static str),
     /// Makes a placeholder last in a block.
@@ -45,6 +49,8 @@ pub(crate) enum Step {
     Give(Part, char),
     /// Gives a part a location.
     Place(Part),
+    /// Erases a part.
+    Erase(Part),
 }
 
 /// The operations and the blocks that were made, in order.
@@ -163,6 +169,7 @@ fn key_of(letter: char) -> &'static str {
     match letter {
         'g' => GIVEN_NAMES_KEY,
         's' | 't' => SYM_NAME_KEY,
+        'l' => "builtin_block_label",
         'n' => "n",
         _ => "k",
     }
@@ -200,6 +207,9 @@ fn make(rt: &impl Abort, alloc: Global, ctx: &mut Ctx, made: &mut Made, step: St
             let op = make_using(rt, alloc, ctx, made, (name, results), used);
             must(rt, into_block(ctx, op, block_of(rt, made, block)));
         }
+        Step::Loose(name, results, used) => {
+            make_using(rt, alloc, ctx, made, (name, results), used);
+        }
         Step::Block(op, region, label, letters) => {
             let block = make_block(rt, alloc, ctx, made, label, letters);
             must(
@@ -218,9 +228,11 @@ fn change(rt: &impl Abort, alloc: Global, ctx: &mut Ctx, made: &Made, step: Step
             rt,
             register(alloc, ctx, ("lab", name), letters, false),
         ),
+        Step::Isolated(name) => must(rt, register(alloc, ctx, ("lab", name), "-", true)),
         Step::Placeholder(block) => placeholder(rt, ctx, block_of(rt, made, block)),
         Step::Give(part, letter) => give_letter(rt, alloc, ctx, item_of(rt, made, part), letter),
         Step::Place(part) => must(rt, place(ctx, item_of(rt, made, part), 1)),
+        Step::Erase(part) => must(rt, erase(ctx, item_of(rt, made, part))),
         _ => {}
     }
 }
@@ -231,10 +243,21 @@ pub(crate) fn built(rt: &impl Abort, alloc: Global, ctx: &mut Ctx, steps: &[Step
         operations: Vec::new(alloc),
         blocks: Vec::new(alloc),
     };
-    for step in steps {
-        make(rt, alloc, ctx, &mut made, *step);
-    }
+    build(rt, alloc, ctx, &mut made, steps);
     made
+}
+
+/// Makes further steps.
+pub(crate) fn build(
+    rt: &impl Abort,
+    alloc: Global,
+    ctx: &mut Ctx,
+    made: &mut Made,
+    steps: &[Step],
+) {
+    for step in steps {
+        make(rt, alloc, ctx, made, *step);
+    }
 }
 
 /// A function of two blocks, the first with a constant that has a given name, a sum, and a branch that has a location.

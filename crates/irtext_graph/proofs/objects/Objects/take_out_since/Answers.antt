@@ -15,7 +15,7 @@ loop-k-preserved g c =
       sheds = sheds_all_on c.args.mark c.args.self.now c.loop-k.self y inv.sheds s.sheds;
       gone = λ j a le low e l. elim (equal_or_not j c.loop-k.k) [
         | inl here ↦ s.gone (subst (AtLeast c.args.mark) (ap (age y) (c.object_at-o.ensures a (ap (slice_get c.args.log.now) (sym here) ∙ e))) l)
-        | inr ne ↦ inv.gone j a le (omega (arith, low, ne)) e (shed_object c.args.mark c.loop-k.self y s.sheds a.object l)
+        | inr ne ↦ inv.gone j a le (omega (arith, low, ne)) e (shed_object c.args.mark c.loop-k.self y s.sheds a l)
       ];
     }
 

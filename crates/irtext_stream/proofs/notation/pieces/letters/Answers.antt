@@ -27,7 +27,7 @@ loop-c-smaller c =
 
 pub loop-c-preserved : goal.loop-c-preserved
 loop-c-preserved c =
-    let grown : string_bytes c.push.new.self ≡ string_bytes c.loop-c.text ++ encode_utf8 c.in-Some.c = search rules in
+    let grown : string_bytes c.push.new.text ≡ string_bytes c.loop-c.text ++ encode_utf8 c.in-Some.c = search rules in
     elim c.else-c-eq96.branch [
       | else-c-eq96-via-then-c-eq96+else-not-past w ↦ rw w.stream-is (spelled_twice c.loop-c.invariant _ c.in-Some.c c.letter.new.stream w.past.new.stream c.in-Some.ensures w.if-c-eq96.true w.if-not-past.ensures.0 w.if-not-past.ensures.1 grown)
       | else-c-eq96-via-else-c-eq96 w ↦ rw w.stream-is (spelled_more c.loop-c.invariant _ c.in-Some.c c.letter.new.stream c.in-Some.ensures w.if-c-eq96.false grown)

@@ -5,7 +5,7 @@ use Rattle.irtext_base.specs.FormatViews.{directive_of, directives_of}
 use Rattle.irtext_base.specs.Notation.{directives_after}
 use Rattle.irtext_stream.specs.NotationFaults.{whole}
 use Rattle.irtext_stream.proofs.NotationSteps.{handed}
-use Rattle.irtext_base.proofs.NotationDirectives.{Listed, listed_start, listed_faults, listed_more, listed_shorter, listed_done}
+use Rattle.irtext_base.proofs.NotationDirectives.{refused, Listed, listed_start, listed_faults, listed_more, listed_shorter, listed_done}
 use Rattle.irtext_base.proofs.format.notation.read.directives.Goals as goal
 
 pub loop-found-init : goal.loop-found-init
@@ -21,7 +21,7 @@ returns-in_err-directive c =
 pub returns-in_err-push : goal.returns-in_err-push
 returns-in_err-push c =
     let old = c.args.stream.now in
-    handed (λ ds. custom (directives_of ds.items)) (whole old) (directives_after (length old.rest) [] old.rest) c.directive.new.stream c.from_residual-in_err-push.result _ c.from_residual-in_err-push.ensures.1 tt
+    refused (λ ds. custom (directives_of ds.items)) (whole old) (directives_after (length old.rest) [] old.rest) c.directive.new.stream c.from_residual-in_err-push.result c.from_residual-in_err-push.ensures.1
 
 pub loop-found-smaller : goal.loop-found-smaller
 loop-found-smaller c = listed_shorter (directive_of c.in_ok-directive.field-0) c.loop-found.stream c.directive.new.stream c.skip.new.self c.in_ok-directive.ensures.0 c.skip.ensures

@@ -4,7 +4,7 @@ use Rattle.irtext_print.specs.Printers.Printing.{with_limit}
 use Rattle.irtext_print.specs.declared.printable.state.RegionPrintDepthLimit.TheVariants.{Max}
 use Rattle.irtext_print_ir.specs.Printers.Printed as printed
 use Rattle.irtext_print_ops.specs.Heads as heads
-use Rattle.irtext_print_ir.proofs.ir.print.debug.fmt_dbg.Goals as goal
+use Rattle.irtext_print_ir.proofs.ir.print.debug.print_elided.Goals as goal
 
 pub returns-clause-prints : goal.returns-clause-prints
 returns-clause-prints g c =

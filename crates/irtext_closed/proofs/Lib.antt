@@ -1,0 +1,5 @@
+mod Scopes
+mod Owners
+mod Depth
+mod Indices
+mod Reasons

@@ -1,0 +1,15 @@
+use Rattle.std.proofs.Common.{◌≡◌, length, subst, arith}
+use Rattle.irtext_graph.specs.Parts.{operands}
+use Rattle.irtext_graph.specs.declared.object.Site.TheVariants.{AtOperand}
+use Rattle.irtext_closed.specs.Closed.{IsUseReached}
+use Rattle.irtext_closed.proofs.Indices.{one_more, operands_reached}
+use Rattle.irtext_closed.proofs.uses.stray_operand.Goals as goal
+
+pub loop-i-preserved : goal.loop-i-preserved
+loop-i-preserved g c = one_more (λ j. IsUseReached c.args.ctx.now (AtOperand c.args.op j)) c.loop-i.i c.loop-i.invariant (c.reaches_operand.ensures.0 c.if-not-reaches_operand.false)
+
+pub returns-clause-none : goal.returns-clause-none
+returns-clause-none g c =
+    let count : c.num_operands-i-end.result ≡ length (operands c.args.ctx.now.graph c.args.op) = subst (λ x. c.num_operands-i-end.result ≡ length (operands x c.args.op)) c.graph.ensures c.num_operands-i-end.ensures in
+    let end = c.loop-i-test.false in
+    operands_reached c.args.ctx.now c.args.op (λ j less. c.loop-i.invariant j (omega (arith, less, count, end)))

@@ -1,0 +1,4 @@
+pub mod Closing
+pub mod Closed
+pub mod First
+pub mod Texts

@@ -1,0 +1,4 @@
+pub mod Scripts
+pub mod Owned
+pub mod Found
+pub mod Root
