@@ -3,3 +3,4 @@ mod Owners
 mod Depth
 mod Indices
 mod Reasons
+pub mod Walk

@@ -1,4 +1,5 @@
 pub mod Closing
 pub mod Closed
 pub mod First
+pub mod Located
 pub mod Texts

@@ -1,5 +1,6 @@
 pub mod Again
 pub mod Alike
+pub mod AllInside
 pub mod Back
 pub mod BeforeAndAfter
 pub mod Closing

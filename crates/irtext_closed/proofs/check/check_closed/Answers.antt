@@ -6,7 +6,9 @@ use Rattle.irtext_graph.specs.Nested.{Nested}
 use Rattle.irtext_graph.specs.Throughout.{all_from}
 use Rattle.irtext_graph.specs.declared.object.Object.{Object}
 use Rattle.irtext_graph.specs.declared.object.Object.TheVariants.{TheOperation}
-use Rattle.irtext_closed.proofs.Reasons.{fewer, refused, closed_on, all_closed, next_reason, root_closed, reason_open}
+use Rattle.irtext_closed.proofs.Reasons.{refused, next_reason, root_closed, reason_open}
+use Rattle.irtext_closed.proofs.Walk.{fewer, one_more, all_hold}
+use Rattle.irtext_closed.specs.First.{IsClosedAt}
 use Rattle.irtext_closed.proofs.check.check_closed.Goals as goal
 
 pub returns-in_err-check_root-clause-closed : goal.returns-in_err-check_root-clause-closed
@@ -51,7 +53,7 @@ loop-at-preserved g c =
     let n = c.next_inside-at.ensures in
     let on = subst (λ x. all_from x top (Some c.in-Some.object) ≡ c.in-Some.object ∷ all_from x top c.next_inside-at.result) c.graph-in-Some.ensures n.next in
     record {
-      so_far = λ q w. closed_on now c.args.root c.loop-at.at c.next_inside-at.result c.in-Some.object c.in-Some.is on c.in_ok-check_object.ensures.closed q (c.loop-at.invariant.so_far q w);
+      so_far = λ q w. one_more now.graph top (IsClosedAt now) c.loop-at.at c.next_inside-at.result c.in-Some.object c.in-Some.is on c.in_ok-check_object.ensures.closed q (c.loop-at.invariant.so_far q w);
       inside = subst (λ x. IfSome c.next_inside-at.result (IsInside x top)) c.graph-in-Some.ensures n.inside;
       live = subst (λ x. IfSome c.next_inside-at.result (IsLive x)) c.graph-in-Some.ensures n.there;
     }
@@ -60,4 +62,4 @@ pub returns-clause-closed : goal.returns-clause-closed
 returns-clause-closed g c =
     let now = c.args.ctx.now in
     let nested = subst (λ x. Nested (children x) (parent x)) c.graph.ensures c.keeps_nesting.ensures.forest in
-    ((λ t. root_closed now c.args.root nested c.in_ok-check_root.ensures.bare (λ q w. all_closed now c.args.root c.loop-at.at c.in_default.is q (c.loop-at.invariant.so_far q w))), (λ r. refl))
+    ((λ t. root_closed now c.args.root nested c.in_ok-check_root.ensures.bare (λ q w. all_hold now.graph (TheOperation c.args.root) (IsClosedAt now) c.loop-at.at c.in_default.is q (c.loop-at.invariant.so_far q w))), (λ r. refl))
