@@ -36,7 +36,8 @@ use Rattle.irtext_grammar.specs.Graphs.Build.{Built, BuiltOp, BuiltBlock}
 use Rattle.irtext_grammar.specs.Names.Script.{Path}
 use Rattle.irtext_names.specs.Held.{PtrRegions, PtrBlocks, PtrOperations, placed_under, held_op, held_head, held_regions, held_blocks, held_operations, held_root, OperationWhole, BlockWhole, IsWhole}
 use Rattle.pliron_text.proofs.AllInside.{Inside, region_in, block_in, operation_in, all_inside}
-use Rattle.pliron_text.specs.Older.{IsLocatedIn, OperationLocated, BlockLocated, KeepsRoot, IsOlder}
+use Rattle.irtext_closed.specs.Located.{IsLocatedIn}
+use Rattle.pliron_text.specs.Older.{OperationLocated, BlockLocated, KeepsRoot, IsOlder}
 use Rattle.irtext_graph.proofs.Frames.{operation_content_same, block_content_same}
 use Rattle.irtext_names.proofs.Ages.{here_is_live}
 use Rattle.irtext_print_ops.proofs.Depths.{inside_is}

@@ -23,10 +23,12 @@ ghost use Rattle.irtext_names.specs.Promises.{BuildsRoot, RefusesRoot};
 ghost use Rattle.irtext_tokens.specs.AttrTexts.{attr_at};
 ghost use Rattle.irtext_grammar.specs.Back.{ClosedRoot};
 ghost use Rattle.irtext_closed.specs.Closed.{IsClosedRoot};
+ghost use Rattle.irtext_closed.specs.Located.{IsLocatedRoot};
 ghost use Rattle.pliron_text.specs.Alike.{KnowAlike, KnowsRoot};
 ghost use Rattle.pliron_text.specs.Calls.{IsPrinted, ReadsPrinted, ComesBack, ComesBackWhole, ReadsText, RefusesText, IsExcused, IsAgain, IsExcusedAgain};
 ghost use Rattle.pliron_text.specs.Older.{IsOlder, KeepsRoot, RootLocated};
 
+use crate::laws::older::tested_root_is_located;
 use irtext_base::location::Source;
 use irtext_base::parsable::{ParseFault, ParseResult, SourcePosition, TextStream};
 use irtext_base::result::Cause;
@@ -292,7 +294,7 @@ fn read_beside<T: IrText<A>, A: AttrText<A>>(
 /// Prints a root, parses a text in the same context, and prints the root again. The two texts are the same, whether the parsed text is
 /// accepted or rejected. It prints as `print` does with a state of this layout, and parses as `top_level_parse` does.
 ///
-/// Each `Err` is the reason why the root is not printed: it is out of memory, or one that the root gives before the text is parsed.
+/// The context has to keep the files of the root's locations, which `is_located` tests. Each `Err` is the reason why the root is not printed: it is out of memory, or one that the root gives before the text is parsed.
 /// What the parse returns is dropped. The root is unchanged, and where a root was parsed, it stays in the context.
 pub fn printed_before_and_after<T: IrText<A>, A: AttrText<A>>(
     ctx: &mut Context<T, A>,
@@ -300,14 +302,14 @@ pub fn printed_before_and_after<T: IrText<A>, A: AttrText<A>>(
     layout: &PrintState<()>,
     text: &str,
 ) -> (Result<String, Refusal>, Result<String, Refusal>)
-    requires live { IsSome (operation ctx.old op) }
-    requires located { RootLocated ctx.old op }
+    requires { IsLocatedRoot ctx.old op }
     ensures same { block_round ctx.old op ≡ None → IfOk result.0 (λ before. IfOk result.1 (λ after.
         string_bytes after ≡ string_bytes before)) }
     ensures refused { IfErr result.1 (heads.RefusesUnder T.IrText.own A.IrText.own A.AttrText.own A.eq ctx.old
         op (fresh layout.now.width layout.now.indent layout.now.limit)) }
     ensures kept { KeepsRoot op ctx.old ctx.new }
 {
+    tested_root_is_located(ctx);
     let before = text_of_root(ctx, op, layout);
     let _answer = read_beside(ctx, op, text);
     let after = text_of_root(ctx, op, layout);
