@@ -27,7 +27,8 @@ const BESIDE: &[&str] = &[
 ];
 
 /// The printed text of the root, each time.
-const PRINTED: &str = "";
+const PRINTED: &str =
+    "builtin.module @m \n{\n  ^a_block1v1() !0:\n    builtin.module @n \n    {\n      \n    } !1\n} !2\n\noutlined_attributes:\n!0 = @[<in-memory>: line: 1, column: 21], [builtin_block_label = builtin.identifier a]\n!1 = @[\"f\": line: 1, column: 2], []\n!2 = @[<in-memory>: line: 1, column: 1], []\n";
 
 /// Checks the text of a root before and after another text is parsed.
 fn check_text(rt: &impl Abort, alloc: Global, ctx: &mut Ctx, op: Ptr<Operation>, text: &str) {
@@ -39,18 +40,20 @@ fn check_text(rt: &impl Abort, alloc: Global, ctx: &mut Ctx, op: Ptr<Operation>,
     same(rt, after.ok().expect(rt, "not printed"), PRINTED);
 }
 
-/// A location in a file that the context does not keep: it is of another context.
+/// A location of three files.
+const FILES: &str =
+    "fused[\"a\": line: 1, column: 1, \"b\": line: 1, column: 1, \"c\": line: 1, column: 1]";
+
+/// The location of three files in another context. The context of the root keeps two files.
 fn elsewhere(rt: &impl Abort, alloc: Global) -> Location<DemoAttr> {
     let mut other: Ctx = Context::new(alloc);
-    let _first: Answer<Location<DemoAttr>, DemoAttr> = location(&mut other, "\"f\": line: 1, column: 1");
-    let answer = location(&mut other, "\"z\": line: 1, column: 1");
+    let answer: Answer<Location<DemoAttr>, DemoAttr> = parse_from_str(
+        |s| Location::parse(s, ()),
+        &mut other,
+        FILES,
+    );
     drop(other);
     answer.ok().expect(rt, "no location")
-}
-
-/// The location that a text is parsed as.
-fn location(ctx: &mut Ctx, text: &str) -> Answer<Location<DemoAttr>, DemoAttr> {
-    parse_from_str(|s| Location::parse(s, ()), ctx, text)
 }
 
 /// Checks that a root is printed as before beside each text, and that it is tested whether its files are kept.
