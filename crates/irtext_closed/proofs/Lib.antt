@@ -1,4 +1,5 @@
 mod Scopes
+mod Noted
 mod Owners
 mod Depth
 mod Indices

@@ -1,6 +1,6 @@
 -- What the first reason of a walk over the objects of a root says of the root.
 use Rattle.std.proofs.Common.{◌≡◌, ◌≢◌, ◌∙◌, ◌<◌, ◌⊎◌, ℕ, inl, inr, refl, sym, ap, subst, arith, List, [], ◌∷◌, length, map, slice_get, Option, Some, None, IsSome, option_map, Result, Ok, Err}
-use Rattle.std.specs.Prelude.{◌↔◌, IsOk}
+use Rattle.std.specs.Prelude.{◌↔◌, IsOk, IfErr}
 use Rattle.std.specs.Result.{IsErrAnd}
 use Rattle.irtext_context.specs.Context.{ContextView, operation}
 use Rattle.irtext_graph.specs.declared.arena.Ptr.{Ptr}
@@ -41,6 +41,11 @@ first_of (x ∷ xs) h = (x, refl)
 pub refused : {X E P : Type 0} (e : E) (r : Result X E) → IsErrAnd r (λ y. y ≡ e) → (P → ⊥) → IsOk r ↔ P
 refused e (Ok x) h none = absurd h
 refused e (Err f) h none = ((λ t. absurd (cc)), (λ p. absurd (none p)))
+
+-- the same, for what holds of the error
+pub refused_for : {X E : Type 0} (P : E → Type 0) (e : E) (r : Result X E) → IsErrAnd r (λ y. y ≡ e) → P e → IfErr r P
+refused_for P e (Ok x) h p = absurd h
+refused_for P e (Err f) h p = subst P (sym h) p
 
 operation_eq : (p q : Ptr Operation) → TheOperation p ≡ TheOperation q → p ≡ q
 operation_eq p q e = cc

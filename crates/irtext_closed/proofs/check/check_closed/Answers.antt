@@ -6,9 +6,9 @@ use Rattle.irtext_graph.specs.Nested.{Nested}
 use Rattle.irtext_graph.specs.Throughout.{all_from}
 use Rattle.irtext_graph.specs.declared.object.Object.{Object}
 use Rattle.irtext_graph.specs.declared.object.Object.TheVariants.{TheOperation}
-use Rattle.irtext_closed.proofs.Reasons.{refused, next_reason, root_closed, reason_open}
+use Rattle.irtext_closed.proofs.Reasons.{refused, refused_for, next_reason, root_closed, reason_open}
 use Rattle.irtext_closed.proofs.Walk.{fewer, one_more, all_hold}
-use Rattle.irtext_closed.specs.First.{IsClosedAt}
+use Rattle.irtext_closed.specs.First.{IsClosedAt, IsFirstReason}
 use Rattle.irtext_closed.proofs.check.check_closed.Goals as goal
 
 pub returns-in_err-check_root-clause-closed : goal.returns-in_err-check_root-clause-closed
@@ -34,6 +34,14 @@ returns-in_err-check_object-clause-closed g c =
     let inside = subst (λ o. IfSome o (IsInside now.graph (TheOperation c.args.root))) c.in-Some.is c.loop-at.invariant.inside in
     refused _ c.from_residual-in_err-check_object.result c.from_residual-in_err-check_object.ensures.1 (reason_open now c.args.root nested reason
     (next_reason now c.args.root c.loop-at.at c.in-Some.object reason c.in-Some.is c.in_ok-check_root.ensures.bare inside c.loop-at.invariant.so_far c.in_err-check_object.ensures.first))
+
+pub returns-in_err-check_object-clause-first : goal.returns-in_err-check_object-clause-first
+returns-in_err-check_object-clause-first g c =
+    let now = c.args.ctx.now in
+    let reason = c.in_err-check_object.field-0.0 in
+    let inside = subst (λ o. IfSome o (IsInside now.graph (TheOperation c.args.root))) c.in-Some.is c.loop-at.invariant.inside in
+    refused_for (IsFirstReason now c.args.root) reason c.from_residual-in_err-check_object.result c.from_residual-in_err-check_object.ensures.1
+    (next_reason now c.args.root c.loop-at.at c.in-Some.object reason c.in-Some.is c.in_ok-check_root.ensures.bare inside c.loop-at.invariant.so_far c.in_err-check_object.ensures.first)
 
 pub next_inside-at-requires-clause-within : goal.next_inside-at-requires-clause-within
 next_inside-at-requires-clause-within g c =
