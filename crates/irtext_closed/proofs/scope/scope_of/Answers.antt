@@ -18,8 +18,8 @@ pub returns-in-Some-noted_scope : goal.returns-in-Some-noted_scope
 returns-in-Some-noted_scope g c =
     let now = c.args.ctx.now in
     let above = climbs_on (isolated_data now.dialects) now.graph c.args.o c.loop-holder.at c.in-Some.holder c.loop-holder.invariant.climbed
-        (parent_is c.graph-in-loop-holder.result.now now.graph c.loop-holder.at c.get_parent.result (Some c.in-Some.holder) c.graph-in-loop-holder.ensures c.get_parent.ensures.parent c.in-Some.is)
-        (sym c.is_isolated.ensures ∙ c.if-is_isolated.false) in
+    (parent_is c.graph-in-loop-holder.result.now now.graph c.loop-holder.at c.get_parent.result (Some c.in-Some.holder) c.graph-in-loop-holder.ensures c.get_parent.ensures.parent c.in-Some.is)
+    (sym c.is_isolated.ensures ∙ c.if-is_isolated.false) in
     climbed_scope (isolated_data now.dialects) now.graph c.args.o c.in-Some.holder c.in-Some-noted_scope.scope above
     (subst (λ x. IfSome x (IsScope (isolated_data now.dialects) now.graph c.in-Some.holder)) c.in-Some-noted_scope.is c.noted_scope.ensures)
 
