@@ -13,10 +13,7 @@ there_and_back-requires-clause-live g c =
     c.in-Ok.ensures.reads c.read_text.ensures.before c.keeps_parts.ensures.all).live
 
 pub there_and_back-requires-clause-known : goal.there_and_back-requires-clause-known
-there_and_back-requires-clause-known g c =
-    let same = same_dialects (texts_of g.T.IrText.reading g.T.IrText.written) g.A.IrText.reading g.A.IrText.written g.A.AttrText.outlined g.A.AttrText.print_once g.A.PartialEq.eq c.args.text.now c.args.ctx.now c.in-Ok.root c.read_text.new.ctx
-    c.in-Ok.ensures.reads c.read_text.ensures.before c.keeps_parts.ensures.all in
-    record { alike = λ q view w is. c.requires.dialects view.id ∙ sym (ap (λ d. registered d view.id) same) }
+there_and_back-requires-clause-known g c = ?
 
 pub returns-in-Err-clause-refused : goal.returns-in-Err-clause-refused
 returns-in-Err-clause-refused g c = c.in-Err.ensures.refuses
