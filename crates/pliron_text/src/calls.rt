@@ -24,11 +24,13 @@ ghost use Rattle.irtext_tokens.specs.AttrTexts.{attr_at};
 ghost use Rattle.irtext_grammar.specs.Back.{ClosedRoot};
 ghost use Rattle.irtext_closed.specs.Closed.{IsClosedRoot};
 ghost use Rattle.irtext_closed.specs.Located.{IsLocatedRoot};
-ghost use Rattle.pliron_text.specs.Alike.{KnowAlike, KnowsRoot};
+ghost use Rattle.irtext_alike.specs.Alike.{KnowsRoot};
 ghost use Rattle.pliron_text.specs.Calls.{IsPrinted, ReadsPrinted, ComesBack, ComesBackWhole, ReadsText, RefusesText, IsExcused, IsAgain, IsExcusedAgain};
 ghost use Rattle.pliron_text.specs.Older.{IsOlder, KeepsRoot, RootLocated};
 
 use crate::laws::older::tested_root_is_located;
+use irtext_alike::root::knows_root;
+use irtext_alike::unlike::UnlikeOperation;
 use irtext_base::location::Source;
 use irtext_base::parsable::{ParseFault, ParseResult, SourcePosition, TextStream};
 use irtext_base::result::Cause;
@@ -54,6 +56,8 @@ pub enum NotBack<A> {
 pub enum NotAgain<A> {
     /// The text was rejected, or there was no memory to parse it.
     Refused(ParseFault<A>),
+    /// The other context knows this operation of its root otherwise.
+    Unlike(UnlikeOperation),
     /// Its root was not printed, or was not parsed back.
     Lost(NotBack<A>),
 }
@@ -172,8 +176,7 @@ pub fn there_and_back<T: IrText<A>, A: AttrText<A>>(
         (Fit C (isolated ctx.now.dialects) g → ClosedRoot C (isolated ctx.now.dialects) g × Named C g) →
         IfOk result (λ q. ComesBackWhole T.IrText.own A.IrText.own A.AttrText.own A.eq ctx.now op
         (fresh layout.now.width layout.now.indent layout.now.limit) other.old q other.new g) }
-    ensures limited { KnowAlike other.old.dialects ctx.now.dialects → block_round ctx.now op ≡ None → (g : Graph T A) → seen_root A.written ctx.now
-        op ≡ Some g →
+    ensures limited { block_round ctx.now op ≡ None → (g : Graph T A) → seen_root A.written ctx.now op ≡ Some g →
         let C = printing_over ctx.now A.outlined A.print_once A.eq in
         Fit C (isolated ctx.now.dialects) g → (AllShown (written C (levels layout.now.limit) g) → ⊥)
         → IfOk result (λ q. ⊥) }
@@ -199,8 +202,8 @@ pub fn there_and_back<T: IrText<A>, A: AttrText<A>>(
     }
 }
 
-/// Prints a root, and parses the text in another context that knows the root's operations alike: each with the same format and isolation,
-/// in whatever order they were registered. It prints as `print` does with a state of this layout
+/// Prints a root, and parses the text in another context that knows the root's operations alike, which `knows_root` says: each with the
+/// same format and isolation, in whatever order they were registered. It prints as `print` does with a state of this layout
 /// (as `disp` does if the layout is that of a new state), and parses as `top_level_parse` does.
 ///
 /// If the root is closed, which `check_closed` says, and the layout leaves no region out, the returned operation, however deep, is equal
@@ -209,8 +212,7 @@ pub fn there_and_back<T: IrText<A>, A: AttrText<A>>(
 /// these: out of memory, an operation does not fit its format, or an indentation does not fit 16 bits.
 ///
 /// On success only the returned operation and what is inside it is new in the other context. On an error the objects of the other
-/// context are unchanged. If the root is closed, its operations fit, the layout leaves a region out and both contexts know all operations
-/// alike, the call never succeeds.
+/// context are unchanged. If the root is closed, its operations fit and the layout leaves a region out, the call never succeeds.
 pub fn printed_and_read<T: IrText<A>, A: AttrText<A>>(
     ctx: &Context<T, A>,
     op: Ptr<Operation>,
@@ -231,7 +233,7 @@ pub fn printed_and_read<T: IrText<A>, A: AttrText<A>>(
         AllShown (written C (levels layout.now.limit) g) → Named C g →
         IfOk result (λ q. ComesBackWhole T.IrText.own A.IrText.own A.AttrText.own A.eq ctx.now op
         (fresh layout.now.width layout.now.indent layout.now.limit) other.old q other.new g) }
-    ensures limited { KnowAlike other.old.dialects ctx.now.dialects → IsClosedRoot ctx.now op → (g : Graph T A) → seen_root A.written ctx.now op ≡ Some g →
+    ensures limited { IsClosedRoot ctx.now op → (g : Graph T A) → seen_root A.written ctx.now op ≡ Some g →
         let C = printing_over ctx.now A.outlined A.print_once A.eq in
         Fit C (isolated ctx.now.dialects) g → (AllShown (written C (levels layout.now.limit) g) → ⊥)
         → IfOk result (λ q. ⊥) }
@@ -247,21 +249,20 @@ pub fn printed_and_read<T: IrText<A>, A: AttrText<A>>(
     there_and_back(ctx, op, layout, other)
 }
 
-/// Parses a text, prints the root, and parses the printed text in another context that knows all operations alike. On success returns both
-/// roots. If the layout leaves no region out, the second is equal to the first, with a position if a location was unknown, and with no
-/// name and no label filled in. Then an error is one of these: the text is rejected, out of memory, an operation does not fit its
-/// format, or an indentation does not fit 16 bits. If the layout leaves a region out, the printed text may also be rejected.
+/// Parses a text, prints the root, and parses the printed text in another context. On success returns both roots. If the layout leaves no
+/// region out, the second is equal to the first, with a position if a location was unknown, and with no name and no label filled in. Then
+/// an error is one of these: the text is rejected, out of memory, the other context knows an operation of the root otherwise, an operation
+/// does not fit its format, or an indentation does not fit 16 bits. If the layout leaves a region out, the printed text may also be rejected.
 pub fn read_printed_and_read<T: IrText<A>, A: AttrText<A>>(
     text: &str,
     ctx: &mut Context<T, A>,
     layout: &PrintState<()>,
     other: &mut Context<T, A>,
 ) -> Result<(Ptr<Operation>, Ptr<Operation>), NotAgain<A>>
-    requires dialects { KnowAlike other.old.dialects ctx.old.dialects }
     ensures again { IfOk result (λ r. IsAgain T.IrText.own A.IrText.own A.AttrText.own A.eq text.now ctx.old
         (fresh layout.now.width layout.now.indent layout.now.limit) r.0 ctx.new other.old r.1 other.new) }
     ensures refused { IfErr result (IsExcusedAgain T.IrText.own A.IrText.own A.AttrText.own A.eq text.now
-        ctx.old ctx.new
+        ctx.old ctx.new other.old
         (fresh layout.now.width layout.now.indent layout.now.limit)) }
 {
     let root = match read_text(ctx, text) {
@@ -269,6 +270,9 @@ pub fn read_printed_and_read<T: IrText<A>, A: AttrText<A>>(
         Err(fault) => return Err(NotAgain::Refused(fault)),
     };
     keeps_parts(ctx);
+    if let Err(unlike) = knows_root(ctx, root, other) {
+        return Err(NotAgain::Unlike(unlike));
+    }
     match there_and_back(ctx, root, layout, other) {
         Ok(again) => Ok((root, again)),
         Err(lost) => Err(NotAgain::Lost(lost)),

@@ -17,9 +17,9 @@ returns-clause-whole g c = λ shut x sees shown named.
     (λ f. (closed_as_seen c.args.ctx.now g.A.IrText.written C c.args.op nested shut x sees (c.keeps_parts.ensures.kept c.args.op x sees).distinct f, named))
 
 pub returns-clause-limited : goal.returns-clause-limited
-returns-clause-limited g c = λ all shut x sees fits out.
+returns-clause-limited g c = λ shut x sees fits out.
     let C = printing_over c.args.ctx.now g.A.AttrText.outlined g.A.AttrText.print_once g.A.PartialEq.eq in
-    c.there_and_back.ensures.limited all (in_no_block c.args.ctx.now g.A.IrText.written C c.args.op c.keeps_parts.ensures.all.counters.nested shut) x sees fits out
+    c.there_and_back.ensures.limited (in_no_block c.args.ctx.now g.A.IrText.written C c.args.op c.keeps_parts.ensures.all.counters.nested shut) x sees fits out
 
 pub returns-clause-refused : goal.returns-clause-refused
 returns-clause-refused g c = λ shut x sees shown.

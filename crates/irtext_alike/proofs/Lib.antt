@@ -1,0 +1,2 @@
+mod Directives
+mod Walk

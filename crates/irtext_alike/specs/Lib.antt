@@ -1,0 +1,4 @@
+pub mod Alike
+pub mod Shapes
+pub mod First
+pub mod Texts
