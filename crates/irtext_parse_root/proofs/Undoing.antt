@@ -1,7 +1,7 @@
 -- A parser that failed is undone: what is known of it before gives what it promises afterwards.
 use Rattle.std.proofs.Common.{◌≡◌, ◌∙◌, true, false, true≢false, Result, Ok, Err, length, take, refl, sym, ap, subst}
 use Rattle.std.proofs.Math.Seq.{take-append_seam}
-use Rattle.std.specs.Prelude.{OnOk, OnErr}
+use Rattle.std.specs.Prelude.{IfErr, OnOk, OnErr}
 use Rattle.irtext_base.specs.declared.parsable.fault.ParseFault.{ParseFault}
 use Rattle.irtext_context.proofs.Kept.{kept_closed, rolled_back}
 use Rattle.irtext_context.specs.Context.{KeepsOlder, RollsBack}
@@ -11,7 +11,7 @@ use Rattle.irtext_parse_state.specs.declared.parsable.state.State as code
 use Rattle.irtext_parse_state.specs.declared.parsable.state.StateStream.{StateStream}
 use Rattle.irtext_grammar.specs.Readers.Refusals.{Refusal}
 use Rattle.irtext_parse_root.proofs.Chains.{rest_both}
-use Rattle.irtext_parse_root.specs.Parses.{Undoes, CanUndo, Answers, Parses, StartsAt, TakesBack}
+use Rattle.irtext_parse_root.specs.Parses.{Undoes, CanUndo, Resolves, FirstFault, Answers, StartsAt, TakesBack}
 use Rattle.irtext_parse_root.specs.declared.undo.Start.{Start}
 
 -- what the call does with an answer and with an error
@@ -37,24 +37,25 @@ module _ {T A U X : Type 0} (start : Start) (old mid : StateStream T A U) (at : 
   closed_there (Err fault) can = kept_closed at.closed (kept_since start old mid at can.kept)
 
   -- on an error all that is older is as it was
-  undoes_by : (new : StateStream T A U) → old.stream.failed ≡ false → (answer : Result X (ParseFault A)) → CanUndo old answer mid → KeepsRest mid.state new.state → new.stream ≡ mid.stream
+  undoes_by : (new : StateStream T A U) → (answer : Result X (ParseFault A)) → CanUndo old answer mid → KeepsRest mid.state new.state
       → OnErr answer (RollsBack start.made mid.state.ctx.now new.state.ctx.now) → OnErr answer (marks_of new.state ≡ take start.marks (marks_of mid.state)) → Undoes old answer new
-  undoes_by new fine (Ok x) can rest stream objects marks = record {
-    rest = rest_both can.rest rest;
-    refused = tt;
-    failed = λ e. absurd (true≢false (sym e ∙ fine));
-    objects = tt;
-    marks = tt;
-  }
-  undoes_by new fine (Err fault) can rest stream objects marks =
+  undoes_by new (Ok x) can rest objects marks = record { rest = rest_both can.rest rest; objects = tt; marks = tt }
+  undoes_by new (Err fault) can rest objects marks =
       let earlier = marks_of old.state in
       record {
         rest = rest_both can.rest rest;
-        refused = subst (Refusal old.stream fault) (sym stream) can.refused;
-        failed = λ e. absurd (true≢false (sym e ∙ fine));
         objects = rolled_back at.older (kept_since start old mid at can.kept) objects;
         marks = marks ∙ (ap (λ n. take n (marks_of mid.state)) at.marks ∙ (ap (take (length earlier)) can.noted.1 ∙ take-append_seam earlier can.noted.0));
       }
+
+  -- so the parser is undone
+  pub undoes : (new : StateStream T A U) (answer result : Result X (ParseFault A)) → CanUndo old answer mid → TakesBack start answer mid result new → Undoes old result new
+  undoes new answer result can back = subst (λ r. Undoes old r new) (sym back.same) (undoes_by new answer can back.rest back.objects back.marks)
+
+  -- and the stream is as the error says
+  pub still_refused : (new : StateStream T A U) (answer : Result X (ParseFault A)) → CanUndo old answer mid → new.stream ≡ mid.stream → IfErr answer (λ fault. Refusal old.stream fault new.stream)
+  still_refused new (Ok x) can stream = tt
+  still_refused new (Err fault) can stream = subst (Refusal old.stream fault) (sym stream) can.refused
 
 -- what is promised of the state after a success is known of the state before the call
 pub kept_on_ok : {T A U X : Type 0} (P : StateStream T A U → Type 0) {start : Start} {mid new : StateStream T A U} (answer result : Result X (ParseFault A)) → TakesBack start answer mid result new → P mid → OnOk result (P new)
@@ -71,8 +72,17 @@ module _ {T A U X : Type 0} {Reads Builds : X → StateStream T A U → StateStr
   answers_by (Err fault) e p = record { read = tt; missed = p.missed; builds = λ fresh. tt; unresolved = p.unresolved }
 
   -- so the parser keeps its whole promise
-  pub parses : (answer result : Result X (ParseFault A)) → CanUndo old answer mid → Answers Reads Builds Misses Refuses old answer mid → TakesBack start answer mid result new → Parses (Answers Reads Builds Misses Refuses) old result new
-  parses answer result can says back = subst (λ r. Parses (Answers Reads Builds Misses Refuses) old r new) (sym back.same) (record {
-    undone = undoes_by start old mid at new fine answer can back.rest back.stream back.objects back.marks;
-    answers = answers_by answer back.unchanged says;
-  })
+  pub resolves : (answer result : Result X (ParseFault A)) → Answers Reads Builds Misses Refuses old answer mid → TakesBack start answer mid result new → Resolves Builds Refuses old result new
+  resolves answer result says back =
+      let a = answers_by answer back.unchanged says in
+      subst (λ r. Resolves Builds Refuses old r new) (sym back.same) (record { builds = a.builds; unresolved = a.unresolved })
+
+  pub first_fault : (answer result : Result X (ParseFault A)) → CanUndo old answer mid → Answers Reads Builds Misses Refuses old answer mid → TakesBack start answer mid result new → FirstFault Reads Misses old result new
+  first_fault answer result can says back =
+      let a = answers_by answer back.unchanged says in
+      subst (λ r. FirstFault Reads Misses old r new) (sym back.same) (record {
+        read = a.read;
+        missed = a.missed;
+        refused = still_refused start old mid at new answer can back.stream;
+        failed = λ e. absurd (true≢false (sym e ∙ fine));
+      })
