@@ -93,7 +93,7 @@ module _ {T A : Type 0} (types : ir_text.Ghosts T A) (owns : ir_text.Ghosts A A)
     -- what was parsed, or why nothing was
     pub is_read : (answer : Result (Ptr Operation) (ParseFault A)) → ResolvesRoot types owns start answer finish → FirstOfOperation types owns true start answer finish → (result : Result (Ptr Operation) (Error A)) → Passes answer result
         → IfOk result (λ op. ReadsRoot types owns bytes ctx op after) × IfErr result (IsNotRead types owns bytes ctx)
-    is_read answer resolves first result passed = (reads_from answer (resolves.builds fresh) result passed, rejected_from answer (first.missed fine) (resolves.unresolved fresh) result passed)
+    is_read answer resolves first result passed = (reads_from answer (resolves.builds fresh) result passed, rejected_from answer (first.missed fine) (first.fails fresh) result passed)
 
   -- there was no memory to begin with the text
   pub not_begun : (after : ContextView T A) (result : Result (Ptr Operation) (Error A)) → IsOutOfMemory result → IfOk result (λ op. ReadsRoot types owns bytes ctx op after) × IfErr result (IsNotRead types owns bytes ctx)

@@ -1,18 +1,52 @@
 -- A parser that failed is undone: what is known of it before gives what it promises afterwards.
-use Rattle.std.proofs.Common.{◌≡◌, ◌∙◌, true, false, true≢false, Result, Ok, Err, length, take, refl, sym, ap, subst}
+use Rattle.std.proofs.Common.{◌≡◌, ◌∙◌, ◌⊎◌, true, false, true≢false, Result, Ok, Err, length, take, refl, sym, ap, subst, inl, inr}
 use Rattle.std.proofs.Math.Seq.{take-append_seam}
 use Rattle.std.specs.Prelude.{IfErr, OnOk, OnErr}
+use Rattle.irtext_base.specs.Faults.{Memory, fault_of}
 use Rattle.irtext_base.specs.declared.parsable.fault.ParseFault.{ParseFault}
+use Rattle.irtext_base.specs.declared.parsable.names.ParserNameTrackerError.TheVariants as tracked
+use Rattle.irtext_base.specs.declared.result.Cause.{Cause}
+use Rattle.irtext_base.specs.declared.result.Cause as cause
 use Rattle.irtext_context.proofs.Kept.{kept_closed, rolled_back}
 use Rattle.irtext_context.specs.Context.{KeepsOlder, RollsBack}
 use Rattle.irtext_graph.specs.Back.{IsClosedBelow}
 use Rattle.irtext_parse_state.specs.States.{KeepsRest, marks_of}
 use Rattle.irtext_parse_state.specs.declared.parsable.state.State as code
 use Rattle.irtext_parse_state.specs.declared.parsable.state.StateStream.{StateStream}
+use Rattle.irtext_grammar.specs.Promises.Root.{UnlessMemory}
 use Rattle.irtext_grammar.specs.Readers.Refusals.{Refusal}
 use Rattle.irtext_parse_root.proofs.Chains.{rest_both}
 use Rattle.irtext_parse_root.specs.Parses.{Undoes, CanUndo, Resolves, FirstFault, Answers, StartsAt, TakesBack}
 use Rattle.irtext_parse_root.specs.declared.undo.Start.{Start}
+
+-- only one cause says that memory ran out
+is_memory : {A : Type 0} (c : Cause A) → fault_of c ≡ Memory → c ≡ cause.Memory
+is_memory cause.Memory e = refl
+is_memory cause.StreamFailed e = absurd (cc)
+is_memory (cause.Unexpected found expected) e = absurd (cc)
+is_memory (cause.NumberRange text) e = absurd (cc)
+is_memory (cause.BadEscape c) e = absurd (cc)
+is_memory (cause.BadUnicodeEscape digits) e = absurd (cc)
+is_memory cause.EmptyItem e = absurd (cc)
+is_memory cause.BadSeparator e = absurd (cc)
+is_memory (cause.UnregisteredDialect name) e = absurd (cc)
+is_memory (cause.UnregisteredOp id) e = absurd (cc)
+is_memory (cause.ResultCount results names) e = absurd (cc)
+is_memory (cause.NoActiveScope name) e = absurd (cc)
+is_memory (cause.UnresolvedReference name) e = absurd (cc)
+is_memory (cause.ParserNameTrackerError (tracked.MultipleDefinitions name)) e = absurd (cc)
+is_memory (cause.ParserNameTrackerError tracked.TopLevelOpRegionNotIsolatedFromAbove) e = absurd (cc)
+is_memory (cause.DuplicateIndex index) e = absurd (cc)
+is_memory (cause.UnknownIndex index) e = absurd (cc)
+is_memory (cause.UnknownPrintOnce index) e = absurd (cc)
+is_memory (cause.ReservedKey key) e = absurd (cc)
+is_memory (cause.OwnText text) e = absurd (cc)
+is_memory (cause.FormatFault f) e = absurd (cc)
+is_memory (cause.Text text) e = absurd (cc)
+is_memory cause.Fmt e = absurd (cc)
+is_memory (cause.Nested' p kind err loc) e = absurd (cc)
+is_memory (cause.Parse' at p c) e = absurd (cc)
+is_memory (cause.WrongDialect dialect name) e = absurd (cc)
 
 -- what the call does with an answer and with an error
 module _ {T A U X : Type 0} (start : Start) (answer : Result X (ParseFault A)) (old new : StateStream T A U) where
@@ -71,18 +105,27 @@ module _ {T A U X : Type 0} {Reads Builds : X → StateStream T A U → StateStr
   answers_by (Ok x) e p = subst (Answers Reads Builds Misses Refuses old (Ok x)) (sym e) p
   answers_by (Err fault) e p = record { read = tt; missed = p.missed; builds = λ fresh. tt; unresolved = p.unresolved }
 
-  -- so the parser keeps its whole promise
-  pub resolves : (answer result : Result X (ParseFault A)) → Answers Reads Builds Misses Refuses old answer mid → TakesBack start answer mid result new → Resolves Builds Refuses old result new
-  resolves answer result says back =
-      let a = answers_by answer back.unchanged says in
-      subst (λ r. Resolves Builds Refuses old r new) (sym back.same) (record { builds = a.builds; unresolved = a.unresolved })
+  -- an error that does not say that memory ran out says why nothing was built
+  unless : {Unresolved : StateStream T A U → ParseFault A → Type 0} → ((fault : ParseFault A) → Refuses old fault → Unresolved old fault) → (answer : Result X (ParseFault A)) → IfErr answer (UnlessMemory (Refuses old))
+      → IfErr answer (λ fault. (fault.cause ≡ cause.Memory) ⊎ Unresolved old fault)
+  unless none (Ok x) h = tt
+  unless none (Err fault) (inl ran_out) = inl (is_memory fault.cause ran_out.because)
+  unless none (Err fault) (inr refuses) = inr (none fault refuses)
 
-  pub first_fault : (answer result : Result X (ParseFault A)) → CanUndo old answer mid → Answers Reads Builds Misses Refuses old answer mid → TakesBack start answer mid result new → FirstFault Reads Misses old result new
+  -- so the parser keeps its whole promise
+  pub resolves : {Unresolved : StateStream T A U → ParseFault A → Type 0} → ((fault : ParseFault A) → Refuses old fault → Unresolved old fault) → (answer result : Result X (ParseFault A)) → Answers Reads Builds Misses Refuses old answer mid → TakesBack start answer mid result new
+      → Resolves Builds Unresolved old result new
+  resolves {Unresolved} none answer result says back =
+      let a = answers_by answer back.unchanged says in
+      subst (λ r. Resolves Builds Unresolved old r new) (sym back.same) (record { builds = a.builds; unresolved = λ fresh. unless none answer (a.unresolved fresh) })
+
+  pub first_fault : (answer result : Result X (ParseFault A)) → CanUndo old answer mid → Answers Reads Builds Misses Refuses old answer mid → TakesBack start answer mid result new → FirstFault Reads Misses Refuses old result new
   first_fault answer result can says back =
       let a = answers_by answer back.unchanged says in
-      subst (λ r. FirstFault Reads Misses old r new) (sym back.same) (record {
+      subst (λ r. FirstFault Reads Misses Refuses old r new) (sym back.same) (record {
         read = a.read;
         missed = a.missed;
+        fails = a.unresolved;
         refused = still_refused start old mid at new answer can back.stream;
         failed = λ e. absurd (true≢false (sym e ∙ fine));
       })

@@ -3,6 +3,7 @@ use Rattle.irtext_context.specs.Context.{KeepsOlder}
 use Rattle.irtext_graph.specs.Back.{IsClosedBelow}
 use Rattle.irtext_parse_state.specs.declared.parsable.state.StateStream.{StateStream}
 use Rattle.irtext_parse_root.proofs.Undoing.{closed_there, undoes, resolves, first_fault, kept_on_ok}
+use Rattle.irtext_parse_root.proofs.Unresolved.{no_operation}
 use Rattle.irtext_parse_root.proofs.outermost.outermost_parse.Goals as goal
 
 pub undone_on_error-requires : goal.undone_on_error-requires
@@ -13,6 +14,7 @@ returns-clause-undone g c = undoes c.start_of-start.result c.args.s.now c.marked
 
 pub returns-clause-resolves : goal.returns-clause-resolves
 returns-clause-resolves g c = resolves c.start_of-start.result c.args.s.now c.marked_parse-answer.new.s c.undone_on_error.new.s c.start_of-start.ensures (sym c.has_failed.ensures ∙ c.if-has_failed.false)
+    (λ fault. no_operation g.T.IrText g.A.IrText c.args.s.now fault c.args.look)
     c.marked_parse-answer.result c.undone_on_error.result c.marked_parse-answer.ensures.answers c.undone_on_error.ensures.back
 
 pub returns-clause-first : goal.returns-clause-first

@@ -4,7 +4,7 @@ pub returns-clause-builds : goal.returns-clause-builds
 returns-clause-builds g c = c.outermost_parse.ensures.resolves.builds c.requires.fresh
 
 pub returns-clause-unresolved : goal.returns-clause-unresolved
-returns-clause-unresolved g c = c.outermost_parse.ensures.resolves.unresolved c.requires.fresh
+returns-clause-unresolved g c = c.outermost_parse.ensures.first.fails c.requires.fresh
 
 pub returns-clause-objects : goal.returns-clause-objects
 returns-clause-objects g c = c.outermost_parse.ensures.parses.undone.objects

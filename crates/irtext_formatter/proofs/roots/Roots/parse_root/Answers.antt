@@ -7,7 +7,7 @@ pub returns-clause-reads : goal.returns-clause-reads
 returns-clause-reads g c = λ ready. reads g.T.IrText g.A.IrText c.args.self.now (record { stream = c.outermost_parse-parsed.new.s; made = c.made_in-self.result; begin = c.position-self.result }) ready (subst (λ x. IsSound x.graph) c.context_of.ensures (record { nested = c.keeps_sound.ensures.nested; used = c.keeps_sound.ensures.used })) c.outermost_parse-parsed.result (c.outermost_parse-parsed.ensures.resolves.builds ready.fresh)
 
 pub returns-clause-refuses : goal.returns-clause-refuses
-returns-clause-refuses g c = λ ready. c.outermost_parse-parsed.ensures.resolves.unresolved ready.fresh
+returns-clause-refuses g c = λ ready. c.outermost_parse-parsed.ensures.first.fails ready.fresh
 
 pub returns-clause-ready : goal.returns-clause-ready
 returns-clause-ready g c = λ ready. ready_still g.T.IrText g.A.IrText c.args.self.now (record { stream = c.outermost_parse-parsed.new.s; made = c.made_in-self.result; begin = c.position-self.result }) ready c.outermost_parse-parsed.ensures.undone.rest c.outermost_parse-parsed.result (c.outermost_parse-parsed.ensures.resolves.builds ready.fresh)
