@@ -20,7 +20,7 @@ use Rattle.irtext_parse_root.specs.Parses.{Undoes, CanUndo, Resolves, FirstFault
 use Rattle.irtext_parse_root.specs.declared.undo.Start.{Start}
 
 -- only one cause says that memory ran out
-is_memory : {A : Type 0} (c : Cause A) → fault_of c ≡ Memory → c ≡ cause.Memory
+pub is_memory : {A : Type 0} (c : Cause A) → fault_of c ≡ Memory → c ≡ cause.Memory
 is_memory cause.Memory e = refl
 is_memory cause.StreamFailed e = absurd (cc)
 is_memory (cause.Unexpected found expected) e = absurd (cc)

@@ -15,6 +15,7 @@ ghost use Rattle.irtext_grammar.specs.Promises.Root.{UnlessMemory};
 ghost use Rattle.irtext_parse_state.specs.States.{IsFresh};
 ghost use Rattle.irtext_grammar.specs.Promises.Section.{IsOutOfMemory};
 ghost use Rattle.irtext_print.specs.Printers.Appended.{fresh};
+ghost use Rattle.irtext_print.specs.declared.printable.state.RegionPrintDepthLimit.TheVariants.{Unlimited};
 ghost use Rattle.irtext_print.specs.Printers.PrintedOperation.{levels};
 ghost use Rattle.irtext_print_ir.specs.Printers.Printed.{block_round};
 ghost use Rattle.irtext_print_ops.specs.Heads as heads;
@@ -25,6 +26,7 @@ ghost use Rattle.irtext_grammar.specs.Back.{ClosedRoot};
 ghost use Rattle.irtext_closed.specs.Closed.{IsClosedRoot};
 ghost use Rattle.pliron_text.specs.Alike.{KnowAlike, KnowsRoot};
 ghost use Rattle.pliron_text.specs.Calls.{IsPrinted, ReadsPrinted, ComesBack, ComesBackWhole, ReadsText, RefusesText, IsExcused, IsAgain, IsExcusedAgain};
+ghost use Rattle.pliron_text.specs.Fills.{IsFilled, IsNotRejected};
 ghost use Rattle.pliron_text.specs.Older.{IsOlder, KeepsRoot, RootLocated};
 
 use irtext_base::location::Source;
@@ -224,6 +226,9 @@ pub fn printed_and_read<T: IrText<A>, A: AttrText<A>>(
         AllShown (written C (levels layout.now.limit) g) →
         IfOk result (λ q. ComesBack T.IrText.own A.IrText.own A.AttrText.own A.eq ctx.now op
         (fresh layout.now.width layout.now.indent layout.now.limit) other.old q other.new g) }
+    ensures equal { IsClosedRoot ctx.now op → layout.now.limit ≡ Unlimited →
+        IfOk result (λ q. IsFilled ctx.now op other.new q) }
+    ensures accepted { IsClosedRoot ctx.now op → layout.now.limit ≡ Unlimited → IfErr result IsNotRejected }
     ensures whole { IsClosedRoot ctx.now op → (g : Graph T A) → seen_root A.written ctx.now op ≡ Some g →
         let C = printing_over ctx.now A.outlined A.print_once A.eq in
         AllShown (written C (levels layout.now.limit) g) → Named C g →
@@ -242,7 +247,9 @@ pub fn printed_and_read<T: IrText<A>, A: AttrText<A>>(
     ensures objects { OnErr result (SameObjects other.old other.new) }
 {
     keeps_parts(ctx);
-    there_and_back(ctx, op, layout, other)
+    let answer = there_and_back(ctx, op, layout, other);
+    keeps_parts(other);
+    answer
 }
 
 /// Parses a text, prints the root, and parses the printed text in another context that knows all operations alike. On success returns both
