@@ -99,25 +99,24 @@ kept_on_ok {A = A} {X = X} P {mid = mid} {new = new} answer result back p = subs
     go (Ok x) e = subst P (sym e) p
     go (Err fault) e = tt
 
+-- an error that does not say that memory ran out says why nothing was built
+unless : {A X : Type 0} (Refuses Unresolved : ParseFault A → Type 0) → ((fault : ParseFault A) → Refuses fault → Unresolved fault) → (answer : Result X (ParseFault A)) → IfErr answer (UnlessMemory Refuses) → IfErr answer (λ fault. (fault.cause ≡ cause.Memory) ⊎ Unresolved fault)
+unless Refuses Unresolved none (Ok x) h = tt
+unless Refuses Unresolved none (Err fault) (inl ran_out) = inl (is_memory fault.cause ran_out.because)
+unless Refuses Unresolved none (Err fault) (inr refuses) = inr (none fault refuses)
+
 -- what is said of the text stays
 module _ {T A U X : Type 0} {Reads Builds : X → StateStream T A U → StateStream T A U → Type 0} {Misses Refuses : StateStream T A U → ParseFault A → Type 0} (start : Start) (old mid new : StateStream T A U) (at : StartsAt start old.state) (fine : old.stream.failed ≡ false) where
   answers_by : (answer : Result X (ParseFault A)) → OnOk answer (new ≡ mid) → Answers Reads Builds Misses Refuses old answer mid → Answers Reads Builds Misses Refuses old answer new
   answers_by (Ok x) e p = subst (Answers Reads Builds Misses Refuses old (Ok x)) (sym e) p
   answers_by (Err fault) e p = record { read = tt; missed = p.missed; builds = λ fresh. tt; unresolved = p.unresolved }
 
-  -- an error that does not say that memory ran out says why nothing was built
-  unless : {Unresolved : StateStream T A U → ParseFault A → Type 0} → ((fault : ParseFault A) → Refuses old fault → Unresolved old fault) → (answer : Result X (ParseFault A)) → IfErr answer (UnlessMemory (Refuses old))
-      → IfErr answer (λ fault. (fault.cause ≡ cause.Memory) ⊎ Unresolved old fault)
-  unless none (Ok x) h = tt
-  unless none (Err fault) (inl ran_out) = inl (is_memory fault.cause ran_out.because)
-  unless none (Err fault) (inr refuses) = inr (none fault refuses)
-
   -- so the parser keeps its whole promise
   pub resolves : {Unresolved : StateStream T A U → ParseFault A → Type 0} → ((fault : ParseFault A) → Refuses old fault → Unresolved old fault) → (answer result : Result X (ParseFault A)) → Answers Reads Builds Misses Refuses old answer mid → TakesBack start answer mid result new
       → Resolves Builds Unresolved old result new
   resolves {Unresolved} none answer result says back =
       let a = answers_by answer back.unchanged says in
-      subst (λ r. Resolves Builds Unresolved old r new) (sym back.same) (record { builds = a.builds; unresolved = λ fresh. unless none answer (a.unresolved fresh) })
+      subst (λ r. Resolves Builds Unresolved old r new) (sym back.same) (record { builds = a.builds; unresolved = λ fresh. unless (Refuses old) (Unresolved old) none answer (a.unresolved fresh) })
 
   pub first_fault : (answer result : Result X (ParseFault A)) → CanUndo old answer mid → Answers Reads Builds Misses Refuses old answer mid → TakesBack start answer mid result new → FirstFault Reads Misses Refuses old result new
   first_fault answer result can says back =

@@ -206,7 +206,8 @@ pub fn there_and_back<T: IrText<A>, A: AttrText<A>>(
 /// If the root is closed, which `check_closed` says, and the layout leaves no region out, the returned operation, however deep, is equal
 /// to the root up to fillings, uses inside included, and only white space is left of the printed text. If in addition each block has a
 /// label, and everything that has results or arguments holds given names, only positions are filled in. In both cases an error is one of
-/// these: out of memory, an operation does not fit its format, or an indentation does not fit 16 bits.
+/// these: out of memory, an operation does not fit its format, or an indentation does not fit 16 bits. The clauses `equal` and `accepted`
+/// say this of what the two contexts hold, without what the printed text is.
 ///
 /// On success only the returned operation and what is inside it is new in the other context. On an error the objects of the other
 /// context are unchanged. If the root is closed, its operations fit, the layout leaves a region out and both contexts know all operations
