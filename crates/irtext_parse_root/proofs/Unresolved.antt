@@ -35,5 +35,5 @@ module _ {T A U : Type 0} (types : ir_text.Ghosts T A) (owns : ir_text.Ghosts A 
   no_whole (inr more) = inr more
 
   pub no_region : (op : Ptr Operation) → RefusesRegion (texts types) (texts owns) old.state.ctx.now.dialects (unisolated old.state.ctx.now op) old.stream fault → NoRegion types owns op old fault
-  no_region op (alone.not_isolated u) none blocks rest reads clean = absurd (let e : Some u.loc ≡ None = sym u.is ∙ none in cc)
-  no_region op (alone.first is h) none blocks rest reads clean = none_first (whole old.stream) _ fault (h blocks rest reads).first clean
+  no_region op (alone.not_isolated u) none bs rest reads clean = absurd (let e : Some u.loc ≡ None = sym u.is ∙ none in cc)
+  no_region op (alone.first is h) none bs rest reads clean = none_first (whole old.stream) _ fault (h bs rest reads).first clean

@@ -174,14 +174,13 @@ module _ {T A : Type 0} (reading : Text → Outcome A) (text_of : A → Text) (l
   root_located : (d : ContextView T A) → KeepsAll d → (q : Ptr Operation) (b : Built T A (Written A)) → held_root d q ≡ Some b → OpLocated b.own × AllRegions OpLocated BlockLocated (λ r. ⊤) b.regions
   root_located d kept q b e = go (operation d q) refl e
     where
-      abbrev every : List (Object × Path)
-      every = placed_under (pointers d.graph q)
-
-      go : (o : Option (OperationView T A)) → operation d q ≡ o → option_map (λ view. record { own = held_op d every q view; regions = held_regions d every (pointers d.graph q).regions }) o ≡ Some b → OpLocated b.own × AllRegions OpLocated BlockLocated (λ r. ⊤) b.regions
+      go : (o : Option (OperationView T A)) → operation d q ≡ o
+          → option_map (λ view. record { own = held_op d (placed_under (pointers d.graph q)) q view; regions = held_regions d (placed_under (pointers d.graph q)) (pointers d.graph q).regions }) o ≡ Some b
+          → OpLocated b.own × AllRegions OpLocated BlockLocated (λ r. ⊤) b.regions
       go None is e = absurd (cc)
       go (Some view) is e =
           let k = kept.operations q view is in
-          subst (λ (z : Built T A (Written A)). OpLocated z.own × AllRegions OpLocated BlockLocated (λ r. ⊤) z.regions) (some_eq e) (record { fits = k.fits; holds = k.holds }, regions_located d kept every (pointers d.graph q).regions)
+          subst (λ (z : Built T A (Written A)). OpLocated z.own × AllRegions OpLocated BlockLocated (λ r. ⊤) z.regions) (some_eq e) (record { fits = k.fits; holds = k.holds }, regions_located d kept (placed_under (pointers d.graph q)) (pointers d.graph q).regions)
 
   -- ---- the printed root
   module _ (c : ContextView T A) (keeps : KeepsAll c) (root : Ptr Operation) (C : Printing T A) (label_seen : (b : Ptr BasicBlock) (view : BlockView T A) → block c b ≡ Some view → C.label (place_of c b) ≡ view.label) (alone : Id → Bool) where

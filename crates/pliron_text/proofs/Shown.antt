@@ -88,7 +88,7 @@ module _ {T A : Type 0} (c : ContextView T A) where
 
     -- so is a block
     pub record SeenBlock (b : Ptr BasicBlock) (d : GraphBlock T A) : Type 0 where
-      pub whole : BlockThere c b
+      pub whole : BlockThere b
       pub sees : d ≡ seen_block text_of c b whole.view
 
     -- an operation is present, and this is what the context has of it
@@ -139,7 +139,7 @@ module _ {T A : Type 0} (c : ContextView T A) where
       blocks_both no_blocks w = record { seen = tt; held = tt }
       blocks_both (forest.block b os ps) w =
           subst (λ z. Both (SeenBlocks (forest.block b os ps) (elim z [ Some view ↦ forest.block (seen_block text_of c b view) (seen_operations text_of c os) (seen_blocks text_of c ps) | None ↦ seen_blocks text_of c ps ])) (HeldBlocks (forest.block b os ps) (elim z [ Some view ↦ forest.block (held_head c all view) (held_operations c all os) (held_blocks c all ps) | None ↦ held_blocks c all ps ]))) (sym w.0.is)
-          (record { seen = (record { whole = there_is c b w.0; sees = refl }, (operations_both os w.1).seen, (blocks_both ps w.2).seen); held = (record { view = w.0.view; is = w.0.is; labelled = w.0.labelled; holds = refl }, (operations_both os w.1).held, (blocks_both ps w.2).held) })
+          (record { seen = (record { whole = there_is b w.0; sees = refl }, (operations_both os w.1).seen, (blocks_both ps w.2).seen); held = (record { view = w.0.view; is = w.0.is; labelled = w.0.labelled; holds = refl }, (operations_both os w.1).held, (blocks_both ps w.2).held) })
 
       operations_both : (ps : PtrOperations) → AllOperations (OperationWhole c) (BlockWhole c) (λ r. ⊤) ps → Both (SeenOperations ps (seen_operations text_of c ps)) (HeldOperations ps (held_operations c all ps))
       operations_both no_operations w = record { seen = tt; held = tt }
@@ -149,17 +149,17 @@ module _ {T A : Type 0} (c : ContextView T A) where
 
     mutual
       -- what printing sees of regions of pointers, where blocks may have no label
-      pub regions_seen : (ps : PtrRegions) → AllRegions (OperationWhole c) (BlockThere c) (λ r. ⊤) ps → SeenRegions ps (seen_regions text_of c ps)
+      pub regions_seen : (ps : PtrRegions) → AllRegions (OperationWhole c) BlockThere (λ r. ⊤) ps → SeenRegions ps (seen_regions text_of c ps)
       regions_seen no_regions w = tt
       regions_seen (forest.region r bs ps) w = (tt, blocks_seen bs w.1, regions_seen ps w.2)
 
-      pub blocks_seen : (ps : PtrBlocks) → AllBlocks (OperationWhole c) (BlockThere c) (λ r. ⊤) ps → SeenBlocks ps (seen_blocks text_of c ps)
+      pub blocks_seen : (ps : PtrBlocks) → AllBlocks (OperationWhole c) BlockThere (λ r. ⊤) ps → SeenBlocks ps (seen_blocks text_of c ps)
       blocks_seen no_blocks w = tt
       blocks_seen (forest.block b os ps) w =
           subst (λ z. SeenBlocks (forest.block b os ps) (elim z [ Some view ↦ forest.block (seen_block text_of c b view) (seen_operations text_of c os) (seen_blocks text_of c ps) | None ↦ seen_blocks text_of c ps ])) (sym w.0.is)
           (record { whole = w.0; sees = refl }, operations_seen os w.1, blocks_seen ps w.2)
 
-      operations_seen : (ps : PtrOperations) → AllOperations (OperationWhole c) (BlockThere c) (λ r. ⊤) ps → SeenOperations ps (seen_operations text_of c ps)
+      operations_seen : (ps : PtrOperations) → AllOperations (OperationWhole c) BlockThere (λ r. ⊤) ps → SeenOperations ps (seen_operations text_of c ps)
       operations_seen no_operations w = tt
       operations_seen (forest.operation p rs ps) w =
           subst (λ z. SeenOperations (forest.operation p rs ps) (elim z [ Some view ↦ forest.operation (seen_operation text_of c p view) (seen_regions text_of c rs) (seen_operations text_of c ps) | None ↦ seen_operations text_of c ps ])) (sym w.0.is)
