@@ -34,6 +34,7 @@ use Rattle.irtext_grammar.specs.Contexts.Held.{known_types, location_over}
 use Rattle.irtext_grammar.specs.Contexts.Nested.{number_of, place_of, typed_number, pointers, seen_operation, seen_block, seen_operations, seen_blocks, seen_regions, seen_root}
 use Rattle.irtext_grammar.specs.Grammar.Forest as forest
 use Rattle.irtext_grammar.specs.Grammar.Forest.{Regions, no_regions, Blocks, no_blocks, Operations, no_operations, MatchRegions, MatchBlocks, MatchOperations, MatchRoots, AllRegions, AllBlocks, AllOperations}
+use Rattle.irtext_grammar.specs.Grammar.Tree.{Attribute}
 use Rattle.irtext_grammar.specs.Graphs.Build.{Built, BuiltOp, BuiltBlock}
 use Rattle.irtext_grammar.specs.Graphs.Closed.{Thing, a_value, a_block, same_thing, graph_blocks}
 use Rattle.irtext_grammar.specs.Graphs.Graph.{Graph, GraphOp, GraphBlock, Printing}
@@ -81,29 +82,29 @@ module _ {T A : Type 0} (c : ContextView T A) (keeps : KeepsAll c) (all : List (
   value_found [] t v n q e f = absurd (cc)
   value_found (uses m u ∷ w) t v n q e f = value_found w t.1 v n q e f
   value_found (defines (a_block at) r ∷ w) t v n q e f = absurd t.0
-  value_found (defines (a_value m) r ∷ w) t v n q e f = go (same_thing (a_value m) (a_value n)) refl f
+  value_found (defines (a_value m) r ∷ w) t v n q e f = go (same_thing (a_value m) (a_value n)) refl f (value_found w t.1 v n q e)
     where
-      go : (b : Bool) → same_thing (a_value m) (a_value n) ≡ b → cond b (Some r) (lookup same_thing (a_value n) w) ≡ Some q → value_place all v ≡ Some q
-      go true is f =
+      go : (b : Bool) → same_thing (a_value m) (a_value n) ≡ b → cond b (Some r) (lookup same_thing (a_value n) w) ≡ Some q → (lookup same_thing (a_value n) w ≡ Some q → value_place all v ≡ Some q) → value_place all v ≡ Some q
+      go true is f later =
           let both : a_value m ≡ a_value n = thing_same (a_value m) (a_value n) is in
           let same : m ≡ n = cc in
           let one : v ≡ t.0.0 = same_value v t.0.0 n e (t.0.1 ∙ ap Some same) in
           ap (value_place all) one ∙ (t.0.2 ∙ f)
-      go false is f = value_found w t.1 v n q e f
+      go false is f later = later f
 
   -- and so is a block
   block_found : (l : List (Fact Thing)) → Each (TrueLabel c all) l → (b : Ptr BasicBlock) (q : Place) → lookup same_thing (a_block (place_of c b)) l ≡ Some q → block_place all b ≡ Some q
   block_found [] t b q f = absurd (cc)
   block_found (uses m u ∷ l) t b q f = block_found l t.1 b q f
   block_found (defines (a_value n) r ∷ l) t b q f = absurd t.0
-  block_found (defines (a_block at) r ∷ l) t b q f = go (same_thing (a_block at) (a_block (place_of c b))) refl f
+  block_found (defines (a_block at) r ∷ l) t b q f = go (same_thing (a_block at) (a_block (place_of c b))) refl f (block_found l t.1 b q)
     where
-      go : (d : Bool) → same_thing (a_block at) (a_block (place_of c b)) ≡ d → cond d (Some r) (lookup same_thing (a_block (place_of c b)) l) ≡ Some q → block_place all b ≡ Some q
-      go true is f =
+      go : (d : Bool) → same_thing (a_block at) (a_block (place_of c b)) ≡ d → cond d (Some r) (lookup same_thing (a_block (place_of c b)) l) ≡ Some q → (lookup same_thing (a_block (place_of c b)) l ≡ Some q → block_place all b ≡ Some q) → block_place all b ≡ Some q
+      go true is f later =
           let both : a_block at ≡ a_block (place_of c b) = thing_same (a_block at) (a_block (place_of c b)) is in
           let same : at ≡ place_of c b = cc in
           ap (block_place all) (same_block b t.0.0 (sym (t.0.1 ∙ same))) ∙ (t.0.2 ∙ f)
-      go false is f = block_found l t.1 b q f
+      go false is f later = later f
 
   found_as : {X : Type 0} (o : Option X) → is_some o ≡ true → (x : X) × (o ≡ Some x)
   found_as None e = absurd (true≢false (sym e))
@@ -113,17 +114,19 @@ module _ {T A : Type 0} (c : ContextView T A) (keeps : KeepsAll c) (all : List (
   operands_are : (w : List (Fact Thing)) → Each (TrueValue c all) w → (vs : List Value) → ((i : ℕ) (v : Value) → slice_get vs i ≡ Some v → IsSome (value_at c.graph v))
       → list_all is_some (map (λ n. lookup same_thing (a_value n) w) (filter_map (number_of c) vs)) ≡ true → map (λ n. lookup same_thing (a_value n) w) (filter_map (number_of c) vs) ≡ map (value_place all) vs
   operands_are w t [] there h = refl
-  operands_are w t (v ∷ vs) there h = go (value_at c.graph v) refl (there 0 v refl) h
+  operands_are w t (v ∷ vs) there h = go (value_at c.graph v) refl (there 0 v refl) (operands_are w t vs (λ i. there (suc i))) h
     where
-      go : (o : Option (Typed (Option T))) → value_at c.graph v ≡ o → IsSome o → list_all is_some (map (λ n. lookup same_thing (a_value n) w) (cons_option (option_map (λ (t : Typed (Option T)). t.number) o) (filter_map (number_of c) vs))) ≡ true
+      go : (o : Option (Typed (Option T))) → value_at c.graph v ≡ o → IsSome o
+          → (list_all is_some (map (λ n. lookup same_thing (a_value n) w) (filter_map (number_of c) vs)) ≡ true → map (λ n. lookup same_thing (a_value n) w) (filter_map (number_of c) vs) ≡ map (value_place all) vs)
+          → list_all is_some (map (λ n. lookup same_thing (a_value n) w) (cons_option (option_map (λ (t : Typed (Option T)). t.number) o) (filter_map (number_of c) vs))) ≡ true
           → map (λ n. lookup same_thing (a_value n) w) (cons_option (option_map (λ (t : Typed (Option T)). t.number) o) (filter_map (number_of c) vs)) ≡ value_place all v ∷ map (value_place all) vs
-      go None is live h = absurd (cc)
-      go (Some u) is live h =
+      go None is live later h = absurd (cc)
+      go (Some u) is live later h =
           let first = and_left (is_some (lookup same_thing (a_value u.number) w)) (list_all is_some (map (λ n. lookup same_thing (a_value n) w) (filter_map (number_of c) vs))) h in
           let others = and_right (is_some (lookup same_thing (a_value u.number) w)) (list_all is_some (map (λ n. lookup same_thing (a_value n) w) (filter_map (number_of c) vs))) h in
           let found = found_as (lookup same_thing (a_value u.number) w) first in
           let number : number_of c v ≡ Some u.number = ap (option_map (λ (t : Typed (Option T)). t.number)) is in
-          ap₂ (λ x xs. x ∷ xs) (found.1 ∙ sym (value_found w t v u.number found.0 number found.1)) (operands_are w t vs (λ i. there (suc i)) others)
+          ap₂ (λ x xs. x ∷ xs) (found.1 ∙ sym (value_found w t v u.number found.0 number found.1)) (later others)
 
   -- so are its successors
   successors_are : (l : List (Fact Thing)) → Each (TrueLabel c all) l → (bs : List (Ptr BasicBlock)) → list_all is_some (map (λ b. lookup same_thing (a_block b) l) (map (place_of c) bs)) ≡ true
@@ -136,16 +139,13 @@ module _ {T A : Type 0} (c : ContextView T A) (keeps : KeepsAll c) (all : List (
       ap₂ (λ x xs. x ∷ xs) (found.1 ∙ sym (block_found l t b found.0 found.1)) (successors_are l t bs others)
 
 -- ---- what the context holds of what was parsed
+abbrev OpLocated : {T A : Type 0} → BuiltOp T A (Written A) → Type 0
+OpLocated b = IsKeptLocation b.location
+
+abbrev BlockLocated : {T A : Type 0} → BuiltBlock T A (Written A) → Type 0
+BlockLocated b = IsKeptLocation b.location
+
 module _ {T A : Type 0} (reading : Text → Outcome A) (text_of : A → Text) (lawful : Lawful A (texts_of reading text_of)) (sincere : Sincere reading) (unreserved : Unreserved A (texts_of reading text_of)) where
-  abbrev IsKeptPlace : Written A → Type 0
-  IsKeptPlace = IsKeptLocation reading text_of lawful sincere unreserved
-
-  abbrev OpLocated : BuiltOp T A (Written A) → Type 0
-  OpLocated b = IsKeptPlace b.location
-
-  abbrev BlockLocated : BuiltBlock T A (Written A) → Type 0
-  BlockLocated b = IsKeptPlace b.location
-
   module _ (d : ContextView T A) (kept : KeepsAll d) (every : List (Object × Path)) where
     mutual
       regions_located : (ps : PtrRegions) → AllRegions OpLocated BlockLocated (λ r. ⊤) (held_regions d every ps)
@@ -211,13 +211,14 @@ module _ {T A : Type 0} (reading : Text → Outcome A) (text_of : A → Text) (l
     op_filled : (q : Ptr Operation) (whole : OperationWhole c q) (w l : List (Fact Thing)) → Values w → Labels l → (b : BuiltOp T A (Written A)) → OpLocated b → SameOp (locations text_of) (resolved_op C alone w l (seen_operation text_of c q whole.view)) b → FillsOp (held_op c all q whole.view) b
     op_filled q whole w l values labels b located s =
         let k = keeps.operations q whole.view whole.is in
+        let r : ResolvedOp T A = resolved_op C alone w l (seen_operation text_of c q whole.view) in
         let there : (i : ℕ) (v : Value) → slice_get (operands c.graph q) i ≡ Some v → IsSome (value_at c.graph v) = λ i v e. keeps.counters.used (AtOperand q i) (OfValue v) (ap (option_map OfValue) e) in
         record {
           id = sym s.shape.id;
           result_types = sym s.shape.result_types ∙ types_again (results c.graph q) whole.view.result_types whole.types (results_seen c q whole.view whole.is) whole.known_as;
           operands = sym s.shape.operands ∙ operands_are c keeps all w values (operands c.graph q) there (ap (list_all is_some) s.shape.operands ∙ s.operands_there);
           successors = sym s.shape.successors ∙ successors_are c keeps all l labels (successors c.graph q) (ap (list_all is_some) s.shape.successors ∙ s.successors_there);
-          attributes = entries_filled _ _ _ s.dictionary;
+          attributes = entries_filled r.result_names r.attributes b.attributes s.dictionary;
           location = fills_location reading text_of lawful sincere unreserved c.paths whole.view.loc b.location (record { fits = k.fits; holds = k.holds }) located s.location;
         }
 
@@ -225,11 +226,12 @@ module _ {T A : Type 0} (reading : Text → Outcome A) (text_of : A → Text) (l
     block_filled : (p : Ptr BasicBlock) (there : BlockThere c p) (b : BuiltBlock T A (Written A)) → BlockLocated b → SameBlock (locations text_of) (resolved_block C alone (seen_block text_of c p there.view)) b → FillsBlock (held_head c all there.view) b
     block_filled p there b located s =
         let k = keeps.blocks p there.view there.is in
-        let same_label : SameLabel _ there.view.label b.label = subst (λ o. SameLabel _ o b.label) (label_seen p there.view there.is) s.label in
+        let r : ResolvedBlock T A = resolved_block C alone (seen_block text_of c p there.view) in
+        let same_label : SameLabel r.name there.view.label b.label = subst (λ o. SameLabel r.name o b.label) (label_seen p there.view there.is) s.label in
         record {
-          label = label_filled _ there.view.label b.label same_label;
+          label = label_filled r.name there.view.label b.label same_label;
           argument_types = sym s.shape.argument_types ∙ types_again (arguments c.graph p) there.view.arg_types there.types (arguments_seen c p there.view there.is) there.known_as;
-          attributes = entries_filled _ _ _ s.dictionary;
+          attributes = entries_filled r.argument_names r.attributes b.attributes s.dictionary;
           location = fills_location reading text_of lawful sincere unreserved c.paths there.view.loc b.location (record { fits = k.fits; holds = k.holds }) located s.location;
         }
 

@@ -22,6 +22,11 @@ use Rattle.irtext_grammar.proofs.Locations.ComesBack.{location_same}
 use Rattle.irtext_grammar.proofs.RoundTrips.AttrBack.{attr_back}
 use Rattle.pliron_text.specs.Fills.{is_position, FillsLocation}
 
+-- what the types of a context's parts ensure of a location
+pub record IsKeptLocation {A : Type 0} (l : Written A) : Type 0 where
+  pub fits : AllFit l
+  pub holds : AllHold IsSpellableAttr l
+
 module _ {A : Type 0} (reading : Text → Outcome A) (text_of : A → Text) (lawful : Lawful A (texts_of reading text_of)) (sincere : Sincere reading) (unreserved : Unreserved A (texts_of reading text_of)) where
   attr_starts : (v : AttrView A) (rest : Text) → begins begins_word (attr_text text_of v ++ rest) ≡ true
   attr_starts (given_names ns) rest = refl
@@ -52,11 +57,6 @@ module _ {A : Type 0} (reading : Text → Outcome A) (text_of : A → Text) (law
     row_read : (ls : WrittenRow A) → RowHold IsSpellableAttr ls → RowRead (attr_at reading) text_of ls
     row_read no_location k = tt
     row_read (location l ls) k = (all_read l k.0, row_read ls k.1)
-
-  -- what the types of a context's parts ensure of a location
-  pub record IsKeptLocation (l : Written A) : Type 0 where
-    pub fits : AllFit l
-    pub holds : AllHold IsSpellableAttr l
 
   position_is : (k : Written A) → (locations text_of).is_position k ≡ true → is_position k ≡ true
   position_is (src_pos s at) e = refl

@@ -77,7 +77,7 @@ module _ {T A : Type 0} (c : ContextView T A) where
     pub types : List T
     pub known_as : view.arg_types ≡ known types
 
-  there_is : (b : Ptr BasicBlock) → BlockWhole c b → BlockThere b
+  abbrev there_is : (b : Ptr BasicBlock) → BlockWhole c b → BlockThere b
   there_is b w = record { view = w.view; is = w.is; types = w.types; known_as = w.known_as }
 
   module _ (text_of : A → Text) (all : List (Object × Path)) where
