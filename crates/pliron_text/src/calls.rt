@@ -15,6 +15,7 @@ ghost use Rattle.irtext_grammar.specs.Promises.Root.{UnlessMemory};
 ghost use Rattle.irtext_parse_state.specs.States.{IsFresh};
 ghost use Rattle.irtext_grammar.specs.Promises.Section.{IsOutOfMemory};
 ghost use Rattle.irtext_print.specs.Printers.Appended.{fresh};
+ghost use Rattle.irtext_print.specs.declared.printable.state.RegionPrintDepthLimit.TheVariants.{Unlimited};
 ghost use Rattle.irtext_print.specs.Printers.PrintedOperation.{levels};
 ghost use Rattle.irtext_print_ir.specs.Printers.Printed.{block_round};
 ghost use Rattle.irtext_print_ops.specs.Heads as heads;
@@ -26,6 +27,7 @@ ghost use Rattle.irtext_closed.specs.Closed.{IsClosedRoot};
 ghost use Rattle.irtext_closed.specs.Located.{IsLocatedRoot};
 ghost use Rattle.irtext_alike.specs.Alike.{KnowsRoot};
 ghost use Rattle.pliron_text.specs.Calls.{IsPrinted, ReadsPrinted, ComesBack, ComesBackWhole, ReadsText, RefusesText, IsExcused, IsAgain, IsExcusedAgain};
+ghost use Rattle.pliron_text.specs.Fills.{IsFilled, IsNotRejected};
 ghost use Rattle.pliron_text.specs.Older.{IsOlder, KeepsRoot, RootLocated};
 
 use crate::laws::older::tested_root_is_located;
@@ -209,7 +211,8 @@ pub fn there_and_back<T: IrText<A>, A: AttrText<A>>(
 /// If the root is closed, which `check_closed` says, and the layout leaves no region out, the returned operation, however deep, is equal
 /// to the root up to fillings, uses inside included, and only white space is left of the printed text. If in addition each block has a
 /// label, and everything that has results or arguments holds given names, only positions are filled in. In both cases an error is one of
-/// these: out of memory, an operation does not fit its format, or an indentation does not fit 16 bits.
+/// these: out of memory, an operation does not fit its format, or an indentation does not fit 16 bits. The clauses `equal` and `accepted`
+/// say this of what the two contexts hold, without what the printed text is.
 ///
 /// On success only the returned operation and what is inside it is new in the other context. On an error the objects of the other
 /// context are unchanged. If the root is closed, its operations fit and the layout leaves a region out, the call never succeeds.
@@ -228,6 +231,9 @@ pub fn printed_and_read<T: IrText<A>, A: AttrText<A>>(
         AllShown (written C (levels layout.now.limit) g) →
         IfOk result (λ q. ComesBack T.IrText.own A.IrText.own A.AttrText.own A.eq ctx.now op
         (fresh layout.now.width layout.now.indent layout.now.limit) other.old q other.new g) }
+    ensures equal { IsClosedRoot ctx.now op → layout.now.limit ≡ Unlimited →
+        IfOk result (λ q. IsFilled ctx.now op other.new q) }
+    ensures accepted { IsClosedRoot ctx.now op → layout.now.limit ≡ Unlimited → IfErr result IsNotRejected }
     ensures whole { IsClosedRoot ctx.now op → (g : Graph T A) → seen_root A.written ctx.now op ≡ Some g →
         let C = printing_over ctx.now A.outlined A.print_once A.eq in
         AllShown (written C (levels layout.now.limit) g) → Named C g →
@@ -246,7 +252,9 @@ pub fn printed_and_read<T: IrText<A>, A: AttrText<A>>(
     ensures objects { OnErr result (SameObjects other.old other.new) }
 {
     keeps_parts(ctx);
-    there_and_back(ctx, op, layout, other)
+    let answer = there_and_back(ctx, op, layout, other);
+    keeps_parts(other);
+    answer
 }
 
 /// Parses a text, prints the root, and parses the printed text in another context. On success returns both roots. If the layout leaves no
