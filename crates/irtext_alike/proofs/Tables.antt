@@ -1,6 +1,6 @@
 -- Dialects that know each other's operations alike know all operations alike.
 use Rattle.std.proofs.Common.{◌≡◌, ◌≢◌, ◌∙◌, ◌+◌, ◌<◌, ◌≤◌, ◌⊎◌, ℕ, zero, suc, Bool, true, false, cond, IsTrue, inl, inr, refl, sym, ap, subst, arith, List, [], ◌∷◌, length, map, slice_get, Option, Some, None, option_map}
-use Rattle.std.specs.Prelude.{◌↔◌, IfNone, IfSome, is_none, option_and_then}
+use Rattle.std.specs.Prelude.{◌↔◌, IfNone, IfSome, is_some, not, option_and_then}
 use Rattle.std.specs.Cmp.Lexicographic.{bytes_decides}
 use Rattle.std.specs.Map.{lookup, values_of}
 use Rattle.std.specs.Str.{bytes_eq}
@@ -83,9 +83,11 @@ same_both_ways a b true false p q = ((λ t. absurd (cc)), (λ k. q.1 (each_known
 same_both_ways a b false y p q = ((λ t. absurd (cc)), (λ k. p.1 (each_known b a (λ id. sym (k id)))))
 
 -- ---- one operation
-pub is_alike : (here there : Option Known) (r : Option Unlike) → IfNone r (there ≡ here) → IfSome r (IsUnlike here there) → IsTrue (is_none r) ↔ there ≡ here
-is_alike here there None same unlike = ((λ t. same), (λ e. refl))
-is_alike here there (Some why) same unlike = ((λ t. absurd (cc)), (λ e. absurd (unlike_differs here there why unlike e)))
+pub is_alike : (here there : Option Known) (r : Option Unlike) (b : Bool) → is_some r ≡ not b → IfNone r (there ≡ here) → IfSome r (IsUnlike here there) → IsTrue b ↔ there ≡ here
+is_alike here there None true is same unlike = ((λ t. same), (λ e. refl))
+is_alike here there None false is same unlike = absurd (cc)
+is_alike here there (Some why) true is same unlike = absurd (cc)
+is_alike here there (Some why) false is same unlike = ((λ t. absurd (cc)), (λ e. absurd (unlike_differs here there why unlike e)))
 
 module _ (dialects other : List (Text × Table)) (entries : List (OpId × Known)) (i : ℕ) where
   -- the operation at the index
