@@ -136,12 +136,7 @@ fn make_unregistered(rt: &impl Abort, alloc: Global, ctx: &mut Ctx) -> Ptr<Opera
 
 /// The text of a result of the law of the two calls, which ends here: the concrete text of the root in the other context, or why there is
 /// none.
-fn answered(
-    rt: &impl Abort,
-    alloc: Global,
-    other: &Ctx,
-    answer: Carried<DemoAttr>,
-) -> String {
+fn answered(rt: &impl Abort, alloc: Global, other: &Ctx, answer: Carried<DemoAttr>) -> String {
     let text = match &answer {
         Ok(Ok(root)) => value_of(rt, concrete(alloc, other, *root), "no text"),
         Ok(Err(NotBack::Unprinted(refusal))) => {

@@ -22,19 +22,17 @@ const ROOT: &[Step] = &[
 
 /// Further steps in the first context, the steps in the second, the number of the operation that is compared, the answer, and whether the
 /// contexts know all operations alike.
-type Row = (
-    &'static [Step],
-    &'static [Step],
-    usize,
-    &'static str,
-    bool,
-);
+type Row = (&'static [Step], &'static [Step], usize, &'static str, bool);
 
 /// The first operation that is made in a row has the number 3.
 const ROWS: &[Row] = &[
     (
         &[],
-        &[Step::Isolated("fn"), Step::Register("use", "-"), Step::Register("op", "0>k")],
+        &[
+            Step::Isolated("fn"),
+            Step::Register("use", "-"),
+            Step::Register("op", "0>k"),
+        ],
         0,
         "known",
         true,
@@ -48,14 +46,23 @@ const ROWS: &[Row] = &[
     ),
     (
         &[],
-        &[Step::Isolated("fn"), Step::Register("use", "-"), Step::Register("op", "0>c")],
+        &[
+            Step::Isolated("fn"),
+            Step::Register("use", "-"),
+            Step::Register("op", "0>c"),
+        ],
         0,
         "known",
         false,
     ),
     (
         &[],
-        &[Step::Isolated("fn"), Step::Register("use", "-"), Step::Register("op", "0>k"), Step::Register("more", "-")],
+        &[
+            Step::Isolated("fn"),
+            Step::Register("use", "-"),
+            Step::Register("op", "0>k"),
+            Step::Register("more", "-"),
+        ],
         0,
         "known",
         false,
@@ -127,7 +134,11 @@ fn check(rt: &impl Abort, alloc: Global, ctx: &mut Ctx, other: &mut Ctx, number:
     let op = operation_of(rt, &made, row.2);
     drop(made);
     drop(built(rt, alloc, other, row.1));
-    same(rt, said(rt, alloc, knows_root(ctx, op, other)).as_str(), row.3);
+    same(
+        rt,
+        said(rt, alloc, knows_root(ctx, op, other)).as_str(),
+        row.3,
+    );
     assert_eq!(rt; same_dialects(ctx, other), row.4);
     assert_eq!(rt; same_dialects(other, ctx), row.4);
 }
