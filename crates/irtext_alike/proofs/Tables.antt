@@ -1,7 +1,6 @@
 -- Dialects that know each other's operations alike know all operations alike.
-use Rattle.std.proofs.Common.{◌≡◌, ◌≢◌, ◌∙◌, ◌+◌, ◌<◌, ◌≤◌, ◌⊎◌, ℕ, zero, suc, Bool, true, false, cond, IsTrue, inl, inr, refl, sym, ap, subst, arith, List, [], ◌∷◌, length, map, slice_get, Option, Some, None, option_map}
+use Rattle.std.proofs.Common.{◌≡◌, ◌∙◌, ◌+◌, ◌<◌, ◌≤◌, ℕ, suc, Bool, true, false, cond, IsTrue, inl, inr, refl, sym, ap, subst, arith, List, [], ◌∷◌, length, slice_get, Option, Some, None, option_map}
 use Rattle.std.specs.Prelude.{◌↔◌, IfNone, IfSome, is_some, not, option_and_then}
-use Rattle.std.specs.Cmp.Lexicographic.{bytes_decides}
 use Rattle.std.specs.Map.{lookup, values_of}
 use Rattle.std.specs.Str.{bytes_eq}
 use Rattle.std.proofs.Math.Nat.{eq-or-lt_of_le}

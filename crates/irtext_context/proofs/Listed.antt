@@ -1,5 +1,5 @@
 -- The operation at an index: its format was accepted, and its key is kept exactly if it has a symbol's name.
-use Rattle.std.proofs.Common.{◌≡◌, ◌∙◌, ℕ, zero, suc, List, [], ◌∷◌, slice_get, Option, Some, None, subst, sym}
+use Rattle.std.proofs.Common.{◌≡◌, ℕ, zero, suc, List, [], ◌∷◌, slice_get, Option, Some, None, subst, sym}
 use Rattle.std.specs.Prelude.{IfSome, option_map}
 use Rattle.std.specs.Map.Iter.{deref_pair}
 use denote.Ref.{Bor}
