@@ -1,2 +1,3 @@
 mod Directives
 mod Walk
+mod Tables

@@ -14,7 +14,7 @@ use Rattle.irtext_graph.specs.Nested.{climb}
 use Rattle.irtext_graph.specs.Throughout.{all_from}
 use Rattle.irtext_graph.specs.declared.arena.Ptr.{Ptr}
 use Rattle.irtext_graph.specs.declared.object.Object.{Object}
-use Rattle.irtext_graph.specs.declared.object.Object.TheVariants.{TheOperation, TheBlock, TheRegion}
+use Rattle.irtext_graph.specs.declared.object.Object.TheVariants.{TheOperation}
 use Rattle.irtext_graph.specs.declared.object.Operation.{Operation}
 use Rattle.irtext_graph.proofs.Nests.{climb-none, some_eq}
 use Rattle.irtext_alike.specs.Alike.{KnowsRoot}
@@ -38,7 +38,7 @@ passed Q e (Ok x) h q = absurd h
 passed Q e (Err f) h q = subst Q (sym h) q
 
 -- what is known otherwise is not known alike
-unlike_differs : (here there : Option Known) (why : Unlike) → IsUnlike here there why → there ≡ here → ⊥
+pub unlike_differs : (here there : Option Known) (why : Unlike) → IsUnlike here there why → there ≡ here → ⊥
 unlike_differs (Some h) None Unregistered u e = cc
 unlike_differs None (Some t) RegisteredThere u e = cc
 unlike_differs (Some h) (Some t) OtherFormat u e = u (sym (ap (λ k. k.format) (some_eq e)))

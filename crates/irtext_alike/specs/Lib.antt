@@ -2,3 +2,4 @@ pub mod Alike
 pub mod Shapes
 pub mod First
 pub mod Texts
+pub mod Each

@@ -2,6 +2,7 @@
 //! registered does not matter.
 #![tactic(auto)]
 
+pub mod dialects;
 pub mod format;
 pub mod known;
 pub mod root;

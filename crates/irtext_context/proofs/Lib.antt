@@ -14,3 +14,4 @@ pub mod Named
 pub mod DialectTables
 pub mod Locations
 pub mod RefusedOps
+pub mod Listed

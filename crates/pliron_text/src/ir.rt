@@ -4,6 +4,10 @@ pub mod misfit;
 pub mod printing;
 mod text;
 
+pub use irtext_alike::dialects::same_dialects;
+pub use irtext_alike::known::unlike_id;
+pub use irtext_alike::root::knows_root;
+pub use irtext_alike::unlike::{Unlike, UnlikeOperation};
 pub use irtext_checked::context::keeps_parts;
 pub use irtext_closed::check::check_closed;
 pub use irtext_closed::located::is_located;

@@ -3,7 +3,7 @@
 use Rattle.std.specs.Prelude.{◌≡◌, ◌++◌, ◌<◌, ◌^◌, ◌+◌, ℕ, Bool, true, false, cond, List, [], length, refl, ⊤, codes}
 use Rattle.std.proofs.Common.{inr, inl, ap, sym, subst, ◌∙◌, append-nil}
 use Rattle.irtext_base.specs.Answers.{Outcome}
-use Rattle.irtext_base.specs.Format.{Id, Format}
+use Rattle.irtext_base.specs.Format.{Id}
 use Rattle.irtext_base.specs.Locations.{AttrView}
 use Rattle.irtext_base.specs.Own.{Texts, Lawful, Unreserved, language, unplaced}
 use Rattle.irtext_base.specs.Paths.{Written}

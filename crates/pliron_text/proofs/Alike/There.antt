@@ -1,5 +1,5 @@
 -- A text that parses as a root in one context, in another context that knows the operations of the root alike.
-use Rattle.std.proofs.Common.{◌≡◌, ◌∙◌, ℕ, Bool, List, sym, subst}
+use Rattle.std.proofs.Common.{◌∙◌, ℕ, Bool, List, sym, subst}
 use Rattle.std.specs.Prelude.{⊤}
 use Rattle.irtext_base.specs.Format.{Id}
 use Rattle.irtext_base.specs.Own.{Texts, Lawful, Verdict}

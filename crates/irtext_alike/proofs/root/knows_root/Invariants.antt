@@ -1,4 +1,4 @@
-use Rattle.std.proofs.Common.{◌⊎◌, length}
+use Rattle.std.proofs.Common.{length}
 use Rattle.std.specs.Prelude.{IfSome}
 use Rattle.irtext_graph.specs.Graph.{IsInside, IsLive}
 use Rattle.irtext_graph.specs.Throughout.{all_from}
