@@ -1,5 +1,5 @@
 -- Everything in a closed root is there: each operation is no placeholder, and the types of all values are known.
-use Rattle.std.proofs.Common.{◌≡◌, ◌∙◌, ℕ, suc, List, [], ◌∷◌, map, slice_get, length, Option, Some, None, IsSome, option_map, refl, sym, ap, ap₂, subst}
+use Rattle.std.proofs.Common.{◌≡◌, ◌∙◌, ℕ, suc, List, [], ◌∷◌, map, slice_get, length, Option, Some, IsSome, option_map, refl, sym, ap, ap₂, subst}
 use Rattle.std.specs.Prelude.{⊤}
 use Rattle.std.proofs.lemmas.Option.{slice_get-map}
 use Rattle.irtext_context.specs.Context.{ContextView, known, operation, block}

@@ -1,9 +1,7 @@
 -- What is parsed from the printed text of a closed root is what the context holds of the root, up to fillings.
-use Rattle.std.proofs.Common.{◌≡◌, ◌∙◌, ◌+◌, ◌-◌, ◌⊎◌, ℕ, suc, Bool, true, false, cond, List, [], ◌∷◌, map, filter_map, slice_get, length, Option, Some, None, IsSome, Result, Ok, Err, option_map, refl, sym, ap, ap₂, subst, inl, inr, true≢false, arith}
+use Rattle.std.proofs.Common.{◌≡◌, ◌∙◌, ◌+◌, ◌⊎◌, ℕ, suc, Bool, true, false, cond, List, [], ◌∷◌, map, filter_map, slice_get, Option, Some, None, IsSome, Result, Ok, Err, option_map, refl, sym, ap, ap₂, subst, inl, inr, true≢false, arith}
 use Rattle.std.specs.Prelude.{⊤, IfOk, IfErr, is_some, unwrap_or}
 use Rattle.std.specs.List.{list_all, cons_option}
-use Rattle.std.specs.Option.{option_and_then}
-use Rattle.std.proofs.lemmas.Option.{slice_get-map}
 use Rattle.irtext_base.specs.Answers.{Outcome}
 use Rattle.irtext_base.specs.Format.{Id}
 use Rattle.irtext_base.specs.Own.{Lawful, Sincere, Unreserved, texts_of}
@@ -30,14 +28,14 @@ use Rattle.irtext_graph.proofs.Preorders.{among_left, among_right}
 use Rattle.irtext_graph.proofs.Same.{ptr_same}
 use Rattle.irtext_grammar.specs.ContextParts.{KeepsAll}
 use Rattle.irtext_grammar.specs.Contexts.Formats.{isolated}
-use Rattle.irtext_grammar.specs.Contexts.Held.{known_types, location_over}
+use Rattle.irtext_grammar.specs.Contexts.Held.{known_types}
 use Rattle.irtext_grammar.specs.Contexts.Nested.{number_of, place_of, typed_number, pointers, seen_operation, seen_block, seen_operations, seen_blocks, seen_regions, seen_root}
 use Rattle.irtext_grammar.specs.Grammar.Forest as forest
-use Rattle.irtext_grammar.specs.Grammar.Forest.{Regions, no_regions, Blocks, no_blocks, Operations, no_operations, MatchRegions, MatchBlocks, MatchOperations, MatchRoots, AllRegions, AllBlocks, AllOperations}
+use Rattle.irtext_grammar.specs.Grammar.Forest.{Regions, no_regions, Blocks, no_blocks, Operations, no_operations, MatchRegions, MatchBlocks, MatchOperations, AllRegions, AllBlocks, AllOperations}
 use Rattle.irtext_grammar.specs.Grammar.Tree.{Attribute}
 use Rattle.irtext_grammar.specs.Graphs.Build.{Built, BuiltOp, BuiltBlock}
 use Rattle.irtext_grammar.specs.Graphs.Closed.{Thing, a_value, a_block, same_thing, graph_blocks}
-use Rattle.irtext_grammar.specs.Graphs.Graph.{Graph, GraphOp, GraphBlock, Printing}
+use Rattle.irtext_grammar.specs.Graphs.Graph.{Graph, Printing}
 use Rattle.irtext_grammar.specs.Graphs.Same.{ResolvedOp, ResolvedBlock, SameOp, SameBlock, SameDictionary, SameLabel, UpToFillings, resolved_op, resolved_block, resolved_regions, resolved_blocks, resolved_operations, resolved_root}
 use Rattle.irtext_grammar.specs.Names.Scopes.{Fact, uses, defines, facts, lookup}
 use Rattle.irtext_grammar.specs.Names.Script.{Path, Place}

@@ -1,5 +1,5 @@
 -- Locations with one text are one: of what the types of a context's parts ensure, each location's text is parsed back.
-use Rattle.std.proofs.Common.{◌≡◌, ◌⊎◌, ℕ, true, false, true≢false, Option, Some, None, List, [], ◌∷◌, ◌++◌, refl, sym, ap, inl, inr}
+use Rattle.std.proofs.Common.{◌≡◌, ℕ, true, false, true≢false, Option, Some, None, List, ◌++◌, refl, sym, ap, inl, inr}
 use Rattle.std.specs.Prelude.{IfSome}
 use Rattle.irtext_base.specs.Answers.{Outcome}
 use Rattle.irtext_base.specs.Locations.{AttrView, given_names, ident, own, src_pos, fused, named, call_site, unknown, no_location, location, sourced}
