@@ -107,6 +107,3 @@ module _ (dialects other : List (Text × Table)) (i : ℕ) where
     (λ t f here. subst (λ (x : Table). KnowsTable dialects other x) (some_eq (sym at ∙ here)) (says.0 t)),
     (λ all. says.1 (all table at)),
   )
-
-  pub dialect_none : slice_get (values_of dialects) i ≡ None → IsTrue true ↔ KnowsTableAt dialects other i
-  dialect_none gone = ((λ t f here. let none = gone in absurd (cc)), (λ all. refl))

@@ -4,6 +4,7 @@ mod checks;
 mod contexts;
 mod dict;
 mod edges;
+mod formats;
 mod lent;
 mod locations;
 mod made;

@@ -3,7 +3,6 @@ mod attributes;
 mod checks;
 mod demo;
 mod fits;
-mod formats;
 mod lists;
 mod location_texts;
 mod must;
