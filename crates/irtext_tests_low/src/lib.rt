@@ -1,5 +1,5 @@
 //! Worked rows of the crates below printing and parsing: each public call once, on a stream or a context; of identifiers, ids of
-//! operations and dictionaries of attributes; of the parsers of tokens and lists; and of which formats are accepted.
+//! operations and dictionaries of attributes; and of the parsers of tokens and lists.
 #![tactic(auto)]
 
 #[cfg(test)]

@@ -4,7 +4,6 @@ mod checks;
 mod contexts;
 mod dict;
 mod edges;
-mod formats;
 mod lent;
 mod locations;
 mod made;

@@ -7,7 +7,6 @@ mod lists;
 mod location_texts;
 mod must;
 mod nested;
-mod notation;
 mod parts;
 mod printing;
 mod roots;

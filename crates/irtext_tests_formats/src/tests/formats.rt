@@ -190,7 +190,7 @@ fn formats_are_refused_by_the_first_condition_that_they_fail(rt: HostRuntime) {
     for row in REFUSED {
         assert!(rt; refused(&rt, rt.alloc(), row.0) == Some(row.1));
         let said = refused_by_add_op(&rt, rt.alloc(), row.0);
-        same(&rt, said, refusal(&rt, rt.alloc(), row.1).as_str());
+        same(&rt, said.as_str(), refusal(&rt, rt.alloc(), row.1).as_str());
     }
 }
 
@@ -202,16 +202,16 @@ fn of_another(rt: &impl Abort, alloc: Global) -> String {
 #[test]
 fn dialects_and_their_names(rt: HostRuntime) {
     assert!(rt; comes_back(&rt, rt.alloc()));
-    same(&rt, result_text(&rt, rt.alloc(), "test"), "test");
+    same(&rt, result_text(&rt, rt.alloc(), "test").as_str(), "test");
     same(
         &rt,
-        result_text(&rt, rt.alloc(), "1a"),
+        result_text(&rt, rt.alloc(), "1a").as_str(),
         "Unexpected `1`, expected identifier",
     );
     assert!(rt; last_is_kept(&rt, rt.alloc()));
     same(
         &rt,
-        of_another(&rt, rt.alloc()),
+        of_another(&rt, rt.alloc()).as_str(),
         "Compilation error: invalid argument.\nOperation test.z is not of dialect builtin",
     );
 }
