@@ -12,14 +12,14 @@ use Rattle.irtext_grammar.specs.Resume.{Open, rest_of, whole}
 use Rattle.irtext_grammar.specs.Both.{both, AreBeside}
 use Rattle.irtext_grammar.proofs.Seen.{Shows, shows_tree, seen_operation_at, seen_rest, seen_whole}
 
-module _ {T A S U : Type 0} (d : Actions T A S) (e : Actions T A U) where
+module _ {T A S U : Type 0} (d : Actions T A S) (e : Actions T A U) (alike : d.any_key ≡ e.any_key) where
   -- what both do, seen as what the first has done, is what the first does
   pub shows_first : Shows (λ (s : S × U). s.0) (both d e) d
-  shows_first = record { uses = λ place id parts s. refl; late = λ place id piece s. refl; enters = λ iso s. refl; leaves = λ iso place s. refl; closes = λ place names id parts s. refl; marks = λ mark s. refl; heads = λ head s. refl }
+  shows_first = record { uses = λ place id parts s. refl; late = λ place id piece s. refl; enters = λ iso s. refl; leaves = λ iso place s. refl; closes = λ place names id parts s. refl; marks = λ mark s. refl; heads = λ head s. refl; any_key = refl }
 
   -- and seen as what the second has done, what the second does
   pub shows_second : Shows (λ (s : S × U). s.1) (both d e) e
-  shows_second = record { uses = λ place id parts s. refl; late = λ place id piece s. refl; enters = λ iso s. refl; leaves = λ iso place s. refl; closes = λ place names id parts s. refl; marks = λ mark s. refl; heads = λ head s. refl }
+  shows_second = record { uses = λ place id parts s. refl; late = λ place id piece s. refl; enters = λ iso s. refl; leaves = λ iso place s. refl; closes = λ place names id parts s. refl; marks = λ mark s. refl; heads = λ head s. refl; any_key = alike }
 
   -- a tree does what it does in each of the two ways
   pub both_tree : (isolated : Id → Bool) (x : Tree ℕ T A) (s : S) (t : U) → do_tree isolated (both d e) x (s, t) ≡ (do_tree isolated d x s, do_tree isolated e x t)
