@@ -30,7 +30,6 @@ pub record Shows {T A S U : Type 0} (see : S → U) (d : Actions T A S) (e : Act
   pub closes : (place : ℕ) (names : List (Name ℕ)) (id : Id) (parts : List (Part ℕ T A)) (s : S) → see (d.closes place names id parts s) ≡ e.closes place names id parts (see s)
   pub marks : (mark : Option (Mark ℕ)) (s : S) → see (d.marks mark s) ≡ e.marks mark (see s)
   pub heads : (head : Head ℕ T A) (s : S) → see (d.heads head s) ≡ e.heads head (see s)
-  pub any_key : d.any_key ≡ e.any_key
 
 -- ---- trees
 module _ {T A S U : Type 0} (isolated : Id → Bool) (see : S → U) (d : Actions T A S) (e : Actions T A U) (shows : Shows see d e) where
@@ -145,7 +144,7 @@ module _ {S U : Type 0} (see : S → U) where
     seen_blocks (suc n) text s = seen_if (begins_block text) _ _ _ _
         (seen_came (f text s) (g text (see s)) (λ _ t rest. blocks_by f n (after_space rest) t) (λ _ t rest. blocks_by g n (after_space rest) t) (h.at text s) (λ _ t rest. seen_blocks n (after_space rest) t)) refl
 
-module _ {T A S U : Type 0} (dialects : List (Text × Table)) (types_at : Text → Outcome T) (attr : Text → Outcome (AttrView A)) (see : S → U) (d : Actions T A S) (e : Actions T A U) (shows : Shows see d e) where
+module _ {T A S U : Type 0} (dialects : List (Text × Table)) (types_at : Text → Outcome T) (attr : Text → Outcome (AttrView A)) (see : S → U) (d : Actions T A S) (e : Actions T A U) (shows : Shows see d e) (alike : d.any_key ≡ e.any_key) where
   -- parts before the first region
   pub seen_front : (at : Setting) (ss : List Step) (found : List (Part ℕ T A)) (text : Text) (s : S)
       → seen_as see (front_by dialects types_at attr d at ss found text s) ≡ front_by dialects types_at attr e at ss found text (see s)
@@ -167,7 +166,7 @@ module _ {T A S U : Type 0} (dialects : List (Text × Table)) (types_at : Text �
         seen_tells see ((space_at ▷ piece_at types_at attr (setting true d.any_key) step) text) text s (see s) _ next refl (λ p rest.
         seen_steps place id ss (found ++ tree.piece p ∷ []) rest (d.late place id p s)
         ∙ ap (steps_by dialects types_at attr e g place id ss (found ++ tree.piece p ∷ []) rest) (shows.late place id p s))
-        ∙ ap (λ k. tells ((space_at ▷ piece_at types_at attr (setting true k) step) text) text (see s) next) shows.any_key
+        ∙ ap (λ k. tells ((space_at ▷ piece_at types_at attr (setting true k) step) text) text (see s) next) alike
 
     -- the end of an operation
     pub seen_end : (place : ℕ) (names : List (Name ℕ)) (id : Id) (parts : List (Part ℕ T A)) (text : Text) (s : S)
@@ -184,7 +183,7 @@ module _ {T A S U : Type 0} (dialects : List (Text × Table)) (types_at : Text �
         let ss = region_steps (steps_in dialects id) in
         seen_came see (front_by dialects types_at attr d (setting inside d.any_key) (front_steps (steps_in dialects id)) [] text s) (front_by dialects types_at attr e (setting inside e.any_key) (front_steps (steps_in dialects id)) [] text (see s)) _ _
         (seen_front (setting inside d.any_key) (front_steps (steps_in dialects id)) [] text s
-        ∙ ap (λ k. front_by dialects types_at attr e (setting inside k) (front_steps (steps_in dialects id)) [] text (see s)) shows.any_key) (λ found t rest.
+        ∙ ap (λ k. front_by dialects types_at attr e (setting inside k) (front_steps (steps_in dialects id)) [] text (see s)) alike) (λ found t rest.
         seen_came see (steps_by dialects types_at attr d f place id ss found rest (d.uses place id found t)) (steps_by dialects types_at attr e g place id ss found rest (see (d.uses place id found t)))
         (λ parts u left. end_by dialects types_at attr d place names id parts left u) (λ parts u left. end_by dialects types_at attr e place names id parts left u)
         (seen_steps place id ss found rest (d.uses place id found t)) (λ parts u left. seen_end place names id parts left u)

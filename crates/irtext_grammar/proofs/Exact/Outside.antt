@@ -140,7 +140,7 @@ abbrev pub key_failures : {T A : Type 0} → Piece ℕ T A → List Failure
 key_failures (tree.dictionary es) = fails_outside (map (key_act may_hold) es)
 key_failures _ = []
 
-is_dictionary : Step → Bool
+abbrev is_dictionary : Step → Bool
 is_dictionary (flat format.dictionary) = true
 is_dictionary _ = false
 
