@@ -93,13 +93,13 @@ module _ {T A : Type 0} (types_at : Text → Outcome T) (types_written : T → T
       go (inl (none, (taken, e))) = inl (none, (_, followed-read (space_at text) (λ _ t. piece_at types_at (attr_at reading) (setting false false) step t) tt p (front is_whitespace text) (after_space text) taken mid refl e))
       go (inr s) = inr (stops_second (λ _ t. piece_at types_at (attr_at reading) (setting false false) step t) (space_at text) tt (front is_whitespace text) (after_space text) text refl (front_after is_whitespace text) s)
 
-  module _ (path : ℕ → Path) where
+  module _ (of_place : ℕ → Path) where
     abbrev S : Type 0
     S = history.Outcome
 
     -- the actions on names, where keys are tested, and where they are not
     abbrev does : Actions T A S
-    does = naming (format_of dialects) path
+    does = naming (format_of dialects) of_place
 
     abbrev free : Actions T A S
     free = freely does
@@ -181,8 +181,8 @@ module _ {T A : Type 0} (types_at : Text → Outcome T) (types_written : T → T
           let whole = sym (tells_found (led_at dialects text) text s (λ lead rest. body_by dialects types_at (attr_at reading) free (region_at dialects types_at (attr_at reading) free (isolated dialects lead.1)) true (length text) lead.0 lead.1 rest s) (x.own.names, x.own.id) taken n lead)
           ∙ tree_found types_at types_written reading written dialects types_split splits does words x text rest s r in
           let a = came_read (free_front n) (after_front free) tt (do_tree (isolated dialects) does x s) rest whole in
-          let region = region_is_tested types_at types_written reading written dialects types_split splits words path (isolated dialects x.own.id) in
-          go a.0 a.1 a.2 a.3 ((rest_tested types_at types_written reading written dialects types_split splits words path (region_at dialects types_at (attr_at reading) does (isolated dialects x.own.id)) (region_at dialects types_at (attr_at reading) free (isolated dialects x.own.id))
+          let region = region_is_tested types_at types_written reading written dialects types_split splits words of_place (isolated dialects x.own.id) in
+          go a.0 a.1 a.2 a.3 ((rest_tested types_at types_written reading written dialects types_split splits words of_place (region_at dialects types_at (attr_at reading) does (isolated dialects x.own.id)) (region_at dialects types_at (attr_at reading) free (isolated dialects x.own.id))
           region (length text) x.own.id x.own.names a.0 a.1 a.2).by tt (do_tree (isolated dialects) does x s) rest a.4)
         where
           go : (parts : List (Part ℕ T A)) (u : S) (mid : Text) → free_front n ≡ Advanced parts u mid → Ends (Follows u) (after_front does parts u mid) tt (do_tree (isolated dialects) does x s) rest → TreeOutside x text rest s

@@ -33,7 +33,7 @@ use Rattle.irtext_grammar.specs.Reached.{Reached, Advanced, Stopped, came, tells
 use Rattle.irtext_grammar.proofs.Exact.Outside.{key_failures, inside_read, piece_inside}
 use Rattle.irtext_grammar.proofs.Knot.Loops.{tells_found, came_found, tells_read, came_read}
 use Rattle.irtext_grammar.proofs.Naming.Follows.{Follows, follows_same, follows_both, Ready, ready_follows, follows_acted, enters_ready, leaves_follows, broke, freely_keeps, uses_broke, late_broke}
-use Rattle.irtext_grammar.proofs.Naming.KeepsReading.{done_in, Quiet, quiet_regions, quiet_more, quiet_operations, quiet_blocks, quiet_front, quiet_steps, quiet_end, quiet_body, quiet_operation, quiet_block, quiet_region, quiet_within, quiet_region_at, quiet_came, quiet_tells}
+use Rattle.irtext_grammar.proofs.Naming.KeepsReading.{done_in, Quiet, quiet_regions, quiet_more, quiet_operations, quiet_blocks, quiet_front, quiet_steps, quiet_end, quiet_body, quiet_operation, quiet_block, quiet_region, quiet_region_at, quiet_came, quiet_tells}
 use Rattle.irtext_grammar.proofs.Stops.{stops_second}
 
 -- The parse came to this end, with this of its state; or it is stuck at an attribute that is not allowed under its key, and the machine has
@@ -99,8 +99,8 @@ pub record AllTested (P : Outcome → Type 0) (o f : Reads Outcome) : Type 0 whe
   pub quiet : (z : Failure) → Quiet (failed z) f
 
 module _ (P : Outcome → Type 0) (keeps : (s t : Outcome) → P s → Follows s t → P t) (o f : Reads Outcome) (h : AllTested P o f) where
-  stays : (text : Text) (s : Outcome) → Tested (Follows s) (Advanced tt s text) (Advanced tt s text)
-  stays text s = tested_there (Follows s) tt s text (follows_same s)
+  stays : (text : Text) (s : Outcome) → Tested (Follows s) (Advanced (tt {0}) s text) (Advanced tt s text)
+  stays text s = tested_there (Follows s) (tt {0}) s text (follows_same s)
 
   -- one item, and then others
   item_more : (text : Text) (s : Outcome) (next other : Unit {0} → Outcome → Text → Reached (Unit {0}) Outcome) → P s
@@ -189,7 +189,7 @@ module _ {T A : Type 0} (types_at : Text → answers.Outcome T) (types_written :
   front_ends [] found parts text s t mid none e = all_read (e ∙ ap (λ z. Advanced parts z mid) (front_extends [] found parts text s t mid e).0)
   front_ends (step ∷ ss) found parts text s t mid none e =
       let a = tells_read ((space_at ▷ piece_at types_at attr (setting true true) step) text) text s (λ p rest. front_by dialects types_at attr free (setting true true) ss (found ++ tree.piece p ∷ []) rest s) parts t mid e in
-      go a.0 a.2 a.4 (spaced_tested step text a.0 a.1 a.2 a.3)
+      go (λ p m. front_ends ss (found ++ tree.piece p ∷ []) parts m s t mid) a.0 a.2 a.4 (spaced_tested step text a.0 a.1 a.2 a.3)
     where
       with_piece : (p : Piece ℕ T A) (fs : List Failure) → key_failures p ≡ fs → views key_failures (found ++ tree.piece p ∷ []) ≡ fs
       with_piece p fs is = views_both key_failures found (tree.piece p ∷ []) ∙ (ap (λ z. z ++ views key_failures (tree.piece p ∷ [])) none ∙ (append-nil (key_failures p) ∙ is))
@@ -202,10 +202,11 @@ module _ {T A : Type 0} (types_at : Text → answers.Outcome T) (types_written :
       more p m taken r (all_read e) = all_read (step_on p m taken r ∙ e)
       more p m taken r (a_key k place others e at is) = a_key k place others (step_on p m taken r ∙ e) at is
 
-      go : (p : Piece ℕ T A) (m : Text) → front_by dialects types_at attr free (setting true true) ss (found ++ tree.piece p ∷ []) m s ≡ Advanced parts t mid
+      go : ((p : Piece ℕ T A) (m : Text) → views key_failures (found ++ tree.piece p ∷ []) ≡ [] → front_by dialects types_at attr free (setting true true) ss (found ++ tree.piece p ∷ []) m s ≡ Advanced parts t mid → FrontEnds ss (found ++ tree.piece p ∷ []) m s parts mid)
+          → (p : Piece ℕ T A) (m : Text) → front_by dialects types_at attr free (setting true true) ss (found ++ tree.piece p ∷ []) m s ≡ Advanced parts t mid
           → ReadOrStops text ((space_at ▷ piece_at types_at attr (setting true false) step) text) p m (key_failures p) → FrontEnds (step ∷ ss) found text s parts mid
-      go p m e (inl (fine, (taken, r))) = more p m taken r (front_ends ss (found ++ tree.piece p ∷ []) parts m s t mid (with_piece p [] fine) e)
-      go p m e (inr z) =
+      go again p m e (inl (fine, (taken, r))) = more p m taken r (again p m (with_piece p [] fine) e)
+      go again p m e (inr z) =
           let x = (front_extends ss (found ++ tree.piece p ∷ []) parts m s t mid e).1 in
           a_key z.first (length z.stop) (z.others ++ views key_failures x.0)
           (ap (λ o. tells o text s (λ p rest. front_by dialects types_at attr tests (setting true false) ss (found ++ tree.piece p ∷ []) rest s)) z.bad
@@ -291,7 +292,7 @@ module _ {T A : Type 0} (types_at : Text → answers.Outcome T) (types_written :
 
       quiet_rest : (z : Failure) (found : List (Part ℕ T A)) (rest : Text)
           → done_in (came (steps_by dialects types_at attr free f place id (region_steps (steps_in dialects id)) found rest (failed z)) (λ parts u left. end_by dialects types_at attr free place names id parts left u)) ≡ failed z
-      quiet_rest z found rest = quiet_came (failed z) _ (λ parts u left. end_by dialects types_at attr free place names id parts left u) (quiet_inner_steps f h.quiet place id (region_steps (steps_in dialects id)) found rest z)
+      quiet_rest z found rest = quiet_came (failed z) (steps_by dialects types_at attr free f place id (region_steps (steps_in dialects id)) found rest (failed z)) (λ parts u left. end_by dialects types_at attr free place names id parts left u) (quiet_inner_steps f h.quiet place id (region_steps (steps_in dialects id)) found rest z)
           (λ parts left. quiet_end dialects types_at attr free (failed z) (freely_keeps (format_of dialects) path z) place names id parts left)
 
       -- what follows an id, inside of a region

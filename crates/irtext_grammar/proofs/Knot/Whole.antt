@@ -1,6 +1,6 @@
 -- What the parsers of nested text accept is what the grammar parses, and where they accept any attribute under a reserved key the converse. Of a caller's types and attributes it is required that what they take
 -- and leave is the text and, where a marker may be in place of an attribute, that attributes begin as a word does.
-use Rattle.std.proofs.Common.{◌≡◌, ℕ, Bool, true, List, length, refl, sym, ap, arith, length-append}
+use Rattle.std.proofs.Common.{◌≡◌, ◌∙◌, ℕ, Bool, true, List, length, refl, sym, ap, arith, length-append}
 use Rattle.irtext_base.specs.Text.{Text}
 use Rattle.irtext_base.specs.Faults.{Fault}
 use Rattle.irtext_base.specs.Format.{Id}

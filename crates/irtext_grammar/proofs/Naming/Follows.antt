@@ -1,3 +1,40 @@
+-- Where names may be used, and where an attribute is not allowed under its key: acts leave as many scopes open as there were, and the
+-- machine of names fails at the first such key of an operation.
+use Rattle.std.proofs.Common.{◌≡◌, ◌∙◌, ℕ, suc, Bool, true, false, cond, List, [], ◌∷◌, ◌++◌, map, length, Option, Some, refl, sym, ap, subst, append_assoc}
+use Rattle.std.specs.Prelude.{⊤, flat_map}
+use Rattle.irtext_base.specs.Format.{Format, Id}
+use Rattle.irtext_grammar.specs.Grammar.Tree as tree
+use Rattle.irtext_grammar.specs.Grammar.Tree.{Name, Attribute, Piece, Part, views}
+use Rattle.irtext_grammar.specs.Names.Acts.{may_hold, key_act, value_uses, label_uses, piece_acts}
+use Rattle.irtext_grammar.specs.Names.History as history
+use Rattle.irtext_grammar.specs.Names.History.{State, Outcome, going, failed, outcome, next, after, onto, scopes_of, entered, act}
+use Rattle.irtext_grammar.specs.Names.Scopes.{fact_of, not_isolated}
+use Rattle.irtext_grammar.specs.Names.Script as script
+use Rattle.irtext_grammar.specs.Names.Script.{Path, use_value, use_label, claim}
+use Rattle.irtext_grammar.specs.Names.TextScopes.{Act, Fact, Failure, act_failures, left_open}
+use Rattle.irtext_grammar.specs.Naming.{acted, acts_of_piece, naming}
+use Rattle.irtext_grammar.specs.Reached.{freely}
+use Rattle.irtext_grammar.proofs.Exact.Outside.{fails_outside, key_failures}
+use Rattle.irtext_grammar.proofs.Naming.Keeps.{Keeps, failed_keeps}
+
+-- ---- as many scopes are open
+-- The machine has failed, or as many scopes are open as in the first state; what had failed before is unchanged.
+abbrev pub Follows : Outcome → Outcome → Type 0
+Follows (going a) (going b) = (length b.values ≡ length a.values) × (length b.labels ≡ length a.labels)
+Follows (going a) (failed g) = ⊤
+Follows (failed f) t = t ≡ failed f
+
+pub follows_same : (s : Outcome) → Follows s s
+follows_same (going a) = (refl, refl)
+follows_same (failed f) = refl
+
+pub follows_both : (s t u : Outcome) → Follows s t → Follows t u → Follows s u
+follows_both (going a) (going b) (going c) h k = (k.0 ∙ h.0, k.1 ∙ h.1)
+follows_both (going a) (going b) (failed g) h k = tt
+follows_both (going a) (failed f) (going c) h k = absurd (cc k)
+follows_both (going a) (failed f) (failed g) h k = tt
+follows_both (failed f) t u h k = subst (λ z. Follows z u) h k
+
 -- some scope is open
 abbrev IsOpen : List (List Fact) → Type 0
 IsOpen [] = ⊥
@@ -114,29 +151,29 @@ acted_failed (a ∷ acts) e = acted_failed acts e
 uses_stop : (acts : List Act) (s : Outcome) (k : Failure) (others : List Failure) → AllUse acts → Ready s → flat_map own_failures acts ≡ k ∷ others → acted acts s ≡ failed (broke s k)
 uses_stop [] s k others u h e = absurd (cc e)
 uses_stop (a ∷ acts) (failed f) k others u h e = acted_failed acts f
-uses_stop (a ∷ acts) (going st) k others u h e = ap (acted acts) (use_next a st u.0 h) ∙ go (own_failures a) refl
+uses_stop (a ∷ acts) (going st) k others u h e =
+    let st' = after st (fact_of a) in
+    let ready : Ready (going st') = ready_follows (going st) (going st') h (onto_length st.values (let f = fact_of a in f.values), onto_length st.labels (let f = fact_of a in f.labels)) in
+    ap (acted acts) (use_next a st u.0 h) ∙ go (λ e. uses_stop acts (going st') k others u.1 ready e) (own_failures a) refl
   where
-    go : (fs : List Failure) → own_failures a ≡ fs → acted acts (outcome fs (after st (fact_of a))) ≡ failed k
-    go [] f =
-        let st' = after st (fact_of a) in
-        let ready : Ready (going st') = ready_follows (going st) (going st') h (onto_length st.values (let f = fact_of a in f.values), onto_length st.labels (let f = fact_of a in f.labels)) in
-        uses_stop acts (going st') k others u.1 ready (sym (ap (λ z. z ++ flat_map own_failures acts) f) ∙ e)
-    go (g ∷ gs) f = let same : g ≡ k = cc (sym (ap (λ z. z ++ flat_map own_failures acts) f) ∙ e) in acted_failed acts g ∙ ap failed same
+    go : (flat_map own_failures acts ≡ k ∷ others → acted acts (going (after st (fact_of a))) ≡ failed k) → (fs : List Failure) → own_failures a ≡ fs → acted acts (outcome fs (after st (fact_of a))) ≡ failed k
+    go again [] f = again (sym (ap (λ z. z ++ flat_map own_failures acts) f) ∙ e)
+    go again (g ∷ gs) f = let same : g ≡ k = cc (sym (ap (λ z. z ++ flat_map own_failures acts) f) ∙ e) in acted_failed acts g ∙ ap failed same
 
 -- so do tests of keys, in any state
 keys_stop : {A : Type 0} (es : List (Name ℕ × Attribute A)) (s : Outcome) (k : Failure) (others : List Failure) → fails_outside (map (key_act may_hold) es) ≡ k ∷ others → acted (map (key_act may_hold) es) s ≡ failed (broke s k)
 keys_stop [] s k others e = absurd (cc e)
 keys_stop (x ∷ es) (failed f) k others e = acted_failed (map (key_act may_hold) es) f
-keys_stop (x ∷ es) (going st) k others e = go (may_hold x.0.text x.1) refl
+keys_stop (x ∷ es) (going st) k others e = go (λ e. keys_stop es (going (after st (fact_of (key_act may_hold x)))) k others e) (may_hold x.0.text x.1) refl
   where
     refused : Failure
     refused = record { cause = script.ReservedKey x.0.text; at = Some x.0.place }
 
-    go : (b : Bool) → may_hold x.0.text x.1 ≡ b → acted (map (key_act may_hold) es) (next (going st) (act (key_act may_hold x))) ≡ failed k
-    go true f =
+    go : (fails_outside (map (key_act may_hold) es) ≡ k ∷ others → acted (map (key_act may_hold) es) (going (after st (fact_of (key_act may_hold x)))) ≡ failed k) → (b : Bool) → may_hold x.0.text x.1 ≡ b → acted (map (key_act may_hold) es) (next (going st) (act (key_act may_hold x))) ≡ failed k
+    go again true f =
         ap (λ b. acted (map (key_act may_hold) es) (outcome (cond b [] (refused ∷ [])) (after st (fact_of (key_act may_hold x))))) f
-        ∙ keys_stop es (going (after st (fact_of (key_act may_hold x)))) k others (sym (ap (λ b. cond b [] (refused ∷ []) ++ fails_outside (map (key_act may_hold) es)) f) ∙ e)
-    go false f =
+        ∙ again (sym (ap (λ b. cond b [] (refused ∷ []) ++ fails_outside (map (key_act may_hold) es)) f) ∙ e)
+    go again false f =
         let same : refused ≡ k = cc (sym (ap (λ b. cond b [] (refused ∷ []) ++ fails_outside (map (key_act may_hold) es)) f) ∙ e) in
         ap (λ b. acted (map (key_act may_hold) es) (outcome (cond b [] (refused ∷ [])) (after st (fact_of (key_act may_hold x))))) f
         ∙ (acted_failed (map (key_act may_hold) es) refused ∙ ap failed same)
