@@ -42,7 +42,7 @@ use Rattle.irtext_parse_state.specs.States.{LocatesAt, marks_of}
 use Rattle.irtext_parse_state.specs.declared.parsable.state.StateStream.{StateStream}
 use Rattle.irtext_grammar.specs.Promises.Root.{UnlessMemory, position_after}
 use Rattle.irtext_grammar.specs.Promises.Section.{Moves, indices_of}
-use Rattle.irtext_grammar.specs.Heads.{steps_of, front_steps, region_steps}
+use Rattle.irtext_grammar.specs.Heads.{steps_of, front_steps, region_steps, setting}
 use Rattle.irtext_grammar.specs.Naming.{body_of, unmarked, single_operands, single_successors}
 use Rattle.irtext_grammar.specs.Reached.{steps_in}
 use Rattle.irtext_grammar.specs.Resume.{begun, front_at}
@@ -150,7 +150,7 @@ module _ {T A U : Type 0} (types_at : Text → Outcome T) (attr : Text → Outco
       led = f.led;
       parts = f.parts;
       taken = f.taken;
-      front = subst (λ r. front_at types_at attr inside (front_steps (steps_in dialects (id_of id))) [] f.middle ≡ Read f.parts f.taken r) e f.front;
+      front = subst (λ r. front_at types_at attr (setting inside false) (front_steps (steps_in dialects (id_of id))) [] f.middle ≡ Read f.parts f.taken r) e f.front;
     }
 
     -- any parse of this text has this result
@@ -163,7 +163,7 @@ module _ {T A U : Type 0} (types_at : Text → Outcome T) (attr : Text → Outco
         let i : read.id ≡ id_of id = ap (λ p. p.1) pair in
         let m : read.middle ≡ f.middle = cc led in
         let front : Read read.parts read.taken rest ≡ Read f.parts f.taken mid.rest =
-        sym read.front ∙ (ap (λ i. front_at types_at attr inside (front_steps (steps_in dialects i)) [] read.middle) i ∙ (ap (front_at types_at attr inside (front_steps (steps_in dialects (id_of id))) []) m ∙ f.front)) in
+        sym read.front ∙ (ap (λ i. front_at types_at attr (setting inside false) (front_steps (steps_in dialects i)) [] read.middle) i ∙ (ap (front_at types_at attr (setting inside false) (front_steps (steps_in dialects (id_of id))) []) m ∙ f.front)) in
         (i, cc front)
 
     -- the types that its results have

@@ -30,7 +30,7 @@ use Rattle.irtext_grammar.specs.Promises.Root.{UnlessMemory}
 use Rattle.irtext_grammar.specs.Promises.Section.{Moves, IsOutOfMemory}
 use Rattle.irtext_grammar.specs.Promises.Supported.{is_committed}
 use Rattle.irtext_grammar.specs.Exact.{IsOfStep}
-use Rattle.irtext_grammar.specs.Heads.{Step, one, all, front_steps, led_at}
+use Rattle.irtext_grammar.specs.Heads.{Step, one, all, front_steps, led_at, setting}
 use Rattle.irtext_grammar.specs.Naming.{body_of, unmarked}
 use Rattle.irtext_grammar.specs.Reached.{steps_in}
 use Rattle.irtext_grammar.specs.Resume.{OpenOperation, front_at}
@@ -59,7 +59,7 @@ use Rattle.irtext_parse_nested.specs.Read.{Demands}
 pub data MissesFront {T A : Type 0} (types_at : Reader T) (attr : Reader (AttrView A)) (dialects : List (Text × Table)) (inside : Bool) (old : StreamView) (fault : ParseFault A) : Type 0 where
   misses_lead : Demands (whole old) (led_at dialects old.rest) old.rest fault → fault.committed ≡ (inside || is_committed (led_at dialects old.rest)) → MissesFront types_at attr dialects inside old fault
   misses_piece : (names : List (Name ℕ)) (id : Id) (lead middle : Text) → led_at dialects old.rest ≡ Read (names, id) lead middle
-      → Demands (whole old) (front_at types_at attr inside (front_steps (steps_in dialects id)) [] middle) middle fault → fault.committed ≡ true → MissesFront types_at attr dialects inside old fault
+      → Demands (whole old) (front_at types_at attr (setting inside false) (front_steps (steps_in dialects id)) [] middle) middle fault → fault.committed ≡ true → MissesFront types_at attr dialects inside old fault
 
 -- The names of results, the id of a registered operation, and the pieces before its first region come next in the text, and were parsed.
 pub record FrontComes {T A : Type 0} (types_at : Reader T) (attr : Reader (AttrView A)) (dialects : List (Text × Table)) (inside : Bool) (names : List Text) (old : StreamView)
@@ -70,7 +70,7 @@ pub record FrontComes {T A : Type 0} (types_at : Reader T) (attr : Reader (AttrV
   pub led : led_at dialects old.rest ≡ Read (results, id_of id) lead middle
   pub parts : List (Part ℕ T A)
   pub taken : Text
-  pub front : front_at types_at attr inside (front_steps (steps_in dialects (id_of id))) [] middle ≡ Read parts taken new.rest
+  pub front : front_at types_at attr (setting inside false) (front_steps (steps_in dialects (id_of id))) [] middle ≡ Read parts taken new.rest
   pub moves : Moves old new
   pub named : Each (Represents names (whole old)) read results
   pub are : Each (IsPart names (whole old)) pieces parts

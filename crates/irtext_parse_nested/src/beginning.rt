@@ -34,7 +34,7 @@ use irtext_context::base::context::making::Making;
 use irtext_context::base::{BasicBlock, Context, Operation, Ptr};
 use irtext_few::Few;
 use irtext_grammar::found::Pieces;
-use irtext_grammar::parsed::ReadName;
+use irtext_grammar::parsed::{ReadName, Setting};
 use irtext_graph::held::HasGraph;
 use irtext_names::errors::name_error;
 use irtext_names::gathered::{Gathered, attributes_of, nothing};
@@ -84,7 +84,7 @@ fn commit_if<A>(stream: &mut TextStream, is_required: bool, fault: ParseFault<A>
 }
 
 /// Parses what precedes an operation's first region. `inside` says whether it is inside of a region, where an operation is required; outside
-/// of every region no name can be used, and an attribute has to be allowed under its key. An error is committed, unless no operation comes
+/// of every region no name can be used. An attribute has to be allowed under its key. An error is committed, unless no operation comes
 /// next and none is required.
 #[inline(always)]
 fn front_read<T: IrText<A>, A: AttrText<A>>(
@@ -113,7 +113,11 @@ fn front_read<T: IrText<A>, A: AttrText<A>>(
         Ok(led) => led,
         Err(fault) => return Err(commit_if(stream, inside, fault)),
     };
-    let pieces = match front_parse(stream, names, &info.format, inside, keys) {
+    let setting = Setting {
+        inside,
+        any_key: false,
+    };
+    let pieces = match front_parse(stream, names, &info.format, setting, keys) {
         Ok(pieces) => pieces,
         Err(fault) => {
             ended((results, id));
@@ -298,8 +302,9 @@ fn begin_read<T: IrText<A>, A: AttrText<A>, U>(
 
 /// Begins an operation: parses the names of its results, its id and the pieces before its first region, uses their names, creates the
 /// operation, and appends it to the block, if one is given; without a block it is outside of every region. There it fails with
-/// `NoActiveScope` at the first name that is used, or with `ReservedKey` at the first reserved key of a dictionary, as they are parsed; in
-/// a block it fails with `NoActiveScope` if no scope of the name's kind is open, or with `ReservedKey`, once all these pieces are parsed.
+/// `NoActiveScope` at the first name that is used, as it is parsed; in a block it fails with `NoActiveScope` if no scope of the name's kind
+/// is open, once all these pieces are parsed. It fails with `ReservedKey` at the first key of a dictionary under which its attribute is not
+/// allowed, as soon as this entry is parsed.
 /// Keys of a dictionary may share their texts with those that are kept at their places. An error is committed, unless no block is given
 /// and no operation comes next.
 pub fn operation_begin<T: IrText<A>, A: AttrText<A>, U>(
