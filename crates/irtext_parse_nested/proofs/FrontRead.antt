@@ -134,7 +134,7 @@ module _ {T A : Type 0} (types_at : Text → Outcome T) (reading : Text → Outc
     isolated_is = ap (λ o. elim o [ Some k ↦ k.isolated | None ↦ false ]) known.known
 
     -- a piece is missing
-    pub piece_misses : (more : List Text) {fault : ParseFault A} {new : StreamView} → Sincere types_at → Sincere reading → MustFront {T = T} itself replaced more types_at (attr_at reading) inside (steps_of (format_of info.format)) mid (Err fault) new
+    pub piece_misses : (more : List Text) {fault : ParseFault A} {new : StreamView} → Sincere types_at → Sincere reading → MustFront {T = T} itself replaced more types_at (attr_at reading) (setting inside false) (steps_of (format_of info.format)) mid (Err fault) new
         → UnlessMemory (MissesFront types_at (attr_at reading) dialects inside old) fault
     piece_misses more {fault} {new} sincere_types sincere f =
         let within = front_within types_at reading sincere_types sincere inside (front_steps (steps_of (format_of info.format))) [] in
@@ -146,11 +146,11 @@ module _ {T A : Type 0} (types_at : Text → Outcome T) (reading : Text → Outc
               (subst (λ ss. Demands (whole mid) (front_at types_at (attr_at reading) (setting inside false) (front_steps ss) [] mid.rest) mid.rest fault) (sym steps_are) d)) c)
         ]
 
-    pub piece_commits : (more : List Text) {fault : ParseFault A} {new : StreamView} → MustFront {T = T} itself replaced more types_at (attr_at reading) inside (steps_of (format_of info.format)) mid (Err fault) new → fault.committed ≡ true
+    pub piece_commits : (more : List Text) {fault : ParseFault A} {new : StreamView} → MustFront {T = T} itself replaced more types_at (attr_at reading) (setting inside false) (steps_of (format_of info.format)) mid (Err fault) new → fault.committed ≡ true
     piece_commits more f = must_commit still_fine f.read
 
     -- all of it is in the text
-    pub front_comes : (more : List Text) → KeepsNames names more → (pieces : List (ReadPiece T A)) (new : StreamView) → MustFront {A = A} itself replaced more types_at (attr_at reading) inside (steps_of (format_of info.format)) mid (Ok pieces) new
+    pub front_comes : (more : List Text) → KeepsNames names more → (pieces : List (ReadPiece T A)) (new : StreamView) → MustFront {A = A} itself replaced more types_at (attr_at reading) (setting inside false) (steps_of (format_of info.format)) mid (Ok pieces) new
         → length pieces ≡ length (front_steps (steps_of (format_of info.format))) → FrontComes types_at (attr_at reading) dialects inside more old op.0 op.1 pieces new
     front_comes more keeps pieces new f count =
         let there : Answered (front_of types_at (attr_at reading) (setting inside false) (steps_of (format_of info.format)) [] mid.rest) mid (f.meant pieces) new = answered {A = A} f.read in

@@ -1,5 +1,5 @@
 -- Between functions: an operation that begins: what was parsed before its first region, its own parts so far, and where it is created.
-use Rattle.std.specs.Prelude.{◌≡◌, ◌<◌, ℕ, Bool, true, ◌||◌, List, [], ◌∷◌, ◌++◌, length, Option, Some, None, IfSome, ⊤}
+use Rattle.std.specs.Prelude.{◌≡◌, ◌<◌, ℕ, Bool, true, ◌||◌, List, [], ◌∷◌, ◌++◌, length, Option, Some, None, IfSome, ⊤, false}
 use Rattle.irtext_base.specs.Text.{Text}
 use Rattle.irtext_base.specs.Format.{Format, Id, Accepted, sym_name_key}
 use Rattle.irtext_base.specs.Faults.{id_of, fault_of}

@@ -1,5 +1,5 @@
 -- Between functions: what each action of the parser of nested text parses and does, and how it fails.
-use Rattle.std.specs.Prelude.{◌≡◌, ◌⊎◌, ℕ, ◌-◌, Bool, true, ◌||◌, List, [], ◌∷◌, codes, length, Option}
+use Rattle.std.specs.Prelude.{◌≡◌, ◌⊎◌, ℕ, ◌-◌, Bool, true, ◌||◌, List, [], ◌∷◌, codes, length, Option, false}
 use Rattle.irtext_base.specs.Text.{Text}
 use Rattle.irtext_base.specs.Format.{Id}
 use Rattle.irtext_base.specs.Faults.{Fault}

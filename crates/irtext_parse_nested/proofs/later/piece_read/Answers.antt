@@ -1,4 +1,4 @@
-use Rattle.std.proofs.Common.{◌∙◌, true, sym, ap, subst, slice_get}
+use Rattle.std.proofs.Common.{◌∙◌, true, sym, ap, subst, slice_get, false}
 use Rattle.irtext_grammar.specs.Heads.{piece_at, setting}
 use Rattle.irtext_grammar.specs.Readers.Streams.{itself, replaced}
 use Rattle.irtext_tokens.specs.AttrTexts.{attr_at}
