@@ -137,7 +137,7 @@ module _ {T A : Type 0} (types_at : Text → Outcome T) (reading : Text → Outc
     pub piece_misses : (more : List Text) {fault : ParseFault A} {new : StreamView} → Sincere types_at → Sincere reading → MustFront {T = T} itself replaced more types_at (attr_at reading) (setting inside false) (steps_of (format_of info.format)) mid (Err fault) new
         → UnlessMemory (MissesFront types_at (attr_at reading) dialects inside old) fault
     piece_misses more {fault} {new} sincere_types sincere f =
-        let within = front_within types_at reading sincere_types sincere inside (front_steps (steps_of (format_of info.format))) [] in
+        let within = front_within types_at reading sincere_types sincere (setting inside false) (front_steps (steps_of (format_of info.format))) [] in
         let c = must_commit still_fine f.read in
         elim (must_demand alone (front_of types_at (attr_at reading) (setting inside false) (steps_of (format_of info.format)) []) within still_fine f.read) [
           | inl s ↦ inl s
