@@ -53,11 +53,11 @@ pub own_cause : (c : Cause Text) → IsCause c (fault_for c)
 own_cause c = (own_and_named c).0
 
 -- the state at which a parse is stuck
-stuck_state : {X S : Type 0} (s t : S) (cause other : Fault) (here place : ℕ) → ◌≡◌ {A = Reached X S} (Stopped s cause here) (Stopped t other place) → s ≡ t
+pub stuck_state : {X S : Type 0} (s t : S) (cause other : Fault) (here place : ℕ) → ◌≡◌ {A = Reached X S} (Stopped s cause here) (Stopped t other place) → s ≡ t
 stuck_state s t cause other here place e = cc e
 
 -- a fault of the text at which a parse is stuck for a failure is this failure
-stuck_of : {A X S : Type 0} (text : Text) (f : Failure Text ℕ) (place at : ℕ) (cause : Fault) (s t : S) (fault : ParseFault A) → ◌≡◌ {A = Reached X S} (Stopped s (fault_for f.cause) at) (Stopped t cause place) → f.at ≡ Some at
+pub stuck_of : {A X S : Type 0} (text : Text) (f : Failure Text ℕ) (place at : ℕ) (cause : Fault) (s t : S) (fault : ParseFault A) → ◌≡◌ {A = Reached X S} (Stopped s (fault_for f.cause) at) (Stopped t cause place) → f.at ≡ Some at
     → fault_of fault.cause ≡ cause → IsPosition text place fault.pos → IsOf text f fault
 stuck_of text f place at cause s t fault e a because position =
     let c : fault_for f.cause ≡ cause = cc e in
