@@ -16,6 +16,7 @@ use Rattle.irtext_base.specs.FormatViews.{format_of}
 use Rattle.irtext_tokens.specs.AttrTexts.{attr_at}
 use Rattle.irtext_tokens.proofs.Steps.{alone}
 use Rattle.irtext_scopes.specs.Names.{KeepsNames}
+use Rattle.irtext_grammar.specs.declared.parsed.Setting.{Setting}
 use Rattle.irtext_grammar.specs.Contexts.Formats as formats
 use Rattle.irtext_grammar.specs.Contexts.Held.{whole}
 use Rattle.irtext_grammar.specs.Grammar.Tree.{Name}
@@ -150,10 +151,10 @@ module _ {T A : Type 0} (types_at : Text → Outcome T) (reading : Text → Outc
     piece_commits more f = must_commit still_fine f.read
 
     -- all of it is in the text
-    pub front_comes : (more : List Text) → KeepsNames names more → (pieces : List (ReadPiece T A)) (new : StreamView) → MustFront {A = A} itself replaced more types_at (attr_at reading) (setting inside false) (steps_of (format_of info.format)) mid (Ok pieces) new
-        → length pieces ≡ length (front_steps (steps_of (format_of info.format))) → FrontComes types_at (attr_at reading) dialects inside more old op.0 op.1 pieces new
-    front_comes more keeps pieces new f count =
-        let there : Answered (front_of types_at (attr_at reading) (setting inside false) (steps_of (format_of info.format)) [] mid.rest) mid (f.meant pieces) new = answered {A = A} f.read in
+    pub front_comes : (at : Setting) (more : List Text) → KeepsNames names more → (pieces : List (ReadPiece T A)) (new : StreamView) → MustFront {A = A} itself replaced more types_at (attr_at reading) at (steps_of (format_of info.format)) mid (Ok pieces) new
+        → length pieces ≡ length (front_steps (steps_of (format_of info.format))) → FrontComes types_at (attr_at reading) dialects at more old op.0 op.1 pieces new
+    front_comes at more keeps pieces new f count =
+        let there : Answered (front_of types_at (attr_at reading) at (steps_of (format_of info.format)) [] mid.rest) mid (f.meant pieces) new = answered {A = A} f.read in
         record {
           results = (h.meant op).0;
           lead = led_is.taken;
@@ -161,7 +162,7 @@ module _ {T A : Type 0} (types_at : Text → Outcome T) (reading : Text → Outc
           led = led_here;
           parts = f.meant pieces;
           taken = there.taken;
-          front = ap (λ ss. front_at types_at (attr_at reading) (setting inside false) (front_steps ss) [] mid.rest) steps_are ∙ there.is;
+          front = ap (λ ss. front_at types_at (attr_at reading) at (front_steps ss) [] mid.rest) steps_are ∙ there.is;
           moves = moves_more (record { taken = led_is.taken; takes = led_is.takes }) (record { taken = there.taken; takes = there.takes });
           named = each_on names more (whole old) keeps op.0 (h.meant op).0 h.means.0;
           are = subst (λ t. Each (IsPart more t) pieces (f.meant pieces)) same_text f.means;

@@ -115,15 +115,15 @@ last_pledge w v (u ∷ more) (inr a) P f h = last_pledge w v more a P (λ u b. f
 
 -- the same front, where this is known to be inside of a region or not
 pub comes_where : {T A : Type 0} (types_at : Text → Outcome T) (attr : Text → Outcome (AttrView A)) (dialects : List (Text × Table)) (a b : Bool) {names : List Text} {old : StreamView} {rs : List ReadName} {id : OpId} {pieces : List (ReadPiece T A)} {new : StreamView} → a ≡ b
-    → FrontComes types_at attr dialects a names old rs id pieces new → FrontComes types_at attr dialects b names old rs id pieces new
-comes_where types_at attr dialects a b {names} {old} {rs} {id} {pieces} {new} e f = subst (λ w. FrontComes types_at attr dialects w names old rs id pieces new) e f
+    → FrontComes types_at attr dialects (setting a false) names old rs id pieces new → FrontComes types_at attr dialects (setting b false) names old rs id pieces new
+comes_where types_at attr dialects a b {names} {old} {rs} {id} {pieces} {new} e f = subst (λ w. FrontComes types_at attr dialects (setting w false) names old rs id pieces new) e f
 
 module _ {T A U : Type 0} (types_at : Text → Outcome T) (attr : Text → Outcome (AttrView A)) (inside : Bool) (old : StateStream T A U) where
   abbrev dialects : List (Text × Table)
   dialects = old.state.ctx.now.dialects
 
   -- ---- the pieces of a front
-  module _ {table : List Text} {rs : List ReadName} {id : OpId} {pieces : List (ReadPiece T A)} {mid : StreamView} (f : FrontComes types_at attr old.state.ctx.now.dialects inside table old.stream rs id pieces mid) where
+  module _ {table : List Text} {rs : List ReadName} {id : OpId} {pieces : List (ReadPiece T A)} {mid : StreamView} (f : FrontComes types_at attr old.state.ctx.now.dialects (setting inside false) table old.stream rs id pieces mid) where
     steps_are : steps_in dialects (id_of id) ≡ steps_of f.format
     steps_are = ap (λ o. elim o [ Some f ↦ steps_of f | None ↦ [] ]) f.known
 
@@ -228,7 +228,7 @@ module _ {T A U : Type 0} (types_at : Text → Outcome T) (attr : Text → Outco
 
   -- ---- it was made
   module _ {middle names : Names} {block : Option (Ptr BasicBlock)} {front : ReadFront T A} {at : Place} {loc : Location A} {b : BegunOperation} {mid : StreamView}
-      (f : FrontComes types_at attr old.state.ctx.now.dialects inside middle.names old.stream front.names front.id front.pieces mid) (new : StateStream T A U) (m : MakesOf block front at loc middle old.state.ctx.now names new.state.ctx.now b)
+      (f : FrontComes types_at attr old.state.ctx.now.dialects (setting inside false) middle.names old.stream front.names front.id front.pieces mid) (new : StateStream T A U) (m : MakesOf block front at loc middle old.state.ctx.now names new.state.ctx.now b)
       (all_older : AllOlder old.state.ctx.now.graph.made old.state.ctx.now.graph) (place : IfSome block (λ k. IsThere old.state.ctx.now (TheBlock k))) where
     abbrev old_ctx : ContextView T A
     old_ctx = old.state.ctx.now
@@ -377,7 +377,7 @@ module _ {T A U : Type 0} (types_at : Text → Outcome T) (attr : Text → Outco
   front_misses before fault (inr (misses_piece names id lead middle e d c)) = inr (no_front names id lead middle e d c)
 
   -- what was parsed fails
-  module _ {before middle : Names} {rs : List ReadName} {id : OpId} {pieces : List (ReadPiece T A)} {mid : StreamView} (f : FrontComes types_at attr old.state.ctx.now.dialects inside middle.names old.stream rs id pieces mid)
+  module _ {before middle : Names} {rs : List ReadName} {id : OpId} {pieces : List (ReadPiece T A)} {mid : StreamView} (f : FrontComes types_at attr old.state.ctx.now.dialects (setting inside false) middle.names old.stream rs id pieces mid)
       (read : NamesRead before middle) (distinct : AreDistinct middle.names) where
     module _ {Is : Text → Name ℕ → Type 0} {cause : Text → script.Cause Text} (fails : FailsAt pieces middle old.state.ctx.now.graph Is cause) where
       failing : (n : Name ℕ) × Is (whole old.stream) n × ((p : Path) (k l : ℕ) → FailsUses (views (piece_acts p k l) f.parts) middle old.state.ctx.now.graph (record { cause = cause n.text; at = Some n.place }))

@@ -20,6 +20,7 @@ use Rattle.irtext_graph.specs.declared.object.Operation.{Operation}
 use Rattle.irtext_graph.specs.declared.object.Object.TheVariants.{TheBlock, TheOperation}
 use Rattle.irtext_graph.specs.Graph.{GraphView}
 use Rattle.irtext_tokens.specs.Infix.{Reader}
+use Rattle.irtext_grammar.specs.declared.parsed.Setting.{Setting}
 use Rattle.irtext_grammar.specs.Contexts.Formats.{format_of}
 use Rattle.irtext_grammar.specs.Contexts.Held.{whole}
 use Rattle.irtext_grammar.specs.Grammar.Tree as tree
@@ -61,8 +62,9 @@ pub data MissesFront {T A : Type 0} (types_at : Reader T) (attr : Reader (AttrVi
   misses_piece : (names : List (Name ℕ)) (id : Id) (lead middle : Text) → led_at dialects old.rest ≡ Read (names, id) lead middle
       → Demands (whole old) (front_at types_at attr (setting inside false) (front_steps (steps_in dialects id)) [] middle) middle fault → fault.committed ≡ true → MissesFront types_at attr dialects inside old fault
 
--- The names of results, the id of a registered operation, and the pieces before its first region come next in the text, and were parsed.
-pub record FrontComes {T A : Type 0} (types_at : Reader T) (attr : Reader (AttrView A)) (dialects : List (Text × Table)) (inside : Bool) (names : List Text) (old : StreamView)
+-- The names of results, the id of a registered operation, and the pieces before its first region come next in the text, and were parsed in
+-- this setting.
+pub record FrontComes {T A : Type 0} (types_at : Reader T) (attr : Reader (AttrView A)) (dialects : List (Text × Table)) (at : Setting) (names : List Text) (old : StreamView)
     (read : List ReadName) (id : OpId) (pieces : List (ReadPiece T A)) (new : StreamView) : Type 0 where
   pub results : List (Name ℕ)
   pub lead : Text
@@ -70,7 +72,7 @@ pub record FrontComes {T A : Type 0} (types_at : Reader T) (attr : Reader (AttrV
   pub led : led_at dialects old.rest ≡ Read (results, id_of id) lead middle
   pub parts : List (Part ℕ T A)
   pub taken : Text
-  pub front : front_at types_at attr (setting inside false) (front_steps (steps_in dialects (id_of id))) [] middle ≡ Read parts taken new.rest
+  pub front : front_at types_at attr at (front_steps (steps_in dialects (id_of id))) [] middle ≡ Read parts taken new.rest
   pub moves : Moves old new
   pub named : Each (Represents names (whole old)) read results
   pub are : Each (IsPart names (whole old)) pieces parts

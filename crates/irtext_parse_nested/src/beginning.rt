@@ -11,6 +11,7 @@ ghost use Rattle.irtext_scopes.specs.Names.{AreDistinct};
 ghost use Rattle.irtext_parse_state.specs.States.{KeepsRest, marks_of};
 ghost use Rattle.irtext_grammar.specs.Contexts.Formats.{format_of, isolated};
 ghost use Rattle.irtext_grammar.specs.Contexts.Held.{whole};
+ghost use Rattle.irtext_grammar.specs.Heads.{setting};
 ghost use Rattle.irtext_names.specs.Tied.{MatchesGraph};
 ghost use Rattle.irtext_grammar.specs.Readers.Streams.{itself, replaced};
 ghost use Rattle.irtext_grammar.specs.Promises.Root.{UnlessMemory};
@@ -96,7 +97,8 @@ fn front_read<T: IrText<A>, A: AttrText<A>>(
 ) -> ParseResult<ReadFront<T, A>, A>
     requires fine { stream.old.failed ≡ false }
     ensures alive { IfOk result (λ front. FrontComes T.IrText.reading (attr_at A.IrText.reading)
-        ctx.now.dialects inside names.new.names stream.old front.names front.id front.pieces stream.new) }
+        ctx.now.dialects (setting inside false) names.new.names stream.old front.names front.id front.pieces
+        stream.new) }
     ensures unmet { IfErr result (UnlessMemory
         (MissesFront T.IrText.reading (attr_at A.IrText.reading) ctx.now.dialects inside stream.old)) }
     ensures key { IfOk result (λ front. IfSome front.key (λ key. key ≡ sym_name_key)) }

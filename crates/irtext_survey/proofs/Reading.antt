@@ -263,8 +263,8 @@ module _ {T A : Type 0} (types_at : Text → Outcome T) (reading : Text → Outc
 
     module _ (keeps : KeepsNames names more) (pieces : List (ReadPiece T A)) (new : StreamView) (f : MustFront {A = A} itself replaced more types_at (attr_at reading) (setting true true) (steps_of (format_of info.format)) mid (Ok pieces) new)
         (count : length pieces ≡ length (front_steps (steps_of (format_of info.format)))) where
-      comes : FrontComes types_at (attr_at reading) dialects true more old op.0 op.1 pieces new
-      comes = front_comes types_at reading dialects true old fine op info h known more keeps pieces new f count
+      comes : FrontComes types_at (attr_at reading) dialects (setting true true) more old op.0 op.1 pieces new
+      comes = front_comes types_at reading dialects true old fine op info h known (setting true true) more keeps pieces new f count
 
       pub front_names : AreNamed more (all_read pieces)
       front_names = record { text = whole old; all = flat_map part_uses comes.parts; are = parts_named more (whole old) pieces comes.parts comes.are }
