@@ -212,9 +212,21 @@ fn piece_parse<S: OwnStream, V: Copy, B: Copy, T: IrText<A>, A: AttrText<A>>(
 {
     match directive {
         Directive::Literal(text) => word_piece(stream, text.as_str()),
-        Directive::Operand(index) => name_piece(stream, names, NameKind::Value, *index, setting.inside),
+        Directive::Operand(index) => name_piece(
+            stream,
+            names,
+            NameKind::Value,
+            *index,
+            setting.inside,
+        ),
         Directive::Operands => names_piece(stream, names, NameKind::Value, setting.inside),
-        Directive::Successor(index) => name_piece(stream, names, NameKind::Block, *index, setting.inside),
+        Directive::Successor(index) => name_piece(
+            stream,
+            names,
+            NameKind::Block,
+            *index,
+            setting.inside,
+        ),
         Directive::Successors => names_piece(stream, names, NameKind::Block, setting.inside),
         Directive::Attr(key) => attr_piece(stream, key),
         Directive::AttrDict => dictionary_piece(stream, keys, setting.any_key),
