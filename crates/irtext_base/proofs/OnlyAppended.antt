@@ -17,13 +17,13 @@ appends_this more p = record { more = more; text = p }
 pub appends_more : {old now new : String Global} → OnlyAppends old now → OnlyAppends now new → OnlyAppends old new
 appends_more {old} {now} {new} a b = record { more = a.more ++ b.more; text = b.text ∙ ap (λ z. z ++ b.more) a.text ∙ append_assoc (string_bytes old) a.more b.more }
 
--- a text was appended, and a call after that only appended
-pub appends_after : {old now new : String Global} (more : List ℕ) → string_bytes now ≡ string_bytes old ++ more → OnlyAppends now new → OnlyAppends old new
-appends_after more p b = appends_more (appends_this more p) b
+-- one text more
+pub appends_next : {old now new : String Global} → OnlyAppends old now → (more : List ℕ) → string_bytes new ≡ string_bytes now ++ more → OnlyAppends old new
+appends_next a more p = appends_more a (appends_this more p)
 
--- a text was appended, and nothing after that
-pub appends_only : {old new : String Global} (now : String Global) (more : List ℕ) → string_bytes now ≡ string_bytes old ++ more → string_bytes new ≡ string_bytes now → OnlyAppends old new
-appends_only now more p q = appends_this more (q ∙ p)
+-- nothing more
+pub appends_still : {old now new : String Global} → OnlyAppends old now → string_bytes new ≡ string_bytes now → OnlyAppends old new
+appends_still a p = appends_more a (appends_nothing p)
 
 -- what holds whatever was returned
 pub if_failed : {X E P : Type 0} (r : Result X E) → P → OnErr r P
