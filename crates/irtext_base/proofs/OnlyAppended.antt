@@ -31,6 +31,6 @@ if_failed (Ok x) p = tt
 if_failed (Err e) p = p
 
 -- a call that failed after others
-pub failed_after : {X E : Type 0} (r : Result X E) {old now new : String Global} → OnlyAppends old now → OnErr r (OnlyAppends now new) → OnErr r (OnlyAppends old new)
-failed_after (Ok x) a b = tt
-failed_after (Err e) a b = appends_more a b
+pub failed_after : {X E : Type 0} (r : Result X E) {old now : String Global} (new : String Global) → OnlyAppends old now → OnErr r (OnlyAppends now new) → OnErr r (OnlyAppends old new)
+failed_after (Ok x) new a b = tt
+failed_after (Err e) new a b = appends_more a b

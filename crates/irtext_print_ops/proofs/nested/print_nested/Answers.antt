@@ -16,7 +16,7 @@ returns g c =
     operation_printed g.T.IrText g.A.IrText g.A.AttrText g.A.PartialEq.eq c.args.ctx.now c.args.state.now c.print_operation.result c.args.items.now.items c.print_operation.new.items.items (string_bytes c.args.f.now) (string_bytes c.print_operation.new.f)
     c.indent_width-width.result c.current_indent-indent.result c.current_region_print_depth_limit-limit.result c.indent_width-width.ensures c.current_indent-indent.ensures c.current_region_print_depth_limit-limit.ensures
     c.args.op c.args.marked c.in_ok-begun.begun (string_bytes c.begin_operation.new.f) c.in_ok-begun.ensures.text c.in_ok-begun.ensures.begun c.in_ok-begun.ensures.fits (record { text = c.print_operation.ensures.text; items = c.print_operation.ensures.items; fits = c.print_operation.ensures.fits; refused = c.print_operation.ensures.refused }) in
-    record { text = p.text; items = p.items; fits = p.fits; refused = p.refused; appended = failed_after c.print_operation.result (appends_this _ c.in_ok-begun.ensures.text) c.print_operation.ensures.appended }
+    record { text = p.text; items = p.items; fits = p.fits; refused = p.refused; appended = failed_after c.print_operation.result c.print_operation.new.f (appends_this _ c.in_ok-begun.ensures.text) c.print_operation.ensures.appended }
 
 pub returns-in_err-begun-clause-refused : goal.returns-in_err-begun-clause-refused
 returns-in_err-begun-clause-refused g c =
