@@ -12,7 +12,6 @@ print_operation-requires g c = record { fits = operation_fits g.T.IrText g.A.IrT
 pub returns : goal.returns
 returns g c =
     let p =
-
     operation_printed g.T.IrText g.A.IrText g.A.AttrText g.A.PartialEq.eq c.args.ctx.now c.args.state.now c.print_operation.result c.args.items.now.items c.print_operation.new.items.items (string_bytes c.args.f.now) (string_bytes c.print_operation.new.f)
     c.indent_width-width.result c.current_indent-indent.result c.current_region_print_depth_limit-limit.result c.indent_width-width.ensures c.current_indent-indent.ensures c.current_region_print_depth_limit-limit.ensures
     c.args.op c.args.marked c.in_ok-begun.begun (string_bytes c.begin_operation.new.f) c.in_ok-begun.ensures.text c.in_ok-begun.ensures.begun c.in_ok-begun.ensures.fits (record { text = c.print_operation.ensures.text; items = c.print_operation.ensures.items; fits = c.print_operation.ensures.fits; refused = c.print_operation.ensures.refused }) in

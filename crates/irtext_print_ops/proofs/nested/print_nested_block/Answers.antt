@@ -14,7 +14,6 @@ print_frames-requires g c = record {
 pub returns : goal.returns
 returns g c =
     let p =
-
     block_printed g.T.IrText g.A.IrText g.A.AttrText g.A.PartialEq.eq c.args.ctx.now c.args.state.now c.print_frames.result c.args.items.now.items c.print_frames.new.items.items (string_bytes c.args.f.now) (string_bytes c.print_frames.new.f)
     c.indent_width-width.result c.current_indent-indent.result c.current_region_print_depth_limit-limit.result c.indent_width-width.ensures c.current_indent-indent.ensures c.current_region_print_depth_limit-limit.ensures
     c.args.block (c.new-frames.result.items ++ block_frame c.args.block c.current_indent-indent.result c.current_region_print_depth_limit-limit.result ∷ []) c.in_ok-inner.inner c.fmt_block_mark.new.items.items (string_bytes c.fmt_block_head.new.f) (string_bytes c.fmt_block_mark.new.f) (string_bytes c.fmt_colon.new.f)

@@ -16,7 +16,6 @@ print_frames-requires g c = record {
 pub returns : goal.returns
 returns g c =
     let p =
-
     region_printed g.T.IrText g.A.IrText g.A.AttrText g.A.PartialEq.eq c.args.ctx.now c.args.state.now c.print_frames.result c.args.items.now.items c.print_frames.new.items.items (string_bytes c.args.f.now) (string_bytes c.print_frames.new.f)
     c.indent_width-width.result c.current_indent-indent.result c.current_region_print_depth_limit-limit.result c.indent_width-width.ensures c.current_indent-indent.ensures c.current_region_print_depth_limit-limit.ensures
     c.args.region (c.new-frames.result.items ++ listed c.region_frame.result) (string_bytes c.begin_region.new.f) c.in_ok-begun.ensures.text

@@ -21,8 +21,8 @@ loop-place-preserved g c =
     let rs = c.as_slice-attrs.result.now in
     let one = c.in_ok-fmt_once.ensures.text ∙ ap (λ r. string_bytes c.loop-place.f ++ encode_utf8_all (once_text g.A.IrText.written (c.args.self.now.items + c.loop-place.place) r.now)) c.index-attrs-place.is in (
       once_more W C c.args.self.now.items c.loop-place.place rs c.index-attrs-place.result (string_bytes c.loop-place.f) (string_bytes c.fmt_once.new.f)
-    (string_bytes c.args.f.now ++ encode_utf8_all (once_texts W C c.args.self.now.items (referred rs))) c.loop-place-test.true
-      one c.loop-place.invariant.0,
+          (string_bytes c.args.f.now ++ encode_utf8_all (once_texts W C c.args.self.now.items (referred rs))) c.loop-place-test.true
+          one c.loop-place.invariant.0,
       appends_next c.loop-place.invariant.1 _ c.in_ok-fmt_once.ensures.text,
     )
 
