@@ -11,7 +11,7 @@ use irtext_base::location::{Location, Source};
 use irtext_base::parsable::SourcePosition;
 use irtext_base::text::{AttrText, IrText};
 use irtext_context::base::Context;
-use irtext_print::location::print::{fmt_location, fmt_numbers, fmt_source};
+use irtext_print::location::print::{fmt_location, fmt_source};
 use std::fmt;
 
 /// Prints the path of a file between quotation marks, or `<in-memory>`. Fails only if out of memory.
@@ -25,15 +25,17 @@ impl<T: IrText<A>, A: AttrText<A>, U> Printable<U, T, A> for Source {
     }
 }
 
-/// Prints line and column, both from 1, in characters: `line: 1, column: 21`. Fails only if out of memory.
+/// Prints line and column, both from 1, in characters: `line: 1, column: 21`. The text is made first, and appended at once. Fails only if
+/// out of memory.
 impl<T: IrText<A>, A: AttrText<A>, U> Printable<U, T, A> for SourcePosition {
     ghost gives = { λ pos _ s. Some (position_text pos, s) };
 
     ghost refuses = { λ _ _. HasAppended };
 
-    fn fmt(&self, _ctx: &Context<T, A>, _state: &mut State<U>, f: &mut String) -> fmt::Result {
-        f.push_str("line: ")?;
-        fmt_numbers(self, f)
+    fn fmt(&self, ctx: &Context<T, A>, _state: &mut State<U>, f: &mut String) -> fmt::Result {
+        let text = format!(in ctx.allocator(); "{self}")?;
+        f.push_str(text.as_str())?;
+        Ok(())
     }
 }
 
