@@ -24,6 +24,7 @@ returns-then-not-canonical g c =
           (own_holds g.A.IrText.written ctx c.args.op (λ o. string_bytes c.fmt_results.new.f ≡ string_bytes c.args.f.now ++ encode_utf8_all (results L (map (λ r. value C r.0) o.results))) c.requires.live c.in_ok-fmt_results.ensures.text)
           c.in_ok-fmt_id.ensures.text (sym c.requires.form ∙ c.if-not-canonical.true);
       refused = tt;
+      appended = tt;
     }
 
 pub returns-clause-text : goal.returns-clause-text

@@ -22,7 +22,7 @@ returns-in-Region g c =
     let s = stops_at C (heads.language_of g.T.IrText g.A.IrText g.A.AttrText g.A.PartialEq.eq c.args.ctx.now) o c.in-Some.directives.now c.loop-at.at c.index-directives-at.result (sym (ap (option_map (λ ds. directives_of ds.now)) c.in-Some.is) ∙ c.requires.format)
     (drop_more c.in-Some.directives.now c.loop-at.at c.index-directives-at.result c.loop-at-test.true ∙ ap (λ z. z ∷ drop (c.loop-at.at + 1) c.in-Some.directives.now) (sym c.index-directives-at.is))
     c.args.from (tree.region c.in-Region.field-0) (string_bytes c.loop-at.f) _ c.loop-at-test.true (ap (λ y. part_at C o (directive_of y)) c.in-Region.is) refl refl c.loop-at.invariant.text c.loop-at.invariant.following c.loop-at.invariant.past in
-    record { text = s.text; stop = ((c.in-Region.field-0, s.left), (s.past, s.within)); refused = tt }
+    record { text = s.text; stop = ((c.in-Region.field-0, s.left), (s.past, s.within)); refused = tt; appended = tt }
 
 pub returns-in-Regions : goal.returns-in-Regions
 returns-in-Regions g c =
@@ -30,7 +30,7 @@ returns-in-Regions g c =
     let o = heads.operation_at g.T.IrText g.A.IrText g.A.AttrText g.A.PartialEq.eq c.args.ctx.now c.args.op in
     let s = stops_at C (heads.language_of g.T.IrText g.A.IrText g.A.AttrText g.A.PartialEq.eq c.args.ctx.now) o c.in-Some.directives.now c.loop-at.at c.index-directives-at.result (sym (ap (option_map (λ ds. directives_of ds.now)) c.in-Some.is) ∙ c.requires.format)
     (drop_more c.in-Some.directives.now c.loop-at.at c.index-directives-at.result c.loop-at-test.true ∙ ap (λ z. z ∷ drop (c.loop-at.at + 1) c.in-Some.directives.now) (sym c.index-directives-at.is)) c.args.from tree.regions (string_bytes c.loop-at.f) _ c.loop-at-test.true (ap (λ y. part_at C o (directive_of y)) c.in-Regions.is) refl refl c.loop-at.invariant.text c.loop-at.invariant.following c.loop-at.invariant.past in
-    record { text = s.text; stop = (s.left, (s.past, s.within)); refused = tt }
+    record { text = s.text; stop = (s.left, (s.past, s.within)); refused = tt; appended = tt }
 
 pub loop-at-preserved : goal.loop-at-preserved
 loop-at-preserved g c =
