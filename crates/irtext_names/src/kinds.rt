@@ -4,7 +4,8 @@ use irtext_few::Few;
 use irtext_graph::arena::Ptr;
 use irtext_graph::graph::Graph;
 use irtext_graph::object::{BasicBlock, Defined, Value};
-use irtext_scopes::scopes::{DefineFault, NoRoom};
+use irtext_memory::NoRoom;
+use irtext_scopes::scopes::DefineFault;
 use irtext_scopes::tracker::NameTracker;
 use std::alloc::{AllocError, Global};
 
