@@ -2,16 +2,13 @@
 use Rattle.std.specs.Prelude.{◌≡◌, Bool, Some}
 use Rattle.irtext_base.specs.declared.text.AttrText as attr_text
 use Rattle.irtext_base.specs.declared.text.IrText as ir_text
-use Rattle.irtext_closed.specs.First.{IsFirstReason}
 use Rattle.irtext_context.specs.Context.{ContextView}
 use Rattle.irtext_graph.specs.declared.arena.Ptr.{Ptr}
 use Rattle.irtext_graph.specs.declared.object.Operation.{Operation}
 use Rattle.irtext_grammar.specs.Contexts.Nested.{seen_root}
 use Rattle.irtext_grammar.specs.Graphs.Graph.{Graph}
 use Rattle.irtext_print.specs.Printers.Shown.{Shown}
-use Rattle.irtext_tests_roots.specs.declared.tests.layer.carried.NotCarried.{NotCarried}
-use Rattle.irtext_tests_roots.specs.declared.tests.layer.carried.NotCarried.TheVariants.{Open, Lost}
-use Rattle.pliron_text.specs.Calls.{ComesBack, IsExcused}
+use Rattle.pliron_text.specs.Calls.{ComesBack}
 
 module _ {T A : Type 0} (types : ir_text.Ghosts T A) (owns : ir_text.Ghosts A A) (attributes : attr_text.Ghosts A A) (same : A → A → Bool) (ctx : ContextView T A) (p : Ptr Operation) (layout : Shown (Unit {0})) where
   -- an equal root is in the other context
@@ -19,8 +16,3 @@ module _ {T A : Type 0} (types : ir_text.Ghosts T A) (owns : ir_text.Ghosts A A)
     pub graph : Graph T A
     pub sees : seen_root owns.written ctx p ≡ Some graph
     pub back : ComesBack types owns attributes same ctx p layout other q left graph
-
-  -- why it is not: it is not closed, and this is the first reason, or it is not printed, or memory ran out
-  abbrev pub StaysBehind : NotCarried A → Type 0
-  StaysBehind (Open reason) = IsFirstReason ctx p reason
-  StaysBehind (Lost lost) = IsExcused types owns attributes same ctx p layout lost

@@ -8,7 +8,7 @@ ghost use Rattle.irtext_context.specs.DialectTable.{dialect_or_new, with_dialect
 ghost use Rattle.pliron_text.specs.Alike.{KnowAlike};
 ghost use Rattle.irtext_tests_roots.specs.Apart.{lab_dialects, lab_format, lab_id};
 
-use crate::tests::layer::carried::{NotCarried, carried};
+use crate::tests::layer::carried::carried;
 use crate::tests::reading::concrete;
 use crate::tests::registering::register_operation;
 use crate::tests::value::{name_of, same, value_of};
@@ -19,6 +19,7 @@ use irtext_tests_common::contexts::Ctx;
 use pliron_text::base::{AttributeDict, Context, NewBareOperation, OpId, Operation, Ptr};
 use pliron_text::dialect::DialectName;
 use pliron_text::format::{Directive, OpFormat};
+use pliron_text::ir::NotClosed;
 use pliron_text::laws::dialects::registered_in_any_order;
 use pliron_text::laws::two_calls::{NotBack, read_printed_and_read};
 use pliron_text::location::Location;
@@ -102,17 +103,17 @@ fn answered(
     rt: &impl Abort,
     alloc: Global,
     other: &Ctx,
-    answer: Result<Ptr<Operation>, NotCarried<DemoAttr>>,
+    answer: Result<Result<Ptr<Operation>, NotBack<DemoAttr>>, NotClosed>,
 ) -> String {
     let text = match &answer {
-        Ok(root) => value_of(rt, concrete(alloc, other, *root), "no text"),
-        Err(NotCarried::Open(reason)) => format!(in alloc; "{reason}").expect(rt, "out of memory"),
-        Err(NotCarried::Lost(NotBack::Unprinted(refusal))) => {
+        Ok(Ok(root)) => value_of(rt, concrete(alloc, other, *root), "no text"),
+        Ok(Err(NotBack::Unprinted(refusal))) => {
             format!(in alloc; "{refusal:?}").expect(rt, "out of memory")
         }
-        Err(NotCarried::Lost(NotBack::Unread(fault))) => {
+        Ok(Err(NotBack::Unread(fault))) => {
             value_of(rt, result_text(alloc, fault), "out of memory")
         }
+        Err(reason) => format!(in alloc; "{reason}").expect(rt, "out of memory"),
     };
     drop(answer);
     text

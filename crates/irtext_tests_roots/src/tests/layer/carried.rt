@@ -2,11 +2,12 @@
 //! back in another context that knows its operations alike.
 ghost use Rattle.std.specs.Prelude.{◌≡◌, IfOk, IfErr};
 ghost use Rattle.irtext_closed.specs.Closed.{IsClosedRoot};
+ghost use Rattle.irtext_closed.specs.First.{IsFirstReason};
 ghost use Rattle.irtext_print.specs.Printers.Appended.{fresh};
 ghost use Rattle.irtext_print.specs.declared.printable.RegionPrintDepthLimit.TheVariants.{Unlimited};
 ghost use Rattle.pliron_text.specs.Alike.{KnowsRoot};
 ghost use Rattle.pliron_text.specs.Calls.{IsExcused};
-ghost use Rattle.irtext_tests_roots.specs.Carried.{ComesOver, StaysBehind};
+ghost use Rattle.irtext_tests_roots.specs.Carried.{ComesOver};
 
 use pliron_text::base::{Context, Operation, Ptr};
 use pliron_text::ir::{NotClosed, check_closed};
@@ -14,15 +15,6 @@ use pliron_text::laws::closed::limit_that_shows_all;
 use pliron_text::laws::two_calls::{NotBack, printed_and_read};
 use pliron_text::printable::State;
 use pliron_text::text::{AttrText, IrText};
-
-/// Why a root was not brought over.
-#[derive(Drop)]
-pub(crate) enum NotCarried<A> {
-    /// It is not closed.
-    Open(NotClosed),
-    /// It is closed, and was not printed, or not parsed back.
-    Lost(NotBack<A>),
-}
 
 /// Brings a closed root over.
 fn closed_over<T: IrText<A>, A: AttrText<A>>(
@@ -44,26 +36,22 @@ fn closed_over<T: IrText<A>, A: AttrText<A>>(
 }
 
 /// Brings a root into another context that knows its operations alike, if it is closed. What is there then is equal to it up to fillings,
-/// uses inside included. An error says why the root is not closed, that an operation does not fit its format, that an indentation does not fit
-/// 16 bits, or that there was no memory.
+/// uses inside included. An error says why the root is not closed; one inside says that an operation does not fit its format, that an
+/// indentation does not fit 16 bits, or that there was no memory.
 pub(crate) fn carried<T: IrText<A>, A: AttrText<A>>(
     ctx: &Context<T, A>,
     op: Ptr<Operation>,
     layout: &State<()>,
     other: &mut Context<T, A>,
-) -> Result<Ptr<Operation>, NotCarried<A>>
+) -> Result<Result<Ptr<Operation>, NotBack<A>>, NotClosed>
     requires known { KnowsRoot ctx.now other.old.dialects op }
     requires unlimited { layout.now.limit ≡ Unlimited }
-    ensures over { IfOk result (λ q. ComesOver T.IrText.own A.IrText.own A.AttrText.own A.eq ctx.now op
-        (fresh layout.now.width layout.now.indent layout.now.limit) other.old q other.new) }
-    ensures behind { IfErr result (StaysBehind T.IrText.own A.IrText.own A.AttrText.own A.eq ctx.now op
-        (fresh layout.now.width layout.now.indent layout.now.limit)) }
+    ensures over { IfOk result (λ answer. IfOk answer (λ q. ComesOver T.IrText.own A.IrText.own A.AttrText.own A.eq ctx.now op
+        (fresh layout.now.width layout.now.indent layout.now.limit) other.old q other.new)) }
+    ensures behind { IfOk result (λ answer. IfErr answer (IsExcused T.IrText.own A.IrText.own A.AttrText.own A.eq ctx.now op
+        (fresh layout.now.width layout.now.indent layout.now.limit))) }
+    ensures open { IfErr result (IsFirstReason ctx.now op) }
 {
-    match check_closed(ctx, op) {
-        Err(reason) => Err(NotCarried::Open(reason)),
-        Ok(()) => match closed_over(ctx, op, layout, other) {
-            Ok(root) => Ok(root),
-            Err(lost) => Err(NotCarried::Lost(lost)),
-        },
-    }
+    check_closed(ctx, op)?;
+    Ok(closed_over(ctx, op, layout, other))
 }
