@@ -8,14 +8,14 @@ use Rattle.irtext_memory.specs.declared.NoRoom.TheVariants.{Memory, Full}
 
 -- what a test denies is not so
 pub denied : {b : Bool} {P : Type 0} → IsTrue b ↔ P → b ≡ false → P → ⊥
-denied h no p = true≢false (sym (h.1 p) ∙ no)
+denied h not_so p = true≢false (sym (h.1 p) ∙ not_so)
 
 module _ {A P : Type 0} where
   -- the object was made
   pub made_one : (x : A) → (P → ⊥) → (Ok x ≡ Err Full) ↔ P
-  made_one x no = (λ e. absurd (cc), λ p. absurd (no p))
+  made_one x not_full = (λ e. absurd (cc), λ p. absurd (not_full p))
 
   -- an allocation was refused
   pub lacks_memory : (r : Result A NoRoom) (e : OutOfMemory) → IsErrAnd r (λ room. room ≡ Memory e) → (P → ⊥) → (r ≡ Err Full) ↔ P
-  lacks_memory (Ok x) e h no = absurd h
-  lacks_memory (Err room) e h no = (λ f. absurd (cc), λ p. absurd (no p))
+  lacks_memory (Ok x) e h not_full = absurd h
+  lacks_memory (Err room) e h not_full = (λ f. absurd (cc), λ p. absurd (not_full p))

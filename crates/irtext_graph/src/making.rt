@@ -1,5 +1,5 @@
 //! Making objects.
-ghost use Rattle.std.specs.Prelude.{◌≡◌, ◌<◌, ◌≤◌, ◌+◌, ◌++◌, ◌∷◌, ◌↔◌, ℕ, Some, None, Err, [], true, false, IsSome, IsTrue, IfOk, OnOk, OnErr, length, slice_get};
+ghost use Rattle.std.specs.Prelude.{◌≡◌, ◌<◌, ◌≤◌, ◌+◌, ◌++◌, ◌∷◌, ◌↔◌, ℕ, Some, None, Err, [], IsSome, IsTrue, IfOk, OnOk, OnErr, length, slice_get};
 ghost use Rattle.irtext_graph.specs.Graph.{MakesRegion, MakesBlock, MakesOperation, KeepsOlder, IsLive};
 ghost use Rattle.irtext_graph.specs.Parts.{IsDefinedValue};
 ghost use Rattle.irtext_few.specs.Growing.{listed};
@@ -52,8 +52,7 @@ fn many_definitions<T: Drop>(
     Ok(defined)
 }
 
-/// Stores an object that is the next to be made, and records it in the log. Fails only if an allocation fails; then the objects and the
-/// entries of the log are unchanged.
+/// Stores the object that is made next, and records it in the log. If an allocation fails, the objects and the log's entries are unchanged.
 #[inline(always)]
 fn store<X: Drop, K: Kind>(
     arena: &mut Arena<X>,
@@ -195,8 +194,7 @@ impl<O: Drop, B: Drop, T: Drop> Graph<O, B, T> {
         self.objects.regions.is_full(self.made, self.counters)
     }
 
-    /// Whether no block with so many arguments can be made: they would have no numbers below 2^64 - 1, 2^64 - 1 objects were made, or no
-    /// slot is left.
+    /// Whether no block with so many arguments can be made: a number would be above 2^64 - 2, 2^64 - 1 objects were made, or no slot is left.
     #[inline(always)]
     pub fn no_more_blocks(&self, arguments: usize) -> bool
         ensures { IsTrue result ↔ NoMoreBlocks arguments self.now }
@@ -207,8 +205,8 @@ impl<O: Drop, B: Drop, T: Drop> Graph<O, B, T> {
         self.objects.blocks.is_full(self.made, self.counters)
     }
 
-    /// Whether no operation with so many results, operands and successors can be made: there are 2^31 operands or successors, the results
-    /// would have no numbers below 2^64 - 1, 2^64 - 1 objects were made, or no slot is left.
+    /// Whether no operation with so many results, operands and successors can be made: there are 2^31 operands or successors, the number of
+    /// a result would be above 2^64 - 2, 2^64 - 1 objects were made, or no slot is left.
     #[inline(always)]
     pub fn no_more_operations(&self, results: usize, operands: usize, successors: usize) -> bool
         ensures { IsTrue result ↔ NoMoreOperations results operands successors self.now }
@@ -306,8 +304,7 @@ impl<O: Drop, B: Drop, T: Drop> Graph<O, B, T> {
     }
 
     /// Makes an operation with this data, operands, successors and result types, without a parent and regions. The results get the next
-    /// numbers of values. Fails with `Full` exactly if `no_more_operations`, and else only when out of memory. On an error the graph is
-    /// unchanged.
+    /// numbers of values. Fails with `Full` exactly if `no_more_operations`, else only when out of memory; then the graph is unchanged.
     #[inline(always)]
     pub fn make_operation(
         &mut self,

@@ -12,10 +12,7 @@ use irtext_graph::graph::Graph;
 use irtext_graph::object::{BasicBlock, Object, Value};
 
 /// Whether each of these values is defined.
-pub fn contains_values<O: Drop, B: Drop, T: Drop>(
-    graph: &Graph<O, B, T>,
-    values: &[Value],
-) -> bool
+pub fn contains_values<O: Drop, B: Drop, T: Drop>(graph: &Graph<O, B, T>, values: &[Value]) -> bool
     ensures { IsTrue result ↔ ((i : ℕ) (v : Value) → slice_get values.now i ≡ Some v
         → IsDefinedValue graph.now v) }
 {

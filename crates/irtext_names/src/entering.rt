@@ -36,13 +36,13 @@ use irtext_context::base::operation::OperationData;
 use irtext_context::base::{Operation, Ptr, Region};
 use irtext_graph::graph::Graph;
 use irtext_graph::held::HasGraph;
+use irtext_memory::NoRoom;
 use irtext_parse_state::parsable::StateStream;
 use irtext_parse_state::parsable::state::State;
 use irtext_scopes::tracker::EnterFault;
 use irtext_tokens::irfmt::demanded::text_demanded;
 use irtext_tokens::irfmt::faults::out_of_memory;
 use irtext_tokens::irfmt::parsers::skip_white_space;
-use irtext_memory::NoRoom;
 
 /// Returns the error for a region that is not isolated while no scope of values is open, at the beginning of the text. Leaves the stream
 /// failed.

@@ -151,8 +151,7 @@ impl<T: IrText<A>, A: AttrText<A>> Making<T, A> for Context<T, A> {
             attributes,
             loc,
         };
-        self.graph
-            .make_operation(Some(held), Few::none(), &[], &[])
+        self.graph.make_operation(Some(held), Few::none(), &[], &[])
     }
 
     fn make_operation_with(

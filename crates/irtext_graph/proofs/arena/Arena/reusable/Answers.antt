@@ -11,8 +11,8 @@ pub returns-else-last-clause-none : goal.returns-else-last-clause-none
 returns-else-last-clause-none g c =
     let k = c.in-Some-Vacant in
     let none = exhausted c.args.self.now k.last k.next
-        (slot_is c.args.self.now.slots.items c.deref.result.now c.args.self.now.free k.field-0.now c.deref.ensures.value k.ensures.lookup.3.0 k.ensures.lookup.1 ∙ ap Some k.field-0-is)
-        c.if-last.false in
+    (slot_is c.args.self.now.slots.items c.deref.result.now c.args.self.now.free k.field-0.now c.deref.ensures.value k.ensures.lookup.3.0 k.ensures.lookup.1 ∙ ap Some k.field-0-is)
+    c.if-last.false in
     (λ _. none, λ _. refl)
 
 pub returns-in_default-2-clause-none : goal.returns-in_default-2-clause-none

@@ -73,7 +73,7 @@ pub returns-then-no_more_regions-clause-full : goal.returns-then-no_more_regions
 returns-then-no_more_regions-clause-full g c = (λ _. c.no_more_regions.ensures.0 c.if-no_more_regions.true, λ _. refl)
 
 pub returns-in_err-make_region_room-clause-full : goal.returns-in_err-make_region_room-clause-full
-returns-in_err-make_region_room-clause-full g c = lacks_memory c.from_residual-in_err-make_region_room.result c.in_err-make_region_room.field-0.0 c.from_residual-in_err-make_region_room.ensures.1 (denied c.no_more_regions.ensures c.if-no_more_regions.false)
+returns-in_err-make_region_room-clause-full g c = lacks_memory c.from_residual.result c.in_err-make_region_room.field-0.0 c.from_residual.ensures.1 (denied c.no_more_regions.ensures c.if-no_more_regions.false)
 
 pub returns-in_err-p-clause-full : goal.returns-in_err-p-clause-full
 returns-in_err-p-clause-full g c = lacks_memory c.from_residual-in_err-p.result c.in_err-p.field-0.0 c.from_residual-in_err-p.ensures.1 (denied c.no_more_regions.ensures c.if-no_more_regions.false)

@@ -39,7 +39,7 @@ pub returns-then-no_more_blocks-clause-full : goal.returns-then-no_more_blocks-c
 returns-then-no_more_blocks-clause-full g c = (λ _. (rw c.len-count.ensures at c.no_more_blocks.ensures).0 c.if-no_more_blocks.true, λ _. refl)
 
 pub returns-in_err-arguments-clause-full : goal.returns-in_err-arguments-clause-full
-returns-in_err-arguments-clause-full g c = lacks_memory c.from_residual-in_err-arguments.result c.in_err-arguments.field-0.0 c.from_residual-in_err-arguments.ensures.1 (denied (rw c.len-count.ensures at c.no_more_blocks.ensures) c.if-no_more_blocks.false)
+returns-in_err-arguments-clause-full g c = lacks_memory c.from_residual.result c.in_err-arguments.field-0.0 c.from_residual.ensures.1 (denied (rw c.len-count.ensures at c.no_more_blocks.ensures) c.if-no_more_blocks.false)
 
 pub returns-in_err-p-clause-full : goal.returns-in_err-p-clause-full
 returns-in_err-p-clause-full g c = lacks_memory c.from_residual-in_err-p.result c.in_err-p.field-0.0 c.from_residual-in_err-p.ensures.1 (denied (rw c.len-count.ensures at c.no_more_blocks.ensures) c.if-no_more_blocks.false)

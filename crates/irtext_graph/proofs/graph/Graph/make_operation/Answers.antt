@@ -104,7 +104,7 @@ pub returns-then-no_more_operations-clause-full : goal.returns-then-no_more_oper
 returns-then-no_more_operations-clause-full g c = (λ _. (rw c.len-count.ensures at c.no_more_operations.ensures).0 c.if-no_more_operations.true, λ _. refl)
 
 pub returns-in_err-op-clause-full : goal.returns-in_err-op-clause-full
-returns-in_err-op-clause-full g c = lacks_memory c.from_residual-in_err-op.result c.in_err-op.field-0.0 c.from_residual-in_err-op.ensures.1 (denied (rw c.len-count.ensures at c.no_more_operations.ensures) c.if-no_more_operations.false)
+returns-in_err-op-clause-full g c = lacks_memory c.from_residual.result c.in_err-op.field-0.0 c.from_residual.ensures.1 (denied (rw c.len-count.ensures at c.no_more_operations.ensures) c.if-no_more_operations.false)
 
 pub returns-in_err-p-clause-full : goal.returns-in_err-p-clause-full
 returns-in_err-p-clause-full g c = lacks_memory c.from_residual-in_err-p.result c.in_err-p.field-0.0 c.from_residual-in_err-p.ensures.1 (denied (rw c.len-count.ensures at c.no_more_operations.ensures) c.if-no_more_operations.false)
