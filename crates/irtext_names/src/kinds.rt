@@ -117,8 +117,10 @@ impl<B: Drop> Referent<B> for Value {
         graph: &mut Graph<Option<O>, B, Option<T>>,
         _with: (),
     ) -> Result<Value, NoRoom> {
-        let op = graph.make_operation(None, Few::one(None), &[], &[])?;
-        Ok(Value::Result(op, 0))
+        match graph.make_operation(None, Few::one(None), &[], &[]) {
+            Ok(op) => Ok(Value::Result(op, 0)),
+            Err(error) => Err(error),
+        }
     }
 }
 
