@@ -1,3 +1,4 @@
+pub mod Full
 pub mod Dictionaries
 pub mod Drops
 pub mod KeptKeys

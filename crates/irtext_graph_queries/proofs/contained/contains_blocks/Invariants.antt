@@ -3,9 +3,9 @@ use Rattle.irtext_graph.specs.declared.arena.Ptr.{Ptr}
 use Rattle.irtext_graph.specs.declared.object.BasicBlock.{BasicBlock}
 use Rattle.irtext_graph.specs.declared.object.Object.TheVariants.{TheBlock}
 use Rattle.irtext_graph.specs.Graph.{IsLive}
-use Rattle.irtext_graph.proofs.graph.Graph.contains_blocks.Given as goal
+use Rattle.irtext_graph_queries.proofs.contained.contains_blocks.Given as goal
 
 abbrev pub invariant-loop-b : goal.invariant-loop-b
 invariant-loop-b g l = record {
-  there : (i : ℕ) (b : Ptr BasicBlock) → i < l.b-index → slice_get l.blocks i ≡ Some b → IsLive l.self (TheBlock b);
+  there : (i : ℕ) (b : Ptr BasicBlock) → i < l.b-index → slice_get l.blocks i ≡ Some b → IsLive l.graph (TheBlock b);
 }
