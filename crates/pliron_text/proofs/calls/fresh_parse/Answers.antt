@@ -7,4 +7,4 @@ pub returns-clause-unresolved : goal.returns-clause-unresolved
 returns-clause-unresolved g c = c.outermost_parse.ensures.first.fails c.requires.fresh
 
 pub returns-clause-objects : goal.returns-clause-objects
-returns-clause-objects g c = c.outermost_parse.ensures.parses.undone.objects
+returns-clause-objects g c = c.outermost_parse.ensures.undone.objects
