@@ -133,11 +133,11 @@ module _ {T A U : Type 0} (types_at : Reader T) (owns_at : Reader A) (sincere_ty
   alone_fails op (not_isolated u) = by_name (ap is_name_fault u.because)
   alone_fails op (region.in_text is h) = region_fails old.state.ctx.now.dialects types_at owns_at sincere_types sincere old.stream fault _ h
 
-module _ {T A U X : Type 0} (P : ParseFault A → Type 0) {Reads : X → StateStream T A U → StateStream T A U → Type 0} {Misses : StateStream T A U → ParseFault A → Type 0}
+module _ {T A U X : Type 0} (P : ParseFault A → Type 0) {Reads : X → StateStream T A U → StateStream T A U → Type 0} {Misses Fails : StateStream T A U → ParseFault A → Type 0}
     (old new : StateStream T A U) (failed : (fault : ParseFault A) → old.stream.failed ≡ true → fault_of fault.cause ≡ Failed → P fault)
     (ran_out : (fault : ParseFault A) → fault_of fault.cause ≡ Memory → P fault) (missed : (fault : ParseFault A) → Misses old fault → P fault) where
   -- why a parser that meets its contract fails
-  pub why : (result : Result X (ParseFault A)) → FirstFault Reads Misses old result new → IfErr result P
+  pub why : (result : Result X (ParseFault A)) → FirstFault Reads Misses Fails old result new → IfErr result P
   why (Ok x) a = tt
   why (Err fault) a = go old.stream.failed refl
     where
