@@ -19,7 +19,7 @@ use Rattle.irtext_grammar.specs.Promises.Root.{UnlessMemory}
 use Rattle.irtext_names.specs.OnlyNew.{OnlyNew}
 use Rattle.irtext_names.specs.Promises.{BuildsRoot, IsFirst, RefusesRoot}
 use Rattle.irtext_parse_root.specs.AnyState.{MissesAny}
-use Rattle.irtext_parse_root.specs.Parses.{AnswersOperation, texts, attr}
+use Rattle.irtext_parse_root.specs.Parses.{ResolvesRoot, FirstOfOperation, texts, attr}
 use Rattle.irtext_parse_state.specs.FromText.{at_beginning, Begins, IsOutOfMemory, Passes}
 use Rattle.irtext_parse_state.specs.States.{IsFresh}
 use Rattle.irtext_parse_state.specs.declared.parsable.state.StateStream.{StateStream}
@@ -91,9 +91,9 @@ module _ {T A : Type 0} (types : ir_text.Ghosts T A) (owns : ir_text.Ghosts A A)
     rejected_from (Err f) missed refuses (Err e) passed = inr (record { fault = f; because = because f missed refuses; is_error = passed })
 
     -- what was parsed, or why nothing was
-    pub is_read : (answer : Result (Ptr Operation) (ParseFault A)) → AnswersOperation types owns true start answer finish → (result : Result (Ptr Operation) (Error A)) → Passes answer result
+    pub is_read : (answer : Result (Ptr Operation) (ParseFault A)) → ResolvesRoot types owns start answer finish → FirstOfOperation types owns true start answer finish → (result : Result (Ptr Operation) (Error A)) → Passes answer result
         → IfOk result (λ op. ReadsRoot types owns bytes ctx op after) × IfErr result (IsNotRead types owns bytes ctx)
-    is_read answer says result passed = (reads_from answer (says.builds fresh) result passed, rejected_from answer (says.missed fine) (says.unresolved fresh) result passed)
+    is_read answer resolves first result passed = (reads_from answer (resolves.builds fresh) result passed, rejected_from answer (first.missed fine) (first.fails fresh) result passed)
 
   -- there was no memory to begin with the text
   pub not_begun : (after : ContextView T A) (result : Result (Ptr Operation) (Error A)) → IsOutOfMemory result → IfOk result (λ op. ReadsRoot types owns bytes ctx op after) × IfErr result (IsNotRead types owns bytes ctx)

@@ -23,3 +23,4 @@ pub mod Walks
 pub mod Equality
 pub mod Visits
 pub mod Feeds
+pub mod OnlyAppended

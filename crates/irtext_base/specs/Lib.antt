@@ -25,3 +25,4 @@ pub mod SameLeft
 pub mod SameLocations
 pub mod Visits
 pub mod Feeds
+pub mod Appending

@@ -12,6 +12,7 @@ use crate::format::FormatFault;
 use crate::location::{Location, out_of_memory};
 use crate::parsable::{ParserNameTrackerError, SourcePosition, UnresolvedReference};
 use arrayvec::ArrayString;
+use irtext_memory::{NoRoom, OutOfMemory};
 use std::alloc::{AllocError, AllocFailed};
 use std::fmt::{self, Display, Formatter, Write};
 
@@ -365,6 +366,24 @@ impl<A> From<AllocError> for Error<A> {
     ghost from_gives = { λ _ error. error ≡ out_of_memory };
 
     fn from(_: AllocError) -> Error<A> {
+        out_of_memory()
+    }
+}
+
+/// Out of memory, as an error of kind `InvalidArgument` without a location. So `op.regions(ctx)?` works in a function that returns `Error`.
+impl<A> From<OutOfMemory> for Error<A> {
+    ghost from_gives = { λ _ error. error ≡ out_of_memory };
+
+    fn from(_: OutOfMemory) -> Error<A> {
+        out_of_memory()
+    }
+}
+
+/// The same for no room, also if a counter is full. So `op.add_region(ctx)?` works in a function that returns `Error`.
+impl<A> From<NoRoom> for Error<A> {
+    ghost from_gives = { λ _ error. error ≡ out_of_memory };
+
+    fn from(_: NoRoom) -> Error<A> {
         out_of_memory()
     }
 }

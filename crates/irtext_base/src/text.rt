@@ -1,6 +1,7 @@
 //! The traits of the caller's types and attributes: how their texts are parsed and printed, and the laws of these.
-ghost use Rattle.std.specs.Prelude.{◌≡◌, ℕ, List, [], ◌++◌, ◌↔◌, Bool, IsTrue, MatchResult, IfOk, string_bytes};
+ghost use Rattle.std.specs.Prelude.{◌≡◌, ℕ, List, [], ◌++◌, ◌↔◌, Bool, IsTrue, MatchResult, IfOk, OnErr, string_bytes};
 ghost use Rattle.std.specs.Str.{encode_utf8_all};
+ghost use Rattle.irtext_base.specs.Appending.{OnlyAppends};
 ghost use Rattle.irtext_base.specs.Answers.{Outcome, Answers, unless_failed};
 ghost use Rattle.irtext_base.specs.Own.{Lawful, Sincere, Unreserved, texts_of};
 ghost use Rattle.irtext_base.specs.Families.{BeginsWithWord, AreApart, is_one_of};
@@ -25,10 +26,12 @@ pub trait IrText<A>: Sized + Drop + Eq {
         ensures { Answers (λ s. s) (λ s v. v) (λ x. x)
             (unless_failed stream.old.failed (reading stream.old.rest)) stream.old result stream.new };
 
-    /// Appends the text of the value. Fails only when out of memory.
+    /// Appends the text of the value. Fails only when out of memory. The text that was there before stands then too, and what was appended
+    /// up to the error remains.
     fn write_text(&self, f: &mut String) -> fmt::Result
-        ensures { IfOk result (λ _. string_bytes f.new ≡ string_bytes f.old
-            ++ encode_utf8_all (written self.now)) };
+        ensures text { IfOk result (λ _. string_bytes f.new ≡ string_bytes f.old
+            ++ encode_utf8_all (written self.now)) }
+        ensures appended { OnErr result (OnlyAppends f.old f.new) };
 
     ghost lawful: { Lawful Self (texts_of reading written) };
 

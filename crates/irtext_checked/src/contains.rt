@@ -8,6 +8,7 @@ use irtext_base::text::{AttrText, IrText};
 use irtext_context::base::{BasicBlock, Context, Ptr};
 use irtext_graph::held::HasGraph;
 use irtext_graph::object::Value;
+use irtext_graph_queries::contained::contains_blocks;
 
 /// Whether values and blocks are in a context: what an operation has to use. Allocates nothing.
 pub trait ContainsParts {
@@ -59,6 +60,6 @@ impl<T: IrText<A>, A: AttrText<A>> ContainsParts for Context<T, A> {
     }
 
     fn contains_blocks(&self, blocks: &[Ptr<BasicBlock>]) -> bool {
-        self.graph().contains_blocks(blocks)
+        contains_blocks(self.graph(), blocks)
     }
 }

@@ -12,7 +12,8 @@ use irtext_context::base::{Context, Operation, Ptr};
 use irtext_graph::held::HasGraph;
 use irtext_graph::object::Value;
 use irtext_graph_queries::types::GraphTypes;
-use std::alloc::{AllocError, Global};
+use irtext_memory::{OutOfMemory, vec};
+use std::alloc::Global;
 
 /// The type of a value of a context. Allocates nothing.
 pub trait ValueType: Sized {
@@ -46,7 +47,7 @@ pub trait OperationTypes: Sized {
     fn result_types<T: IrText<A>, A: AttrText<A>>(
         self,
         ctx: &Context<T, A>,
-    ) -> Result<Vec<&T>, AllocError>
+    ) -> Result<Vec<&T>, OutOfMemory>
         requires { IsLive ctx.now.graph (TheOperation (pointer self)) }
         ensures { IfOk result (λ all. ListsTypes ctx.now (result_values ctx.now (pointer self))
             (map (λ t. t.now) all.items)) };
@@ -56,20 +57,20 @@ pub trait OperationTypes: Sized {
     fn operand_types<T: IrText<A>, A: AttrText<A>>(
         self,
         ctx: &Context<T, A>,
-    ) -> Result<Vec<&T>, AllocError>
+    ) -> Result<Vec<&T>, OutOfMemory>
         requires { IsLive ctx.now.graph (TheOperation (pointer self)) }
         ensures { IfOk result (λ all. ListsTypes ctx.now (operands ctx.now.graph (pointer self))
             (map (λ t. t.now) all.items)) };
 }
 
 /// Returns those of these types that there are, in order.
-fn present<'a, T: Drop>(alloc: Global, types: &[&'a Option<T>]) -> Result<Vec<&'a T>, AllocError>
+fn present<'a, T: Drop>(alloc: Global, types: &[&'a Option<T>]) -> Result<Vec<&'a T>, OutOfMemory>
     ensures { IfOk result (λ all. map (λ t. t.now) all.items ≡ filter_map (λ t. t.now) types.now) }
 {
-    let mut all = Vec::with_capacity(alloc, types.len())?;
+    let mut all = vec::with_capacity_of(alloc, types.len(), types)?;
     for of_type in types {
         if let Some(of_type) = *of_type {
-            all.push(of_type)?;
+            vec::push(&mut all, of_type)?;
         }
     }
     Ok(all)
@@ -96,7 +97,7 @@ impl OperationTypes for Ptr<Operation> {
     fn result_types<T: IrText<A>, A: AttrText<A>>(
         self,
         ctx: &Context<T, A>,
-    ) -> Result<Vec<&T>, AllocError> {
+    ) -> Result<Vec<&T>, OutOfMemory> {
         let types = GraphTypes::result_types(self, ctx)?;
         present(ctx.allocator(), &types)
     }
@@ -104,7 +105,7 @@ impl OperationTypes for Ptr<Operation> {
     fn operand_types<T: IrText<A>, A: AttrText<A>>(
         self,
         ctx: &Context<T, A>,
-    ) -> Result<Vec<&T>, AllocError> {
+    ) -> Result<Vec<&T>, OutOfMemory> {
         let types = GraphTypes::operand_types(self, ctx)?;
         present(ctx.allocator(), &types)
     }

@@ -1,5 +1,7 @@
 mod Scopes
+mod Noted
 mod Owners
 mod Depth
 mod Indices
 mod Reasons
+pub mod Walk

@@ -1,6 +1,6 @@
--- The walk over the objects of a root, and what its first reason says of the root.
+-- What the first reason of a walk over the objects of a root says of the root.
 use Rattle.std.proofs.Common.{◌≡◌, ◌≢◌, ◌∙◌, ◌<◌, ◌⊎◌, ℕ, inl, inr, refl, sym, ap, subst, arith, List, [], ◌∷◌, length, map, slice_get, Option, Some, None, IsSome, option_map, Result, Ok, Err}
-use Rattle.std.specs.Prelude.{◌↔◌, IsOk}
+use Rattle.std.specs.Prelude.{◌↔◌, IsOk, IfErr}
 use Rattle.std.specs.Result.{IsErrAnd}
 use Rattle.irtext_context.specs.Context.{ContextView, operation}
 use Rattle.irtext_graph.specs.declared.arena.Ptr.{Ptr}
@@ -14,7 +14,6 @@ use Rattle.irtext_graph.specs.declared.object.Site.{Site}
 use Rattle.irtext_graph.specs.declared.object.Site.TheVariants.{AtOperand, AtSuccessor}
 use Rattle.irtext_graph.specs.declared.object.Value.{Value}
 use Rattle.irtext_graph.specs.declared.object.Value.TheVariants as value
-use Rattle.irtext_graph.specs.Chained.{Among}
 use Rattle.irtext_graph.specs.Erasing.{owner, user}
 use Rattle.irtext_graph.specs.Graph.{IsInside, parent, children}
 use Rattle.irtext_graph.specs.Nested.{Nested}
@@ -22,14 +21,11 @@ use Rattle.irtext_graph.specs.Parts.{regions, results, operands, successors}
 use Rattle.irtext_graph.specs.Throughout.{all_from}
 use Rattle.irtext_graph.specs.Used.{used_at}
 use Rattle.irtext_graph.proofs.Inside.{within_self}
+use Rattle.irtext_closed.proofs.Walk.{ComesOr}
 use Rattle.irtext_closed.specs.Closed.{IsTyped, IsUseReached, IsClosedRoot}
 use Rattle.irtext_closed.specs.First.{IsBareRoot, IsRootReason, IsClosedAt, IsReasonAt, IsFirstReason}
 use Rattle.irtext_closed.specs.declared.not_closed.NotClosed.{NotClosed}
 use Rattle.irtext_closed.specs.declared.not_closed.NotClosed.TheVariants as why
-
--- one less is left
-pub fewer : (all left : List Object) (first : Object) → all ≡ first ∷ left → length left < length all
-fewer all left first is = let k = ap length is in omega (arith, k)
 
 -- a list that has an element is not empty
 filled : {X : Type 0} (xs : List X) (i : ℕ) (x : X) → slice_get xs i ≡ Some x → xs ≢ []
@@ -45,6 +41,11 @@ first_of (x ∷ xs) h = (x, refl)
 pub refused : {X E P : Type 0} (e : E) (r : Result X E) → IsErrAnd r (λ y. y ≡ e) → (P → ⊥) → IsOk r ↔ P
 refused e (Ok x) h none = absurd h
 refused e (Err f) h none = ((λ t. absurd (cc)), (λ p. absurd (none p)))
+
+-- the same, for what holds of the error
+pub refused_for : {X E : Type 0} (P : E → Type 0) (e : E) (r : Result X E) → IsErrAnd r (λ y. y ≡ e) → P e → IfErr r P
+refused_for P e (Ok x) h p = absurd h
+refused_for P e (Err f) h p = subst P (sym h) p
 
 operation_eq : (p q : Ptr Operation) → TheOperation p ≡ TheOperation q → p ≡ q
 operation_eq p q e = cc
@@ -64,30 +65,10 @@ module _ {T A : Type 0} (ctx : ContextView T A) where
       uses (AtSuccessor q i) e = subst (λ z. IsUseReached ctx (AtSuccessor z i)) (sym (operation_eq q p e)) (blocks i)
 
   module _ (p : Ptr Operation) where
-    -- ---- the walk
-    -- each object of the root comes from this one on, or is closed
-    abbrev pub ComesOrClosed : Option Object → Object → Type 0
-    ComesOrClosed at q = Among q (all_from ctx.graph (TheOperation p) at) ⊎ IsClosedAt ctx q
-
-    -- one more is closed
-    pub closed_on : (at next : Option Object) (object : Object) → at ≡ Some object → all_from ctx.graph (TheOperation p) (Some object) ≡ object ∷ all_from ctx.graph (TheOperation p) next → IsClosedAt ctx object
-        → (q : Object) → ComesOrClosed at q → ComesOrClosed next q
-    closed_on at next object is on closed q (inr f) = inr f
-    closed_on at next object is on closed q (inl a) = go (subst (λ xs. Among q xs) on (subst (λ o. Among q (all_from ctx.graph (TheOperation p) o)) is a))
-      where
-        go : Among q (object ∷ all_from ctx.graph (TheOperation p) next) → ComesOrClosed next q
-        go (inl e) = inr (subst (IsClosedAt ctx) (sym e) closed)
-        go (inr a) = inl a
-
-    -- nothing comes any more, so all are closed
-    pub all_closed : (at : Option Object) → at ≡ None → (q : Object) → ComesOrClosed at q → IsClosedAt ctx q
-    all_closed at is q (inr f) = f
-    all_closed at is q (inl a) = absurd (subst (λ o. Among q (all_from ctx.graph (TheOperation p) o)) is a)
-
     -- the object that comes now has the first reason
     pub next_reason : (at : Option Object) (object : Object) (reason : NotClosed) → at ≡ Some object → IsBareRoot ctx p → IsInside ctx.graph (TheOperation p) object
-        → ((q : Object) → IsInside ctx.graph (TheOperation p) q → ComesOrClosed at q) → IsReasonAt ctx object reason → IsFirstReason ctx p reason
-    next_reason at object reason is root inside so_far fails = inr (object, record { root = root; inside = inside; before = λ r w. subst (λ o. ComesOrClosed o r) is (so_far r w) }, fails)
+        → ((q : Object) → IsInside ctx.graph (TheOperation p) q → ComesOr ctx.graph (TheOperation p) (IsClosedAt ctx) at q) → IsReasonAt ctx object reason → IsFirstReason ctx p reason
+    next_reason at object reason is root inside so_far fails = inr (object, record { root = root; inside = inside; before = λ r w. subst (λ o. ComesOr ctx.graph (TheOperation p) (IsClosedAt ctx) o r) is (so_far r w) }, fails)
 
     -- ---- the root
     module _ (nested : Nested (children ctx.graph) (parent ctx.graph)) where

@@ -37,6 +37,11 @@ module _ {O B T : Type 0} (isolated : O → Bool) (g : GraphView O B T) where
         cc) (c.later s b w);
   }
 
+  -- the scope of what was reached on the way up
+  pub climbed_scope : (o at : Object) (x : Option Object) → Climbed o at → IsScope isolated g at x → IsScope isolated g o x
+  climbed_scope o at None c p = λ r b w. p r b (c.later r b w)
+  climbed_scope o at (Some s) c p = (p.0, within_on (parent g) s at o p.1 c.inside, λ r b w. p.2 r b (c.later r b w))
+
   pub climbs_out : (o x : Object) → Climbed o x → parent g x ≡ None → IsScope isolated g o None
   climbs_out o x c e = λ r b w. go r b (c.later r b w).0 (c.later r b w).1
     where

@@ -3,10 +3,11 @@ ghost use Rattle.std.specs.Prelude.{◌↔◌, IfOk, IfErr, IsOk};
 ghost use Rattle.irtext_graph.specs.Graph.{IsLive};
 ghost use Rattle.irtext_graph.specs.declared.object.Object.TheVariants.{TheOperation, TheBlock};
 ghost use Rattle.irtext_closed.specs.Closed.{IsClosedRoot};
+ghost use Rattle.irtext_closed.specs.Noted.{AreScopes};
 ghost use Rattle.irtext_closed.specs.First.{IsBareRoot, IsRootReason, IsClosedAt, IsReasonAt, IsFirstReason};
 
 use crate::not_closed::NotClosed;
-use crate::scope::is_isolated;
+use crate::scope::{Scopes, is_isolated, scopes_in};
 use crate::typed::{untyped_argument, untyped_result};
 use crate::uses::{stray_operand, stray_successor};
 use irtext_base::text::{AttrText, IrText};
@@ -20,9 +21,11 @@ const BLOCK_LABEL_KEY: &str = "builtin_block_label";
 /// Checks an operation of a root, without what is nested in it.
 fn check_operation<T: IrText<A>, A: AttrText<A>>(
     ctx: &Context<T, A>,
+    scopes: &Scopes,
     op: Ptr<Operation>,
 ) -> Result<(), NotClosed>
-    requires { IsLive ctx.now.graph (TheOperation op) }
+    requires alive { IsLive ctx.now.graph (TheOperation op) }
+    requires known { AreScopes ctx.now scopes.now }
     ensures closed { IfOk result (λ x. IsClosedAt ctx.now (TheOperation op)) }
     ensures first { IfErr result (IsReasonAt ctx.now (TheOperation op)) }
 {
@@ -32,7 +35,7 @@ fn check_operation<T: IrText<A>, A: AttrText<A>>(
     if let Some(i) = untyped_result(ctx, op) {
         return Err(NotClosed::Untyped(Value::Result(op, i)));
     }
-    if let Some(i) = stray_operand(ctx, op) {
+    if let Some(i) = stray_operand(ctx, scopes, op) {
         return Err(NotClosed::Operand(op, i));
     }
     match stray_successor(ctx, op) {
@@ -62,14 +65,16 @@ fn check_block<T: IrText<A>, A: AttrText<A>>(
 /// Checks an object of a root, without what is nested in it.
 fn check_object<T: IrText<A>, A: AttrText<A>>(
     ctx: &Context<T, A>,
+    scopes: &Scopes,
     object: Object,
 ) -> Result<(), NotClosed>
-    requires { IsLive ctx.now.graph object }
+    requires alive { IsLive ctx.now.graph object }
+    requires known { AreScopes ctx.now scopes.now }
     ensures closed { IfOk result (λ x. IsClosedAt ctx.now object) }
     ensures first { IfErr result (IsReasonAt ctx.now object) }
 {
     match object {
-        Object::TheOperation(op) => check_operation(ctx, op),
+        Object::TheOperation(op) => check_operation(ctx, scopes, op),
         Object::TheBlock(block) => check_block(ctx, block),
         Object::TheRegion(_) => Ok(()),
     }
@@ -108,9 +113,10 @@ fn check_root<T: IrText<A>, A: AttrText<A>>(
 
 /// Whether a root is closed, or why it is not: the first reason in the order of the text. The reasons of the root itself come first, as
 /// they are listed, then those of the objects in it, each before what is nested in it. A closed root whose operations fit their formats is
-/// parsed back from its printed text. Any pointer can be passed. It allocates nothing, changes nothing, and does not recurse over nested
-/// regions. Its time grows with the objects in the root and with their uses, each operand times the depth of its operation and of its
-/// definition below the innermost isolated region.
+/// parsed back from its printed text. Any pointer can be passed. It changes nothing, and does not recurse over nested regions.
+///
+/// Its time is linear in the objects in the root and in their uses. For that it keeps the isolated scope of each block; where there is no
+/// memory for a block, it goes up from that block each time, and its result is the same.
 pub fn check_closed<T: IrText<A>, A: AttrText<A>>(
     ctx: &Context<T, A>,
     root: Ptr<Operation>,
@@ -120,10 +126,11 @@ pub fn check_closed<T: IrText<A>, A: AttrText<A>>(
 {
     ctx.graph().keeps_nesting();
     check_root(ctx, root)?;
+    let scopes = scopes_in(ctx, root);
     let top = Object::TheOperation(root);
     let mut at = Some(top);
     while let Some(object) = at {
-        check_object(ctx, object)?;
+        check_object(ctx, &scopes, object)?;
         at = ctx.graph().next_inside(top, object);
     }
     Ok(())

@@ -8,8 +8,9 @@ ghost use Rattle.irtext_graph.specs.declared.object.Object.TheVariants.{TheOpera
 ghost use Rattle.irtext_graph.specs.declared.object.Site.TheVariants.{AtOperand, AtSuccessor};
 ghost use Rattle.irtext_closed.specs.Closed.{IsUseReached};
 ghost use Rattle.irtext_closed.specs.First.{IsFirstNot};
+ghost use Rattle.irtext_closed.specs.Noted.{AreScopes};
 
-use crate::scope::{is_same, shares_scope};
+use crate::scope::{Scopes, is_same, shares_scope};
 use irtext_base::text::{AttrText, IrText};
 use irtext_context::base::{Context, Operation, Ptr, Value};
 use irtext_graph::held::HasGraph;
@@ -28,17 +29,19 @@ fn owner_of(value: Value) -> Object
 /// Whether the operand at an index is a value of the operation's isolated scope.
 fn reaches_operand<T: IrText<A>, A: AttrText<A>>(
     ctx: &Context<T, A>,
+    scopes: &Scopes,
     op: Ptr<Operation>,
     index: usize,
 ) -> bool
     requires alive { IsLive ctx.now.graph (TheOperation op) }
     requires within { index < length (operands ctx.now.graph op) }
+    requires known { AreScopes ctx.now scopes.now }
     ensures { IsTrue result ↔ IsUseReached ctx.now (AtOperand op index) }
 {
     let graph = ctx.graph();
     graph.keeps_nesting();
     let value = graph.get_operand(op, index);
-    shares_scope(ctx, Object::TheOperation(op), owner_of(value))
+    shares_scope(ctx, scopes, Object::TheOperation(op), owner_of(value))
 }
 
 /// Whether the successor at an index is a block of the operation's region.
@@ -61,14 +64,16 @@ fn reaches_successor<T: IrText<A>, A: AttrText<A>>(
 /// The index of the first operand that is not a value of the operation's isolated scope.
 pub(crate) fn stray_operand<T: IrText<A>, A: AttrText<A>>(
     ctx: &Context<T, A>,
+    scopes: &Scopes,
     op: Ptr<Operation>,
 ) -> Option<usize>
-    requires { IsLive ctx.now.graph (TheOperation op) }
+    requires alive { IsLive ctx.now.graph (TheOperation op) }
+    requires known { AreScopes ctx.now scopes.now }
     ensures none { IfNone result ((j : ℕ) → IsUseReached ctx.now (AtOperand op j)) }
     ensures first { IfSome result (IsFirstNot (λ j. IsUseReached ctx.now (AtOperand op j))) }
 {
     for i in 0..ctx.graph().num_operands(op) {
-        if !reaches_operand(ctx, op, i) {
+        if !reaches_operand(ctx, scopes, op, i) {
             return Some(i);
         }
     }

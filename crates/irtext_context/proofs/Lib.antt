@@ -1,3 +1,4 @@
+pub mod Full
 pub mod Dictionaries
 pub mod Drops
 pub mod KeptKeys
@@ -14,3 +15,4 @@ pub mod Named
 pub mod DialectTables
 pub mod Locations
 pub mod RefusedOps
+pub mod Listed

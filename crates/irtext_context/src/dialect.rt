@@ -16,6 +16,7 @@ ghost use Rattle.irtext_base.specs.Text.{is_identifier};
 ghost use Rattle.irtext_base.specs.declared.location.Location.{Unknown};
 
 mod key;
+mod listed;
 mod named;
 mod operation;
 mod table;

@@ -1,5 +1,6 @@
 //! The integer types and their parser: a sign, and a width in decimal digits.
-ghost use Rattle.std.specs.Prelude.{◌≡◌, ◌++◌, OnOk, Some, MatchBool, codes, decimal, string_bytes};
+ghost use Rattle.std.specs.Prelude.{◌≡◌, ◌++◌, OnOk, OnErr, Some, MatchBool, codes, decimal, string_bytes};
+ghost use Rattle.irtext_base.specs.Appending.{OnlyAppends};
 ghost use Rattle.irtext_base.specs.Faults.{characters};
 ghost use Rattle.irtext_tokens.specs.Tokens.{word};
 ghost use Rattle.irtext_base.specs.Answers.{Answers, Gives, unless_failed};
@@ -9,7 +10,7 @@ use crate::width::Width;
 use irtext_base::parsable::{CharStream, ParseResult, TextStream};
 use irtext_base::result::{Cause, Expected};
 use irtext_syntax::part::{Last, Part, Plain};
-use irtext_syntax::range::{FromDigits, digits_parse};
+use irtext_syntax::range::{FromDigits, digits_parse, write_decimal};
 use irtext_tokens::irfmt::faults::{begins, committed, next_is, refuse, unexpected};
 use irtext_tokens::irfmt::parsers::digits::{Radix, take_digits};
 use irtext_tokens::irfmt::parsers::{Class, text_parse};
@@ -181,7 +182,8 @@ fn integer_type_there(stream: &mut TextStream) -> Option<IntegerType>
 /// Appends a sign.
 #[inline(always)]
 fn write_sign(kind: Signedness, f: &mut String) -> fmt::Result
-    ensures { OnOk result (string_bytes f.new ≡ string_bytes f.old ++ signedness_text kind) }
+    ensures text { OnOk result (string_bytes f.new ≡ string_bytes f.old ++ signedness_text kind) }
+    ensures appended { OnErr result (OnlyAppends f.old f.new) }
 {
     match kind {
         Signedness::Signed => f.push_str("si")?,
@@ -194,8 +196,9 @@ fn write_sign(kind: Signedness, f: &mut String) -> fmt::Result
 /// Appends `builtin.integer`, a space and a sign.
 #[inline(always)]
 fn write_front(kind: Signedness, f: &mut String) -> fmt::Result
-    ensures { OnOk result (string_bytes f.new ≡ string_bytes f.old
+    ensures text { OnOk result (string_bytes f.new ≡ string_bytes f.old
         ++ (codes "builtin.integer " ++ signedness_text kind)) }
+    ensures appended { OnErr result (OnlyAppends f.old f.new) }
 {
     match kind {
         Signedness::Signed => f.push_str("builtin.integer si")?,
@@ -205,19 +208,11 @@ fn write_front(kind: Signedness, f: &mut String) -> fmt::Result
     Ok(())
 }
 
-/// Appends a number of bits that few types have.
-#[cold]
-fn write_any_width(bits: u16, f: &mut String) -> fmt::Result
-    ensures { OnOk result (string_bytes f.new ≡ string_bytes f.old ++ decimal bits) }
-{
-    write!(f, "{bits}")?;
-    Ok(())
-}
-
 /// Appends a number of bits. Those that most types have are fixed texts.
 #[inline(always)]
 fn write_width(bits: u16, f: &mut String) -> fmt::Result
-    ensures { OnOk result (string_bytes f.new ≡ string_bytes f.old ++ decimal bits) }
+    ensures text { OnOk result (string_bytes f.new ≡ string_bytes f.old ++ decimal bits) }
+    ensures appended { OnErr result (OnlyAppends f.old f.new) }
 {
     match bits {
         1 => f.push_str("1")?,
@@ -225,15 +220,16 @@ fn write_width(bits: u16, f: &mut String) -> fmt::Result
         16 => f.push_str("16")?,
         32 => f.push_str("32")?,
         64 => f.push_str("64")?,
-        _ => return write_any_width(bits, f),
+        _ => return write_decimal(bits as u64, f),
     }
     Ok(())
 }
 
 /// Appends an integer type as a type of its dialect: `builtin.integer si32`.
 pub(crate) fn write_integer_type(ty: &IntegerType, f: &mut String) -> fmt::Result
-    ensures { OnOk result (string_bytes f.new ≡ string_bytes f.old
+    ensures text { OnOk result (string_bytes f.new ≡ string_bytes f.old
         ++ (codes "builtin.integer " ++ integer_type_text ty.now)) }
+    ensures appended { OnErr result (OnlyAppends f.old f.new) }
 {
     write_front(ty.kind, f)?;
     write_width(ty.width.bits(), f)

@@ -2,7 +2,8 @@
 ghost use Rattle.std.specs.Prelude.{◌≡◌, ◌<◌, ◌∷◌, [], IfOk, length, slice_index_or, slice_set};
 ghost use Rattle.std.specs.Borrow.{Lends, sem};
 
-use std::alloc::{AllocError, Global};
+use irtext_memory::{OutOfMemory, boxed};
+use std::alloc::Global;
 use std::marker::Model;
 use std::ops::{Index, IndexMut};
 
@@ -102,18 +103,18 @@ impl<X> Rare<X> {
 
 impl<X: Drop> Rare<X> {
     /// Returns a list of one element. Fails only if an allocation fails.
-    pub fn one(alloc: Global, x: X) -> Result<Rare<X>, AllocError>
+    pub fn one(alloc: Global, x: X) -> Result<Rare<X>, OutOfMemory>
         ensures { IfOk result (λ list. list ≡ x ∷ []) }
     {
-        let items = NoneOrBoxed::One(Box::new(alloc, x)?);
+        let items = NoneOrBoxed::One(boxed::new(alloc, x)?);
         Ok(Rare { items })
     }
 
     /// Returns a list of the elements of a vector, which it keeps. Fails only if an allocation fails.
-    pub fn many(alloc: Global, xs: Vec<X>) -> Result<Rare<X>, AllocError>
+    pub fn many(alloc: Global, xs: Vec<X>) -> Result<Rare<X>, OutOfMemory>
         ensures { IfOk result (λ list. list ≡ xs.items) }
     {
-        let items = NoneOrBoxed::Many(Box::new(alloc, xs)?);
+        let items = NoneOrBoxed::Many(boxed::new(alloc, xs)?);
         Ok(Rare { items })
     }
 

@@ -26,27 +26,27 @@ module _ {T A S U : Type 0} (d : Actions T A S) (e : Actions T A U) where
   both_tree isolated x s t =
       ap₂ (λ y z. (y, z)) (shows_tree isolated (λ z. z.0) (both d e) d shows_first x (s, t)) (shows_tree isolated (λ z. z.1) (both d e) e shows_second x (s, t))
 
-  module _ (dialects : List (Text × Table)) (types_at : Text → Outcome T) (attr : Text → Outcome (AttrView A)) where
+  module _ (alike : d.any_key ≡ e.any_key) (dialects : List (Text × Table)) (types_at : Text → Outcome T) (attr : Text → Outcome (AttrView A)) where
     -- the parse of an operation
     pub operation_beside : (inside : Bool) (text : Text) (s : S) (t : U)
         → AreBeside (operation_at dialects types_at attr d inside text s) (operation_at dialects types_at attr e inside text t) (operation_at dialects types_at attr (both d e) inside text (s, t))
     operation_beside inside text s t = record {
-      left = (seen_operation_at dialects types_at attr (λ z. z.0) (both d e) d shows_first inside).at text (s, t);
-      right = (seen_operation_at dialects types_at attr (λ z. z.1) (both d e) e shows_second inside).at text (s, t);
+      left = (seen_operation_at dialects types_at attr (λ z. z.0) (both d e) d shows_first refl inside).at text (s, t);
+      right = (seen_operation_at dialects types_at attr (λ z. z.1) (both d e) e shows_second alike inside).at text (s, t);
     }
 
     -- the rest of an open frame
     pub rest_beside : (o : Open T A) (text : Text) (s : S) (t : U)
         → AreBeside (rest_of dialects types_at attr d o text s) (rest_of dialects types_at attr e o text t) (rest_of dialects types_at attr (both d e) o text (s, t))
     rest_beside o text s t = record {
-      left = (seen_rest dialects types_at attr (λ z. z.0) (both d e) d shows_first o).at text (s, t);
-      right = (seen_rest dialects types_at attr (λ z. z.1) (both d e) e shows_second o).at text (s, t);
+      left = (seen_rest dialects types_at attr (λ z. z.0) (both d e) d shows_first refl o).at text (s, t);
+      right = (seen_rest dialects types_at attr (λ z. z.1) (both d e) e shows_second alike o).at text (s, t);
     }
 
     -- what comes of the whole
     pub whole_beside : (next : Option (Open T A)) (frames : List (Open T A)) (s : S) (t : U) (text : Text)
         → AreBeside (whole dialects types_at attr d next frames s text) (whole dialects types_at attr e next frames t text) (whole dialects types_at attr (both d e) next frames (s, t) text)
     whole_beside next frames s t text = record {
-      left = seen_whole dialects types_at attr (λ z. z.0) (both d e) d shows_first next frames (s, t) text;
-      right = seen_whole dialects types_at attr (λ z. z.1) (both d e) e shows_second next frames (s, t) text;
+      left = seen_whole dialects types_at attr (λ z. z.0) (both d e) d shows_first refl next frames (s, t) text;
+      right = seen_whole dialects types_at attr (λ z. z.1) (both d e) e shows_second alike next frames (s, t) text;
     }

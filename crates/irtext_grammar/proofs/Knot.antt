@@ -7,6 +7,7 @@ pub mod Steps
 pub mod Loops
 pub mod Found
 pub mod Read
+pub mod Tested
 pub mod Whole
 pub mod Outside
 pub mod Formats

@@ -6,3 +6,4 @@ pub mod KeepsReading
 pub mod Shorter
 pub mod Places
 pub mod Scripts
+pub mod Follows

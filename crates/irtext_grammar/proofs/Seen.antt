@@ -15,7 +15,8 @@ use Rattle.irtext_grammar.specs.Grammar.Forest.{Regions, no_regions, region, Blo
 use Rattle.irtext_grammar.specs.Grammar.Tree as tree
 use Rattle.irtext_grammar.specs.Grammar.Tree.{Name, Mark, Piece, Part, Op, Head, Brace, shown, elided, Tree, parts_of}
 use Rattle.irtext_grammar.specs.Readers.Parts.{without_first}
-use Rattle.irtext_grammar.specs.Heads.{Step, one, all, front_steps, region_steps, piece_at, head_at, led_at, mark_if_at}
+use Rattle.irtext_grammar.specs.declared.parsed.Setting.{Setting}
+use Rattle.irtext_grammar.specs.Heads.{Step, one, all, front_steps, region_steps, piece_at, head_at, led_at, mark_if_at, setting}
 use Rattle.irtext_grammar.specs.Reached.{Reached, Advanced, Stopped, came, tells, Actions, Reads, begins_operation, begins_region, begins_block, steps_in, regions_by, more_by, operations_by, blocks_by, front_by, steps_by, end_by, body_by, operation_by, block_by, region_by, region_within, region_at, operation_at, front_parts, region_parts, each_of, do_parts, do_operation, do_region, do_regions, do_blocks, do_operations, do_tree}
 use Rattle.irtext_grammar.specs.Resume.{Open, to_come, an_operation, a_region, a_block, block_at, rest_of, resume, whole}
 use Rattle.irtext_grammar.specs.Both.{seen_as}
@@ -143,12 +144,12 @@ module _ {S U : Type 0} (see : S → U) where
     seen_blocks (suc n) text s = seen_if (begins_block text) _ _ _ _
         (seen_came (f text s) (g text (see s)) (λ _ t rest. blocks_by f n (after_space rest) t) (λ _ t rest. blocks_by g n (after_space rest) t) (h.at text s) (λ _ t rest. seen_blocks n (after_space rest) t)) refl
 
-module _ {T A S U : Type 0} (dialects : List (Text × Table)) (types_at : Text → Outcome T) (attr : Text → Outcome (AttrView A)) (see : S → U) (d : Actions T A S) (e : Actions T A U) (shows : Shows see d e) where
+module _ {T A S U : Type 0} (dialects : List (Text × Table)) (types_at : Text → Outcome T) (attr : Text → Outcome (AttrView A)) (see : S → U) (d : Actions T A S) (e : Actions T A U) (shows : Shows see d e) (alike : d.any_key ≡ e.any_key) where
   -- parts before the first region
-  pub seen_front : (inside : Bool) (ss : List Step) (found : List (Part ℕ T A)) (text : Text) (s : S)
-      → seen_as see (front_by dialects types_at attr d inside ss found text s) ≡ front_by dialects types_at attr e inside ss found text (see s)
-  seen_front inside [] found text s = refl
-  seen_front inside (step ∷ ss) found text s = seen_tells see ((space_at ▷ piece_at types_at attr inside step) text) text s (see s) _ _ refl (λ p rest. seen_front inside ss (found ++ tree.piece p ∷ []) rest s)
+  pub seen_front : (at : Setting) (ss : List Step) (found : List (Part ℕ T A)) (text : Text) (s : S)
+      → seen_as see (front_by dialects types_at attr d at ss found text s) ≡ front_by dialects types_at attr e at ss found text (see s)
+  seen_front at [] found text s = refl
+  seen_front at (step ∷ ss) found text s = seen_tells see ((space_at ▷ piece_at types_at attr at step) text) text s (see s) _ _ refl (λ p rest. seen_front at ss (found ++ tree.piece p ∷ []) rest s)
 
   module _ (f : Reads S) (g : Reads U) (h : ReadsSeen see f g) where
     -- parts from the first region on
@@ -160,9 +161,12 @@ module _ {T A S U : Type 0} (dialects : List (Text × Table)) (types_at : Text �
     seen_steps place id (all ∷ ss) found text s =
         seen_came see (regions_by f (length text) (after_space text) s) (regions_by g (length text) (after_space text) (see s)) _ _ (seen_regions see f g h (length text) (after_space text) s)
         (λ _ t rest. seen_steps place id ss (found ++ tree.regions ∷ []) rest t)
-    seen_steps place id (step ∷ ss) found text s = seen_tells see ((space_at ▷ piece_at types_at attr true step) text) text s (see s) _ _ refl (λ p rest.
+    seen_steps place id (step ∷ ss) found text s =
+        let next : Piece ℕ T A → Text → Reached (List (Part ℕ T A)) U = λ p rest. steps_by dialects types_at attr e g place id ss (found ++ tree.piece p ∷ []) rest (e.late place id p (see s)) in
+        seen_tells see ((space_at ▷ piece_at types_at attr (setting true d.any_key) step) text) text s (see s) _ next refl (λ p rest.
         seen_steps place id ss (found ++ tree.piece p ∷ []) rest (d.late place id p s)
         ∙ ap (steps_by dialects types_at attr e g place id ss (found ++ tree.piece p ∷ []) rest) (shows.late place id p s))
+        ∙ ap (λ k. tells ((space_at ▷ piece_at types_at attr (setting true k) step) text) text (see s) next) alike
 
     -- the end of an operation
     pub seen_end : (place : ℕ) (names : List (Name ℕ)) (id : Id) (parts : List (Part ℕ T A)) (text : Text) (s : S)
@@ -177,8 +181,9 @@ module _ {T A S U : Type 0} (dialects : List (Text × Table)) (types_at : Text �
         → seen_as see (body_by dialects types_at attr d f inside place names id text s) ≡ body_by dialects types_at attr e g inside place names id text (see s)
     seen_body inside place names id text s =
         let ss = region_steps (steps_in dialects id) in
-        seen_came see (front_by dialects types_at attr d inside (front_steps (steps_in dialects id)) [] text s) (front_by dialects types_at attr e inside (front_steps (steps_in dialects id)) [] text (see s)) _ _
-        (seen_front inside (front_steps (steps_in dialects id)) [] text s) (λ found t rest.
+        seen_came see (front_by dialects types_at attr d (setting inside d.any_key) (front_steps (steps_in dialects id)) [] text s) (front_by dialects types_at attr e (setting inside e.any_key) (front_steps (steps_in dialects id)) [] text (see s)) _ _
+        (seen_front (setting inside d.any_key) (front_steps (steps_in dialects id)) [] text s
+        ∙ ap (λ k. front_by dialects types_at attr e (setting inside k) (front_steps (steps_in dialects id)) [] text (see s)) alike) (λ found t rest.
         seen_came see (steps_by dialects types_at attr d f place id ss found rest (d.uses place id found t)) (steps_by dialects types_at attr e g place id ss found rest (see (d.uses place id found t)))
         (λ parts u left. end_by dialects types_at attr d place names id parts left u) (λ parts u left. end_by dialects types_at attr e place names id parts left u)
         (seen_steps place id ss found rest (d.uses place id found t)) (λ parts u left. seen_end place names id parts left u)

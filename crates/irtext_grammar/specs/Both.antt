@@ -12,6 +12,7 @@ both d e = record {
   closes = λ place names id parts s. (d.closes place names id parts s.0, e.closes place names id parts s.1);
   marks = λ mark s. (d.marks mark s.0, e.marks mark s.1);
   heads = λ head s. (d.heads head s.0, e.heads head s.1);
+  any_key = d.any_key;
 }
 
 -- the result of a parse, with its state seen by `see`

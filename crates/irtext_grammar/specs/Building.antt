@@ -1,6 +1,6 @@
 -- Between functions: the structure that was parsed so far: what is open, the innermost first, and the tree, once it is complete. Each
 -- action changes only the innermost.
-use Rattle.std.specs.Prelude.{ℕ, List, [], ◌∷◌, Option, Some, None}
+use Rattle.std.specs.Prelude.{ℕ, false, List, [], ◌∷◌, Option, Some, None}
 use Rattle.irtext_base.specs.Format.{Format, Id}
 use Rattle.irtext_grammar.specs.Grammar.Forest.{Regions, no_regions, region, Blocks, no_blocks, block, Operations, no_operations, operation}
 use Rattle.irtext_grammar.specs.Grammar.Tree.{Mark, Op, Head, Brace, shown, Tree}
@@ -95,4 +95,5 @@ module _ {T A : Type 0} where
     closes = λ place names id parts b. record b { unfinished = operation_closed (unmarked place names id (body_of (formats id) parts)) b.unfinished };
     marks = λ mark b. operation_marked mark b.unfinished b.tree;
     heads = λ head b. record b { unfinished = block_begun head b.unfinished };
+    any_key = false;
   }

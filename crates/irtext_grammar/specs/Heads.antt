@@ -17,10 +17,15 @@ use Rattle.irtext_tokens.specs.Demanded.{spaced_at, index_at}
 use Rattle.irtext_grammar.specs.Grammar.Tree as tree
 use Rattle.irtext_grammar.specs.Grammar.Tree.{Name, Mark, Attribute, Piece, Head}
 use Rattle.irtext_grammar.specs.Names.Acts.{may_hold}
+use Rattle.irtext_grammar.specs.declared.parsed.Setting.{Setting}
 use Rattle.irtext_grammar.specs.Readers.Directives.{attribute_at}
 use Rattle.irtext_grammar.specs.Readers.Marker.{marker, starts_with}
 use Rattle.irtext_grammar.specs.Readers.Operations.{registered_after}
 use Rattle.irtext_grammar.specs.Readers.Parts.{after_lead}
+
+-- whether it is inside of a region, and whether any attribute is accepted under a reserved key
+abbrev pub setting : Bool → Bool → Setting
+setting inside any_key = record { inside = inside; any_key = any_key }
 
 -- what was parsed from a text, with the place of this text
 abbrev pub placed : {X : Type 0} → (ℕ → X → Name ℕ) → Text → Outcome X → Outcome (Name ℕ)
@@ -76,15 +81,14 @@ module _ {A : Type 0} (attr : Text → Outcome (AttrView A)) where
   abbrev pub pair_at : Reader (Name ℕ × Attribute A)
   pair_at = name_at ▶ λ key. spaced_at (codes ":") ▷ attribute_at attr ⇒ λ a. (key, a)
 
-  -- the same, inside a region, where it is not tested whether the attribute is allowed under the key, or outside of every region, where
-  -- it is
+  -- the same, given whether any attribute is accepted under a reserved key, or it is tested whether it is allowed there
   abbrev pub entry_by : Bool → Reader (Name ℕ × Attribute A)
   entry_by true text = pair_at text
   entry_by false text = allowed (pair_at text)
 
-  -- entries in brackets, with `,` between, inside a region or outside of every region
+  -- entries in brackets, with `,` between, given whether any attribute is accepted under a reserved key
   unfoldable pub dictionary_by : Bool → Reader (List (Name ℕ × Attribute A))
-  dictionary_by inside text = (word (codes "[") ▷ space_at ▷ separated_at 44 (entry_by inside) ◁ word (codes "]")) text
+  dictionary_by any_key text = (word (codes "[") ▷ space_at ▷ separated_at 44 (entry_by any_key) ◁ word (codes "]")) text
 
   -- entries whose keys are not tested
   abbrev pub dictionary_at : Reader (List (Name ℕ × Attribute A))
@@ -135,24 +139,24 @@ region_steps (all ∷ ss) = all ∷ ss
 region_steps (s ∷ ss) = region_steps ss
 
 module _ {T A : Type 0} (types_at : Text → Outcome T) (attr : Text → Outcome (AttrView A)) where
-  -- what a directive other than a region parses, inside a region or outside of every region
-  abbrev pub directive_at : Bool → Directive → Reader (Piece ℕ T A)
-  directive_at inside (format.word s) = word s ⇒ λ _. tree.word s
-  directive_at inside (format.operand i) = used_at inside ⇒ tree.operand i
-  directive_at inside format.operands = separated_at 44 (used_at inside) ⇒ tree.operands
-  directive_at inside (format.successor i) = target_at inside ⇒ tree.successor i
-  directive_at inside format.successors = separated_at 44 (target_at inside) ⇒ tree.successors
-  directive_at inside (format.attribute k) = outlined_or_at attr ⇒ tree.attribute k
-  directive_at inside format.dictionary = dictionary_by attr inside ⇒ tree.dictionary
-  directive_at inside (format.result_type i) = types_at ⇒ tree.result_type i
-  directive_at inside format.header = symbol_at ⇒ tree.header
-  directive_at inside _ = λ text. Missing (Unexpected (first_of text) AnOperation)
+  -- what a directive other than a region parses in this setting
+  abbrev pub directive_at : Setting → Directive → Reader (Piece ℕ T A)
+  directive_at at (format.word s) = word s ⇒ λ _. tree.word s
+  directive_at at (format.operand i) = used_at at.inside ⇒ tree.operand i
+  directive_at at format.operands = separated_at 44 (used_at at.inside) ⇒ tree.operands
+  directive_at at (format.successor i) = target_at at.inside ⇒ tree.successor i
+  directive_at at format.successors = separated_at 44 (target_at at.inside) ⇒ tree.successors
+  directive_at at (format.attribute k) = outlined_or_at attr ⇒ tree.attribute k
+  directive_at at format.dictionary = dictionary_by attr at.any_key ⇒ tree.dictionary
+  directive_at at (format.result_type i) = types_at ⇒ tree.result_type i
+  directive_at at format.header = symbol_at ⇒ tree.header
+  directive_at at _ = λ text. Missing (Unexpected (first_of text) AnOperation)
 
   -- what a step other than a region parses
-  abbrev pub piece_at : Bool → Step → Reader (Piece ℕ T A)
-  piece_at inside (flat d) = directive_at inside d
-  piece_at inside types = separated_at 44 types_at ⇒ tree.types
-  piece_at inside _ = λ text. Missing (Unexpected (first_of text) AnOperation)
+  abbrev pub piece_at : Setting → Step → Reader (Piece ℕ T A)
+  piece_at at (flat d) = directive_at at d
+  piece_at at types = separated_at 44 types_at ⇒ tree.types
+  piece_at at _ = λ text. Missing (Unexpected (first_of text) AnOperation)
 
   -- an argument of a block
   abbrev pub argument_at : Reader (Name ℕ × T)

@@ -1,7 +1,7 @@
 -- Between functions: what happens to names as a text is parsed. The parser knows no paths, so an item, which is here an operation or a
 -- block, is named by any function from its place in the text to paths. Each act is the one that the grammar's script of the tree has
 -- there.
-use Rattle.std.specs.Prelude.{◌≡◌, ℕ, suc, List, [], ◌∷◌, ◌++◌, length, map, Option, Some, None, ⊤}
+use Rattle.std.specs.Prelude.{◌≡◌, ℕ, suc, false, List, [], ◌∷◌, ◌++◌, length, map, Option, Some, None, ⊤}
 use Rattle.irtext_base.specs.Format as format
 use Rattle.irtext_base.specs.Format.{Format, Id, operand_places, successor_places}
 use Rattle.irtext_grammar.specs.Grammar.Forest.{Regions, no_regions, region, Blocks, no_blocks, block, Operations, no_operations, operation, AllRegions}
@@ -63,6 +63,7 @@ module _ {T A : Type 0} (formats : Id → Option Format) (path : ℕ → Path) w
     closes = λ place names id parts. acted (acts_at_end place names id parts);
     marks = λ mark. acted (mark_acts mark);
     heads = λ head. acted (header_acts (path head.label.place) head);
+    any_key = false;
   }
 
 module _ {T A : Type 0} (formats : Id → Option Format) where

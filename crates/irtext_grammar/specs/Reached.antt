@@ -15,7 +15,8 @@ use Rattle.irtext_grammar.specs.Grammar.Forest.{Regions, no_regions, region, Blo
 use Rattle.irtext_grammar.specs.Grammar.Tree as tree
 use Rattle.irtext_grammar.specs.Grammar.Tree.{Name, Mark, Piece, Part, Op, Head, Brace, shown, elided, Tree, parts_of}
 use Rattle.irtext_grammar.specs.Readers.Parts.{without_first}
-use Rattle.irtext_grammar.specs.Heads.{Step, one, all, steps_of, front_steps, region_steps, piece_at, head_at, led_at, mark_if_at}
+use Rattle.irtext_grammar.specs.declared.parsed.Setting.{Setting}
+use Rattle.irtext_grammar.specs.Heads.{Step, one, all, steps_of, front_steps, region_steps, piece_at, head_at, led_at, mark_if_at, setting}
 
 -- A parse came to a value and a rest, or is stuck at a fault of the text and its place; both with the state that was reached.
 pub data Reached (X S : Type 0) : Type 0 where
@@ -35,7 +36,7 @@ tells (Bad cause upto) text s next = Stopped s cause (length text - length upto)
 
 -- The actions on the state: of the parts of an operation before its first region, with its place and its id; of a piece after its first
 -- region; of a region as it begins and as it ends, given whether its operation is isolated; of an operation at its end, with the names of
--- its results and all its parts; of its mark; of a block's header.
+-- its results and all its parts; of its mark; of a block's header. And whether any attribute of an operation is accepted under a reserved key.
 pub record Actions (T A S : Type 0) : Type 0 where
   pub uses : ℕ → Id → List (Part ℕ T A) → S → S
   pub late : ℕ → Id → Piece ℕ T A → S → S
@@ -44,6 +45,11 @@ pub record Actions (T A S : Type 0) : Type 0 where
   pub closes : ℕ → List (Name ℕ) → Id → List (Part ℕ T A) → S → S
   pub marks : Option (Mark ℕ) → S → S
   pub heads : Head ℕ T A → S → S
+  pub any_key : Bool
+
+-- the same actions, where any attribute is accepted under a reserved key
+abbrev pub freely : {T A S : Type 0} → Actions T A S → Actions T A S
+freely does = record does { any_key = true }
 
 -- an operation begins here: a letter, `_` or `=`
 abbrev pub begins_operation : Text → Bool
@@ -88,10 +94,10 @@ module _ {S : Type 0} where
 
 module _ {T A S : Type 0} (dialects : List (Text × Table)) (types_at : Text → Outcome T) (attr : Text → Outcome (AttrView A)) (does : Actions T A S) where
   -- the parts found, and those that steps before a region parse, with white space before each
-  abbrev pub front_by : Bool → List Step → List (Part ℕ T A) → Text → S → Reached (List (Part ℕ T A)) S
-  front_by inside [] found text s = Advanced found s text
-  front_by inside (step ∷ ss) found text s =
-      tells ((space_at ▷ piece_at types_at attr inside step) text) text s (λ p rest. front_by inside ss (found ++ tree.piece p ∷ []) rest s)
+  abbrev pub front_by : Setting → List Step → List (Part ℕ T A) → Text → S → Reached (List (Part ℕ T A)) S
+  front_by at [] found text s = Advanced found s text
+  front_by at (step ∷ ss) found text s =
+      tells ((space_at ▷ piece_at types_at attr at step) text) text s (λ p rest. front_by at ss (found ++ tree.piece p ∷ []) rest s)
 
   -- The parts found, and those that the other steps parse, for the operation with this place and this id. No format that is accepted has
   -- a name after a region, so it makes no difference whether the operation is inside a region.
@@ -101,7 +107,7 @@ module _ {T A S : Type 0} (dialects : List (Text × Table)) (types_at : Text →
       came (inner (after_space text) s) (λ _ t rest. steps_by inner place id ss (found ++ tree.region i ∷ []) rest t)
   steps_by inner place id (all ∷ ss) found text s =
       came (regions_by inner (length text) (after_space text) s) (λ _ t rest. steps_by inner place id ss (found ++ tree.regions ∷ []) rest t)
-  steps_by inner place id (step ∷ ss) found text s = tells ((space_at ▷ piece_at types_at attr true step) text) text s
+  steps_by inner place id (step ∷ ss) found text s = tells ((space_at ▷ piece_at types_at attr (setting true does.any_key) step) text) text s
       (λ p rest. steps_by inner place id ss (found ++ tree.piece p ∷ []) rest (does.late place id p s))
 
   -- the end of an operation: its action, and its mark, if there is one
@@ -111,7 +117,7 @@ module _ {T A S : Type 0} (dialects : List (Text × Table)) (types_at : Text →
 
   -- what follows an operation's id, by its steps
   abbrev pub body_by : Reads S → Bool → ℕ → List (Name ℕ) → Id → Reads S
-  body_by inner inside place names id text s = came (front_by inside (front_steps (steps_in dialects id)) [] text s) (λ found t rest.
+  body_by inner inside place names id text s = came (front_by (setting inside does.any_key) (front_steps (steps_in dialects id)) [] text s) (λ found t rest.
       came (steps_by inner place id (region_steps (steps_in dialects id)) found rest (does.uses place id found t)) (λ parts u left. end_by place names id parts left u))
 
   -- an operation, given the parsers of the regions of isolated operations and of others

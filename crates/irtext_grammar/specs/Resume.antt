@@ -13,6 +13,7 @@ use Rattle.irtext_tokens.specs.Tokens.{space_at, word}
 use Rattle.irtext_grammar.specs.Contexts.Formats.{isolated}
 use Rattle.irtext_grammar.specs.Grammar.Tree as tree
 use Rattle.irtext_grammar.specs.Grammar.Tree.{Name, Part}
+use Rattle.irtext_grammar.specs.declared.parsed.Setting.{Setting}
 use Rattle.irtext_grammar.specs.Heads.{Step, flat, types, steps_of, region_steps, piece_at}
 use Rattle.irtext_grammar.specs.Reached.{Reached, Advanced, Stopped, came, tells, Actions, Reads, steps_in, more_by, operations_by, blocks_by, steps_by, end_by, block_by, region_at, operation_at}
 
@@ -53,9 +54,9 @@ Pops frames None others = frames ≡ []
 Pops frames (Some f) others = frames ≡ others ++ f ∷ []
 
 -- the parts found, and those that steps before a region parse, with white space before each, without actions
-abbrev pub front_at : {T A : Type 0} → (Text → Outcome T) → (Text → Outcome (AttrView A)) → Bool → List Step → List (Part ℕ T A) → Reader (List (Part ℕ T A))
-front_at types_at attr inside [] found = nothing found
-front_at types_at attr inside (step ∷ ss) found = (space_at ▷ piece_at types_at attr inside step) ▶ λ p. front_at types_at attr inside ss (found ++ tree.piece p ∷ [])
+abbrev pub front_at : {T A : Type 0} → (Text → Outcome T) → (Text → Outcome (AttrView A)) → Setting → List Step → List (Part ℕ T A) → Reader (List (Part ℕ T A))
+front_at types_at attr at [] found = nothing found
+front_at types_at attr at (step ∷ ss) found = (space_at ▷ piece_at types_at attr at step) ▶ λ p. front_at types_at attr at ss (found ++ tree.piece p ∷ [])
 
 -- the parse came to this state, or is stuck at it
 abbrev pub EndsIn : {X S : Type 0} → S → Reached X S → Type 0

@@ -33,6 +33,15 @@ pub struct ReadMark {
     pub at: Place,
 }
 
+/// Where an operation's own parts are parsed.
+#[derive(Clone, Copy)]
+pub struct Setting {
+    /// Whether it is inside of a region. Outside of every region no name may be used.
+    pub inside: bool,
+    /// Whether a dictionary may have any attribute under a reserved key.
+    pub any_key: bool,
+}
+
 /// A parsed key, and the position where it begins.
 #[derive(Drop)]
 pub struct Key {

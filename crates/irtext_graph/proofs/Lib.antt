@@ -1,3 +1,4 @@
+pub mod Limits
 pub mod Nests
 pub mod Moves
 pub mod Inside

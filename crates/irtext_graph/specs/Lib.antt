@@ -20,6 +20,7 @@ pub mod Parts
 pub mod Used
 pub mod Held
 pub mod Linking
+pub mod Limits
 pub mod Near
 pub mod Back
 pub mod Throughout

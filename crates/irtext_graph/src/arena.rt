@@ -2,7 +2,9 @@
 ghost use Rattle.std.specs.Prelude.{◌≡◌, ◌≢◌, ◌<◌, ◌≤◌, ◌+◌, ◌↔◌, ℕ, Some, None, [], IsSome, IsTrue, IfOk, IfSome, OnErr, option_copied, option_map, length, slice_get, count_by, set};
 ghost use Rattle.std.specs.Borrow.{Lends, sem};
 
-use std::alloc::{AllocError, Global};
+use crate::graph::Counters;
+use irtext_memory::{OutOfMemory, vec};
+use std::alloc::Global;
 use std::marker::PhantomData;
 use std::mem;
 
@@ -83,6 +85,7 @@ impl<X: Drop> Arena<X> {
     ghost use Rattle.irtext_graph.specs.declared.arena.Slot.TheVariants.{Vacant};
     ghost use Rattle.irtext_graph.specs.Arena.{get, generation_at, next_index, free_place, Updates, Inserts, HasFew, born_in, is_full, AtLeast, Sheds};
     ghost use Rattle.irtext_graph.specs.Lending.{LendsContent};
+    ghost use Rattle.irtext_graph.specs.Limits.{IsFull, HasSlot};
     ghost use Rattle.irtext_graph.specs.Places.{pointer_in};
 
     /// Makes an arena without objects.
@@ -95,15 +98,26 @@ impl<X: Drop> Arena<X> {
         }
     }
 
-    /// Stores an object in the slot that was freed last, or else in a new one, under the slot's next generation. Slots are numbered from
-    /// `first`, and each number is less than `u32::MAX`. If an allocation fails or no slot is left, the arena is unchanged.
+    /// Whether no more objects can be counted, or no slot is left for one. The numbers of slots are below `u32::MAX`.
     #[inline(always)]
-    pub(crate) fn insert<K>(
-        &mut self,
-        first: u32,
-        born: u64,
-        content: X,
-    ) -> Result<Ptr<K>, AllocError>
+    pub(crate) fn is_full(&self, made: u64, counters: Counters) -> bool
+        ensures { IsTrue result ↔ IsFull made counters.first_place (free_place self.now)
+            (length self.now.slots.items) }
+    {
+        if made == u64::MAX {
+            return true;
+        }
+        if self.slots.len() + (counters.first_place as usize) < u32::MAX as usize {
+            return false;
+        }
+        self.reusable().is_none()
+    }
+
+    /// Stores an object in the slot that was freed last, or else in a new one, under the slot's next generation. If an allocation fails,
+    /// the arena is unchanged.
+    #[inline(always)]
+    pub(crate) fn insert<K>(&mut self, born: u64, content: X) -> Result<Ptr<K>, OutOfMemory>
+        requires { HasSlot (free_place self.old) (length self.old.slots.items) }
         ensures inserts { IfOk result (λ p. Inserts self.old self.new p
             (record { born = born; content = content })) }
         ensures few { HasFew self.old → HasFew self.new }
@@ -113,13 +127,13 @@ impl<X: Drop> Arena<X> {
         if let Some(freed) = self.reusable() {
             return Ok(self.insert_again(freed, born, content));
         }
-        self.insert_last(first, born, content)
+        self.insert_last(born, content)
     }
 
     /// Returns the slot that was freed last, if it can be used again.
     #[inline(always)]
     fn reusable(&self) -> Option<Freed>
-        ensures none { result ≡ None → free_place self.now ≡ None }
+        ensures none { result ≡ None ↔ free_place self.now ≡ None }
         ensures slot { IfSome result (λ f. slice_get self.now.slots.items f.index ≡ Some
             (Vacant f.last f.next)) }
         ensures index { IfSome result (λ f. f.index ≡ self.now.free) }
@@ -163,8 +177,9 @@ impl<X: Drop> Arena<X> {
 
     /// Stores an object in a new slot. No freed slot can be used again.
     #[inline(always)]
-    fn insert_last<K>(&mut self, first: u32, born: u64, content: X) -> Result<Ptr<K>, AllocError>
-        requires { free_place self.old ≡ None }
+    fn insert_last<K>(&mut self, born: u64, content: X) -> Result<Ptr<K>, OutOfMemory>
+        requires none { free_place self.old ≡ None }
+        requires room { length self.old.slots.items < 4294967295 }
         ensures inserts { IfOk result (λ p. Inserts self.old self.new p
             (record { born = born; content = content })) }
         ensures few { HasFew self.old → HasFew self.new }
@@ -172,10 +187,7 @@ impl<X: Drop> Arena<X> {
         ensures err_free { OnErr result (self.new.free ≡ self.old.free) }
     {
         let index = self.slots.len();
-        if index >= (u32::MAX - first) as usize {
-            return Err(AllocError);
-        }
-        self.slots.push(Slot::Full(1, Entry { born, content }))?;
+        vec::push(&mut self.slots, Slot::Full(1, Entry { born, content }))?;
         Ok(Ptr {
             index: index as u32,
             generation: 1,

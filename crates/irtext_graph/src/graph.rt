@@ -17,7 +17,8 @@ use crate::arena::{Arena, Ptr};
 use crate::log::forget_gone;
 use crate::object::Object;
 use crate::objects::Objects;
-use std::alloc::{AllocError, Global};
+use irtext_memory::OutOfMemory;
+use std::alloc::Global;
 use std::marker::Model;
 
 /// The counters of a graph: the number of the next value, and the number of the first slot.
@@ -209,7 +210,7 @@ impl<O: Drop, B: Drop, T: Drop> Graph<O, B, T> {
     }
 
     /// Makes c the last child of k. If an allocation fails, the graph is unchanged.
-    pub fn insert_at_back(&mut self, k: Object, c: Object) -> Result<(), AllocError>
+    pub fn insert_at_back(&mut self, k: Object, c: Object) -> Result<(), OutOfMemory>
         requires holder { IsLive self.old k }
         requires alive { IsLive self.old c }
         requires fits { Fits k c }

@@ -11,7 +11,7 @@ ghost use Rattle.irtext_graph.specs.declared.object.Object.TheVariants.{TheOpera
 use crate::arena::Ptr;
 use crate::graph::Graph;
 use crate::object::{BasicBlock, Object, Operation, Region};
-use std::alloc::AllocError;
+use irtext_memory::OutOfMemory;
 
 /// Anything that has a graph, such as a context. The calls on pointers need only this.
 pub trait HasGraph {
@@ -133,7 +133,7 @@ impl<K: Kind> Ptr<K> {
         self,
         holder: Ptr<H>,
         ctx: &mut C,
-    ) -> Result<(), AllocError>
+    ) -> Result<(), OutOfMemory>
         requires holder { IsLive (C.graph ctx.old) (H.object holder) }
         requires alive { IsLive (C.graph ctx.old) (K.object self) }
         requires can { CanInsert (C.graph ctx.old) (H.object holder) (K.object self) }

@@ -3,8 +3,7 @@ ghost use Rattle.std.specs.Prelude.{◌≡◌, ◌≢◌, ◌<◌, ◌≤◌, �
 
 use crate::arena::{Arena, Ptr};
 use irtext_few::Growing;
-use irtext_memory::unsealed;
-use std::alloc::AllocError;
+use irtext_memory::OutOfMemory;
 
 /// An object's parent, of kind P, its children in order, of kind C, and its data.
 #[derive(Drop)]
@@ -64,14 +63,14 @@ impl<P, C, D: Drop> Arena<Nest<P, C, D>> {
     }
 
     /// Appends a child to an object. If an allocation fails, nothing changes.
-    pub(crate) fn push_child<K>(&mut self, p: Ptr<K>, c: Ptr<C>) -> Result<(), AllocError>
+    pub(crate) fn push_child<K>(&mut self, p: Ptr<K>, c: Ptr<C>) -> Result<(), OutOfMemory>
         requires { IsSome (get self.old p) }
         ensures here { OnOk result (kids self.new p ≡ kids self.old p ++ c ∷ []) }
         ensures err { OnErr result (kids self.new p ≡ kids self.old p) }
         ensures refused { OnErr result (nodes self.new ≡ nodes self.old) }
         ensures only { OnlyLists self.old self.new p }
     {
-        unsealed(self.content_mut(p).children.push(c))
+        self.content_mut(p).children.push(c)
     }
 
     /// The number of children of an object.

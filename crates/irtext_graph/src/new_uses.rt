@@ -1,5 +1,5 @@
 //! The uses of a new operation. They are made outside of the use lists, and inserted into them when all allocations have succeeded.
-ghost use Rattle.std.specs.Prelude.{◌≡◌, ◌≢◌, ◌<◌, ℕ, Some, None, IsSome, IfOk, OnOk, length, map};
+ghost use Rattle.std.specs.Prelude.{◌≡◌, ◌≢◌, ◌<◌, ℕ, Some, None, IsSome, IfOk, map};
 ghost use Rattle.irtext_graph.specs.Linking.{unlinked, site_of};
 
 use crate::arena::Ptr;
@@ -7,7 +7,8 @@ use crate::near::Near;
 use crate::object::{Operation, Site};
 use crate::objects::{Links, Objects, Use};
 use irtext_few::{Lone, Rare};
-use std::alloc::{AllocError, Global};
+use irtext_memory::{OutOfMemory, vec};
+use std::alloc::Global;
 
 /// The operands or the successors of an operation.
 #[derive(Clone, Copy)]
@@ -41,29 +42,24 @@ fn unlinked_use<D>(def: D) -> Use<D>
     }
 }
 
-/// Makes uses of these that are in no use list, in a vector. Fails if they are too many.
-fn many_unlinked_uses<D: Copy + Drop>(alloc: Global, defs: &[D]) -> Result<Vec<Use<D>>, AllocError>
-    ensures uses { IfOk result (λ uses. uses.items ≡ map unlinked defs.now) }
-    ensures few { OnOk result (length defs.now < 2147483648) }
+/// Makes uses of these that are in no use list, in a vector.
+fn many_unlinked_uses<D: Copy + Drop>(alloc: Global, defs: &[D]) -> Result<Vec<Use<D>>, OutOfMemory>
+    ensures { IfOk result (λ uses. uses.items ≡ map unlinked defs.now) }
 {
-    if defs.len() > i32::MAX as usize {
-        return Err(AllocError);
-    }
-    let mut uses = Vec::with_capacity(alloc, defs.len())?;
+    let mut uses = vec::with_capacity_of(alloc, defs.len(), defs)?;
     for def in defs {
-        uses.push(unlinked_use(*def))?;
+        vec::push(&mut uses, unlinked_use(*def))?;
     }
     Ok(uses)
 }
 
-/// Makes uses of these that are in no use list. It allocates nothing for up to one. Fails if they are too many.
+/// Makes uses of these that are in no use list. It allocates nothing for up to one.
 #[inline(always)]
 pub(crate) fn lone_uses<D: Copy + Drop>(
     alloc: Global,
     defs: &[D],
-) -> Result<Lone<Use<D>>, AllocError>
-    ensures uses { IfOk result (λ uses. uses ≡ map unlinked defs.now) }
-    ensures few { OnOk result (length defs.now < 2147483648) }
+) -> Result<Lone<Use<D>>, OutOfMemory>
+    ensures { IfOk result (λ uses. uses ≡ map unlinked defs.now) }
 {
     match defs {
         [] => Ok(Lone::none()),
@@ -72,14 +68,13 @@ pub(crate) fn lone_uses<D: Copy + Drop>(
     }
 }
 
-/// Makes uses of these that are in no use list. It allocates nothing for none. Fails if they are too many.
+/// Makes uses of these that are in no use list. It allocates nothing for none.
 #[inline(always)]
 pub(crate) fn rare_uses<D: Copy + Drop>(
     alloc: Global,
     defs: &[D],
-) -> Result<Rare<Use<D>>, AllocError>
-    ensures uses { IfOk result (λ uses. uses ≡ map unlinked defs.now) }
-    ensures few { OnOk result (length defs.now < 2147483648) }
+) -> Result<Rare<Use<D>>, OutOfMemory>
+    ensures { IfOk result (λ uses. uses ≡ map unlinked defs.now) }
 {
     match defs {
         [] => Ok(Rare::none()),

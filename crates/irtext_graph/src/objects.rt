@@ -6,7 +6,7 @@ use crate::near::Near;
 use crate::nest::Nest;
 use crate::object::{BasicBlock, Object, Operation, Region, Value};
 use irtext_few::{Lone, Rare};
-use std::alloc::AllocError;
+use irtext_memory::OutOfMemory;
 
 /// The links of a use: whether it is in a use list, and the uses before and after it there.
 #[derive(Clone, Copy)]
@@ -155,7 +155,7 @@ impl<O: Drop, B: Drop, T: Drop> Objects<O, B, T> {
     }
 
     /// Appends c to the children of k, and makes k the parent of c. If an allocation fails, nothing changes.
-    pub(crate) fn append(&mut self, k: Object, c: Object) -> Result<(), AllocError>
+    pub(crate) fn append(&mut self, k: Object, c: Object) -> Result<(), OutOfMemory>
         requires holder { Lives self.old k }
         requires lives { Lives self.old c }
         requires fits { Fits k c }
@@ -258,7 +258,7 @@ impl<O: Drop, B: Drop, T: Drop> Objects<O, B, T> {
     }
 
     /// Makes c the last child of k.
-    pub(crate) fn insert_last(&mut self, k: Object, c: Object) -> Result<(), AllocError>
+    pub(crate) fn insert_last(&mut self, k: Object, c: Object) -> Result<(), OutOfMemory>
         requires forest { IsForest self.old }
         requires holder { Lives self.old k }
         requires lives { Lives self.old c }

@@ -137,32 +137,6 @@ impl<O: Drop, B: Drop, T: Drop> Graph<O, B, T> {
         self.objects.is_defined(v)
     }
 
-    /// Whether each of these values is defined, so that a new operation can use them.
-    pub fn contains_values(&self, values: &[Value]) -> bool
-        ensures { IsTrue result ↔ ((i : ℕ) (v : Value) → slice_get values.now i ≡ Some v
-            → IsDefinedValue self.now v) }
-    {
-        for v in values {
-            if !self.contains_value(*v) {
-                return false;
-            }
-        }
-        true
-    }
-
-    /// Whether each of these blocks is live, so that a new operation can use them.
-    pub fn contains_blocks(&self, blocks: &[Ptr<BasicBlock>]) -> bool
-        ensures { IsTrue result ↔ ((i : ℕ) (b : Ptr BasicBlock) → slice_get blocks.now i ≡ Some b
-            → IsLive self.now (TheBlock b)) }
-    {
-        for b in blocks {
-            if !self.contains(Object::TheBlock(*b)) {
-                return false;
-            }
-        }
-        true
-    }
-
     /// The number of arguments of a block.
     pub fn num_arguments(&self, block: Ptr<BasicBlock>) -> usize
         requires { IsLive self.now (TheBlock block) }

@@ -8,7 +8,8 @@ use crate::graph::Graph;
 use crate::near::Near;
 use crate::object::{Defined, Site, Value};
 use crate::objects::{Links, Objects, Use};
-use std::alloc::{AllocError, Global};
+use irtext_memory::{OutOfMemory, vec};
+use std::alloc::Global;
 
 /// Whether two are the same value or the same block.
 fn same_defined(d: Defined, e: Defined) -> bool
@@ -242,7 +243,7 @@ impl<O: Drop, B: Drop, T: Drop> Objects<O, B, T> {
     }
 
     /// Returns the uses in a use list, each once.
-    fn list_uses(&self, alloc: Global, d: Defined) -> Result<Vec<Site>, AllocError>
+    fn list_uses(&self, alloc: Global, d: Defined) -> Result<Vec<Site>, OutOfMemory>
         requires linked { AreUsesLinked self.now }
         requires alive { IsSome (head_at self.now d) }
         ensures { IfOk result (λ us. Lists (λ u. val self.now u ≡ Some d) us.items) }
@@ -250,7 +251,7 @@ impl<O: Drop, B: Drop, T: Drop> Objects<O, B, T> {
         let mut uses = Vec::new(alloc);
         let mut at = self.head_of(d).site();
         while let Some(u) = at {
-            uses.push(u)?;
+            vec::push(&mut uses, u)?;
             at = self.use_of(u).links.next.site();
         }
         Ok(uses)
@@ -293,7 +294,7 @@ impl<O: Drop, B: Drop, T: Drop> Graph<O, B, T> {
     }
 
     /// Returns the sites of all uses of d, each once: two for an operation that uses d twice. Fails only if an allocation fails.
-    pub fn uses(&self, d: Defined) -> Result<Vec<Site>, AllocError>
+    pub fn uses(&self, d: Defined) -> Result<Vec<Site>, OutOfMemory>
         requires { IsDefined self.now d }
         ensures { IfOk result (λ us. Lists (IsUse self.now d) us.items) }
     {

@@ -15,7 +15,7 @@ use crate::value::UseSite;
 use irtext_graph::arena::Ptr;
 use irtext_graph::held::HasGraph;
 use irtext_graph::object::{BasicBlock, Defined, Operation, Value};
-use std::alloc::AllocError;
+use irtext_memory::{OutOfMemory, vec};
 
 /// The arguments of a block, its operations and its predecessors, by the block's pointer, in any holder of a graph. The block must be live
 /// in the graph. Calls that return a list fail only when out of memory.
@@ -38,7 +38,7 @@ pub trait BlockParts: Sized {
         ensures alive { IsDefinedValue (C.graph ctx.now) result };
 
     /// Returns the arguments of the block, in order.
-    fn arguments<C: HasGraph>(self, ctx: &C) -> Result<Vec<Value>, AllocError>
+    fn arguments<C: HasGraph>(self, ctx: &C) -> Result<Vec<Value>, OutOfMemory>
         requires { IsLive (C.graph ctx.now) (TheBlock (pointer self)) }
         ensures { IfOk result (λ all. all.items ≡ each (Argument (pointer self))
             (length (arguments (C.graph ctx.now) (pointer self)))) };
@@ -55,12 +55,12 @@ pub trait BlockParts: Sized {
 
     /// Returns the block of each operation that has the block as a successor, once for each such successor, in an unspecified order.
     /// Operations that are in no block are left out.
-    fn preds<C: HasGraph>(self, ctx: &C) -> Result<Vec<Ptr<BasicBlock>>, AllocError>
+    fn preds<C: HasGraph>(self, ctx: &C) -> Result<Vec<Ptr<BasicBlock>>, OutOfMemory>
         requires { IsLive (C.graph ctx.now) (TheBlock (pointer self)) }
         ensures { IfOk result (λ all. ArePreds (C.graph ctx.now) (pointer self) all.items) };
 
     /// Returns the operations of the block, in order.
-    fn operations<C: HasGraph>(self, ctx: &C) -> Result<Vec<Ptr<Operation>>, AllocError>
+    fn operations<C: HasGraph>(self, ctx: &C) -> Result<Vec<Ptr<Operation>>, OutOfMemory>
         requires { IsLive (C.graph ctx.now) (TheBlock (pointer self)) }
         ensures { IfOk result (λ all. all.items ≡ operations_in (C.graph ctx.now) (pointer self)) };
 }
@@ -76,7 +76,7 @@ impl BlockParts for Ptr<BasicBlock> {
         Value::Argument(self, index)
     }
 
-    fn arguments<C: HasGraph>(self, ctx: &C) -> Result<Vec<Value>, AllocError> {
+    fn arguments<C: HasGraph>(self, ctx: &C) -> Result<Vec<Value>, OutOfMemory> {
         let alloc = ctx.graph().allocator();
         let count = self.get_num_arguments(ctx);
         listed(alloc, ctx, self, count, |_, at, i| Value::Argument(at, i))
@@ -90,18 +90,18 @@ impl BlockParts for Ptr<BasicBlock> {
         ctx.graph().num_uses(Defined::OfBlock(self))
     }
 
-    fn preds<C: HasGraph>(self, ctx: &C) -> Result<Vec<Ptr<BasicBlock>>, AllocError> {
+    fn preds<C: HasGraph>(self, ctx: &C) -> Result<Vec<Ptr<BasicBlock>>, OutOfMemory> {
         let uses = ctx.graph().uses(Defined::OfBlock(self))?;
         let mut all = Vec::new(ctx.graph().allocator());
         for u in &uses {
             if let Some(block) = u.user().get_parent_block(ctx) {
-                all.push(block)?;
+                vec::push(&mut all, block)?;
             }
         }
         Ok(all)
     }
 
-    fn operations<C: HasGraph>(self, ctx: &C) -> Result<Vec<Ptr<Operation>>, AllocError> {
+    fn operations<C: HasGraph>(self, ctx: &C) -> Result<Vec<Ptr<Operation>>, OutOfMemory> {
         let alloc = ctx.graph().allocator();
         let count = self.num_operations(ctx);
         listed(alloc, self, ctx, count, Ptr::get_operation)

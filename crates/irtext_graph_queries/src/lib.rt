@@ -3,6 +3,7 @@
 #![tactic(auto)]
 
 pub mod block;
+pub mod contained;
 mod listed;
 pub mod nested;
 pub mod operation;

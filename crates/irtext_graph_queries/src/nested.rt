@@ -10,7 +10,7 @@ use irtext_graph::arena::Ptr;
 use irtext_graph::graph::Graph;
 use irtext_graph::held::{HasGraph, Kind};
 use irtext_graph::object::{Object, Operation};
-use std::alloc::AllocError;
+use irtext_memory::{OutOfMemory, vec};
 
 /// The operations in an object, at any depth, by the object's pointer, in any holder of a graph.
 pub trait NestedOperations: Sized {
@@ -22,7 +22,7 @@ pub trait NestedOperations: Sized {
     /// Returns the operations in the object, at any depth, in the order of its text: an operation comes before those that are nested in
     /// it. An operation is the first of its own. So a pass over a root is a loop over `root.all_operations(ctx)?`; of
     /// `builtin.module @m { ^a(): test.nop }` the list has the module and `test.nop`. Fails only when out of memory.
-    fn all_operations<C: HasGraph>(self, ctx: &C) -> Result<Vec<Ptr<Operation>>, AllocError>
+    fn all_operations<C: HasGraph>(self, ctx: &C) -> Result<Vec<Ptr<Operation>>, OutOfMemory>
         requires { IsLive (C.graph ctx.now) (object self) }
         ensures inside { IfOk result (λ all. (p : _) → Among p all.items ↔ IsInside (C.graph ctx.now)
             (object self) (TheOperation p)) }
@@ -31,11 +31,11 @@ pub trait NestedOperations: Sized {
 }
 
 /// Appends the object to the list if it is an operation.
-fn keep_operation(all: &mut Vec<Ptr<Operation>>, o: Object) -> Result<(), AllocError>
+fn keep_operation(all: &mut Vec<Ptr<Operation>>, o: Object) -> Result<(), OutOfMemory>
     ensures { OnOk result (all.new.items ≡ all.old.items ++ operations_among (o ∷ [])) }
 {
     if let Object::TheOperation(p) = o {
-        all.push(p)?;
+        vec::push(all, p)?;
     }
     Ok(())
 }
@@ -44,7 +44,7 @@ fn keep_operation(all: &mut Vec<Ptr<Operation>>, o: Object) -> Result<(), AllocE
 fn list_operations<O: Drop, B: Drop, T: Drop>(
     graph: &Graph<O, B, T>,
     o: Object,
-) -> Result<Vec<Ptr<Operation>>, AllocError>
+) -> Result<Vec<Ptr<Operation>>, OutOfMemory>
     requires { IsLive graph.now o }
     ensures inside { IfOk result (λ all. (p : _) → Among p all.items ↔ IsInside graph.now o
         (TheOperation p)) }
@@ -63,7 +63,7 @@ fn list_operations<O: Drop, B: Drop, T: Drop>(
 impl<K: Kind> NestedOperations for Ptr<K> {
     ghost object = { λ p. K.object p };
 
-    fn all_operations<C: HasGraph>(self, ctx: &C) -> Result<Vec<Ptr<Operation>>, AllocError> {
+    fn all_operations<C: HasGraph>(self, ctx: &C) -> Result<Vec<Ptr<Operation>>, OutOfMemory> {
         list_operations(ctx.graph(), K::object(self))
     }
 }

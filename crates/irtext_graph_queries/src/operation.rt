@@ -16,7 +16,7 @@ use irtext_graph::arena::Ptr;
 use irtext_graph::graph::Graph;
 use irtext_graph::held::HasGraph;
 use irtext_graph::object::{BasicBlock, Defined, Operation, Region, Site, Value};
-use std::alloc::AllocError;
+use irtext_memory::{OutOfMemory, vec};
 
 /// The operands, successors, results and regions of an operation, and the uses of its results, by the operation's pointer, in any holder of
 /// a graph. The operation must be live in the graph. Calls that return a list fail only when out of memory.
@@ -39,7 +39,7 @@ pub trait OperationParts: Sized {
         ensures { slice_get (operands (C.graph ctx.now) (pointer self)) index ≡ Some result };
 
     /// Returns the operands of the operation, in order.
-    fn operands<C: HasGraph>(self, ctx: &C) -> Result<Vec<Value>, AllocError>
+    fn operands<C: HasGraph>(self, ctx: &C) -> Result<Vec<Value>, OutOfMemory>
         requires { IsLive (C.graph ctx.now) (TheOperation (pointer self)) }
         ensures { IfOk result (λ all. all.items ≡ operands (C.graph ctx.now) (pointer self)) };
 
@@ -55,7 +55,7 @@ pub trait OperationParts: Sized {
         ensures { slice_get (successors (C.graph ctx.now) (pointer self)) index ≡ Some result };
 
     /// Returns the successors of the operation, in order.
-    fn successors<C: HasGraph>(self, ctx: &C) -> Result<Vec<Ptr<BasicBlock>>, AllocError>
+    fn successors<C: HasGraph>(self, ctx: &C) -> Result<Vec<Ptr<BasicBlock>>, OutOfMemory>
         requires { IsLive (C.graph ctx.now) (TheOperation (pointer self)) }
         ensures { IfOk result (λ all. all.items ≡ successors (C.graph ctx.now) (pointer self)) };
 
@@ -71,7 +71,7 @@ pub trait OperationParts: Sized {
         ensures alive { IsDefinedValue (C.graph ctx.now) result };
 
     /// Returns the results of the operation, in order.
-    fn results<C: HasGraph>(self, ctx: &C) -> Result<Vec<Value>, AllocError>
+    fn results<C: HasGraph>(self, ctx: &C) -> Result<Vec<Value>, OutOfMemory>
         requires { IsLive (C.graph ctx.now) (TheOperation (pointer self)) }
         ensures { IfOk result (λ all. all.items ≡ each (Result (pointer self))
             (length (results (C.graph ctx.now) (pointer self)))) };
@@ -87,12 +87,12 @@ pub trait OperationParts: Sized {
         ensures { Counts (IsUseOf (C.graph ctx.now) (pointer self)) result };
 
     /// Returns the operands that are results of the operation, each once, in an unspecified order.
-    fn uses<C: HasGraph>(self, ctx: &C) -> Result<Vec<Site>, AllocError>
+    fn uses<C: HasGraph>(self, ctx: &C) -> Result<Vec<Site>, OutOfMemory>
         requires { IsLive (C.graph ctx.now) (TheOperation (pointer self)) }
         ensures { IfOk result (λ us. Lists (IsUseOf (C.graph ctx.now) (pointer self)) us.items) };
 
     /// Returns the regions of the operation, in order.
-    fn regions<C: HasGraph>(self, ctx: &C) -> Result<Vec<Ptr<Region>>, AllocError>
+    fn regions<C: HasGraph>(self, ctx: &C) -> Result<Vec<Ptr<Region>>, OutOfMemory>
         requires { IsLive (C.graph ctx.now) (TheOperation (pointer self)) }
         ensures { IfOk result (λ all. all.items ≡ regions (C.graph ctx.now) (pointer self)) };
 }
@@ -119,7 +119,7 @@ impl OperationParts for Ptr<Operation> {
         ctx.graph().get_operand(self, index)
     }
 
-    fn operands<C: HasGraph>(self, ctx: &C) -> Result<Vec<Value>, AllocError> {
+    fn operands<C: HasGraph>(self, ctx: &C) -> Result<Vec<Value>, OutOfMemory> {
         let graph = ctx.graph();
         let count = graph.num_operands(self);
         listed(graph.allocator(), graph, self, count, Graph::get_operand)
@@ -133,7 +133,7 @@ impl OperationParts for Ptr<Operation> {
         ctx.graph().get_successor(self, index)
     }
 
-    fn successors<C: HasGraph>(self, ctx: &C) -> Result<Vec<Ptr<BasicBlock>>, AllocError> {
+    fn successors<C: HasGraph>(self, ctx: &C) -> Result<Vec<Ptr<BasicBlock>>, OutOfMemory> {
         let graph = ctx.graph();
         let count = graph.num_successors(self);
         listed(graph.allocator(), graph, self, count, Graph::get_successor)
@@ -147,7 +147,7 @@ impl OperationParts for Ptr<Operation> {
         Value::Result(self, index)
     }
 
-    fn results<C: HasGraph>(self, ctx: &C) -> Result<Vec<Value>, AllocError> {
+    fn results<C: HasGraph>(self, ctx: &C) -> Result<Vec<Value>, OutOfMemory> {
         let alloc = ctx.graph().allocator();
         let count = self.get_num_results(ctx);
         listed(alloc, ctx, self, count, |_, op, i| Value::Result(op, i))
@@ -176,16 +176,16 @@ impl OperationParts for Ptr<Operation> {
         n
     }
 
-    fn uses<C: HasGraph>(self, ctx: &C) -> Result<Vec<Site>, AllocError> {
+    fn uses<C: HasGraph>(self, ctx: &C) -> Result<Vec<Site>, OutOfMemory> {
         let mut all = Vec::new(ctx.graph().allocator());
         for i in 0..count_results(ctx, self) {
             let uses = ctx.graph().uses(Defined::OfValue(Value::Result(self, i)))?;
-            all.extend_from_slice(&uses)?;
+            vec::extend_from_slice(&mut all, &uses)?;
         }
         Ok(all)
     }
 
-    fn regions<C: HasGraph>(self, ctx: &C) -> Result<Vec<Ptr<Region>>, AllocError> {
+    fn regions<C: HasGraph>(self, ctx: &C) -> Result<Vec<Ptr<Region>>, OutOfMemory> {
         let alloc = ctx.graph().allocator();
         let count = self.num_regions(ctx);
         listed(alloc, self, ctx, count, Ptr::get_region)

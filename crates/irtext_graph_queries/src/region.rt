@@ -8,7 +8,7 @@ use crate::listed::listed;
 use irtext_graph::arena::Ptr;
 use irtext_graph::held::HasGraph;
 use irtext_graph::object::{BasicBlock, Region};
-use std::alloc::AllocError;
+use irtext_memory::OutOfMemory;
 
 /// The blocks of a region, by the region's pointer, in any holder of a graph. The region must be live in the graph.
 pub trait RegionParts: Sized {
@@ -19,7 +19,7 @@ pub trait RegionParts: Sized {
     ghost pointer: { Self → Ptr Region };
 
     /// Returns the blocks of the region, in order. Fails only when out of memory.
-    fn blocks<C: HasGraph>(self, ctx: &C) -> Result<Vec<Ptr<BasicBlock>>, AllocError>
+    fn blocks<C: HasGraph>(self, ctx: &C) -> Result<Vec<Ptr<BasicBlock>>, OutOfMemory>
         requires { IsLive (C.graph ctx.now) (TheRegion (pointer self)) }
         ensures { IfOk result (λ all. all.items ≡ blocks (C.graph ctx.now) (pointer self)) };
 
@@ -32,7 +32,7 @@ pub trait RegionParts: Sized {
 impl RegionParts for Ptr<Region> {
     ghost pointer = { λ p. p };
 
-    fn blocks<C: HasGraph>(self, ctx: &C) -> Result<Vec<Ptr<BasicBlock>>, AllocError> {
+    fn blocks<C: HasGraph>(self, ctx: &C) -> Result<Vec<Ptr<BasicBlock>>, OutOfMemory> {
         let alloc = ctx.graph().allocator();
         let count = self.num_blocks(ctx);
         listed(alloc, self, ctx, count, Ptr::get_block)

@@ -10,7 +10,7 @@ use irtext_graph::arena::Ptr;
 use irtext_graph::graph::Graph;
 use irtext_graph::held::HasGraph;
 use irtext_graph::object::{Operation, Value};
-use std::alloc::AllocError;
+use irtext_memory::OutOfMemory;
 
 /// The types of an operation's results and operands, by the operation's pointer, in any holder of a graph. The operation must be live in
 /// the graph. Each call fails only when out of memory. `Graph::type_of` returns the type of one value.
@@ -22,13 +22,13 @@ pub trait GraphTypes: Sized {
     ghost pointer: { Self → Ptr Operation };
 
     /// Returns the types of the results of the operation, in order.
-    fn result_types<C: HasGraph>(self, ctx: &C) -> Result<Vec<&C::T>, AllocError>
+    fn result_types<C: HasGraph>(self, ctx: &C) -> Result<Vec<&C::T>, OutOfMemory>
         requires { IsLive (C.graph ctx.now) (TheOperation (pointer self)) }
         ensures { IfOk result (λ all. map (λ t. t.now) all.items ≡ map (λ v. v.of_type)
             (results (C.graph ctx.now) (pointer self))) };
 
     /// Returns the types of the operands of the operation, in order.
-    fn operand_types<C: HasGraph>(self, ctx: &C) -> Result<Vec<&C::T>, AllocError>
+    fn operand_types<C: HasGraph>(self, ctx: &C) -> Result<Vec<&C::T>, OutOfMemory>
         requires { IsLive (C.graph ctx.now) (TheOperation (pointer self)) }
         ensures { IfOk result (λ all. map (λ t. Some t.now) all.items
             ≡ map (λ v. option_map (λ t. t.of_type) (value_at (C.graph ctx.now) v))
@@ -66,13 +66,13 @@ fn type_of_operand<O: Drop, B: Drop, T: Drop>(
 impl GraphTypes for Ptr<Operation> {
     ghost pointer = { λ p. p };
 
-    fn result_types<C: HasGraph>(self, ctx: &C) -> Result<Vec<&C::T>, AllocError> {
+    fn result_types<C: HasGraph>(self, ctx: &C) -> Result<Vec<&C::T>, OutOfMemory> {
         let graph = ctx.graph();
         let count = graph.num_results(self);
         listed(graph.allocator(), graph, self, count, type_of_result)
     }
 
-    fn operand_types<C: HasGraph>(self, ctx: &C) -> Result<Vec<&C::T>, AllocError> {
+    fn operand_types<C: HasGraph>(self, ctx: &C) -> Result<Vec<&C::T>, OutOfMemory> {
         let graph = ctx.graph();
         let count = graph.num_operands(self);
         listed(graph.allocator(), graph, self, count, type_of_operand)

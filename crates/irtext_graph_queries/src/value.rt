@@ -10,7 +10,7 @@ ghost use Rattle.irtext_graph.specs.Used.{IsUse, Replaces, IsUnusedBelow, user};
 use irtext_graph::arena::Ptr;
 use irtext_graph::held::HasGraph;
 use irtext_graph::object::{Defined, Operation, Site, Value};
-use std::alloc::AllocError;
+use irtext_memory::OutOfMemory;
 
 /// The operation of a use.
 pub trait UseSite: Sized {
@@ -53,7 +53,7 @@ pub trait ValueUses: Sized {
         ensures { Counts (IsUse (C.graph ctx.now) (OfValue (value self))) result };
 
     /// Returns the operands that are the value, each once, in an unspecified order. Fails only when out of memory.
-    fn uses<C: HasGraph>(self, ctx: &C) -> Result<Vec<Site>, AllocError>
+    fn uses<C: HasGraph>(self, ctx: &C) -> Result<Vec<Site>, OutOfMemory>
         requires { IsDefinedValue (C.graph ctx.now) (value self) }
         ensures { IfOk result (λ us. Lists (IsUse (C.graph ctx.now) (OfValue (value self))) us.items) };
 
@@ -79,7 +79,7 @@ impl ValueUses for Value {
         ctx.graph().num_uses(Defined::OfValue(self))
     }
 
-    fn uses<C: HasGraph>(self, ctx: &C) -> Result<Vec<Site>, AllocError> {
+    fn uses<C: HasGraph>(self, ctx: &C) -> Result<Vec<Site>, OutOfMemory> {
         ctx.graph().uses(Defined::OfValue(self))
     }
 

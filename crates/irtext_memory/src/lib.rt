@@ -10,6 +10,8 @@ pub mod string;
 pub mod vec;
 
 ghost use Rattle.std.specs.Prelude.{◌≡◌, Ok, IfOk, OnErr, IsErr};
+ghost use Rattle.irtext_memory.specs.declared.NoRoom.TheVariants.{Memory};
+ghost use Rattle.irtext_memory.specs.Rooms.{LacksMemory};
 
 use std::alloc::{AllocError, AllocFailed};
 
@@ -26,6 +28,15 @@ pub struct Refused<X> {
     error: OutOfMemory,
 }
 
+/// Why there was no room for what was to be stored. A call says in its contract exactly when it is full.
+#[derive(PartialEq, Eq, Debug, Drop)]
+pub enum NoRoom {
+    /// Out of memory.
+    Memory(OutOfMemory),
+    /// A counter is at its limit. No allocation was refused.
+    Full,
+}
+
 impl<X: Drop> From<Refused<X>> for OutOfMemory {
     #[inline(always)]
     fn from(refused: Refused<X>) -> OutOfMemory {
@@ -40,6 +51,31 @@ impl<X: Drop> From<Refused<X>> for OutOfMemory {
 impl From<OutOfMemory> for AllocError {
     #[inline(always)]
     fn from(_: OutOfMemory) -> AllocError {
+        AllocError
+    }
+}
+
+impl From<OutOfMemory> for NoRoom {
+    ghost from_gives = { λ e room. room ≡ Memory e };
+
+    #[inline(always)]
+    fn from(error: OutOfMemory) -> NoRoom {
+        NoRoom::Memory(error)
+    }
+}
+
+impl<X: Drop> From<Refused<X>> for NoRoom {
+    ghost from_gives = { λ _ room. LacksMemory room };
+
+    #[inline(always)]
+    fn from(refused: Refused<X>) -> NoRoom {
+        NoRoom::Memory(OutOfMemory::from(refused))
+    }
+}
+
+impl From<NoRoom> for AllocError {
+    #[inline(always)]
+    fn from(_: NoRoom) -> AllocError {
         AllocError
     }
 }

@@ -104,7 +104,8 @@ module _ {T A : Type 0} (types_at : Text → Outcome T) (types_written : T → T
   ran =
       let found = knot.tree_found types_at types_written reading written dialects types_split splits (naming (format_of dialects) named.0) words leaves.tree text rest (going (start_with earlier)) reads_tree in
       let runs = read_runs (texts_of types_at types_written) (texts_of reading written) (format_of dialects) named.0 (isolated dialects) leaves.tree text rest named.1 reads_tree (going (start_with earlier)) in
-      sym runs ∙ came_same tt tt _ _ rest rest (sym found ∙ following.came)
+      let comes = knot.tree_comes types_at types_written reading written dialects types_split splits (naming (format_of dialects) named.0) words accepted text (going (start_with earlier)) (going following.state) rest following.came in
+      sym runs ∙ came_same tt tt _ _ rest rest (sym found ∙ comes)
 
   -- so it does where nothing was marked
   alone : (st : history.State) × (run (going start) (events script) ≡ going st) × (following.state ≡ record st { marks = earlier ++ st.marks })

@@ -6,6 +6,7 @@ use Rattle.irtext_graph.specs.declared.object.Value.{Value}
 use Rattle.irtext_graph.specs.declared.object.Defined.{Defined}
 use Rattle.irtext_graph.specs.declared.object.Defined.TheVariants.{OfValue, OfBlock}
 use Rattle.irtext_graph.specs.Graph.{GraphView}
+use Rattle.irtext_graph.specs.Limits.{NoMoreBlocks, NoMoreOperations}
 use Rattle.irtext_scopes.specs.declared.tracker.NameTracker.{NameTracker}
 use Rattle.irtext_scopes.specs.Scopes.{Scope}
 use Rattle.irtext_grammar.specs.Names.Script.{Place, User, use_value, use_label, define_value, define_label}
@@ -56,3 +57,8 @@ BlankOf B labels = B
 abbrev pub Makes : {O B T V : Type 0} (kind : NamesOf V) → BlankOf B kind → GraphView (Option O) B (Option T) → GraphView (Option O) B (Option T) → V → Type 0
 Makes values blank = MakesValue
 Makes labels blank = MakesLabel blank
+
+-- no more placeholders can be made: for a value that is an operation with one result, for a label a block without arguments
+abbrev pub NoMore : {O B T V : Type 0} → NamesOf V → GraphView O B T → Type 0
+NoMore values = NoMoreOperations 1 0 0
+NoMore labels = NoMoreBlocks 0

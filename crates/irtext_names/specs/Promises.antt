@@ -64,7 +64,8 @@ module _ {A : Type 0} where
 module _ {T A : Type 0} (types_at : Text → Outcome T) (attr : Text → Outcome (AttrView A)) (dialects : List (Text × Table)) (earlier : List ℕ) where
   -- The fault of a text whose end is `rest`, at which an operation outside of every region is expected, where the earlier indices are
   -- marked. Either it is a fault of the text, and no name had failed before it; it is committed unless no operation comes next. Among
-  -- these are the first name that the operation itself uses, since no scope is open, and the first reserved key before its first region.
+  -- these are the first name that the operation itself uses, since no scope is open, and the first attribute of an operation that is not
+  -- allowed under its key.
   -- Or it is the failure of a name or a mark, committed, whatever follows in the text. So the text determines which of the two comes
   -- first, even if it parses as no tree.
   pub data HasFault (text rest : Text) (fault : ParseFault A) : Type 0 where

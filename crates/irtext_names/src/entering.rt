@@ -1,10 +1,12 @@
 //! What the beginning of a region does: its scopes are opened, it is created, and its `{` is parsed.
-ghost use Rattle.std.specs.Prelude.{◌≡◌, ◌≤◌, ◌⊎◌, ℕ, true, codes, [], ◌∷◌, IfOk, IfErr, IfSome, OnOk, IsSome};
+ghost use Rattle.std.specs.Prelude.{◌≡◌, ◌≤◌, ◌↔◌, ◌⊎◌, ℕ, true, Err, codes, [], ◌∷◌, IfOk, IfErr, IfSome, OnOk, IsSome};
 ghost use Rattle.irtext_base.specs.Faults as fault;
 ghost use Rattle.irtext_base.specs.Faults.{fault_of};
 ghost use Rattle.irtext_base.specs.Stream.{IsAt};
 ghost use Rattle.irtext_context.specs.Context.{operation, KeepsOlder};
 ghost use Rattle.irtext_graph.specs.Graph.{IsNew};
+ghost use Rattle.irtext_graph.specs.Limits.{NoMoreRegions};
+ghost use Rattle.irtext_memory.specs.declared.NoRoom.{NoRoom};
 ghost use Rattle.irtext_graph.specs.declared.object.Object.TheVariants.{TheOperation};
 ghost use Rattle.irtext_tokens.specs.Infix.{◌▷◌};
 ghost use Rattle.irtext_tokens.specs.MustRead.{MustRead};
@@ -34,13 +36,13 @@ use irtext_context::base::operation::OperationData;
 use irtext_context::base::{Operation, Ptr, Region};
 use irtext_graph::graph::Graph;
 use irtext_graph::held::HasGraph;
+use irtext_memory::NoRoom;
 use irtext_parse_state::parsable::StateStream;
 use irtext_parse_state::parsable::state::State;
 use irtext_scopes::tracker::EnterFault;
 use irtext_tokens::irfmt::demanded::text_demanded;
 use irtext_tokens::irfmt::faults::out_of_memory;
 use irtext_tokens::irfmt::parsers::skip_white_space;
-use std::alloc::AllocError;
 
 /// Returns the error for a region that is not isolated while no scope of values is open, at the beginning of the text. Leaves the stream
 /// failed.
@@ -102,17 +104,19 @@ pub fn enter_here<T: IrText<A>, A: AttrText<A>, U>(
     }
 }
 
-/// Creates a region: the last of an operation, or without a parent if none is given.
+/// Creates a region: the last of an operation, or without a parent if none is given. Fails with `Full` exactly if the graph can have no
+/// more regions, and else only when out of memory.
 pub fn create<T: IrText<A>, A: AttrText<A>, U>(
     s: &mut StateStream<'_, T, A, U>,
     op: Option<Ptr<Operation>>,
-) -> Result<Ptr<Region>, AllocError>
+) -> Result<Ptr<Region>, NoRoom>
     requires alive { IfSome op (λ o. IsSome (operation s.old.state.ctx.now o)) }
     ensures lent { s.new.state.ctx.ghost_name ≡ s.old.state.ctx.ghost_name }
     ensures rest { KeepsRest s.old.state s.new.state }
     ensures marks { marks_of s.new.state ≡ marks_of s.old.state }
     ensures stream { s.new.stream ≡ s.old.stream }
     ensures creates { IfOk result (CreatesIn op s.old.state.ctx.now s.new.state.ctx.now) }
+    ensures full { (result ≡ Err NoRoom.Full) ↔ NoMoreRegions s.old.state.ctx.now.graph }
     ensures kept { (m : ℕ) → m ≤ s.old.state.ctx.now.graph.made
         → IfSome op (λ o. IsNew m s.old.state.ctx.now.graph (TheOperation o))
         → KeepsOlder m s.old.state.ctx.now s.new.state.ctx.now }

@@ -4,9 +4,10 @@ use irtext_few::Few;
 use irtext_graph::arena::Ptr;
 use irtext_graph::graph::Graph;
 use irtext_graph::object::{BasicBlock, Defined, Value};
-use irtext_scopes::scopes::{DefineFault, NoRoom};
+use irtext_memory::NoRoom;
+use irtext_scopes::scopes::DefineFault;
 use irtext_scopes::tracker::NameTracker;
-use std::alloc::{AllocError, Global};
+use std::alloc::Global;
 
 /// The names of a parse over a graph.
 pub type Names = NameTracker<Value, Ptr<BasicBlock>>;
@@ -15,10 +16,11 @@ pub type Names = NameTracker<Value, Ptr<BasicBlock>>;
 pub trait Referent<B: Drop>: Copy {
     ghost use Rattle.std.specs.Prelude.{◌≡◌, ◌<◌, ◌≤◌, ◌↔◌, ℕ, length, true, None, Err, IfOk, OnOk, OnErr, IfNone, option_map};
     ghost use Rattle.irtext_graph.specs.Graph.{KeepsOlder};
+    ghost use Rattle.irtext_memory.specs.declared.NoRoom.{NoRoom};
     ghost use Rattle.irtext_scopes.specs.declared.scopes.DefineFault.{DefineFault};
     ghost use Rattle.irtext_scopes.specs.declared.scopes.Entry.TheVariants.{Pending};
     ghost use Rattle.irtext_scopes.specs.Scopes.{LacksRoom, innermost, in_innermost, is_open, find, mentioned, defined, is_defined, placeholder_of, value_of};
-    ghost use Rattle.irtext_names.specs.Kinds.{NamesOf, BlankOf, Makes, scopes_of, other, defined_as};
+    ghost use Rattle.irtext_names.specs.Kinds.{NamesOf, BlankOf, Makes, NoMore, scopes_of, other, defined_as};
 
     /// What a placeholder is made with.
     type Blank: Drop;
@@ -69,12 +71,14 @@ pub trait Referent<B: Drop>: Copy {
     fn as_defined(self) -> Defined
         ensures { result ≡ defined_as kind self };
 
-    /// Makes a placeholder. If an allocation fails or a counter is full, it fails and the graph is unchanged.
+    /// Makes a placeholder. Fails with `Full` exactly if the graph can have no more of them, and else only when out of memory; then the
+    /// graph is unchanged.
     fn make<O: Drop, T: Drop>(
         graph: &mut Graph<Option<O>, B, Option<T>>,
         with: Self::Blank,
-    ) -> Result<Self, AllocError>
+    ) -> Result<Self, NoRoom>
         ensures made { IfOk result (Makes kind (blank with) graph.old graph.new) }
+        ensures full { (result ≡ Err NoRoom.Full) ↔ NoMore kind graph.old }
         ensures err { OnErr result (graph.new ≡ graph.old) }
         ensures kept { (m : ℕ) → m ≤ graph.old.made → KeepsOlder m graph.old graph.new };
 }
@@ -112,9 +116,11 @@ impl<B: Drop> Referent<B> for Value {
     fn make<O: Drop, T: Drop>(
         graph: &mut Graph<Option<O>, B, Option<T>>,
         _with: (),
-    ) -> Result<Value, AllocError> {
-        let op = graph.make_operation(None, Few::one(None), &[], &[])?;
-        Ok(Value::Result(op, 0))
+    ) -> Result<Value, NoRoom> {
+        match graph.make_operation(None, Few::one(None), &[], &[]) {
+            Ok(op) => Ok(Value::Result(op, 0)),
+            Err(error) => Err(error),
+        }
     }
 }
 
@@ -155,7 +161,7 @@ impl<B: Drop> Referent<B> for Ptr<BasicBlock> {
     fn make<O: Drop, T: Drop>(
         graph: &mut Graph<Option<O>, B, Option<T>>,
         with: B,
-    ) -> Result<Ptr<BasicBlock>, AllocError> {
+    ) -> Result<Ptr<BasicBlock>, NoRoom> {
         graph.make_block(with, Few::none())
     }
 }

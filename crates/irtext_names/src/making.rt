@@ -131,7 +131,7 @@ pub fn make_bare<T: IrText<A>, A: AttrText<A>>(
     };
     match ctx.make_operation(id, attributes, loc) {
         Ok(op) => Ok((op, 0)),
-        Err(error) => Err(error),
+        Err(_) => Err(AllocError),
     }
 }
 
@@ -200,7 +200,7 @@ fn make_of<T: IrText<A>, A: AttrText<A>>(
             ended((operands, successors));
             Ok((op, results))
         }
-        Err(error) => failed((operands, successors), error),
+        Err(_) => failed((operands, successors), AllocError),
     }
 }
 

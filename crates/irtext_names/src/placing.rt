@@ -1,7 +1,9 @@
 //! Operations and blocks that are put where they belong: an operation into a block, a block into a region.
-ghost use Rattle.std.specs.Prelude.{◌≡◌, ◌≤◌, ℕ, [], None, IfOk, IfSome, OnOk};
+ghost use Rattle.std.specs.Prelude.{◌≡◌, ◌≤◌, ◌↔◌, ℕ, [], None, Err, IfOk, IfSome, OnOk, length};
 ghost use Rattle.irtext_context.specs.Context.{KeepsOlder};
 ghost use Rattle.irtext_graph.specs.Graph.{IsNew, IsLive, parent, children};
+ghost use Rattle.irtext_graph.specs.Limits.{NoMoreBlocks};
+ghost use Rattle.irtext_memory.specs.declared.NoRoom.{NoRoom};
 ghost use Rattle.irtext_graph.specs.declared.object.Object.TheVariants.{TheBlock, TheOperation, TheRegion};
 ghost use Rattle.irtext_names.specs.Placing.{PlacedIn, PlacesBlock};
 
@@ -13,10 +15,10 @@ use irtext_context::base::{AttributeDict, BasicBlock, Context, Operation, Ptr, R
 use irtext_few::Few;
 use irtext_graph::held::HasGraph;
 use irtext_graph::object::Object;
-use std::alloc::AllocError;
+use irtext_memory::{NoRoom, OutOfMemory};
 
-/// Creates a block with arguments of these types, and appends it to a region. If the block was created but could not be appended, it stays
-/// in the context.
+/// Creates a block with arguments of these types, and appends it to a region. Fails with `Full` exactly if the graph can have no such
+/// block, and else only when out of memory. If the block was created but could not be appended, it stays in the context.
 pub fn place_block<T: IrText<A>, A: AttrText<A>>(
     ctx: &mut Context<T, A>,
     region: Ptr<Region>,
@@ -24,10 +26,11 @@ pub fn place_block<T: IrText<A>, A: AttrText<A>>(
     attributes: AttributeDict<A>,
     loc: Location<A>,
     types: Few<T>,
-) -> Result<Ptr<BasicBlock>, AllocError>
+) -> Result<Ptr<BasicBlock>, NoRoom>
     requires region { IsLive ctx.old.graph (TheRegion region) }
     ensures places { IfOk result (λ b. PlacesBlock ctx.old ctx.new region b
         (record { label = label; attributes = attributes; loc = loc }) types) }
+    ensures full { (result ≡ Err NoRoom.Full) ↔ NoMoreBlocks (length types) ctx.old.graph }
     ensures kept { (m : ℕ) → m ≤ ctx.old.graph.made → IsNew m ctx.old.graph (TheRegion region)
         → KeepsOlder m ctx.old ctx.new }
 {
@@ -39,7 +42,7 @@ pub fn place_block<T: IrText<A>, A: AttrText<A>>(
     let graph = ctx.graph_mut();
     match graph.insert_at_back(Object::TheRegion(region), Object::TheBlock(block)) {
         Ok(()) => Ok(block),
-        Err(error) => Err(error),
+        Err(error) => Err(NoRoom::Memory(error)),
     }
 }
 
@@ -48,7 +51,7 @@ pub fn placed<T: IrText<A>, A: AttrText<A>>(
     ctx: &mut Context<T, A>,
     block: Option<Ptr<BasicBlock>>,
     op: Ptr<Operation>,
-) -> Result<(), AllocError>
+) -> Result<(), OutOfMemory>
     requires block { IfSome block (λ b. IsLive ctx.old.graph (TheBlock b)) }
     requires op { IsLive ctx.old.graph (TheOperation op) }
     requires free { parent ctx.old.graph (TheOperation op) ≡ None }

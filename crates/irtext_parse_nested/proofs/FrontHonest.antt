@@ -26,7 +26,8 @@ use Rattle.irtext_grammar.proofs.Causes.Tokens.{obeying_space}
 use Rattle.irtext_grammar.specs.Contexts.Formats.{op_id}
 use Rattle.irtext_grammar.specs.Grammar.Tree as tree
 use Rattle.irtext_grammar.specs.Grammar.Tree.{Name, Part}
-use Rattle.irtext_grammar.specs.Heads.{Step, flat, types, one, all, name_at, name_of, used_at, target_at, symbol_at, pair_at, dictionary_by, dictionary_at, outlined_or_at, directive_at, piece_at, results_at, named, lead_at, led_by, led_at}
+use Rattle.irtext_grammar.specs.declared.parsed.Setting.{Setting}
+use Rattle.irtext_grammar.specs.Heads.{Step, flat, types, one, all, name_at, name_of, used_at, target_at, symbol_at, pair_at, dictionary_by, dictionary_at, outlined_or_at, directive_at, piece_at, results_at, named, lead_at, led_by, led_at, setting}
 use Rattle.irtext_grammar.specs.Resume.{front_at}
 use Rattle.irtext_parse_nested.proofs.Ended.{within_honest}
 use Rattle.irtext_parse_nested.proofs.Faults.{StaysWithin}
@@ -35,16 +36,7 @@ use Rattle.irtext_parse_nested.proofs.Faults.{StaysWithin}
 pub name_honest : Honest name_at
 name_honest = record { of = λ text. of_mapped text (name_of (length text)) (identifier_at text) ((honest_name _).of text) }
 
-used_honest : Honest (used_at true)
-used_honest = record { of = λ text. name_honest.of text }
-
-target_honest : Honest (target_at true)
-target_honest = ◌then◌ (honest_word (codes "^")) used_honest
-
-symbol_honest : Honest symbol_at
-symbol_honest = record { of = λ text. of_mapped text (name_of (length text)) ((word (codes "@") ▷ identifier_at) text) ((◌then◌ (honest_word (codes "@")) (honest_name _)).of text) }
-
--- ---- pieces
+-- ---- dictionaries
 module _ {T A : Type 0} (types_at : Text → Outcome T) (attr : Text → Outcome (AttrView A)) (honest_types : Honest types_at) (honest : Honest attr) where
   pair_honest : Honest (pair_at attr)
   pair_honest = ◌so◌ name_honest (λ key. ◌then◌ (honest_spaced (codes ":")) (seen (λ a. (key, a)) (seen _ honest)))
@@ -52,28 +44,6 @@ module _ {T A : Type 0} (types_at : Text → Outcome T) (attr : Text → Outcome
   pub dictionary_honest : Honest (dictionary_at attr)
   unfolding dictionary_by
   dictionary_honest = record { of = λ text. (◌then◌ (honest_word (codes "[")) (◌then◌ honest_space (◌kept◌ (honest_separated 44 (pair_at attr) pair_honest) (honest_word (codes "]"))))).of text }
-
-  outlined_honest : Honest (outlined_or_at attr)
-  outlined_honest = honest_either (starts_with marker) (seen (λ _. None) (honest_word marker)) (seen Some (seen (attr_tree {A = A}) honest))
-
-  directive_honest : (d : Directive) → Honest (directive_at types_at attr true d)
-  directive_honest (format.word s) = seen _ (honest_word s)
-  directive_honest (format.operand i) = seen _ used_honest
-  directive_honest format.operands = seen _ (honest_separated 44 (used_at true) used_honest)
-  directive_honest (format.successor i) = seen _ target_honest
-  directive_honest format.successors = seen _ (honest_separated 44 (target_at true) target_honest)
-  directive_honest (format.attribute k) = seen _ outlined_honest
-  directive_honest format.dictionary = seen _ dictionary_honest
-  directive_honest (format.result_type i) = seen _ honest_types
-  directive_honest format.header = seen _ symbol_honest
-  directive_honest (format.region i) = record { of = λ text. of_missing text _ refl }
-  directive_honest format.regions = record { of = λ text. of_missing text _ refl }
-
-  pub piece_honest : (step : Step) → Honest (piece_at types_at attr true step)
-  piece_honest (flat d) = directive_honest d
-  piece_honest types = seen _ (honest_separated 44 types_at honest_types)
-  piece_honest (one i) = record { of = λ text. of_missing text _ refl }
-  piece_honest all = record { of = λ text. of_missing text _ refl }
 
 -- ---- the front
 -- any cause is allowed at any place
@@ -99,18 +69,19 @@ stays : {X : Type 0} {f : Reader X} → AllObey anything f → StaysWithin f
 stays {X} {f} h = record { within = λ text cause upto e. let o = subst (Obeys anything text) e (h.at text) in (o.says.0, o.says.1) }
 
 module _ {T A : Type 0} (types_at : Text → Outcome T) (attr : Text → Outcome (AttrView A)) (of_types : AllObey anything types_at) (of_attr : AllObey anything attr) where
-  front_obeys : (inside : Bool) (ss : List Step) (found : List (Part ℕ T A)) → AllObey anything (front_at types_at attr inside ss found)
-  front_obeys inside [] found = obeying_nothing found
-  front_obeys inside (s ∷ ss) found = obeys.◌so◌ (obeys.◌then◌ obeying_space (piece_obeys of_types of_attr inside s)) (λ p. front_obeys inside ss (found ++ tree.piece p ∷ []))
+  front_obeys : (at : Setting) (ss : List Step) (found : List (Part ℕ T A)) → AllObey anything (front_at types_at attr at ss found)
+  front_obeys at [] found = obeying_nothing found
+  front_obeys at (s ∷ ss) found = obeys.◌so◌ (obeys.◌then◌ obeying_space (piece_obeys of_types of_attr at s)) (λ p. front_obeys at ss (found ++ tree.piece p ∷ []))
 
--- that of a front's fault is, inside of a region and outside of each
-pub front_within : {T A : Type 0} (types_at : Text → Outcome T) (reading : Text → Outcome A) → Sincere types_at → Sincere reading → (inside : Bool) (ss : List Step) (found : List (Part ℕ T A)) → StaysWithin (front_at types_at (attr_at reading) inside ss found)
-front_within types_at reading sincere_types sincere inside ss found =
-    stays (front_obeys types_at (attr_at reading) (obeys_honest (record { of = of_sincere types_at sincere_types })) (obeys_honest (honest_attr (record { of = of_sincere reading sincere }))) inside ss found)
+-- that of a front's fault is, in each setting
+pub front_within : {T A : Type 0} (types_at : Text → Outcome T) (reading : Text → Outcome A) → Sincere types_at → Sincere reading → (at : Setting) (ss : List Step) (found : List (Part ℕ T A)) → StaysWithin (front_at types_at (attr_at reading) at ss found)
+front_within types_at reading sincere_types sincere at ss found =
+    stays (front_obeys types_at (attr_at reading) (obeys_honest (record { of = of_sincere types_at sincere_types })) (obeys_honest (honest_attr (record { of = of_sincere reading sincere }))) at ss found)
 
 -- the same for one piece, after white space
-pub spaced_within : {T A : Type 0} (types_at : Text → Outcome T) (reading : Text → Outcome A) → Sincere types_at → Sincere reading → (step : Step) → StaysWithin (space_at ▷ piece_at types_at (attr_at reading) true step)
-spaced_within types_at reading sincere_types sincere step = within_honest (◌then◌ honest_space (piece_honest types_at (attr_at reading) (record { of = of_sincere types_at sincere_types }) (honest_attr (record { of = of_sincere reading sincere })) step))
+pub spaced_within : {T A : Type 0} (types_at : Text → Outcome T) (reading : Text → Outcome A) → Sincere types_at → Sincere reading → (step : Step) → StaysWithin (space_at ▷ piece_at types_at (attr_at reading) (setting true false) step)
+spaced_within types_at reading sincere_types sincere step =
+    stays (obeys.◌then◌ obeying_space (piece_obeys (obeys_honest (record { of = of_sincere types_at sincere_types })) (obeys_honest (honest_attr (record { of = of_sincere reading sincere }))) (setting true false) step))
 
 -- ---- the lead
 results_honest : Honest results_at

@@ -16,6 +16,7 @@ use Rattle.irtext_base.specs.FormatViews.{format_of}
 use Rattle.irtext_tokens.specs.AttrTexts.{attr_at}
 use Rattle.irtext_tokens.proofs.Steps.{alone}
 use Rattle.irtext_scopes.specs.Names.{KeepsNames}
+use Rattle.irtext_grammar.specs.declared.parsed.Setting.{Setting}
 use Rattle.irtext_grammar.specs.Contexts.Formats as formats
 use Rattle.irtext_grammar.specs.Contexts.Held.{whole}
 use Rattle.irtext_grammar.specs.Grammar.Tree.{Name}
@@ -23,7 +24,7 @@ use Rattle.irtext_grammar.specs.Readers.Streams.{itself, replaced}
 use Rattle.irtext_grammar.specs.Promises.Root.{UnlessMemory}
 use Rattle.irtext_grammar.specs.Promises.Supported.{is_committed}
 use Rattle.irtext_grammar.proofs.Readers.Answered.{Answered, answered, may_answered, moves_more}
-use Rattle.irtext_grammar.specs.Heads.{steps_of, front_steps, led_at}
+use Rattle.irtext_grammar.specs.Heads.{steps_of, front_steps, led_at, setting}
 use Rattle.irtext_grammar.specs.Reached.{steps_in}
 use Rattle.irtext_grammar.specs.Resume.{front_at}
 use Rattle.irtext_grammar.specs.declared.parsed.ReadName.{ReadName}
@@ -134,26 +135,26 @@ module _ {T A : Type 0} (types_at : Text → Outcome T) (reading : Text → Outc
     isolated_is = ap (λ o. elim o [ Some k ↦ k.isolated | None ↦ false ]) known.known
 
     -- a piece is missing
-    pub piece_misses : (more : List Text) {fault : ParseFault A} {new : StreamView} → Sincere types_at → Sincere reading → MustFront {T = T} itself replaced more types_at (attr_at reading) inside (steps_of (format_of info.format)) mid (Err fault) new
+    pub piece_misses : (more : List Text) {fault : ParseFault A} {new : StreamView} → Sincere types_at → Sincere reading → MustFront {T = T} itself replaced more types_at (attr_at reading) (setting inside false) (steps_of (format_of info.format)) mid (Err fault) new
         → UnlessMemory (MissesFront types_at (attr_at reading) dialects inside old) fault
     piece_misses more {fault} {new} sincere_types sincere f =
-        let within = front_within types_at reading sincere_types sincere inside (front_steps (steps_of (format_of info.format))) [] in
+        let within = front_within types_at reading sincere_types sincere (setting inside false) (front_steps (steps_of (format_of info.format))) [] in
         let c = must_commit still_fine f.read in
-        elim (must_demand alone (front_of types_at (attr_at reading) inside (steps_of (format_of info.format)) []) within still_fine f.read) [
+        elim (must_demand alone (front_of types_at (attr_at reading) (setting inside false) (steps_of (format_of info.format)) []) within still_fine f.read) [
           | inl s ↦ inl s
           | inr d ↦ inr (misses_piece (h.meant op).0 (id_of op.1) led_is.taken mid.rest led_here
-              (subst (λ t. Demands t (front_at types_at (attr_at reading) inside (front_steps (steps_in dialects (id_of op.1))) [] mid.rest) mid.rest fault) same_text
-              (subst (λ ss. Demands (whole mid) (front_at types_at (attr_at reading) inside (front_steps ss) [] mid.rest) mid.rest fault) (sym steps_are) d)) c)
+              (subst (λ t. Demands t (front_at types_at (attr_at reading) (setting inside false) (front_steps (steps_in dialects (id_of op.1))) [] mid.rest) mid.rest fault) same_text
+              (subst (λ ss. Demands (whole mid) (front_at types_at (attr_at reading) (setting inside false) (front_steps ss) [] mid.rest) mid.rest fault) (sym steps_are) d)) c)
         ]
 
-    pub piece_commits : (more : List Text) {fault : ParseFault A} {new : StreamView} → MustFront {T = T} itself replaced more types_at (attr_at reading) inside (steps_of (format_of info.format)) mid (Err fault) new → fault.committed ≡ true
+    pub piece_commits : (more : List Text) {fault : ParseFault A} {new : StreamView} → MustFront {T = T} itself replaced more types_at (attr_at reading) (setting inside false) (steps_of (format_of info.format)) mid (Err fault) new → fault.committed ≡ true
     piece_commits more f = must_commit still_fine f.read
 
     -- all of it is in the text
-    pub front_comes : (more : List Text) → KeepsNames names more → (pieces : List (ReadPiece T A)) (new : StreamView) → MustFront {A = A} itself replaced more types_at (attr_at reading) inside (steps_of (format_of info.format)) mid (Ok pieces) new
-        → length pieces ≡ length (front_steps (steps_of (format_of info.format))) → FrontComes types_at (attr_at reading) dialects inside more old op.0 op.1 pieces new
-    front_comes more keeps pieces new f count =
-        let there : Answered (front_of types_at (attr_at reading) inside (steps_of (format_of info.format)) [] mid.rest) mid (f.meant pieces) new = answered {A = A} f.read in
+    pub front_comes : (at : Setting) (more : List Text) → KeepsNames names more → (pieces : List (ReadPiece T A)) (new : StreamView) → MustFront {A = A} itself replaced more types_at (attr_at reading) at (steps_of (format_of info.format)) mid (Ok pieces) new
+        → length pieces ≡ length (front_steps (steps_of (format_of info.format))) → FrontComes types_at (attr_at reading) dialects at more old op.0 op.1 pieces new
+    front_comes at more keeps pieces new f count =
+        let there : Answered (front_of types_at (attr_at reading) at (steps_of (format_of info.format)) [] mid.rest) mid (f.meant pieces) new = answered {A = A} f.read in
         record {
           results = (h.meant op).0;
           lead = led_is.taken;
@@ -161,7 +162,7 @@ module _ {T A : Type 0} (types_at : Text → Outcome T) (reading : Text → Outc
           led = led_here;
           parts = f.meant pieces;
           taken = there.taken;
-          front = ap (λ ss. front_at types_at (attr_at reading) inside (front_steps ss) [] mid.rest) steps_are ∙ there.is;
+          front = ap (λ ss. front_at types_at (attr_at reading) at (front_steps ss) [] mid.rest) steps_are ∙ there.is;
           moves = moves_more (record { taken = led_is.taken; takes = led_is.takes }) (record { taken = there.taken; takes = there.takes });
           named = each_on names more (whole old) keeps op.0 (h.meant op).0 h.means.0;
           are = subst (λ t. Each (IsPart more t) pieces (f.meant pieces)) same_text f.means;

@@ -32,12 +32,13 @@ use Rattle.irtext_grammar.specs.Names.Acts.{piece_acts}
 use Rattle.irtext_grammar.specs.Names.Script.{Path, ReservedKey}
 use Rattle.irtext_grammar.proofs.Joins.Answers.{followed_read}
 use Rattle.irtext_grammar.specs.Exact.{IsOfStep}
-use Rattle.irtext_grammar.specs.Heads.{Step, flat, types, one, all, steps_of, directive_at, piece_at}
+use Rattle.irtext_grammar.specs.Heads.{Step, flat, types, one, all, steps_of, directive_at, piece_at, setting}
 use Rattle.irtext_names.specs.Rows.{TakesUses}
 use Rattle.irtext_grammar.specs.declared.parsed.Key.{Key}
 use Rattle.irtext_grammar.specs.declared.parsed.ReadName.{ReadName}
 use Rattle.irtext_grammar.specs.declared.parsed.ReadPiece.{ReadPiece}
 use Rattle.irtext_grammar.specs.declared.parsed.ReadPiece.TheVariants as read
+use Rattle.irtext_grammar.specs.declared.parsed.Setting.{Setting}
 use Rattle.irtext_grammar.specs.Parsed.{IsKey, IsPiece, seen_attribute}
 use Rattle.irtext_parse_pieces.specs.Pieces.{MustPiece}
 use Rattle.irtext_base.specs.declared.base.attributes.AttrObj.{AttrObj}
@@ -87,9 +88,9 @@ ended dialects id info n known none h = subst IsFlatNext (ap (λ ss. slice_get s
 -- ---- what is parsed
 module _ {T A : Type 0} (types_at : Reader T) (attr : Reader (AttrView A)) where
   -- what a step parses after white space is a piece of this step
-  pub spaced_of : (step : Step) (text : Text) (p : Piece ℕ T A) (taken rest : Text) → (space_at ▷ piece_at types_at attr true step) text ≡ Read p taken rest → IsOfStep step p
+  pub spaced_of : (step : Step) (text : Text) (p : Piece ℕ T A) (taken rest : Text) → (space_at ▷ piece_at types_at attr (setting true false) step) text ≡ Read p taken rest → IsOfStep step p
   spaced_of step text p taken rest e =
-      let q = followed_read (space_at text) (λ _. piece_at types_at attr true step) p taken rest e in
+      let q = followed_read (space_at text) (λ _. piece_at types_at attr (setting true false) step) p taken rest e in
       piece_of types_at attr true step q.middle p q.more rest q.second
 
 -- the part is one of the step
@@ -173,10 +174,10 @@ module _ {T A O B : Type 0} (names : Names) (g : GraphView (Option O) B (Option 
 
 -- ---- its parser
 -- white space is consumed before it
-pub piece_spaced : {T A : Type 0} (types_at : Reader T) (attr : Reader (AttrView A)) (inside : Bool) (step : Step) (names : List Text) {old mid new : StreamView} {result : Result (ReadPiece T A) (ParseFault A)} → old.failed ≡ false
-    → Takes itself replaced (front is_whitespace old.rest) (after is_whitespace old.rest) old mid → MustPiece itself replaced names (piece_at types_at attr inside step) mid result new → MustPiece itself replaced names (space_at ▷ piece_at types_at attr inside step) old result new
-piece_spaced types_at attr inside step names {old} {mid} {new} {result} fine k h =
-    let p = spaced alone (λ _ t. piece_at types_at attr inside step t) (starts alone (space_at ▷ piece_at types_at attr inside step) (space_at ▷ piece_at types_at attr inside step) old fine refl) k in
+pub piece_spaced : {T A : Type 0} (types_at : Reader T) (attr : Reader (AttrView A)) (at : Setting) (step : Step) (names : List Text) {old mid new : StreamView} {result : Result (ReadPiece T A) (ParseFault A)} → old.failed ≡ false
+    → Takes itself replaced (front is_whitespace old.rest) (after is_whitespace old.rest) old mid → MustPiece itself replaced names (piece_at types_at attr at step) mid result new → MustPiece itself replaced names (space_at ▷ piece_at types_at attr at step) old result new
+piece_spaced types_at attr at step names {old} {mid} {new} {result} fine k h =
+    let p = spaced alone (λ _ t. piece_at types_at attr at step t) (starts alone (space_at ▷ piece_at types_at attr at step) (space_at ▷ piece_at types_at attr at step) old fine refl) k in
     record {
       meant = h.meant;
       means = subst (λ t. IfOk result (λ y. IsPiece names t y (h.meant y))) (passed_whole alone p) h.means;

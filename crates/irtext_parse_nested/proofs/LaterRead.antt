@@ -42,7 +42,7 @@ use Rattle.irtext_grammar.specs.Grows.{OwnBecame}
 use Rattle.irtext_grammar.specs.Unchanged.{OwnSoFar, HasOwn, HasUses, ModifiesOnly}
 use Rattle.irtext_grammar.proofs.Edits.{attributes_written, attributes_written_spares}
 use Rattle.irtext_grammar.specs.Exact.{IsOfStep}
-use Rattle.irtext_grammar.specs.Heads.{Step, piece_at}
+use Rattle.irtext_grammar.specs.Heads.{Step, piece_at, setting}
 use Rattle.irtext_grammar.specs.Naming.{body_of, single_operands, single_successors}
 use Rattle.irtext_grammar.specs.Reached.{steps_in}
 use Rattle.irtext_grammar.specs.Resume.{OpenOperation, with_steps}
@@ -94,8 +94,8 @@ module _ {T A U : Type 0} (types_at : Reader T) (attr : Reader (AttrView A)) (ol
 
     -- ---- it was parsed
     module _ (read : NamesRead before middle) (distinct : AreDistinct middle.names) (piece : ReadPiece T A) (mid : StreamView)
-        (must : MustPiece {A = A} itself replaced middle.names (space_at ▷ piece_at types_at attr true step) old.stream (Ok piece) mid) where
-      there : Answered ((space_at ▷ piece_at types_at attr true step) old.stream.rest) old.stream (must.meant piece) mid
+        (must : MustPiece {A = A} itself replaced middle.names (space_at ▷ piece_at types_at attr (setting true false) step) old.stream (Ok piece) mid) where
+      there : Answered ((space_at ▷ piece_at types_at attr (setting true false) step) old.stream.rest) old.stream (must.meant piece) mid
       there = answered {A = A} must.read
 
       -- the piece of the text
@@ -138,7 +138,7 @@ module _ {T A U : Type 0} (types_at : Reader T) (attr : Reader (AttrView A)) (ol
 
         reads_piece : ReadsPiece types_at attr o step b before old middle new
         reads_piece =
-            let a = subst (λ w. Answered ((space_at ▷ piece_at types_at attr true step) old.stream.rest) old.stream meant w) (sym same) there in
+            let a = subst (λ w. Answered ((space_at ▷ piece_at types_at attr (setting true false) step) old.stream.rest) old.stream meant w) (sym same) there in
             record {
               piece = meant;
               taken = a.taken;
@@ -187,17 +187,17 @@ module _ {T A U : Type 0} (types_at : Reader T) (attr : Reader (AttrView A)) (ol
     -- ---- it is an error
     -- the text has no such piece there
     pub piece_missing : {names : List Text} {fault : ParseFault A} {mid : StreamView} → old.stream.failed ≡ false → Sincere types_at → (reading : Text → Outcome A) → attr ≡ attr_at reading → Sincere reading
-        → MustPiece {T = T} {A = A} itself replaced names (space_at ▷ piece_at types_at attr true step) old.stream (Err fault) mid → UnlessMemory (RefusesPiece types_at attr o step before old) fault
+        → MustPiece {T = T} {A = A} itself replaced names (space_at ▷ piece_at types_at attr (setting true false) step) old.stream (Err fault) mid → UnlessMemory (RefusesPiece types_at attr o step before old) fault
     piece_missing {fault = fault} fine sincere_types reading e sincere must =
-        let within = subst (λ (a : Reader (AttrView A)). StaysWithin {X = Piece ℕ T A} (space_at ▷ piece_at types_at a true step)) (sym e) (spaced_within types_at reading sincere_types sincere step) in
-        elim (must_demand alone (space_at ▷ piece_at types_at attr true step) within fine must.read) [
+        let within = subst (λ (a : Reader (AttrView A)). StaysWithin {X = Piece ℕ T A} (space_at ▷ piece_at types_at a (setting true false) step)) (sym e) (spaced_within types_at reading sincere_types sincere step) in
+        elim (must_demand alone (space_at ▷ piece_at types_at attr (setting true false) step) within fine must.read) [
           | inl s ↦ inl s
           | inr d ↦ inr (inl d)
         ]
 
     -- it was not stored
     module _ (read : NamesRead before middle) (distinct : AreDistinct middle.names) (piece : ReadPiece T A) (mid : StreamView)
-        (must : MustPiece {A = A} itself replaced middle.names (space_at ▷ piece_at types_at attr true step) old.stream (Ok piece) mid) (fault : ParseFault A) where
+        (must : MustPiece {A = A} itself replaced middle.names (space_at ▷ piece_at types_at attr (setting true false) step) old.stream (Ok piece) mid) (fault : ParseFault A) where
       why_refused : (why : NotGathered) → RefusesStored piece why → SaysGather middle.names (whole old.stream) why fault → UnlessMemory (RefusesPiece types_at attr o step before old) fault
       why_refused refusal.Memory r s = inl s
       why_refused (refusal.NoActiveScope n) r s = absurd (never_outside piece n r)

@@ -1,5 +1,5 @@
 -- An operation that begins: its front was parsed, its names were used, and it was made; or which error it is.
-use Rattle.std.proofs.Common.{◌≡◌, ◌<◌, ◌+◌, ◌-◌, ◌∙◌, inl, inr, ℕ, zero, suc, Bool, true, List, [], ◌∷◌, ◌++◌, length, map, flat_map, drop, take, Option, Some, None, IsSome, refl, sym, ap, subst, arith, length-append, slice_get}
+use Rattle.std.proofs.Common.{◌≡◌, ◌<◌, ◌+◌, ◌-◌, ◌∙◌, inl, inr, ℕ, zero, suc, Bool, true, List, [], ◌∷◌, ◌++◌, length, map, flat_map, drop, take, Option, Some, None, IsSome, refl, sym, ap, subst, arith, length-append, slice_get, false}
 use Rattle.std.specs.Prelude.{IfSome}
 use Rattle.std.specs.List.{All}
 use Rattle.std.proofs.Math.Seq.{take-append_seam}
@@ -42,7 +42,7 @@ use Rattle.irtext_parse_state.specs.States.{LocatesAt, marks_of}
 use Rattle.irtext_parse_state.specs.declared.parsable.state.StateStream.{StateStream}
 use Rattle.irtext_grammar.specs.Promises.Root.{UnlessMemory, position_after}
 use Rattle.irtext_grammar.specs.Promises.Section.{Moves, indices_of}
-use Rattle.irtext_grammar.specs.Heads.{steps_of, front_steps, region_steps}
+use Rattle.irtext_grammar.specs.Heads.{steps_of, front_steps, region_steps, setting}
 use Rattle.irtext_grammar.specs.Naming.{body_of, unmarked, single_operands, single_successors}
 use Rattle.irtext_grammar.specs.Reached.{steps_in}
 use Rattle.irtext_grammar.specs.Resume.{begun, front_at}
@@ -115,15 +115,15 @@ last_pledge w v (u ∷ more) (inr a) P f h = last_pledge w v more a P (λ u b. f
 
 -- the same front, where this is known to be inside of a region or not
 pub comes_where : {T A : Type 0} (types_at : Text → Outcome T) (attr : Text → Outcome (AttrView A)) (dialects : List (Text × Table)) (a b : Bool) {names : List Text} {old : StreamView} {rs : List ReadName} {id : OpId} {pieces : List (ReadPiece T A)} {new : StreamView} → a ≡ b
-    → FrontComes types_at attr dialects a names old rs id pieces new → FrontComes types_at attr dialects b names old rs id pieces new
-comes_where types_at attr dialects a b {names} {old} {rs} {id} {pieces} {new} e f = subst (λ w. FrontComes types_at attr dialects w names old rs id pieces new) e f
+    → FrontComes types_at attr dialects (setting a false) names old rs id pieces new → FrontComes types_at attr dialects (setting b false) names old rs id pieces new
+comes_where types_at attr dialects a b {names} {old} {rs} {id} {pieces} {new} e f = subst (λ w. FrontComes types_at attr dialects (setting w false) names old rs id pieces new) e f
 
 module _ {T A U : Type 0} (types_at : Text → Outcome T) (attr : Text → Outcome (AttrView A)) (inside : Bool) (old : StateStream T A U) where
   abbrev dialects : List (Text × Table)
   dialects = old.state.ctx.now.dialects
 
   -- ---- the pieces of a front
-  module _ {table : List Text} {rs : List ReadName} {id : OpId} {pieces : List (ReadPiece T A)} {mid : StreamView} (f : FrontComes types_at attr old.state.ctx.now.dialects inside table old.stream rs id pieces mid) where
+  module _ {table : List Text} {rs : List ReadName} {id : OpId} {pieces : List (ReadPiece T A)} {mid : StreamView} (f : FrontComes types_at attr old.state.ctx.now.dialects (setting inside false) table old.stream rs id pieces mid) where
     steps_are : steps_in dialects (id_of id) ≡ steps_of f.format
     steps_are = ap (λ o. elim o [ Some f ↦ steps_of f | None ↦ [] ]) f.known
 
@@ -150,7 +150,7 @@ module _ {T A U : Type 0} (types_at : Text → Outcome T) (attr : Text → Outco
       led = f.led;
       parts = f.parts;
       taken = f.taken;
-      front = subst (λ r. front_at types_at attr inside (front_steps (steps_in dialects (id_of id))) [] f.middle ≡ Read f.parts f.taken r) e f.front;
+      front = subst (λ r. front_at types_at attr (setting inside false) (front_steps (steps_in dialects (id_of id))) [] f.middle ≡ Read f.parts f.taken r) e f.front;
     }
 
     -- any parse of this text has this result
@@ -163,7 +163,7 @@ module _ {T A U : Type 0} (types_at : Text → Outcome T) (attr : Text → Outco
         let i : read.id ≡ id_of id = ap (λ p. p.1) pair in
         let m : read.middle ≡ f.middle = cc led in
         let front : Read read.parts read.taken rest ≡ Read f.parts f.taken mid.rest =
-        sym read.front ∙ (ap (λ i. front_at types_at attr inside (front_steps (steps_in dialects i)) [] read.middle) i ∙ (ap (front_at types_at attr inside (front_steps (steps_in dialects (id_of id))) []) m ∙ f.front)) in
+        sym read.front ∙ (ap (λ i. front_at types_at attr (setting inside false) (front_steps (steps_in dialects i)) [] read.middle) i ∙ (ap (front_at types_at attr (setting inside false) (front_steps (steps_in dialects (id_of id))) []) m ∙ f.front)) in
         (i, cc front)
 
     -- the types that its results have
@@ -228,7 +228,7 @@ module _ {T A U : Type 0} (types_at : Text → Outcome T) (attr : Text → Outco
 
   -- ---- it was made
   module _ {middle names : Names} {block : Option (Ptr BasicBlock)} {front : ReadFront T A} {at : Place} {loc : Location A} {b : BegunOperation} {mid : StreamView}
-      (f : FrontComes types_at attr old.state.ctx.now.dialects inside middle.names old.stream front.names front.id front.pieces mid) (new : StateStream T A U) (m : MakesOf block front at loc middle old.state.ctx.now names new.state.ctx.now b)
+      (f : FrontComes types_at attr old.state.ctx.now.dialects (setting inside false) middle.names old.stream front.names front.id front.pieces mid) (new : StateStream T A U) (m : MakesOf block front at loc middle old.state.ctx.now names new.state.ctx.now b)
       (all_older : AllOlder old.state.ctx.now.graph.made old.state.ctx.now.graph) (place : IfSome block (λ k. IsThere old.state.ctx.now (TheBlock k))) where
     abbrev old_ctx : ContextView T A
     old_ctx = old.state.ctx.now
@@ -377,7 +377,7 @@ module _ {T A U : Type 0} (types_at : Text → Outcome T) (attr : Text → Outco
   front_misses before fault (inr (misses_piece names id lead middle e d c)) = inr (no_front names id lead middle e d c)
 
   -- what was parsed fails
-  module _ {before middle : Names} {rs : List ReadName} {id : OpId} {pieces : List (ReadPiece T A)} {mid : StreamView} (f : FrontComes types_at attr old.state.ctx.now.dialects inside middle.names old.stream rs id pieces mid)
+  module _ {before middle : Names} {rs : List ReadName} {id : OpId} {pieces : List (ReadPiece T A)} {mid : StreamView} (f : FrontComes types_at attr old.state.ctx.now.dialects (setting inside false) middle.names old.stream rs id pieces mid)
       (read : NamesRead before middle) (distinct : AreDistinct middle.names) where
     module _ {Is : Text → Name ℕ → Type 0} {cause : Text → script.Cause Text} (fails : FailsAt pieces middle old.state.ctx.now.graph Is cause) where
       failing : (n : Name ℕ) × Is (whole old.stream) n × ((p : Path) (k l : ℕ) → FailsUses (views (piece_acts p k l) f.parts) middle old.state.ctx.now.graph (record { cause = cause n.text; at = Some n.place }))

@@ -15,7 +15,7 @@ use Rattle.irtext_grammar.specs.Grammar.Tree.{Name, Piece, Part, directive_of_pi
 use Rattle.irtext_grammar.proofs.Graphs.FitsFormat.{and_left, and_right}
 use Rattle.irtext_grammar.proofs.Joins.Answers.{followed_read, mapped_read}
 use Rattle.irtext_grammar.specs.Exact.{IsOfStep, UsesNone}
-use Rattle.irtext_grammar.specs.Heads.{Step, flat, types, one, all, step_of, front_steps, used_at, target_at, symbol_at, dictionary_by, outlined_or_at, piece_at}
+use Rattle.irtext_grammar.specs.Heads.{Step, flat, types, one, all, step_of, front_steps, used_at, target_at, symbol_at, dictionary_by, outlined_or_at, piece_at, setting}
 use Rattle.irtext_grammar.specs.Resume.{front_at}
 use Rattle.irtext_grammar.proofs.Exact.Outside.{used_never, target_never}
 
@@ -28,14 +28,14 @@ AreOfSteps inside (s ∷ ss) (p ∷ ps) = IsOfStep s p × (inside ≡ false → 
 
 module _ {T A : Type 0} (types_at : Text → Outcome T) (attr : Text → Outcome (AttrView A)) where
   -- what a step parses is a piece of it
-  pub piece_of : (inside : Bool) (step : Step) (text : Text) (p : Piece ℕ T A) (taken rest : Text) → piece_at types_at attr inside step text ≡ Read p taken rest → IsOfStep step p
+  pub piece_of : (inside : Bool) (step : Step) (text : Text) (p : Piece ℕ T A) (taken rest : Text) → piece_at types_at attr (setting inside false) step text ≡ Read p taken rest → IsOfStep step p
   piece_of inside (flat (format.word s)) text p taken rest e = subst (IsOfStep (flat (format.word s))) (mapped_read (λ _. tree.word s) (word s text) p taken rest e).2 refl
   piece_of inside (flat (format.operand i)) text p taken rest e = subst (IsOfStep (flat (format.operand i))) (mapped_read (tree.operand i) (used_at inside text) p taken rest e).2 refl
   piece_of inside (flat format.operands) text p taken rest e = subst (IsOfStep (flat format.operands)) (mapped_read tree.operands (separated_at 44 (used_at inside) text) p taken rest e).2 refl
   piece_of inside (flat (format.successor i)) text p taken rest e = subst (IsOfStep (flat (format.successor i))) (mapped_read (tree.successor i) (target_at inside text) p taken rest e).2 refl
   piece_of inside (flat format.successors) text p taken rest e = subst (IsOfStep (flat format.successors)) (mapped_read tree.successors (separated_at 44 (target_at inside) text) p taken rest e).2 refl
   piece_of inside (flat (format.attribute k)) text p taken rest e = subst (IsOfStep (flat (format.attribute k))) (mapped_read (tree.attribute k) (outlined_or_at attr text) p taken rest e).2 refl
-  piece_of inside (flat format.dictionary) text p taken rest e = subst (IsOfStep (flat format.dictionary)) (mapped_read tree.dictionary (dictionary_by attr inside text) p taken rest e).2 refl
+  piece_of inside (flat format.dictionary) text p taken rest e = subst (IsOfStep (flat format.dictionary)) (mapped_read tree.dictionary (dictionary_by attr false text) p taken rest e).2 refl
   piece_of inside (flat (format.result_type i)) text p taken rest e = subst (IsOfStep (flat (format.result_type i))) (mapped_read (tree.result_type i) (types_at text) p taken rest e).2 refl
   piece_of inside (flat format.header) text p taken rest e = subst (IsOfStep (flat format.header)) (mapped_read tree.header (symbol_at text) p taken rest e).2 refl
   piece_of inside (flat (format.region i)) text p taken rest e = absurd (cc e)
@@ -55,7 +55,7 @@ module _ {T A : Type 0} (types_at : Text → Outcome T) (attr : Text → Outcome
       go (Bad cause upto) f e = absurd (cc e)
 
   -- outside of each region it uses no name
-  unused_of : (step : Step) (text : Text) (p : Piece ℕ T A) (taken rest : Text) → piece_at types_at attr false step text ≡ Read p taken rest → UsesNone p
+  unused_of : (step : Step) (text : Text) (p : Piece ℕ T A) (taken rest : Text) → piece_at types_at attr (setting false false) step text ≡ Read p taken rest → UsesNone p
   unused_of (flat (format.word s)) text p taken rest e = subst UsesNone (mapped_read (λ _. tree.word s) (word s text) p taken rest e).2 tt
   unused_of (flat (format.operand i)) text p taken rest e = absurd (let m = mapped_read (tree.operand i) (used_at false text) p taken rest e in used_never text m.0 taken rest m.1)
   unused_of (flat format.operands) text p taken rest e =
@@ -75,7 +75,7 @@ module _ {T A : Type 0} (types_at : Text → Outcome T) (attr : Text → Outcome
   unused_of (one i) text p taken rest e = absurd (cc e)
   unused_of all text p taken rest e = absurd (cc e)
 
-  unused_if : (inside : Bool) (step : Step) (text : Text) (p : Piece ℕ T A) (taken rest : Text) → piece_at types_at attr inside step text ≡ Read p taken rest → inside ≡ false → UsesNone p
+  unused_if : (inside : Bool) (step : Step) (text : Text) (p : Piece ℕ T A) (taken rest : Text) → piece_at types_at attr (setting inside false) step text ≡ Read p taken rest → inside ≡ false → UsesNone p
   unused_if true step text p taken rest e f = absurd (true≢false f)
   unused_if false step text p taken rest e f = unused_of step text p taken rest e
 
@@ -85,11 +85,11 @@ module _ {T A : Type 0} (types_at : Text → Outcome T) (attr : Text → Outcome
     pub parts_are : parts ≡ found ++ map (λ p. tree.piece p) pieces
     pub of_steps : AreOfSteps inside ss pieces
 
-  pub front_parts : (inside : Bool) (ss : List Step) (found parts : List (Part ℕ T A)) (text taken rest : Text) → front_at types_at attr inside ss found text ≡ Read parts taken rest → FrontParts inside ss found parts
+  pub front_parts : (inside : Bool) (ss : List Step) (found parts : List (Part ℕ T A)) (text taken rest : Text) → front_at types_at attr (setting inside false) ss found text ≡ Read parts taken rest → FrontParts inside ss found parts
   front_parts inside [] found parts text taken rest e = record { pieces = []; parts_are = (let f : found ≡ parts = cc e in sym f) ∙ sym (append-nil found); of_steps = tt }
   front_parts inside (s ∷ ss) found parts text taken rest e =
-      let r = followed_read ((space_at ▷ piece_at types_at attr inside s) text) (λ p. front_at types_at attr inside ss (found ++ tree.piece p ∷ [])) parts taken rest e in
-      let q = followed_read (space_at text) (λ _. piece_at types_at attr inside s) r.value r.front r.middle r.first in
+      let r = followed_read ((space_at ▷ piece_at types_at attr (setting inside false) s) text) (λ p. front_at types_at attr (setting inside false) ss (found ++ tree.piece p ∷ [])) parts taken rest e in
+      let q = followed_read (space_at text) (λ _. piece_at types_at attr (setting inside false) s) r.value r.front r.middle r.first in
       let more = front_parts inside ss (found ++ tree.piece r.value ∷ []) parts r.middle r.more rest r.second in
       record {
         pieces = r.value ∷ more.pieces;

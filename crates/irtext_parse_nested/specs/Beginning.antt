@@ -1,5 +1,5 @@
 -- Between functions: an operation that begins: what was parsed before its first region, its own parts so far, and where it is created.
-use Rattle.std.specs.Prelude.{◌≡◌, ◌<◌, ℕ, Bool, true, ◌||◌, List, [], ◌∷◌, ◌++◌, length, Option, Some, None, IfSome, ⊤}
+use Rattle.std.specs.Prelude.{◌≡◌, ◌<◌, ℕ, Bool, true, ◌||◌, List, [], ◌∷◌, ◌++◌, length, Option, Some, None, IfSome, ⊤, false}
 use Rattle.irtext_base.specs.Text.{Text}
 use Rattle.irtext_base.specs.Format.{Format, Id, Accepted, sym_name_key}
 use Rattle.irtext_base.specs.Faults.{id_of, fault_of}
@@ -20,6 +20,7 @@ use Rattle.irtext_graph.specs.declared.object.Operation.{Operation}
 use Rattle.irtext_graph.specs.declared.object.Object.TheVariants.{TheBlock, TheOperation}
 use Rattle.irtext_graph.specs.Graph.{GraphView}
 use Rattle.irtext_tokens.specs.Infix.{Reader}
+use Rattle.irtext_grammar.specs.declared.parsed.Setting.{Setting}
 use Rattle.irtext_grammar.specs.Contexts.Formats.{format_of}
 use Rattle.irtext_grammar.specs.Contexts.Held.{whole}
 use Rattle.irtext_grammar.specs.Grammar.Tree as tree
@@ -30,7 +31,7 @@ use Rattle.irtext_grammar.specs.Promises.Root.{UnlessMemory}
 use Rattle.irtext_grammar.specs.Promises.Section.{Moves, IsOutOfMemory}
 use Rattle.irtext_grammar.specs.Promises.Supported.{is_committed}
 use Rattle.irtext_grammar.specs.Exact.{IsOfStep}
-use Rattle.irtext_grammar.specs.Heads.{Step, one, all, front_steps, led_at}
+use Rattle.irtext_grammar.specs.Heads.{Step, one, all, front_steps, led_at, setting}
 use Rattle.irtext_grammar.specs.Naming.{body_of, unmarked}
 use Rattle.irtext_grammar.specs.Reached.{steps_in}
 use Rattle.irtext_grammar.specs.Resume.{OpenOperation, front_at}
@@ -59,10 +60,11 @@ use Rattle.irtext_parse_nested.specs.Read.{Demands}
 pub data MissesFront {T A : Type 0} (types_at : Reader T) (attr : Reader (AttrView A)) (dialects : List (Text × Table)) (inside : Bool) (old : StreamView) (fault : ParseFault A) : Type 0 where
   misses_lead : Demands (whole old) (led_at dialects old.rest) old.rest fault → fault.committed ≡ (inside || is_committed (led_at dialects old.rest)) → MissesFront types_at attr dialects inside old fault
   misses_piece : (names : List (Name ℕ)) (id : Id) (lead middle : Text) → led_at dialects old.rest ≡ Read (names, id) lead middle
-      → Demands (whole old) (front_at types_at attr inside (front_steps (steps_in dialects id)) [] middle) middle fault → fault.committed ≡ true → MissesFront types_at attr dialects inside old fault
+      → Demands (whole old) (front_at types_at attr (setting inside false) (front_steps (steps_in dialects id)) [] middle) middle fault → fault.committed ≡ true → MissesFront types_at attr dialects inside old fault
 
--- The names of results, the id of a registered operation, and the pieces before its first region come next in the text, and were parsed.
-pub record FrontComes {T A : Type 0} (types_at : Reader T) (attr : Reader (AttrView A)) (dialects : List (Text × Table)) (inside : Bool) (names : List Text) (old : StreamView)
+-- The names of results, the id of a registered operation, and the pieces before its first region come next in the text, and were parsed in
+-- this setting.
+pub record FrontComes {T A : Type 0} (types_at : Reader T) (attr : Reader (AttrView A)) (dialects : List (Text × Table)) (at : Setting) (names : List Text) (old : StreamView)
     (read : List ReadName) (id : OpId) (pieces : List (ReadPiece T A)) (new : StreamView) : Type 0 where
   pub results : List (Name ℕ)
   pub lead : Text
@@ -70,7 +72,7 @@ pub record FrontComes {T A : Type 0} (types_at : Reader T) (attr : Reader (AttrV
   pub led : led_at dialects old.rest ≡ Read (results, id_of id) lead middle
   pub parts : List (Part ℕ T A)
   pub taken : Text
-  pub front : front_at types_at attr inside (front_steps (steps_in dialects (id_of id))) [] middle ≡ Read parts taken new.rest
+  pub front : front_at types_at attr at (front_steps (steps_in dialects (id_of id))) [] middle ≡ Read parts taken new.rest
   pub moves : Moves old new
   pub named : Each (Represents names (whole old)) read results
   pub are : Each (IsPart names (whole old)) pieces parts

@@ -1,5 +1,5 @@
 -- Between functions: a piece of an operation after a region: what is stored of it, and what the action that parses it promises.
-use Rattle.std.specs.Prelude.{◌≡◌, true, List, [], ◌∷◌, ◌++◌, Option, Some, None, Result, ⊤, slice_get}
+use Rattle.std.specs.Prelude.{◌≡◌, true, List, [], ◌∷◌, ◌++◌, Option, Some, None, Result, ⊤, slice_get, false}
 use Rattle.irtext_base.specs.Text.{Text}
 use Rattle.irtext_base.specs.Faults.{id_of}
 use Rattle.irtext_base.specs.Locations.{AttrView}
@@ -18,7 +18,7 @@ use Rattle.irtext_grammar.specs.Contexts.Held.{attribute_of, entries_of, whole}
 use Rattle.irtext_grammar.specs.Grammar.Tree as tree
 use Rattle.irtext_grammar.specs.Grammar.Tree.{Attribute}
 use Rattle.irtext_grammar.specs.Graphs.Build.{put_all, stored}
-use Rattle.irtext_grammar.specs.Heads.{Step, piece_at}
+use Rattle.irtext_grammar.specs.Heads.{Step, piece_at, setting}
 use Rattle.irtext_grammar.specs.Reached.{steps_in}
 use Rattle.irtext_grammar.specs.Readers.Streams.{itself, replaced}
 use Rattle.irtext_grammar.specs.Resume.{OpenOperation, is_flat, with_steps}
@@ -44,7 +44,7 @@ IsFlatNext None = ⊥
 
 -- what the next step of an open operation describes was parsed, with white space before it; every error is committed
 abbrev pub ReadsNext : {T A : Type 0} → Reader T → Reader (AttrView A) → List (Text × Table) → BegunOperation → List Text → StreamView → Result (ReadPiece T A) (ParseFault A) → StreamView → Type 0
-ReadsNext types_at attr dialects b names old result new = (step : Step) → slice_get (steps_in dialects (id_of b.id)) b.step ≡ Some step → MustPiece itself replaced names (space_at ▷ piece_at types_at attr true step) old result new
+ReadsNext types_at attr dialects b names old result new = (step : Step) → slice_get (steps_in dialects (id_of b.id)) b.step ≡ Some step → MustPiece itself replaced names (space_at ▷ piece_at types_at attr (setting true false) step) old result new
 
 -- ---- a piece that is stored
 -- what a parsed attribute gives: nothing if the text has the marker

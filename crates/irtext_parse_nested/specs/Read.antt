@@ -1,5 +1,5 @@
 -- Between functions: what each action of the parser of nested text parses and does, and how it fails.
-use Rattle.std.specs.Prelude.{◌≡◌, ◌⊎◌, ℕ, ◌-◌, Bool, true, ◌||◌, List, [], ◌∷◌, codes, length, Option}
+use Rattle.std.specs.Prelude.{◌≡◌, ◌⊎◌, ℕ, ◌-◌, Bool, true, ◌||◌, List, [], ◌∷◌, codes, length, Option, false}
 use Rattle.irtext_base.specs.Text.{Text}
 use Rattle.irtext_base.specs.Format.{Id}
 use Rattle.irtext_base.specs.Faults.{Fault}
@@ -17,7 +17,7 @@ use Rattle.irtext_grammar.specs.Names.Script.{Path}
 use Rattle.irtext_grammar.specs.Promises.Root.{UnlessMemory}
 use Rattle.irtext_grammar.specs.Promises.Section.{Moves}
 use Rattle.irtext_grammar.specs.Promises.Supported.{is_committed}
-use Rattle.irtext_grammar.specs.Heads.{Step, front_steps, piece_at, head_at, led_at, mark_if_at}
+use Rattle.irtext_grammar.specs.Heads.{Step, front_steps, piece_at, head_at, led_at, mark_if_at, setting}
 use Rattle.irtext_grammar.specs.Reached.{steps_in}
 use Rattle.irtext_grammar.specs.Resume.{OpenOperation, begun, front_at}
 use Rattle.irtext_parse_nested.specs.declared.frame.BegunOperation.{BegunOperation}
@@ -45,7 +45,7 @@ module _ {T A U : Type 0} (types_at : Reader T) (attr : Reader (AttrView A)) whe
     pub led : led_at old.state.ctx.now.dialects old.stream.rest ≡ Read (names, id) lead middle
     pub parts : List (Part ℕ T A)
     pub taken : Text
-    pub front : front_at types_at attr inside (front_steps (steps_in old.state.ctx.now.dialects id)) [] middle ≡ Read parts taken rest
+    pub front : front_at types_at attr (setting inside false) (front_steps (steps_in old.state.ctx.now.dialects id)) [] middle ≡ Read parts taken rest
 
   -- what is begun when these were parsed
   abbrev pub begun_by : (inside : Bool) (old : StateStream T A U) (rest : Text) → ReadsFront inside old rest → OpenOperation T A
@@ -68,7 +68,7 @@ module _ {T A U : Type 0} (types_at : Reader T) (attr : Reader (AttrView A)) whe
     no_lead : Demands (whole old.stream) (led_at old.state.ctx.now.dialects old.stream.rest) old.stream.rest fault
         → fault.committed ≡ (inside || is_committed (led_at old.state.ctx.now.dialects old.stream.rest)) → RefusesOperation inside before old fault
     no_front : (names : List (Name ℕ)) (id : Id) (lead middle : Text) → led_at old.state.ctx.now.dialects old.stream.rest ≡ Read (names, id) lead middle
-        → Demands (whole old.stream) (front_at types_at attr inside (front_steps (steps_in old.state.ctx.now.dialects id)) [] middle) middle fault → fault.committed ≡ true → RefusesOperation inside before old fault
+        → Demands (whole old.stream) (front_at types_at attr (setting inside false) (front_steps (steps_in old.state.ctx.now.dialects id)) [] middle) middle fault → fault.committed ≡ true → RefusesOperation inside before old fault
     no_uses : (rest : Text) (r : ReadsFront inside old rest) → ActFails (whole old.stream) (uses_of inside old rest r) before old.state [] fault → RefusesOperation inside before old fault
 
   -- ---- a piece after a region
@@ -77,14 +77,14 @@ module _ {T A U : Type 0} (types_at : Reader T) (attr : Reader (AttrView A)) whe
   pub record ReadsPiece (o : OpenOperation T A) (step : Step) (b : BegunOperation) (before : Names) (old : StateStream T A U) (names : Names) (new : StateStream T A U) : Type 0 where
     pub piece : Piece ℕ T A
     pub taken : Text
-    pub read : (space_at ▷ piece_at types_at attr true step) old.stream.rest ≡ Read piece taken new.stream.rest
+    pub read : (space_at ▷ piece_at types_at attr (setting true false) step) old.stream.rest ≡ Read piece taken new.stream.rest
     pub moves : Moves old.stream new.stream
     pub acts : Acts (λ path. (doing old.state.ctx.now.dialects path).late o.place o.id piece) before old.state [] names new.state []
 
   -- no such piece comes next, or what it does fails
   abbrev pub RefusesPiece : OpenOperation T A → Step → Names → StateStream T A U → ParseFault A → Type 0
-  RefusesPiece o step before old fault = Demands (whole old.stream) ((space_at ▷ piece_at types_at attr true step) old.stream.rest) old.stream.rest fault
-      ⊎ ((piece : Piece ℕ T A) × (taken : Text) × (rest : Text) × ((space_at ▷ piece_at types_at attr true step) old.stream.rest ≡ Read piece taken rest)
+  RefusesPiece o step before old fault = Demands (whole old.stream) ((space_at ▷ piece_at types_at attr (setting true false) step) old.stream.rest) old.stream.rest fault
+      ⊎ ((piece : Piece ℕ T A) × (taken : Text) × (rest : Text) × ((space_at ▷ piece_at types_at attr (setting true false) step) old.stream.rest ≡ Read piece taken rest)
       × ActFails (whole old.stream) (λ path. (doing {T = T} {A = A} old.state.ctx.now.dialects path).late o.place o.id piece) before old.state [] fault)
 
   -- the same of each operation that is open as this, and of its next step

@@ -11,6 +11,7 @@ ghost use Rattle.irtext_scopes.specs.Names.{AreDistinct};
 ghost use Rattle.irtext_parse_state.specs.States.{KeepsRest, marks_of};
 ghost use Rattle.irtext_grammar.specs.Contexts.Formats.{format_of, isolated};
 ghost use Rattle.irtext_grammar.specs.Contexts.Held.{whole};
+ghost use Rattle.irtext_grammar.specs.Heads.{setting};
 ghost use Rattle.irtext_names.specs.Tied.{MatchesGraph};
 ghost use Rattle.irtext_grammar.specs.Readers.Streams.{itself, replaced};
 ghost use Rattle.irtext_grammar.specs.Promises.Root.{UnlessMemory};
@@ -34,7 +35,7 @@ use irtext_context::base::context::making::Making;
 use irtext_context::base::{BasicBlock, Context, Operation, Ptr};
 use irtext_few::Few;
 use irtext_grammar::found::Pieces;
-use irtext_grammar::parsed::ReadName;
+use irtext_grammar::parsed::{ReadName, Setting};
 use irtext_graph::held::HasGraph;
 use irtext_names::errors::name_error;
 use irtext_names::gathered::{Gathered, attributes_of, nothing};
@@ -84,7 +85,7 @@ fn commit_if<A>(stream: &mut TextStream, is_required: bool, fault: ParseFault<A>
 }
 
 /// Parses what precedes an operation's first region. `inside` says whether it is inside of a region, where an operation is required; outside
-/// of every region no name can be used, and an attribute has to be allowed under its key. An error is committed, unless no operation comes
+/// of every region no name can be used. An attribute has to be allowed under its key. An error is committed, unless no operation comes
 /// next and none is required.
 #[inline(always)]
 fn front_read<T: IrText<A>, A: AttrText<A>>(
@@ -96,7 +97,8 @@ fn front_read<T: IrText<A>, A: AttrText<A>>(
 ) -> ParseResult<ReadFront<T, A>, A>
     requires fine { stream.old.failed ≡ false }
     ensures alive { IfOk result (λ front. FrontComes T.IrText.reading (attr_at A.IrText.reading)
-        ctx.now.dialects inside names.new.names stream.old front.names front.id front.pieces stream.new) }
+        ctx.now.dialects (setting inside false) names.new.names stream.old front.names front.id front.pieces
+        stream.new) }
     ensures unmet { IfErr result (UnlessMemory
         (MissesFront T.IrText.reading (attr_at A.IrText.reading) ctx.now.dialects inside stream.old)) }
     ensures key { IfOk result (λ front. IfSome front.key (λ key. key ≡ sym_name_key)) }
@@ -113,7 +115,11 @@ fn front_read<T: IrText<A>, A: AttrText<A>>(
         Ok(led) => led,
         Err(fault) => return Err(commit_if(stream, inside, fault)),
     };
-    let pieces = match front_parse(stream, names, &info.format, inside, keys) {
+    let setting = Setting {
+        inside,
+        any_key: false,
+    };
+    let pieces = match front_parse(stream, names, &info.format, setting, keys) {
         Ok(pieces) => pieces,
         Err(fault) => {
             ended((results, id));
@@ -298,8 +304,9 @@ fn begin_read<T: IrText<A>, A: AttrText<A>, U>(
 
 /// Begins an operation: parses the names of its results, its id and the pieces before its first region, uses their names, creates the
 /// operation, and appends it to the block, if one is given; without a block it is outside of every region. There it fails with
-/// `NoActiveScope` at the first name that is used, or with `ReservedKey` at the first reserved key of a dictionary, as they are parsed; in
-/// a block it fails with `NoActiveScope` if no scope of the name's kind is open, or with `ReservedKey`, once all these pieces are parsed.
+/// `NoActiveScope` at the first name that is used, as it is parsed; in a block it fails with `NoActiveScope` if no scope of the name's kind
+/// is open, once all these pieces are parsed. It fails with `ReservedKey` at the first key of a dictionary under which its attribute is not
+/// allowed, as soon as this entry is parsed.
 /// Keys of a dictionary may share their texts with those that are kept at their places. An error is committed, unless no block is given
 /// and no operation comes next.
 pub fn operation_begin<T: IrText<A>, A: AttrText<A>, U>(

@@ -101,7 +101,10 @@ fn block_made<T: IrText<A>, A: AttrText<A>>(
     let Some(name) = keys.label(alloc, label.name, names.name(label.name)) else {
         return failed((loc, attributes, types), AllocError);
     };
-    place_block(ctx, region, Some(name), attributes, loc, types)
+    match place_block(ctx, region, Some(name), attributes, loc, types) {
+        Ok(block) => Ok(block),
+        Err(_) => Err(AllocError),
+    }
 }
 
 /// Creates a block from the parts of its header, at the label's location, and appends it to a region. Returns it with the names of its

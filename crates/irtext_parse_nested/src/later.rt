@@ -31,7 +31,7 @@ use irtext_base::format::OpFormat;
 use irtext_base::parsable::{CharStream, ParseResult, TextStream};
 use irtext_base::text::{AttrText, IrText};
 use irtext_context::base::{AttributeDict, Context, Operation, Ptr};
-use irtext_grammar::parsed::{ReadPiece, Symbol};
+use irtext_grammar::parsed::{ReadPiece, Setting, Symbol};
 use irtext_names::dictionary::{Holder, entries_stored};
 use irtext_names::keys::symbol_key;
 use irtext_names::kinds::Names;
@@ -134,7 +134,11 @@ fn piece_read<T: IrText<A>, A: AttrText<A>>(
     begun.coming = None;
     begun.step = step_after(&info.format, begun.step);
     let mut keys = Keys::none(stream.allocator());
-    let answer = step_parse(stream, names, step, true, &mut keys);
+    let setting = Setting {
+        inside: true,
+        any_key: false,
+    };
+    let answer = step_parse(stream, names, step, setting, &mut keys);
     ended(keys);
     answer
 }

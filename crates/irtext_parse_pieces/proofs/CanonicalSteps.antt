@@ -14,6 +14,7 @@ use Rattle.irtext_base.proofs.Compose.{refuses_mapped_demanded}
 use Rattle.irtext_tokens.proofs.Steps.{Lens, Passed, starts, more, last, refuses, seen_alone, spaced, spaced_whole, ends, fine_there}
 use Rattle.irtext_base.specs.Stream.{after_taken}
 use Rattle.irtext_stream.specs.Classes.{after_spaces}
+use Rattle.irtext_grammar.specs.declared.parsed.Setting.{Setting}
 use Rattle.irtext_grammar.specs.Grammar.Tree as tree
 use Rattle.irtext_grammar.specs.Grammar.Tree.{Piece, Part}
 use Rattle.irtext_grammar.specs.Heads.{Step, piece_at}
@@ -64,16 +65,16 @@ each_append Means [] (x ∷ xs) vs us h k = absurd h
 each_append Means (y ∷ ys) [] vs us h k = absurd h
 each_append Means (y ∷ ys) (x ∷ xs) vs us h k = (h.0, each_append Means ys xs vs us h.1 k)
 
-module _ {S T A : Type 0} (l : Lens S) (types : Text → Outcome T) (attr : Text → Outcome (AttrView A)) (inside : Bool) where
+module _ {S T A : Type 0} (l : Lens S) (types : Text → Outcome T) (attr : Text → Outcome (AttrView A)) (setting : Setting) where
   -- the reader of these steps, where these parts were found before
   abbrev reader : List Step → List (Part ℕ T A) → Reader (List (Part ℕ T A))
-  reader steps parts = front_at types attr inside steps parts
+  reader steps parts = front_at types attr setting steps parts
 
   -- the steps are read in two parts
   split : (steps rest : List Step) (before found : List (Part ℕ T A)) (t : Text) → demanded (reader (steps ++ rest) (before ++ found) t) ≡ demanded (followed (reader steps found t) (λ ps u. reader rest (before ++ ps) u))
   split [] rest before found t = prefixed_nothing (reader rest (before ++ found) t)
   split (s ∷ steps) rest before found t =
-      let o : Outcome (Piece ℕ T A) = (space_at ▷ piece_at types attr inside s) t in
+      let o : Outcome (Piece ℕ T A) = (space_at ▷ piece_at types attr setting s) t in
       let k : Piece ℕ T A → Text → Outcome (List (Part ℕ T A)) = λ p u. reader steps (found ++ (tree.piece p ∷ [])) u in
       let n : List (Part ℕ T A) → Text → Outcome (List (Part ℕ T A)) = λ ps u. reader rest (before ++ ps) u in
       followed_alike o (λ p u. reader (steps ++ rest) ((before ++ found) ++ (tree.piece p ∷ [])) u) (λ p u. followed (k p u) n)
@@ -107,7 +108,7 @@ module _ {S T A : Type 0} (l : Lens S) (types : Text → Outcome T) (attr : Text
 
     -- they were read
     pub steps_more : {Y : Type 0} (see : Y → List (ReadPiece T A)) {new : S} {y : Y} (steps rest : List Step) (more_names : List Text) → Through names all (steps ++ rest) old now found → KeepsNames names more_names
-        → MustSteps l.view l.at more_names types attr inside steps see now (Ok y) new → Through more_names all rest old new (found ++ see y)
+        → MustSteps l.view l.at more_names types attr setting steps see now (Ok y) new → Through more_names all rest old new (found ++ see y)
     steps_more see {y = y} steps rest more_names p keeps h =
         let text = whole (l.view old) in
         let ps = h.meant y in
@@ -121,11 +122,11 @@ module _ {S T A : Type 0} (l : Lens S) (types : Text → Outcome T) (attr : Text
 
     -- they are refused
     pub steps_refused : {Y W : Type 0} (see : Y → List (ReadPiece T A)) (sees : W → List (ReadPiece T A)) {new : S} {fault : ParseFault A} (steps rest : List Step) (others more_names : List Text) → Through names all (steps ++ rest) old now found
-        → MustSteps l.view l.at others types attr inside steps see now (Err fault) new → MustSteps l.view l.at more_names types attr inside all sees old (Err fault) new
+        → MustSteps l.view l.at others types attr setting steps see now (Err fault) new → MustSteps l.view l.at more_names types attr setting all sees old (Err fault) new
     steps_refused see sees steps rest others more_names p h = record { meant = λ _. []; means = tt; read = refuses l (λ ps u. reader rest (p.parts ++ ps) u) (next steps rest p) h.read }
 
   -- no step is left
-  pub steps_end : {Y : Type 0} (sees : Y → List (ReadPiece T A)) {names : List Text} {all : List Step} {old now : S} {found : List (ReadPiece T A)} (y : Y) → sees y ≡ found → Through names all [] old now found → MustSteps l.view l.at names types attr inside all sees old (Ok y) now
+  pub steps_end : {Y : Type 0} (sees : Y → List (ReadPiece T A)) {names : List Text} {all : List Step} {old now : S} {found : List (ReadPiece T A)} (y : Y) → sees y ≡ found → Through names all [] old now found → MustSteps l.view l.at names types attr setting all sees old (Ok y) now
   steps_end sees {names = names} {old = old} y e p = record {
     meant = λ _. p.parts;
     means = subst (λ z. Each (IsPart names (whole (l.view old))) z p.parts) (sym e) p.each;
@@ -133,7 +134,7 @@ module _ {S T A : Type 0} (l : Lens S) (types : Text → Outcome T) (attr : Text
   }
 
   -- ---- one step
-  module _ {X : Type 0} (f : Text → Outcome X) (h : X → Piece ℕ T A) (step : Step) (is : (u : Text) → piece_at types attr inside step u ≡ mapped h (f u)) where
+  module _ {X : Type 0} (f : Text → Outcome X) (h : X → Piece ℕ T A) (step : Step) (is : (u : Text) → piece_at types attr setting step u ≡ mapped h (f u)) where
     one_step : (t : Text) → reader (step ∷ []) [] t ≡ mapped (λ x. tree.piece (h x) ∷ []) ((space_at ▷ f) t)
     one_step t =
         let w = front is_whitespace t in
@@ -143,7 +144,7 @@ module _ {S T A : Type 0} (l : Lens S) (types : Text → Outcome T) (attr : Text
     module _ {Y : Type 0} (Means : Y → X → Type 0) (wrap : Y → ReadPiece T A) (names : List Text) {old new : S} where
       -- a piece was read, with white space before it, or refused
       pub step_read : {r : Result Y (ParseFault A)} → ((y : Y) (x : X) → Means y x → IsPiece names (whole (l.view old)) (wrap y) (h x)) → MustMean l.view l.at Means (space_at ▷ f) old r new
-          → MustSteps l.view l.at names types attr inside (step ∷ []) (λ y. wrap y ∷ []) old r new
+          → MustSteps l.view l.at names types attr setting (step ∷ []) (λ y. wrap y ∷ []) old r new
       step_read {r = Ok y} on m = record {
         meant = λ _. tree.piece (h (m.meant y)) ∷ [];
         means = ((h (m.meant y), refl, on y (m.meant y) m.means), tt);
@@ -181,34 +182,34 @@ spaced_word {A = A} l w rest {old = old} {new = new} fine e n =
     let q = ends l {A = A} (λ (u : Unit {0}). u) tt p in
     record { answers = rw (sym (followed_followed (space_at t) (λ _ u. text_at w u) (λ x u. Read x [] u)) ∙ followed_read (front is_whitespace t) (text_at w (after is_whitespace t))) at q.answers }
 
-module _ {S T A : Type 0} (l : Lens S) (types : Text → Outcome T) (attr : Text → Outcome (AttrView A)) (inside : Bool) (names : List Text) {old new : S} {r : Result (Unit {0}) (ParseFault A)} where
+module _ {S T A : Type 0} (l : Lens S) (types : Text → Outcome T) (attr : Text → Outcome (AttrView A)) (setting : Setting) (names : List Text) {old new : S} {r : Result (Unit {0}) (ParseFault A)} where
   -- a fixed text was read, with white space before it, or refused
-  pub word_read : (w : Text) → MustRead l.view l.at (λ u. u) (space_at ▷ text_at w) old r new → MustSteps l.view l.at names types attr inside (word_step w ∷ []) (λ _. read.Word ∷ []) old r new
-  word_read w h = step_read l types attr inside (text_at w) (λ _. tree.word w) (word_step w) (λ u. refl) (λ _ _. Unit {0}) (λ _. read.Word) names (λ y x m. (w, refl)) (read_so l r h)
+  pub word_read : (w : Text) → MustRead l.view l.at (λ u. u) (space_at ▷ text_at w) old r new → MustSteps l.view l.at names types attr setting (word_step w ∷ []) (λ _. read.Word ∷ []) old r new
+  word_read w h = step_read l types attr setting (text_at w) (λ _. tree.word w) (word_step w) (λ u. refl) (λ _ _. Unit {0}) (λ _. read.Word) names (λ y x m. (w, refl)) (read_so l r h)
 
-module _ {S T A : Type 0} (l : Lens S) (types : Text → Outcome T) (attr : Text → Outcome (AttrView A)) (inside : Bool) {names : List Text} {all : List Step} {old now : S} {found : List (ReadPiece T A)} where
+module _ {S T A : Type 0} (l : Lens S) (types : Text → Outcome T) (attr : Text → Outcome (AttrView A)) (setting : Setting) {names : List Text} {all : List Step} {old now : S} {found : List (ReadPiece T A)} where
   -- a fixed text more was read
-  pub word_more : (w : Text) (rest : List Step) {new : S} → Through l types attr inside names all (word_step w ∷ rest) old now found → ((l.view now).failed ≡ false → MustRead {A = A} {Y = Unit {0}} l.view l.at (λ u. u) (space_at ▷ text_at w) now (Ok tt) new)
-      → Through l types attr inside names all rest old new (found ++ (read.Word ∷ []))
-  word_more w rest p h = steps_more l types attr inside (λ (_ : Unit {0}). read.Word ∷ []) (word_step w ∷ []) rest names p (λ i text k. k) (word_read l types attr inside names w (h (fine_there l p.passed)))
+  pub word_more : (w : Text) (rest : List Step) {new : S} → Through l types attr setting names all (word_step w ∷ rest) old now found → ((l.view now).failed ≡ false → MustRead {A = A} {Y = Unit {0}} l.view l.at (λ u. u) (space_at ▷ text_at w) now (Ok tt) new)
+      → Through l types attr setting names all rest old new (found ++ (read.Word ∷ []))
+  word_more w rest p h = steps_more l types attr setting (λ (_ : Unit {0}). read.Word ∷ []) (word_step w ∷ []) rest names p (λ i text k. k) (word_read l types attr setting names w (h (fine_there l p.passed)))
 
   -- it is refused
-  pub word_refused : {W : Type 0} (sees : W → List (ReadPiece T A)) (w : Text) (rest : List Step) {new : S} {fault : ParseFault A} (more_names : List Text) → Through l types attr inside names all (word_step w ∷ rest) old now found
-      → ((l.view now).failed ≡ false → MustRead {Y = Unit {0}} l.view l.at (λ u. u) (space_at ▷ text_at w) now (Err fault) new) → MustSteps l.view l.at more_names types attr inside all sees old (Err fault) new
-  word_refused sees w rest more_names p h = steps_refused l types attr inside (λ (_ : Unit {0}). read.Word ∷ []) sees (word_step w ∷ []) rest names more_names p (word_read l types attr inside names w (h (fine_there l p.passed)))
+  pub word_refused : {W : Type 0} (sees : W → List (ReadPiece T A)) (w : Text) (rest : List Step) {new : S} {fault : ParseFault A} (more_names : List Text) → Through l types attr setting names all (word_step w ∷ rest) old now found
+      → ((l.view now).failed ≡ false → MustRead {Y = Unit {0}} l.view l.at (λ u. u) (space_at ▷ text_at w) now (Err fault) new) → MustSteps l.view l.at more_names types attr setting all sees old (Err fault) new
+  word_refused sees w rest more_names p h = steps_refused l types attr setting (λ (_ : Unit {0}). read.Word ∷ []) sees (word_step w ∷ []) rest names more_names p (word_read l types attr setting names w (h (fine_there l p.passed)))
 
-module _ {S T A Y Z : Type 0} (l : Lens S) (types : Text → Outcome T) (attr : Text → Outcome (AttrView A)) (inside : Bool) (names : List Text) (steps : List Step) (see : Y → List (ReadPiece T A)) (sees : Z → List (ReadPiece T A)) {old mid : S} where
+module _ {S T A Y Z : Type 0} (l : Lens S) (types : Text → Outcome T) (attr : Text → Outcome (AttrView A)) (setting : Setting) (names : List Text) (steps : List Step) (see : Y → List (ReadPiece T A)) (sees : Z → List (ReadPiece T A)) {old mid : S} where
   -- an error is the same, whatever value there would be
-  pub steps_failed : {fault : ParseFault A} → MustSteps l.view l.at names types attr inside steps see old (Err fault) mid → MustSteps l.view l.at names types attr inside steps sees old (Err fault) mid
+  pub steps_failed : {fault : ParseFault A} → MustSteps l.view l.at names types attr setting steps see old (Err fault) mid → MustSteps l.view l.at names types attr setting steps sees old (Err fault) mid
   steps_failed h = record { meant = λ _. []; means = tt; read = record { answers = h.read.answers } }
 
   -- another value has the same pieces
-  pub steps_seen : {y : Y} (z : Z) → sees z ≡ see y → MustSteps l.view l.at names types attr inside steps see old (Ok y) mid → MustSteps l.view l.at names types attr inside steps sees old (Ok z) mid
+  pub steps_seen : {y : Y} (z : Z) → sees z ≡ see y → MustSteps l.view l.at names types attr setting steps see old (Ok y) mid → MustSteps l.view l.at names types attr setting steps sees old (Ok z) mid
   steps_seen {y = y} z e h = record { meant = λ _. h.meant y; means = subst (λ ps. Each (IsPart names (whole (l.view old))) ps (h.meant y)) (sym e) h.means; read = record { answers = h.read.answers } }
 
 -- ---- a piece between two fixed texts
-module _ {S T A X Y : Type 0} (l : Lens S) (types : Text → Outcome T) (attr : Text → Outcome (AttrView A)) (inside : Bool) (opens closes : Text) (step : Step)
-    (f : Text → Outcome X) (h : X → Piece ℕ T A) (is : (u : Text) → piece_at types attr inside step u ≡ mapped h (f u)) (Means : List Text → Text → Y → X → Type 0) (wrap : Y → ReadPiece T A)
+module _ {S T A X Y : Type 0} (l : Lens S) (types : Text → Outcome T) (attr : Text → Outcome (AttrView A)) (setting : Setting) (opens closes : Text) (step : Step)
+    (f : Text → Outcome X) (h : X → Piece ℕ T A) (is : (u : Text) → piece_at types attr setting step u ≡ mapped h (f u)) (Means : List Text → Text → Y → X → Type 0) (wrap : Y → ReadPiece T A)
     (on : (names : List Text) (text : Text) (y : Y) (x : X) → Means names text y x → IsPiece names text (wrap y) (h x)) where
   abbrev enclosed : List Step
   enclosed = word_step opens ∷ step ∷ word_step closes ∷ []
@@ -218,37 +219,37 @@ module _ {S T A X Y : Type 0} (l : Lens S) (types : Text → Outcome T) (attr : 
 
   module _ {old mid : S} (fine : (l.view old).failed ≡ false) where
     -- the first of the texts is refused
-    pub unopened : {fault : ParseFault A} (names : List Text) → ((l.view old).failed ≡ false → MustRead {Y = Unit {0}} l.view l.at (λ u. u) (space_at ▷ text_at opens) old (Err fault) mid) → MustSteps l.view l.at names types attr inside enclosed enclosed_pieces old (Err fault) mid
-    unopened names w = word_refused l types attr inside enclosed_pieces opens (step ∷ word_step closes ∷ []) names (steps_begin l types attr inside names enclosed old fine) w
+    pub unopened : {fault : ParseFault A} (names : List Text) → ((l.view old).failed ≡ false → MustRead {Y = Unit {0}} l.view l.at (λ u. u) (space_at ▷ text_at opens) old (Err fault) mid) → MustSteps l.view l.at names types attr setting enclosed enclosed_pieces old (Err fault) mid
+    unopened names w = word_refused l types attr setting enclosed_pieces opens (step ∷ word_step closes ∷ []) names (steps_begin l types attr setting names enclosed old fine) w
 
     module _ (opened : (l.view old).failed ≡ false → MustRead {A = A} {Y = Unit {0}} l.view l.at (λ u. u) (space_at ▷ text_at opens) old (Ok tt) mid) where
-      after_opening : (names : List Text) → Through l types attr inside names enclosed (step ∷ word_step closes ∷ []) old mid (read.Word ∷ [])
-      after_opening names = word_more l types attr inside opens (step ∷ word_step closes ∷ []) (steps_begin l types attr inside names enclosed old fine) opened
+      after_opening : (names : List Text) → Through l types attr setting names enclosed (step ∷ word_step closes ∷ []) old mid (read.Word ∷ [])
+      after_opening names = word_more l types attr setting opens (step ∷ word_step closes ∷ []) (steps_begin l types attr setting names enclosed old fine) opened
 
       module _ {spaced last : S} (skipped : Takes l.view l.at (front is_whitespace (l.view mid).rest) (after is_whitespace (l.view mid).rest) mid spaced) (names : List Text) where
-        item_read : {r : Result Y (ParseFault A)} → MustMean l.view l.at (Means names (whole (l.view spaced))) f spaced r last → MustSteps l.view l.at names types attr inside (step ∷ []) (λ y. wrap y ∷ []) mid r last
+        item_read : {r : Result Y (ParseFault A)} → MustMean l.view l.at (Means names (whole (l.view spaced))) f spaced r last → MustSteps l.view l.at names types attr setting (step ∷ []) (λ y. wrap y ∷ []) mid r last
         item_read m =
-            step_read l types attr inside f h step is (Means names (whole (l.view mid))) wrap names (on names (whole (l.view mid)))
+            step_read l types attr setting f h step is (Means names (whole (l.view mid))) wrap names (on names (whole (l.view mid)))
             (spaced_mean l (fine_there l (after_opening names).passed) skipped (λ e y x k. subst (λ t. Means names t y x) e k) m)
 
         -- the piece is refused
-        pub unfilled : {fault : ParseFault A} → MustMean l.view l.at (Means names (whole (l.view spaced))) f spaced (Err fault) last → MustSteps l.view l.at names types attr inside enclosed enclosed_pieces old (Err fault) last
-        unfilled m = steps_refused l types attr inside (λ y. wrap y ∷ []) enclosed_pieces (step ∷ []) (word_step closes ∷ []) names names (after_opening names) (item_read m)
+        pub unfilled : {fault : ParseFault A} → MustMean l.view l.at (Means names (whole (l.view spaced))) f spaced (Err fault) last → MustSteps l.view l.at names types attr setting enclosed enclosed_pieces old (Err fault) last
+        unfilled m = steps_refused l types attr setting (λ y. wrap y ∷ []) enclosed_pieces (step ∷ []) (word_step closes ∷ []) names names (after_opening names) (item_read m)
 
         module _ {y : Y} (filled : MustMean {A = A} l.view l.at (Means names (whole (l.view spaced))) f spaced (Ok y) last) where
-          after_item : Through l types attr inside names enclosed (word_step closes ∷ []) old last (read.Word ∷ wrap y ∷ [])
-          after_item = steps_more l types attr inside (λ y. wrap y ∷ []) (step ∷ []) (word_step closes ∷ []) names (after_opening names) (λ i text k. k) (item_read filled)
+          after_item : Through l types attr setting names enclosed (word_step closes ∷ []) old last (read.Word ∷ wrap y ∷ [])
+          after_item = steps_more l types attr setting (λ y. wrap y ∷ []) (step ∷ []) (word_step closes ∷ []) names (after_opening names) (λ i text k. k) (item_read filled)
 
           -- the last of the texts is refused
-          pub unclosed : {new : S} {fault : ParseFault A} → ((l.view last).failed ≡ false → MustRead {Y = Unit {0}} l.view l.at (λ u. u) (space_at ▷ text_at closes) last (Err fault) new) → MustSteps l.view l.at names types attr inside enclosed enclosed_pieces old (Err fault) new
-          unclosed w = word_refused l types attr inside enclosed_pieces closes [] names after_item w
+          pub unclosed : {new : S} {fault : ParseFault A} → ((l.view last).failed ≡ false → MustRead {Y = Unit {0}} l.view l.at (λ u. u) (space_at ▷ text_at closes) last (Err fault) new) → MustSteps l.view l.at names types attr setting enclosed enclosed_pieces old (Err fault) new
+          unclosed w = word_refused l types attr setting enclosed_pieces closes [] names after_item w
 
           -- all was read
-          pub closed : {new : S} → ((l.view last).failed ≡ false → MustRead {A = A} {Y = Unit {0}} l.view l.at (λ u. u) (space_at ▷ text_at closes) last (Ok tt) new) → MustSteps l.view l.at names types attr inside enclosed enclosed_pieces old (Ok y) new
-          closed w = steps_end l types attr inside enclosed_pieces y refl (word_more l types attr inside closes [] after_item w)
+          pub closed : {new : S} → ((l.view last).failed ≡ false → MustRead {A = A} {Y = Unit {0}} l.view l.at (λ u. u) (space_at ▷ text_at closes) last (Ok tt) new) → MustSteps l.view l.at names types attr setting enclosed enclosed_pieces old (Ok y) new
+          closed w = steps_end l types attr setting enclosed_pieces y refl (word_more l types attr setting closes [] after_item w)
 
           -- all was read, or the last of the texts is refused
           pub ended : (w : Result (Unit {0}) (ParseFault A)) {r : Result Y (ParseFault A)} {new : S} → r ≡ closing.closed y w → ((l.view last).failed ≡ false → MustRead {Y = Unit {0}} l.view l.at (λ u. u) (space_at ▷ text_at closes) last w new)
-              → MustSteps l.view l.at names types attr inside enclosed enclosed_pieces old r new
+              → MustSteps l.view l.at names types attr setting enclosed enclosed_pieces old r new
           ended (Ok u) e h = rw e (closed h)
           ended (Err fault) e h = rw e (unclosed h)

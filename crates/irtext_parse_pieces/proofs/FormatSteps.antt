@@ -8,6 +8,7 @@ use Rattle.irtext_base.specs.Answers.{Outcome}
 use Rattle.irtext_base.specs.Locations.{AttrView}
 use Rattle.irtext_base.specs.declared.format.Directive as code
 use Rattle.irtext_base.specs.FormatViews.{directive_of, directives_of}
+use Rattle.irtext_grammar.specs.declared.parsed.Setting.{Setting}
 use Rattle.irtext_grammar.specs.Heads.{Step, step_of, front_steps, directive_at, piece_at}
 use Rattle.irtext_grammar.specs.Resume.{is_flat}
 use Rattle.irtext_grammar.proofs.Resume.Front.{in_front, after_front}
@@ -26,18 +27,18 @@ pub custom_none : (ds cs : List code.Directive) (i : ℕ) → cs ≡ ds → leng
 custom_none ds cs i same l = sym (custom_step ds i ∙ ap (option_map (λ d. step_of (directive_of d))) (ap (λ xs. slice_get xs i) (sym same) ∙ slice_get_past cs i l))
 
 -- what the step of a directive parses is what the directive parses
-pub step_reads : {T A : Type 0} (types_at : Text → Outcome T) (attr : Text → Outcome (AttrView A)) (inside : Bool) (d : Directive) → piece_at types_at attr inside (step_of d) ≡ directive_at types_at attr inside d
-step_reads types_at attr inside (format.word s) = refl
-step_reads types_at attr inside (format.operand i) = refl
-step_reads types_at attr inside format.operands = refl
-step_reads types_at attr inside (format.successor i) = refl
-step_reads types_at attr inside format.successors = refl
-step_reads types_at attr inside (format.attribute k) = refl
-step_reads types_at attr inside format.dictionary = refl
-step_reads types_at attr inside (format.result_type i) = refl
-step_reads types_at attr inside (format.region i) = refl
-step_reads types_at attr inside format.regions = refl
-step_reads types_at attr inside format.header = refl
+pub step_reads : {T A : Type 0} (types_at : Text → Outcome T) (attr : Text → Outcome (AttrView A)) (setting : Setting) (d : Directive) → piece_at types_at attr setting (step_of d) ≡ directive_at types_at attr setting d
+step_reads types_at attr setting (format.word s) = refl
+step_reads types_at attr setting (format.operand i) = refl
+step_reads types_at attr setting format.operands = refl
+step_reads types_at attr setting (format.successor i) = refl
+step_reads types_at attr setting format.successors = refl
+step_reads types_at attr setting (format.attribute k) = refl
+step_reads types_at attr setting format.dictionary = refl
+step_reads types_at attr setting (format.result_type i) = refl
+step_reads types_at attr setting (format.region i) = refl
+step_reads types_at attr setting format.regions = refl
+step_reads types_at attr setting format.header = refl
 
 -- the step at a place is the first of those from there on
 pub next_left : {X : Type 0} (steps : List X) (n : ℕ) (step : X) → slice_get steps n ≡ Some step → drop n steps ≡ step ∷ drop (suc n) steps

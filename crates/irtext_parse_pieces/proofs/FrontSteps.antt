@@ -11,6 +11,7 @@ use Rattle.irtext_tokens.specs.Infix.{Reader, ◌⇒◌}
 use Rattle.irtext_tokens.specs.MustRead.{MustRead}
 use Rattle.irtext_tokens.proofs.Spelling.{prefixed-prefixed}
 use Rattle.irtext_tokens.proofs.Steps.{Lens, Passed, starts, first, more, refuses, spaced, turned, ends}
+use Rattle.irtext_grammar.specs.declared.parsed.Setting.{Setting}
 use Rattle.irtext_grammar.specs.Grammar.Tree as tree
 use Rattle.irtext_grammar.specs.Grammar.Tree.{Piece, Part}
 use Rattle.irtext_grammar.specs.Heads.{Step, front_steps, piece_at}
@@ -78,38 +79,38 @@ module _ {S T A : Type 0} (l : Lens S) (found more : List (ReadPiece T A)) where
         let p = first l (λ x t. Read x [] t) h.read in
         record { meant = λ _. no_tree; means = tt; read = record { answers = inl (runs_out_after l.view l.at l.view_at l.at_at old mid new p.taken (l.view mid).rest fault p.fine p.takes s) } }
 
-module _ {S T A : Type 0} (l : Lens S) (types : Text → Outcome T) (attr : Text → Outcome (AttrView A)) (inside : Bool) where
+module _ {S T A : Type 0} (l : Lens S) (types : Text → Outcome T) (attr : Text → Outcome (AttrView A)) (setting : Setting) where
   -- what follows a piece, with these parts before it
   abbrev pub after_piece : List Step → List (Part ℕ T A) → Piece ℕ T A → Text → Outcome (List (Part ℕ T A))
-  after_piece rest parts p = front_of types attr inside rest (parts ++ (tree.piece p ∷ []))
+  after_piece rest parts p = front_of types attr setting rest (parts ++ (tree.piece p ∷ []))
 
   -- the pieces found so far, and what is left of the steps
   pub record Fronting (names : List Text) (all left : List Step) (old now : S) (found : List (ReadPiece T A)) : Type 0 where
     pub parts : List (Part ℕ T A)
     pub each : Each (IsPart names (whole (l.view old))) found parts
-    pub passed : Passed l (front_of types attr inside all []) (front_of types attr inside left parts) old now
+    pub passed : Passed l (front_of types attr setting all []) (front_of types attr setting left parts) old now
 
   -- nothing was parsed so far
   pub front_begins : (names : List Text) (all : List Step) (old : S) → (l.view old).failed ≡ false → Fronting names all all old old []
-  front_begins names all old fine = record { parts = []; each = tt; passed = starts l (front_of types attr inside all []) (front_of types attr inside all []) old fine refl }
+  front_begins names all old fine = record { parts = []; each = tt; passed = starts l (front_of types attr setting all []) (front_of types attr setting all []) old fine refl }
 
   next_is : (left rest : List Step) (step : Step) (parts : List (Part ℕ T A)) (text : Text) → left ≡ step ∷ rest → is_flat step ≡ true
-      → front_of types attr inside left parts text ≡ followed (space_at text) (λ _ u. followed (piece_at types attr inside step u) (after_piece rest parts))
+      → front_of types attr setting left parts text ≡ followed (space_at text) (λ _ u. followed (piece_at types attr setting step u) (after_piece rest parts))
   next_is left rest step parts text e b =
-      ap (λ ss. front_of types attr inside ss parts text) e
-      ∙ ap (λ ss. front_at types attr inside ss parts text) (in_front step rest b).0
-      ∙ followed_followed (space_at text) (λ _ u. piece_at types attr inside step u) (after_piece rest parts)
+      ap (λ ss. front_of types attr setting ss parts text) e
+      ∙ ap (λ ss. front_at types attr setting ss parts text) (in_front step rest b).0
+      ∙ followed_followed (space_at text) (λ _ u. piece_at types attr setting step u) (after_piece rest parts)
 
   module _ {names : List Text} {all left : List Step} {old now : S} {found : List (ReadPiece T A)} where
     -- a piece is to be parsed after white space
     pub front_next : {mid : S} (rest : List Step) (step : Step) → left ≡ step ∷ rest → is_flat step ≡ true → (p : Fronting names all left old now found) → Takes l.view l.at (front is_whitespace (l.view now).rest) (after is_whitespace (l.view now).rest) now mid
-        → Passed l (front_of types attr inside all []) (λ t. followed (piece_at types attr inside step t) (after_piece rest p.parts)) old mid
+        → Passed l (front_of types attr setting all []) (λ t. followed (piece_at types attr setting step t) (after_piece rest p.parts)) old mid
     front_next rest step e b p k =
-        spaced l (λ _ u. followed (piece_at types attr inside step u) (after_piece rest p.parts)) (turned l (λ t. followed (space_at t) (λ _ u. followed (piece_at types attr inside step u) (after_piece rest p.parts))) (next_is left rest step p.parts (l.view now).rest e b) p.passed) k
+        spaced l (λ _ u. followed (piece_at types attr setting step u) (after_piece rest p.parts)) (turned l (λ t. followed (space_at t) (λ _ u. followed (piece_at types attr setting step u) (after_piece rest p.parts))) (next_is left rest step p.parts (l.view now).rest e b) p.passed) k
 
     -- it was parsed
     pub front_more : {mid new : S} {more_found : List (ReadPiece T A)} (rest : List Step) (step : Step) (more_names : List Text) → left ≡ step ∷ rest → is_flat step ≡ true → (p : Fronting names all left old now found) → Takes l.view l.at (front is_whitespace (l.view now).rest) (after is_whitespace (l.view now).rest) now mid
-        → KeepsNames names more_names → MustFind {A = A} l.view l.at more_names (piece_at types attr inside step) found more_found mid (Ok tt) new → Fronting more_names all rest old new more_found
+        → KeepsNames names more_names → MustFind {A = A} l.view l.at more_names (piece_at types attr setting step) found more_found mid (Ok tt) new → Fronting more_names all rest old new more_found
     front_more {mid = mid} {more_found = more_found} rest step more_names e b p k keeps h =
         let q = front_next rest step e b p k in
         let text = whole (l.view old) in
@@ -124,13 +125,13 @@ module _ {S T A : Type 0} (l : Lens S) (types : Text → Outcome T) (attr : Text
 
     -- it is an error
     pub front_refused : {mid new : S} {fault : ParseFault A} {more_found : List (ReadPiece T A)} {others more_names : List Text} (rest : List Step) (step : Step) → left ≡ step ∷ rest → is_flat step ≡ true → Fronting names all left old now found → Takes l.view l.at (front is_whitespace (l.view now).rest) (after is_whitespace (l.view now).rest) now mid
-        → MustFind {A = A} l.view l.at others (piece_at types attr inside step) found more_found mid (Err fault) new → MustFront l.view l.at more_names types attr inside all old (Err fault) new
+        → MustFind {A = A} l.view l.at others (piece_at types attr setting step) found more_found mid (Err fault) new → MustFront l.view l.at more_names types attr setting all old (Err fault) new
     front_refused rest step e b p k h = must_refuse l (refuses l {sees = λ _. []} (after_piece rest p.parts) (front_next rest step e b p k) h.read)
 
     -- none of the front is left
-    pub front_ends : front_steps left ≡ [] → Fronting names all left old now found → MustFront {A = A} l.view l.at names types attr inside all old (Ok found) now
+    pub front_ends : front_steps left ≡ [] → Fronting names all left old now found → MustFront {A = A} l.view l.at names types attr setting all old (Ok found) now
     front_ends e p = record {
       meant = λ _. p.parts;
       means = p.each;
-      read = ends l {A = A} (λ _. p.parts) found (turned l (λ t. Read p.parts [] t) (ap (λ ss. front_at types attr inside ss p.parts (l.view now).rest) e) p.passed);
+      read = ends l {A = A} (λ _. p.parts) found (turned l (λ t. Read p.parts [] t) (ap (λ ss. front_at types attr setting ss p.parts (l.view now).rest) e) p.passed);
     }

@@ -6,6 +6,7 @@ use Rattle.irtext_base.specs.Stream.{StreamView}
 use Rattle.irtext_base.specs.Answers.{Outcome}
 use Rattle.irtext_base.specs.Locations.{AttrView}
 use Rattle.irtext_base.specs.declared.parsable.fault.ParseFault.{ParseFault}
+use Rattle.irtext_grammar.specs.declared.parsed.Setting.{Setting}
 use Rattle.irtext_grammar.specs.Heads.{Step, flat, types, canonical_steps, front_steps}
 use Rattle.irtext_grammar.specs.Resume.{front_at}
 use Rattle.irtext_grammar.specs.declared.parsed.ReadPiece.{ReadPiece}
@@ -40,5 +41,5 @@ canonical_front = front_steps canonical_steps
 
 module _ {S T A Y : Type 0} (view : S → StreamView) (at : S → StreamView → S) where
   -- the result is what the steps parse, or their fault; `see` gives the pieces of a value
-  abbrev pub MustSteps : List Text → (Text → Outcome T) → (Text → Outcome (AttrView A)) → Bool → List Step → (Y → List (ReadPiece T A)) → S → Result Y (ParseFault A) → S → Type 0
-  MustSteps names types_at attr inside steps see old result new = MustMean view at (λ y. Each (IsPart names (whole (view old))) (see y)) (front_at types_at attr inside steps []) old result new
+  abbrev pub MustSteps : List Text → (Text → Outcome T) → (Text → Outcome (AttrView A)) → Setting → List Step → (Y → List (ReadPiece T A)) → S → Result Y (ParseFault A) → S → Type 0
+  MustSteps names types_at attr setting steps see old result new = MustMean view at (λ y. Each (IsPart names (whole (view old))) (see y)) (front_at types_at attr setting steps []) old result new

@@ -48,9 +48,10 @@ module _ {S A : Type 0} (view : S → StreamView) (at : S → StreamView → S) 
   abbrev pub MustEntries : (Text → Outcome (List (Name ℕ × Attribute A))) → S → Result (Vec (Key × AttrObj A) Global) (ParseFault A) → S → Type 0
   MustEntries outcome old result new = MustMean view at (AreEntries (whole (view old))) outcome old result new
 
-  -- the result is the dictionary that comes next, or its fault, where attributes are parsed by this reading
+  -- the result is the dictionary that comes next, or its fault, where attributes are parsed by this reading; given whether any attribute
+  -- is accepted under a reserved key
   abbrev pub MustDictionary : (Text → Outcome A) → Bool → S → Result (Vec (Key × AttrObj A) Global) (ParseFault A) → S → Type 0
-  MustDictionary reading inside old result new = MustEntries (dictionary_by (attr_at reading) inside) old result new
+  MustDictionary reading any_key old result new = MustEntries (dictionary_by (attr_at reading) any_key) old result new
 
   -- given a first entry, the result is the list of entries that continues it, or its fault
   abbrev pub EntriesAfter : (Text → Outcome (Name ℕ × Attribute A)) → Key × AttrObj A → S → Result (Vec (Key × AttrObj A) Global) (ParseFault A) → S → Type 0

@@ -8,6 +8,7 @@ use Rattle.irtext_base.specs.declared.parsable.fault.ParseFault.{ParseFault}
 use Rattle.irtext_stream.specs.Classes.{after_spaces}
 use Rattle.irtext_stream.specs.Stream.{Comes}
 use Rattle.irtext_tokens.specs.Infix.{Reader}
+use Rattle.irtext_grammar.specs.declared.parsed.Setting.{Setting}
 use Rattle.irtext_grammar.specs.Grammar.Tree.{Piece, Part}
 use Rattle.irtext_grammar.specs.Heads.{Step, front_steps}
 use Rattle.irtext_grammar.specs.Resume.{front_at}
@@ -17,8 +18,8 @@ use Rattle.irtext_grammar.specs.Parsed.{IsPiece, Each, IsPart}
 use Rattle.irtext_parse_pieces.specs.Named.{whole, MustMean}
 
 -- the parts found so far, and those that the steps before the first region parse
-abbrev pub front_of : {T A : Type 0} → (Text → Outcome T) → (Text → Outcome (AttrView A)) → Bool → List Step → List (Part ℕ T A) → Reader (List (Part ℕ T A))
-front_of types_at attr inside steps = front_at types_at attr inside (front_steps steps)
+abbrev pub front_of : {T A : Type 0} → (Text → Outcome T) → (Text → Outcome (AttrView A)) → Setting → List Step → List (Part ℕ T A) → Reader (List (Part ℕ T A))
+front_of types_at attr setting steps = front_at types_at attr setting (front_steps steps)
 
 -- one more piece was appended to those found, and it represents this piece of the text
 abbrev pub IsAppended : {T A : Type 0} → List Text → Text → List (ReadPiece T A) → List (ReadPiece T A) → Piece ℕ T A → Type 0
@@ -45,8 +46,8 @@ module _ {S T A : Type 0} (view : S → StreamView) (at : S → StreamView → S
     pub appended : more ≡ found ++ only_words (length texts)
 
   -- the result is the list of pieces that the steps parse, or their fault
-  abbrev pub MustFront : List Text → (Text → Outcome T) → (Text → Outcome (AttrView A)) → Bool → List Step → S → Result (List (ReadPiece T A)) (ParseFault A) → S → Type 0
-  MustFront names types_at attr inside steps old result new = MustMean view at (Each (IsPart names (whole (view old)))) (front_of types_at attr inside steps []) old result new
+  abbrev pub MustFront : List Text → (Text → Outcome T) → (Text → Outcome (AttrView A)) → Setting → List Step → S → Result (List (ReadPiece T A)) (ParseFault A) → S → Type 0
+  MustFront names types_at attr setting steps old result new = MustMean view at (Each (IsPart names (whole (view old)))) (front_of types_at attr setting steps []) old result new
 
   -- the piece that comes next was appended to those found, or the result is its fault
   abbrev pub MustFind : List Text → Reader (Piece ℕ T A) → List (ReadPiece T A) → List (ReadPiece T A) → S → Result (Unit {0}) (ParseFault A) → S → Type 0

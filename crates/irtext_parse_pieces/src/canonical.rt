@@ -18,7 +18,7 @@ use crate::types::types_parse;
 use irtext_base::parsable::{CharStream, ParseResult};
 use irtext_base::text::{AttrText, IrText};
 use irtext_few::Few;
-use irtext_grammar::parsed::{CanonicalPieces, NameKind, ReadEntry, ReadName};
+use irtext_grammar::parsed::{CanonicalPieces, NameKind, ReadEntry, ReadName, Setting};
 use irtext_scopes::tracker::NameTracker;
 use irtext_tokens::irfmt::demanded::text_demanded;
 use irtext_tokens::irfmt::parsers::skip_white_space;
@@ -53,13 +53,13 @@ fn names_between<S: OwnStream, V: Copy, B: Copy, T: IrText<A>, A: AttrText<A>>(
     stream: &mut S,
     names: &mut NameTracker<V, B>,
     kind: NameKind,
-    inside: bool,
+    setting: Setting,
     opening: &str,
     closing: &str,
 ) -> ParseResult<Few<ReadName>, A>
     ensures read { (S.CharStream.view stream.old).failed ≡ false →
         MustSteps S.CharStream.view S.CharStream.at names.new.names T.IrText.reading
-        (attr_at A.IrText.reading) inside
+        (attr_at A.IrText.reading) setting
         (name_steps (characters opening.now) kind (characters closing.now)) (name_pieces kind)
         stream.old result stream.new }
     ensures names { NamesRead names.old names.new }
@@ -68,7 +68,7 @@ fn names_between<S: OwnStream, V: Copy, B: Copy, T: IrText<A>, A: AttrText<A>>(
         return Err(fault);
     }
     skip_white_space(stream);
-    let found = match names_parse(stream, names, kind, inside) {
+    let found = match names_parse(stream, names, kind, setting.inside) {
         Ok(found) => found,
         Err(fault) => return Err(fault),
     };
@@ -81,24 +81,24 @@ fn names_between<S: OwnStream, V: Copy, B: Copy, T: IrText<A>, A: AttrText<A>>(
 fn entries_parse<S: OwnStream, T: IrText<A>, A: AttrText<A>>(
     stream: &mut S,
     keys: &mut Keys,
-    inside: bool,
+    setting: Setting,
 ) -> ParseResult<Vec<ReadEntry<A>>, A>
     ensures { (names : List Text) → (S.CharStream.view stream.old).failed ≡ false →
-        MustSteps S.CharStream.view S.CharStream.at names T.IrText.reading (attr_at A.IrText.reading) inside
+        MustSteps S.CharStream.view S.CharStream.at names T.IrText.reading (attr_at A.IrText.reading) setting
         dictionary_steps dictionary_pieces stream.old result stream.new }
 {
     skip_white_space(stream);
-    dictionary_parse(stream, keys, inside)
+    dictionary_parse(stream, keys, setting.any_key)
 }
 
 /// Parses types, in parentheses.
 #[inline(always)]
 fn parenthesized_parse<S: OwnStream, T: IrText<A>, A: AttrText<A>>(
     stream: &mut S,
-    inside: bool,
+    setting: Setting,
 ) -> ParseResult<Few<T>, A>
     ensures { (names : List Text) → (S.CharStream.view stream.old).failed ≡ false →
-        MustSteps S.CharStream.view S.CharStream.at names T.IrText.reading (attr_at A.IrText.reading) inside
+        MustSteps S.CharStream.view S.CharStream.at names T.IrText.reading (attr_at A.IrText.reading) setting
         type_steps type_pieces stream.old result stream.new }
 {
     if let Err(fault) = word_parse(stream, "(") {
@@ -117,10 +117,10 @@ fn parenthesized_parse<S: OwnStream, T: IrText<A>, A: AttrText<A>>(
 #[inline(always)]
 fn signature_parse<S: OwnStream, T: IrText<A>, A: AttrText<A>>(
     stream: &mut S,
-    inside: bool,
+    setting: Setting,
 ) -> ParseResult<(Few<T>, Few<T>), A>
     ensures { (names : List Text) → (S.CharStream.view stream.old).failed ≡ false →
-        MustSteps S.CharStream.view S.CharStream.at names T.IrText.reading (attr_at A.IrText.reading) inside
+        MustSteps S.CharStream.view S.CharStream.at names T.IrText.reading (attr_at A.IrText.reading) setting
         signature_steps signature_pieces stream.old result stream.new }
 {
     if let Err(fault) = word_parse(stream, ":") {
@@ -129,14 +129,14 @@ fn signature_parse<S: OwnStream, T: IrText<A>, A: AttrText<A>>(
     if let Err(fault) = word_parse(stream, "<") {
         return Err(fault);
     }
-    let inputs = match parenthesized_parse(stream, inside) {
+    let inputs = match parenthesized_parse(stream, setting) {
         Ok(inputs) => inputs,
         Err(fault) => return Err(fault),
     };
     if let Err(fault) = word_parse(stream, "->") {
         return failed(inputs, fault);
     }
-    let results = match parenthesized_parse(stream, inside) {
+    let results = match parenthesized_parse(stream, setting) {
         Ok(results) => results,
         Err(fault) => return failed(inputs, fault),
     };
@@ -144,19 +144,19 @@ fn signature_parse<S: OwnStream, T: IrText<A>, A: AttrText<A>>(
     closed_by((inputs, results), answer)
 }
 
-/// Parses the canonical form up to its regions, on a stream that has not failed. `inside` says whether it is inside of a region; outside of
-/// every region no name can be used, and an attribute has to be allowed under its key. Keys of the dictionary may share their texts with those that are kept at their places. Every error
+/// Parses the canonical form up to its regions, on a stream that has not failed. Outside of every region no name can
+/// be used, and unless the setting accepts any key an attribute has to be allowed under its key. Keys of the dictionary may share their texts with those that are kept at their places. Every error
 /// is committed.
 #[inline(always)]
 pub(crate) fn canonical_parse<S: OwnStream, V: Copy, B: Copy, T: IrText<A>, A: AttrText<A>>(
     stream: &mut S,
     names: &mut NameTracker<V, B>,
-    inside: bool,
+    setting: Setting,
     keys: &mut Keys,
 ) -> ParseResult<CanonicalPieces<T, A>, A>
     ensures read { (S.CharStream.view stream.old).failed ≡ false →
         MustSteps S.CharStream.view S.CharStream.at names.new.names T.IrText.reading
-        (attr_at A.IrText.reading) inside
+        (attr_at A.IrText.reading) setting
         canonical_front pieces_of stream.old result stream.new }
     ensures names { NamesRead names.old names.new }
 {
@@ -164,7 +164,7 @@ pub(crate) fn canonical_parse<S: OwnStream, V: Copy, B: Copy, T: IrText<A>, A: A
         stream,
         names,
         NameKind::Value,
-        inside,
+        setting,
         "(",
         ")",
     ) {
@@ -175,18 +175,18 @@ pub(crate) fn canonical_parse<S: OwnStream, V: Copy, B: Copy, T: IrText<A>, A: A
         stream,
         names,
         NameKind::Block,
-        inside,
+        setting,
         "[",
         "]",
     ) {
         Ok(successors) => successors,
         Err(fault) => return failed(operands, fault),
     };
-    let entries = match entries_parse::<S, T, A>(stream, keys, inside) {
+    let entries = match entries_parse::<S, T, A>(stream, keys, setting) {
         Ok(entries) => entries,
         Err(fault) => return failed((operands, successors), fault),
     };
-    let (inputs, results) = match signature_parse(stream, inside) {
+    let (inputs, results) = match signature_parse(stream, setting) {
         Ok(types) => types,
         Err(fault) => return failed((operands, successors, entries), fault),
     };

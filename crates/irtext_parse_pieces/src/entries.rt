@@ -1,4 +1,4 @@
-//! Parsing of dictionaries: attributes under keys. Repeated keys are accepted here, and inside a region also reserved ones.
+//! Parsing of dictionaries: attributes under keys. Repeated keys are accepted here; reserved ones if the caller says so.
 ghost use Rattle.std.specs.Prelude.{◌≡◌, ◌++◌, ◌∷◌, [], IfOk, IfErr, OnOk};
 ghost use Rattle.irtext_base.specs.Answers.{RunsOutHere};
 ghost use Rattle.irtext_base.specs.Format.{same_text, given_names_key};
@@ -157,19 +157,19 @@ fn allowed<S: CharStream, A: AttrText<A>>(
     Ok((key, attr))
 }
 
-/// Parses the entry at this place of a dictionary. `inside` says whether it is inside of a region; outside of every region an attribute
-/// that is not allowed under its key is an error at the key. If no name comes next, the error is uncommitted and the stream is unchanged;
+/// Parses the entry at this place of a dictionary. Unless `any_key` is set, an attribute that is not allowed under its key is the error
+/// `ReservedKey` at the key. If no name comes next, the error is uncommitted and the stream is unchanged;
 /// other errors are committed.
 fn entry_parse<S: OwnStream, A: AttrText<A>>(
     stream: &mut S,
     keys: &mut Keys,
     index: usize,
-    inside: bool,
+    any_key: bool,
 ) -> ParseResult<ReadEntry<A>, A>
     ensures { MayMean S.CharStream.view S.CharStream.at (IsEntry (whole (S.CharStream.view stream.old)))
-        (entry_by (attr_at A.IrText.reading) inside) stream.old result stream.new }
+        (entry_by (attr_at A.IrText.reading) any_key) stream.old result stream.new }
 {
-    if inside {
+    if any_key {
         return pair_parse(stream, keys, index);
     }
     let at = stream.position();
@@ -201,10 +201,10 @@ fn with_last<S: CharStream, X: Drop, A>(
 fn more_entries<S: OwnStream, A: AttrText<A>>(
     stream: &mut S,
     keys: &mut Keys,
-    inside: bool,
+    any_key: bool,
     first: ReadEntry<A>,
 ) -> ParseResult<Vec<ReadEntry<A>>, A>
-    ensures { EntriesAfter S.CharStream.view S.CharStream.at (entry_by (attr_at A.IrText.reading) inside)
+    ensures { EntriesAfter S.CharStream.view S.CharStream.at (entry_by (attr_at A.IrText.reading) any_key)
         first stream.old result stream.new }
 {
     let none = Vec::new(stream.allocator());
@@ -213,7 +213,7 @@ fn more_entries<S: OwnStream, A: AttrText<A>>(
         Err(fault) => return Err(fault),
     };
     while comma_taken(stream) {
-        let answer = entry_parse(stream, keys, found.len(), inside);
+        let answer = entry_parse(stream, keys, found.len(), any_key);
         let next = match committed(stream, answer) {
             Ok(next) => next,
             Err(fault) => return failed(found, fault),
@@ -232,18 +232,18 @@ fn more_entries<S: OwnStream, A: AttrText<A>>(
 fn entries_parse<S: OwnStream, A: AttrText<A>>(
     stream: &mut S,
     keys: &mut Keys,
-    inside: bool,
+    any_key: bool,
 ) -> ParseResult<Vec<ReadEntry<A>>, A>
     ensures { MustEntries S.CharStream.view S.CharStream.at
-        (separated_at 44 (entry_by (attr_at A.IrText.reading) inside)) stream.old result stream.new }
+        (separated_at 44 (entry_by (attr_at A.IrText.reading) any_key)) stream.old result stream.new }
 {
     if none_named(stream, NameKind::Value) {
         return Ok(Vec::new(stream.allocator()));
     }
-    match entry_parse(stream, keys, 0, inside) {
+    match entry_parse(stream, keys, 0, any_key) {
         Ok(first) => {
             skip_white_space(stream);
-            more_entries(stream, keys, inside, first)
+            more_entries(stream, keys, any_key, first)
         }
         Err(fault) => unless_committed(fault, Vec::new(stream.allocator())),
     }
@@ -254,16 +254,16 @@ fn entries_parse<S: OwnStream, A: AttrText<A>>(
 fn bracketed_parse<S: OwnStream, A: AttrText<A>>(
     stream: &mut S,
     keys: &mut Keys,
-    inside: bool,
+    any_key: bool,
 ) -> ParseResult<Vec<ReadEntry<A>>, A>
-    ensures { MustDictionary S.CharStream.view S.CharStream.at A.IrText.reading inside stream.old
+    ensures { MustDictionary S.CharStream.view S.CharStream.at A.IrText.reading any_key stream.old
         result stream.new }
 {
     if let Err(fault) = text_demanded(stream, "[") {
         return Err(fault);
     }
     skip_white_space(stream);
-    let entries = match entries_parse(stream, keys, inside) {
+    let entries = match entries_parse(stream, keys, any_key) {
         Ok(entries) => entries,
         Err(fault) => return Err(fault),
     };
@@ -272,28 +272,28 @@ fn bracketed_parse<S: OwnStream, A: AttrText<A>>(
 }
 
 /// Parses a dictionary: entries in brackets, separated by `,`, each a key, `:` and an attribute, as `[key: attribute]`. Repeated keys are
-/// accepted here. `inside` says whether it is inside of a region: there reserved keys are accepted too; outside of every region the first
-/// attribute that is not allowed under its key is an error, `ReservedKey` at the key. Keys may share their texts with those that are kept
+/// accepted here. Unless `any_key` is set, the first attribute that is not allowed under its key is the error `ReservedKey` at the key.
+/// Keys may share their texts with those that are kept
 /// at their places. An empty dictionary allocates nothing, and one with entries allocates a vector. Every error is committed.
 #[inline(always)]
 pub fn dictionary_parse<S: OwnStream, A: AttrText<A>>(
     stream: &mut S,
     keys: &mut Keys,
-    inside: bool,
+    any_key: bool,
 ) -> ParseResult<Vec<ReadEntry<A>>, A>
-    ensures { MustDictionary S.CharStream.view S.CharStream.at A.IrText.reading inside stream.old
+    ensures { MustDictionary S.CharStream.view S.CharStream.at A.IrText.reading any_key stream.old
         result stream.new }
 {
     if stream.has_failed() {
-        return bracketed_parse(stream, keys, inside);
+        return bracketed_parse(stream, keys, any_key);
     }
     if stream.accept("[]") {
         return Ok(Vec::new(stream.allocator()));
     }
-    bracketed_parse(stream, keys, inside)
+    bracketed_parse(stream, keys, any_key)
 }
 
-/// Parses a dictionary as `dictionary_parse` does inside of a region if `[` comes next; otherwise returns `None`. Every error is committed.
+/// Parses a dictionary with any keys if `[` comes next; otherwise returns `None`. Every error is committed.
 pub fn dictionary_if_parse<S: OwnStream, A: AttrText<A>>(
     stream: &mut S,
     keys: &mut Keys,

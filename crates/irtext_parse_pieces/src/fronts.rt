@@ -21,7 +21,7 @@ use irtext_base::parsable::{CharStream, ParseResult};
 use irtext_base::result::Cause;
 use irtext_base::text::{AttrText, IrText};
 use irtext_grammar::found::{CustomPieces, Pieces};
-use irtext_grammar::parsed::ReadPiece;
+use irtext_grammar::parsed::{ReadPiece, Setting};
 use irtext_scopes::tracker::NameTracker;
 use irtext_tokens::irfmt::demanded::text_demanded;
 use irtext_tokens::irfmt::faults::{out_of_memory, refuse};
@@ -58,13 +58,13 @@ fn piece_found<S: OwnStream, V: Copy, B: Copy, T: IrText<A>, A: AttrText<A>>(
     stream: &mut S,
     names: &mut NameTracker<V, B>,
     step: FormatStep<'_>,
-    inside: bool,
+    setting: Setting,
     keys: &mut Keys,
     found: &mut CustomPieces<T, A>,
 ) -> ParseResult<(), A>
     requires { length found.old + 1 < 2 ^ 64 }
     ensures read { MustFind S.CharStream.view S.CharStream.at names.new.names
-        (piece_at T.IrText.reading (attr_at A.IrText.reading) inside (seen_step step.entry)) found.old
+        (piece_at T.IrText.reading (attr_at A.IrText.reading) setting (seen_step step.entry)) found.old
         found.new stream.old result stream.new }
     ensures names { NamesRead names.old names.new }
 {
@@ -75,7 +75,7 @@ fn piece_found<S: OwnStream, V: Copy, B: Copy, T: IrText<A>, A: AttrText<A>>(
         found.push_word();
         return Ok(());
     }
-    let answer = step_parse(stream, names, step, inside, keys);
+    let answer = step_parse(stream, names, step, setting, keys);
     piece_kept(stream, found, answer)
 }
 
@@ -84,12 +84,12 @@ fn pieces_parse<S: OwnStream, V: Copy, B: Copy, T: IrText<A>, A: AttrText<A>>(
     stream: &mut S,
     names: &mut NameTracker<V, B>,
     directives: &[Directive],
-    inside: bool,
+    setting: Setting,
     keys: &mut Keys,
 ) -> ParseResult<CustomPieces<T, A>, A>
     ensures read { (S.CharStream.view stream.old).failed ≡ false → MustFront S.CharStream.view S.CharStream.at
         names.new.names
-        T.IrText.reading (attr_at A.IrText.reading) inside (custom_steps directives.now) stream.old
+        T.IrText.reading (attr_at A.IrText.reading) setting (custom_steps directives.now) stream.old
         result stream.new }
     ensures count { IfOk result (HasFront (custom_steps directives.now)) }
     ensures names { NamesRead names.old names.new }
@@ -100,7 +100,7 @@ fn pieces_parse<S: OwnStream, V: Copy, B: Copy, T: IrText<A>, A: AttrText<A>>(
             return Ok(found);
         }
         skip_white_space(stream);
-        if let Err(fault) = piece_found(stream, names, step, inside, keys, &mut found) {
+        if let Err(fault) = piece_found(stream, names, step, setting, keys, &mut found) {
             return failed(found, fault);
         }
     }
@@ -112,35 +112,33 @@ fn pieces_parse<S: OwnStream, V: Copy, B: Copy, T: IrText<A>, A: AttrText<A>>(
 fn canonical_pieces<S: OwnStream, V: Copy, B: Copy, T: IrText<A>, A: AttrText<A>>(
     stream: &mut S,
     names: &mut NameTracker<V, B>,
-    inside: bool,
+    setting: Setting,
     keys: &mut Keys,
 ) -> ParseResult<Pieces<T, A>, A>
     ensures read { (S.CharStream.view stream.old).failed ≡ false → MustFront S.CharStream.view S.CharStream.at
         names.new.names
-        T.IrText.reading (attr_at A.IrText.reading) inside canonical_steps stream.old result stream.new }
+        T.IrText.reading (attr_at A.IrText.reading) setting canonical_steps stream.old result stream.new }
     ensures count { IfOk result (HasFront canonical_steps) }
     ensures names { NamesRead names.old names.new }
 {
-    match canonical_parse(stream, names, inside, keys) {
+    match canonical_parse(stream, names, setting, keys) {
         Ok(pieces) => Ok(Pieces::canonical(pieces)),
         Err(fault) => Err(fault),
     }
 }
 
 /// Parses what the steps of a format describe, up to the first step that parses regions, one piece for each step, with white space before
-/// each. `inside` says whether it is inside of a region; outside of every region no name can be used, and an attribute has to be allowed
-/// under its key. The result has as many pieces as
-/// there are such steps. Keys of a dictionary may share their texts with those that are kept at their places. Every error is committed, and
+/// each, as `step_parse` does. The result has as many pieces as there are such steps. Keys of a dictionary may share their texts with those that are kept at their places. Every error is committed, and
 /// leaves the stream failed.
 pub fn front_parse<S: OwnStream, V: Copy, B: Copy, T: IrText<A>, A: AttrText<A>>(
     stream: &mut S,
     names: &mut NameTracker<V, B>,
     format: &OpFormat,
-    inside: bool,
+    setting: Setting,
     keys: &mut Keys,
 ) -> ParseResult<Pieces<T, A>, A>
     ensures read { MustFront S.CharStream.view S.CharStream.at names.new.names
-        T.IrText.reading (attr_at A.IrText.reading) inside (steps_of (format_of format.now)) stream.old
+        T.IrText.reading (attr_at A.IrText.reading) setting (steps_of (format_of format.now)) stream.old
         result stream.new }
     ensures count { IfOk result (HasFront (steps_of (format_of format.now))) }
     ensures names { NamesRead names.old names.new }
@@ -149,9 +147,9 @@ pub fn front_parse<S: OwnStream, V: Copy, B: Copy, T: IrText<A>, A: AttrText<A>>
         return Err(refuse(stream, Cause::StreamFailed));
     }
     match format {
-        OpFormat::Canonical => canonical_pieces(stream, names, inside, keys),
+        OpFormat::Canonical => canonical_pieces(stream, names, setting, keys),
         OpFormat::Custom(directives) => {
-            match pieces_parse(stream, names, directives, inside, keys) {
+            match pieces_parse(stream, names, directives, setting, keys) {
                 Ok(pieces) => Ok(Pieces::custom(pieces)),
                 Err(fault) => Err(fault),
             }

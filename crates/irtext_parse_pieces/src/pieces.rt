@@ -28,7 +28,7 @@ use irtext_base::format::Directive;
 use irtext_base::parsable::{CharStream, ParseResult};
 use irtext_base::result::{Cause, Expected};
 use irtext_base::text::{AttrText, IrText};
-use irtext_grammar::parsed::{NameKind, ReadPiece};
+use irtext_grammar::parsed::{NameKind, ReadPiece, Setting};
 use irtext_scopes::tracker::NameTracker;
 use irtext_tokens::irfmt::demanded::text_demanded;
 use irtext_tokens::irfmt::faults::{commit_unexpected, committed, out_of_memory, refuse};
@@ -137,12 +137,12 @@ fn attr_piece<S: OwnStream, T: IrText<A>, A: AttrText<A>>(
 fn dictionary_piece<S: OwnStream, T: IrText<A>, A: AttrText<A>>(
     stream: &mut S,
     keys: &mut Keys,
-    inside: bool,
+    any_key: bool,
 ) -> PieceResult<T, A>
     ensures { AnyPiece S.CharStream.view S.CharStream.at
-        (dictionary_by (attr_at A.IrText.reading) inside ⇒ dictionary) stream.old result stream.new }
+        (dictionary_by (attr_at A.IrText.reading) any_key ⇒ dictionary) stream.old result stream.new }
 {
-    match dictionary_parse(stream, keys, inside) {
+    match dictionary_parse(stream, keys, any_key) {
         Ok(entries) => Ok(ReadPiece::Dictionary(entries)),
         Err(fault) => Err(fault),
     }
@@ -202,22 +202,34 @@ fn piece_parse<S: OwnStream, V: Copy, B: Copy, T: IrText<A>, A: AttrText<A>>(
     stream: &mut S,
     names: &mut NameTracker<V, B>,
     directive: &Directive,
-    inside: bool,
+    setting: Setting,
     keys: &mut Keys,
 ) -> PieceResult<T, A>
     ensures read { MustPiece S.CharStream.view S.CharStream.at names.new.names
-        (directive_at T.IrText.reading (attr_at A.IrText.reading) inside (directive_of directive.now))
+        (directive_at T.IrText.reading (attr_at A.IrText.reading) setting (directive_of directive.now))
         stream.old result stream.new }
     ensures names { NamesRead names.old names.new }
 {
     match directive {
         Directive::Literal(text) => word_piece(stream, text.as_str()),
-        Directive::Operand(index) => name_piece(stream, names, NameKind::Value, *index, inside),
-        Directive::Operands => names_piece(stream, names, NameKind::Value, inside),
-        Directive::Successor(index) => name_piece(stream, names, NameKind::Block, *index, inside),
-        Directive::Successors => names_piece(stream, names, NameKind::Block, inside),
+        Directive::Operand(index) => name_piece(
+            stream,
+            names,
+            NameKind::Value,
+            *index,
+            setting.inside,
+        ),
+        Directive::Operands => names_piece(stream, names, NameKind::Value, setting.inside),
+        Directive::Successor(index) => name_piece(
+            stream,
+            names,
+            NameKind::Block,
+            *index,
+            setting.inside,
+        ),
+        Directive::Successors => names_piece(stream, names, NameKind::Block, setting.inside),
         Directive::Attr(key) => attr_piece(stream, key),
-        Directive::AttrDict => dictionary_piece(stream, keys, inside),
+        Directive::AttrDict => dictionary_piece(stream, keys, setting.any_key),
         Directive::ResultType(index) => type_piece(stream, *index),
         Directive::SymbolHeader => header_piece(stream),
         Directive::Region(_) => no_piece(stream),
@@ -225,29 +237,30 @@ fn piece_parse<S: OwnStream, V: Copy, B: Copy, T: IrText<A>, A: AttrText<A>>(
     }
 }
 
-/// Parses what a step of a format describes. `inside` says whether it is inside of a region; outside of every region no name can be used,
-/// and an attribute has to be allowed under its key. An attribute may be replaced by the marker `!outlined`; repeated keys of a dictionary
-/// are accepted here, inside of a region also reserved ones, and keys may share their texts with those that are kept at their places. If the step describes regions, fails with `Unexpected`: an operation was expected.
+/// Parses what a step of a format describes. Outside of every region no name can be used, which is `NoActiveScope` at the name; unless the
+/// setting accepts any key, an attribute that is not allowed under its key is `ReservedKey` at the key. An attribute may be replaced by the
+/// marker `!outlined`; repeated keys of a dictionary are accepted here, and keys may share their texts with those that are kept at their
+/// places. If the step describes regions, fails with `Unexpected`: an operation was expected.
 /// Every error is committed, and leaves the stream failed.
 #[inline(always)]
 pub fn step_parse<S: OwnStream, V: Copy, B: Copy, T: IrText<A>, A: AttrText<A>>(
     stream: &mut S,
     names: &mut NameTracker<V, B>,
     step: FormatStep<'_>,
-    inside: bool,
+    setting: Setting,
     keys: &mut Keys,
 ) -> PieceResult<T, A>
     ensures read { MustPiece S.CharStream.view S.CharStream.at names.new.names
-        (piece_at T.IrText.reading (attr_at A.IrText.reading) inside (seen_step step.entry)) stream.old
+        (piece_at T.IrText.reading (attr_at A.IrText.reading) setting (seen_step step.entry)) stream.old
         result stream.new }
     ensures names { NamesRead names.old names.new }
 {
     match step {
-        FormatStep::Directive(directive) => piece_parse(stream, names, directive, inside, keys),
+        FormatStep::Directive(directive) => piece_parse(stream, names, directive, setting, keys),
         FormatStep::Word(text) => word_piece(stream, text),
-        FormatStep::Operands => names_piece(stream, names, NameKind::Value, inside),
-        FormatStep::Successors => names_piece(stream, names, NameKind::Block, inside),
-        FormatStep::Dictionary => dictionary_piece(stream, keys, inside),
+        FormatStep::Operands => names_piece(stream, names, NameKind::Value, setting.inside),
+        FormatStep::Successors => names_piece(stream, names, NameKind::Block, setting.inside),
+        FormatStep::Dictionary => dictionary_piece(stream, keys, setting.any_key),
         FormatStep::Types => types_piece(stream),
         FormatStep::Regions => no_piece(stream),
     }

@@ -186,7 +186,7 @@ module _ {T A U : Type 0} {types_at : Reader T} {attr : Reader (AttrView A)} {di
       }) (subst (λ t. IsTextFault t cause place fault) e f))
   faulted_after {fault = fault} h e (inr (by_names failure f ends)) =
       inr (by_names failure (subst (λ t. IsFailure t failure fault) e f)
-      (λ path items more o z. subst (EndsIn (failed failure)) (sym (goes_recorded (doing dialects path) h.goes o).so) (ends path (h.made ++ items) more (all_done (doing dialects path) h.did o) (h.acts.so path items more o z))))
+      (λ path items more o z. subst (EndsIn (failed failure)) (sym (goes_recorded (doing dialects path) refl h.goes o).so) (ends path (h.made ++ items) more (all_done (doing dialects path) h.did o) (h.acts.so path items more o z))))
 
 -- the same over what is equal
 pub faulted_over : {T A U : Type 0} {types_at : Reader T} {attr : Reader (AttrView A)} {ls : List (Level T A)} {n0 : Names} {s0 : StateStream T A U} {fault : ParseFault A} (d e : List (Text × Table)) → d ≡ e

@@ -1,6 +1,6 @@
 -- No fault of a nested text says that the stream had failed, and one of which nothing was parsed has a cause of a text.
-use Rattle.std.proofs.Common.{◌≡◌, ◌∙◌, ℕ, zero, suc, Bool, true, false, cond, List, [], ◌∷◌, ◌++◌, length, Some, None, codes, is_some, append_assoc, refl, sym, ap, subst, true≢false}
-use Rattle.irtext_base.specs.Text.{Text, begins, after_space}
+use Rattle.std.proofs.Common.{◌≡◌, ◌∙◌, ℕ, Bool, true, false, cond, List, [], ◌∷◌, ◌++◌, length, Some, None, codes, is_some, append_assoc, refl, sym, ap, subst, true≢false}
+use Rattle.irtext_base.specs.Text.{Text, begins}
 use Rattle.irtext_base.specs.Reading.{the}
 use Rattle.irtext_base.specs.Format.{Id}
 use Rattle.irtext_base.specs.Faults.{Fault, Failed, UnregisteredOp, UnregisteredDialect}
@@ -12,63 +12,21 @@ use Rattle.irtext_context.specs.Dialects.{Table}
 use Rattle.irtext_context.specs.DialectTable.{dialect_of, registered}
 use Rattle.irtext_tokens.specs.AttrTexts.{attr_at}
 use Rattle.irtext_tokens.specs.Infix.{◌▷◌}
-use Rattle.irtext_tokens.specs.Tokens.{space_at, word, identifier_at, id_at}
+use Rattle.irtext_tokens.specs.Tokens.{word, identifier_at, id_at}
 use Rattle.irtext_tokens.proofs.Honest.{Honest, ◌then◌, ◌so◌, seen, honest_either, honest_word, honest_space, honest_id, honest_index, honest_name, honest_separated, honest_spaced, honest_attr}
 use Rattle.irtext_grammar.specs.Contexts.Formats.{op_id, isolated}
 use Rattle.irtext_grammar.specs.Grammar.Tree as tree
-use Rattle.irtext_grammar.specs.Grammar.Tree.{Name, Part}
-use Rattle.irtext_grammar.specs.Readers.Parts.{after_lead, without_first}
+use Rattle.irtext_grammar.specs.Grammar.Tree.{Name}
+use Rattle.irtext_grammar.specs.Readers.Parts.{after_lead}
 use Rattle.irtext_grammar.specs.Readers.Operations.{registered_after}
 use Rattle.irtext_tokens.specs.Demanded.{index_at}
 use Rattle.irtext_grammar.specs.Promises.Supported.{is_committed}
 use Rattle.irtext_grammar.proofs.Readers.Honest.{honest_nothing}
 use Rattle.irtext_grammar.specs.Promises.ErrorCauses.{IsTokenFault, is_name_fault, CauseAt, of_token, of_name, no_dialect, no_operation, of_type, of_attribute}
-use Rattle.irtext_grammar.proofs.Causes.Found.{operation_cause}
-use Rattle.irtext_grammar.proofs.Readers.NeverFailed.{NotFailed, Fine, fine_honest, fine_missing, fine_bad, fine_either, fine_after_lead, fine_mapped}
-use Rattle.irtext_grammar.specs.Heads.{Step, flat, types, one, all, name_of, label_at, argument_at, mark_at, mark_if_at, head_at, piece_at, front_steps, region_steps, lead_at, led_by, led_at}
-use Rattle.irtext_grammar.specs.Reached.{Reached, Advanced, Stopped, came, tells, Actions, Reads, begins_operation, begins_region, begins_block, steps_in, regions_by, more_by, operations_by, blocks_by, front_by, steps_by, end_by, body_by, operation_by, block_by, region_by, region_within, region_at, operation_at}
-use Rattle.irtext_parse_nested.proofs.FrontHonest.{name_honest, lead_honest, dictionary_honest, piece_honest}
-
--- ---- what is stuck
-abbrev StuckFine : {X S : Type 0} → Reached X S → Type 0
-StuckFine (Advanced x s rest) = Unit {0}
-StuckFine (Stopped s cause place) = NotFailed cause
-
--- it is not stuck at such a cause
-record Never {X S : Type 0} (o : Reached X S) : Type 0 where
-  pub says : StuckFine o
-
-never_came : {X Y S : Type 0} (o : Reached X S) (next : X → S → Text → Reached Y S) → Never o → ((x : X) (s : S) (rest : Text) → Never (next x s rest)) → Never (came o next)
-never_came (Advanced x s rest) next h k = k x s rest
-never_came (Stopped s cause place) next h k = record { says = h.says }
-
-never_tells : {X Y S : Type 0} (o : Outcome X) (text : Text) (s : S) (next : X → Text → Reached Y S) → Fine o → ((x : X) (rest : Text) → Never (next x rest)) → Never (tells o text s next)
-never_tells (Read x taken rest) text s next h k = k x rest
-never_tells (Missing cause) text s next h k = record { says = h.spares }
-never_tells (Bad cause upto) text s next h k = record { says = h.spares }
-
-never_if : {X S : Type 0} (b : Bool) (o p : Reached X S) → Never o → Never p → Never (cond b o p)
-never_if true o p h k = h
-never_if false o p h k = k
-
-there : {X S : Type 0} (x : X) (s : S) (rest : Text) → Never (Advanced x s rest)
-there x s rest = record { says = tt }
-
-module _ {S : Type 0} where
-  never_regions : (inner : Reads S) → ((text : Text) (s : S) → Never (inner text s)) → (n : ℕ) (text : Text) (s : S) → Never (regions_by inner n text s)
-  never_regions inner h zero text s = there tt s text
-  never_regions inner h (suc n) text s = never_if (begins_region text) _ _ (never_came (inner text s) _ (h text s) (λ _ t rest. never_regions inner h n (after_space rest) t)) (there tt s text)
-
-  never_more : (item : Reads S) → ((text : Text) (s : S) → Never (item text s)) → (n : ℕ) (text : Text) (s : S) → Never (more_by item n text s)
-  never_more item h zero text s = there tt s text
-  never_more item h (suc n) text s = never_if (begins (the 59) text) _ _ (never_came (item (after_space (without_first text)) s) _ (h (after_space (without_first text)) s) (λ _ t rest. never_more item h n (after_space rest) t)) (there tt s text)
-
-  never_operations : (item : Reads S) → ((text : Text) (s : S) → Never (item text s)) → (text : Text) (s : S) → Never (operations_by item text s)
-  never_operations item h text s = never_if (begins_operation text) _ _ (never_came (item text s) _ (h text s) (λ _ t rest. never_more item h (length rest) (after_space rest) t)) (there tt s text)
-
-  never_blocks : (item : Reads S) → ((text : Text) (s : S) → Never (item text s)) → (n : ℕ) (text : Text) (s : S) → Never (blocks_by item n text s)
-  never_blocks item h zero text s = there tt s text
-  never_blocks item h (suc n) text s = never_if (begins_block text) _ _ (never_came (item text s) _ (h text s) (λ _ t rest. never_blocks item h n (after_space rest) t)) (there tt s text)
+use Rattle.irtext_grammar.proofs.Causes.Found.{operation_cause, region_cause}
+use Rattle.irtext_grammar.specs.Heads.{name_of, label_at, argument_at, mark_at, mark_if_at, head_at, lead_at, led_by, led_at}
+use Rattle.irtext_grammar.specs.Reached.{Stopped, tells, Actions, body_by, region_at, operation_at}
+use Rattle.irtext_parse_nested.proofs.FrontHonest.{name_honest, lead_honest, dictionary_honest}
 
 -- ---- the parsers of heads
 label_honest : Honest label_at
@@ -79,20 +37,6 @@ mark_honest = record { of = λ text. of_mapped text (λ i. record { place = leng
 
 mark_if_honest : Honest mark_if_at
 mark_if_honest = honest_either (begins (the 33)) (seen Some mark_honest) (honest_nothing None)
-
-fine_registered : (dialects : List (Text × Table)) (lead : Text) (o : Outcome Id) → Fine o → Fine (registered_after dialects lead o)
-fine_registered dialects lead (Read id taken rest) h =
-    fine_either (is_some (dialect_of dialects id.dialect)) _ _ (fine_either (is_some (registered dialects (op_id id))) _ _ h (fine_bad (UnregisteredOp id) [] (λ e. absurd (cc)))) (fine_bad (UnregisteredDialect id.dialect) lead (λ e. absurd (cc)))
-fine_registered dialects lead (Missing cause) h = fine_missing cause h.spares
-fine_registered dialects lead (Bad cause upto) h = fine_bad cause upto h.spares
-
-fine_led_by : (dialects : List (Text × Table)) (o : Outcome (List (Name ℕ))) → Fine o → Fine (led_by dialects o)
-fine_led_by dialects (Read ns lead rest) h = fine_mapped (λ id. (ns, id)) _ (fine_registered dialects lead (after_lead lead (id_at rest)) (fine_after_lead lead (id_at rest) (fine_honest honest_id rest)))
-fine_led_by dialects (Missing cause) h = fine_missing cause h.spares
-fine_led_by dialects (Bad cause upto) h = fine_bad cause upto h.spares
-
-fine_led : (dialects : List (Text × Table)) (text : Text) → Fine (led_at dialects text)
-fine_led dialects text = fine_led_by dialects (lead_at text) (fine_honest lead_honest text)
 
 -- where nothing is led, for a cause of a text
 registered_first : (dialects : List (Text × Table)) (lead text : Text) (o : Outcome Id) → Of text o → (cause : Fault) → registered_after dialects lead o ≡ Missing cause → is_first_fault cause ≡ true
@@ -146,9 +90,6 @@ module _ {T A : Type 0} (types_at : Text → Outcome T) (reading : Text → Outc
   attr_honest : Honest attr
   attr_honest = honest_attr (record { of = of_sincere reading sincere })
 
-  fine_piece : (step : Step) (text : Text) → Fine ((space_at ▷ piece_at types_at attr true step) text)
-  fine_piece step text = fine_honest (◌then◌ honest_space (piece_honest types_at attr types_honest attr_honest step)) text
-
   argument_honest : Honest (argument_at types_at attr)
   argument_honest = ◌so◌ name_honest (λ n. ◌then◌ (honest_spaced (codes ":")) (seen (λ t. (n, t)) types_honest))
 
@@ -160,49 +101,9 @@ module _ {T A : Type 0} (types_at : Text → Outcome T) (reading : Text → Outc
 
   -- ---- the parsers of what nests
   module _ {S : Type 0} (dialects : List (Text × Table)) (does : Actions T A S) where
-    never_front : (ss : List Step) (found : List (Part ℕ T A)) (text : Text) (s : S) → Never (front_by dialects types_at attr does true ss found text s)
-    never_front [] found text s = there found s text
-    never_front (step ∷ ss) found text s = never_tells ((space_at ▷ piece_at types_at attr true step) text) text s _ (fine_piece step text) (λ p rest. never_front ss (found ++ tree.piece p ∷ []) rest s)
-
-    never_steps : (inner : Reads S) → ((text : Text) (s : S) → Never (inner text s)) → (place : ℕ) (id : Id) (ss : List Step) (found : List (Part ℕ T A)) (text : Text) (s : S) → Never (steps_by dialects types_at attr does inner place id ss found text s)
-    never_steps inner h place id [] found text s = there found s text
-    never_steps inner h place id (one i ∷ ss) found text s = never_came (inner (after_space text) s) _ (h (after_space text) s) (λ _ t rest. never_steps inner h place id ss (found ++ tree.region i ∷ []) rest t)
-    never_steps inner h place id (all ∷ ss) found text s =
-        never_came (regions_by inner (length text) (after_space text) s) _ (never_regions inner h (length text) (after_space text) s) (λ _ t rest. never_steps inner h place id ss (found ++ tree.regions ∷ []) rest t)
-    never_steps inner h place id (flat d ∷ ss) found text s =
-        never_tells ((space_at ▷ piece_at types_at attr true (flat d)) text) text s _ (fine_piece (flat d) text) (λ p rest. never_steps inner h place id ss (found ++ tree.piece p ∷ []) rest (does.late place id p s))
-    never_steps inner h place id (types ∷ ss) found text s =
-        never_tells ((space_at ▷ piece_at types_at attr true types) text) text s _ (fine_piece types text) (λ p rest. never_steps inner h place id ss (found ++ tree.piece p ∷ []) rest (does.late place id p s))
-
-    never_end : (place : ℕ) (names : List (Name ℕ)) (id : Id) (parts : List (Part ℕ T A)) (text : Text) (s : S) → Never (end_by dialects types_at attr does place names id parts text s)
-    never_end place names id parts text s = never_tells ((space_at ▷ mark_if_at) text) text (does.closes place names id parts s) _ (fine_honest (◌then◌ honest_space mark_if_honest) text) (λ m rest. there tt _ rest)
-
-    never_body : (inner : Reads S) → ((text : Text) (s : S) → Never (inner text s)) → (place : ℕ) (names : List (Name ℕ)) (id : Id) (text : Text) (s : S) → Never (body_by dialects types_at attr does inner true place names id text s)
-    never_body inner h place names id text s =
-        never_came (front_by dialects types_at attr does true (front_steps (steps_in dialects id)) [] text s) _ (never_front (front_steps (steps_in dialects id)) [] text s) (λ found t rest.
-        never_came (steps_by dialects types_at attr does inner place id (region_steps (steps_in dialects id)) found rest (does.uses place id found t)) _
-        (never_steps inner h place id (region_steps (steps_in dialects id)) found rest (does.uses place id found t)) (λ parts u left. never_end place names id parts left u))
-
-    never_operation : (inner : Bool → Reads S) → ((iso : Bool) (text : Text) (s : S) → Never (inner iso text s)) → (text : Text) (s : S) → Never (operation_by dialects types_at attr does inner true text s)
-    never_operation inner h text s = never_tells (led_at dialects text) text s _ (fine_led dialects text) (λ lead rest. never_body (inner (isolated dialects lead.1)) (h (isolated dialects lead.1)) (length text) lead.0 lead.1 rest s)
-
-    never_block : (operations : Reads S) → ((text : Text) (s : S) → Never (operations text s)) → (text : Text) (s : S) → Never (block_by dialects types_at attr does operations text s)
-    never_block operations h text s = never_tells (head_at types_at attr text) text s _ (fine_honest head_honest text) (λ head rest. h (after_space rest) (does.heads head s))
-
-    never_region : (blocks : Reads S) → ((text : Text) (s : S) → Never (blocks text s)) → (iso : Bool) (text : Text) (s : S) → Never (region_by dialects types_at attr does blocks iso text s)
-    never_region blocks h iso text s =
-        never_tells ((word (codes "{") ▷ space_at) text) text (does.enters iso s) _ (fine_honest (◌then◌ (honest_word (codes "{")) honest_space) text) (λ _ rest.
-        never_came (blocks rest (does.enters iso s)) _ (h rest (does.enters iso s)) (λ _ u left.
-        never_tells (word (codes "}") left) left u _ (fine_honest (honest_word (codes "}")) left) (λ _ end. there tt _ end)))
-
-    never_within : (n : ℕ) (iso : Bool) (text : Text) (s : S) → Never (region_within dialects types_at attr does n iso text s)
-    never_within zero iso text s = record { says = λ e. absurd (cc) }
-    never_within (suc n) iso text s = never_region _ (λ rest t.
-        never_blocks _ (never_block _ (never_operations _ (never_operation (region_within dialects types_at attr does n) (never_within n)))) (length rest) rest t) iso text s
-
     -- a region's parser is not stuck at such a cause
     pub region_never_failed : (iso : Bool) (text : Text) (s t : S) (cause : Fault) (place : ℕ) → region_at dialects types_at attr does iso text s ≡ Stopped t cause place → cause ≡ Failed → ⊥
-    region_never_failed iso text s t cause place e = (subst Never e (never_within (suc (length text)) iso text s)).says
+    region_never_failed iso text s t cause place e = never_caused dialects types_at reading text cause _ (region_cause dialects types_at reading sincere_types sincere does iso text s t cause place e).2
 
     -- nor is an operation's, inside of a region and outside of each
     pub operation_never_failed : (inside : Bool) (text : Text) (s t : S) (cause : Fault) (place : ℕ) → operation_at dialects types_at attr does inside text s ≡ Stopped t cause place → cause ≡ Failed → ⊥

@@ -1,5 +1,5 @@
 -- Where there is no turn, the text is at fault, or an action fails: from the errors of the turns of each open frame.
-use Rattle.std.proofs.Common.{◌≡◌, ◌∙◌, ◌-◌, ℕ, Bool, true, false, List, [], ◌∷◌, ◌++◌, map, length, codes, Option, Some, sym, ap, subst, append-nil, inl, inr}
+use Rattle.std.proofs.Common.{◌≡◌, ◌∙◌, ◌-◌, ℕ, Bool, true, false, List, [], ◌∷◌, ◌++◌, map, length, codes, Option, Some, sym, ap, subst, append-nil, inl, inr, refl}
 use Rattle.irtext_base.specs.Text.{Text, after_space}
 use Rattle.irtext_base.specs.Stream.{StreamView}
 use Rattle.irtext_base.specs.Answers.{Bad, demanded}
@@ -19,7 +19,7 @@ use Rattle.irtext_grammar.specs.Names.Script.{Path}
 use Rattle.irtext_grammar.specs.Names.TextScopes.{Failure}
 use Rattle.irtext_grammar.specs.Promises.Root.{UnlessMemory}
 use Rattle.irtext_grammar.proofs.Joins.Answers.{Splits}
-use Rattle.irtext_grammar.specs.Heads.{Step, one, all, front_steps, piece_at, head_at}
+use Rattle.irtext_grammar.specs.Heads.{Step, one, all, front_steps, piece_at, head_at, setting}
 use Rattle.irtext_tokens.proofs.Spelling.{begins_the}
 use Rattle.irtext_grammar.specs.Reached.{Actions, begins_region, begins_block, steps_in}
 use Rattle.irtext_grammar.specs.Resume as theory
@@ -68,10 +68,10 @@ module _ {T A U : Type 0} (types_at : Reader T) (attr : Reader (AttrView A)) (be
       → EndsIn (failed failure) (theory.whole dialects types_at attr (does path) (next_of ls) (waiting ls) o old.stream.rest)
   failing ls next frames did rest failure g fails path items more o st =
       failed_at (failed_keeps (format_of dialects) path failure)
-      (subst (λ z. Goes dialects types_at attr (does path) (next_of ls) (waiting ls) o old.stream.rest next frames z rest) (fails path items more o st) (goes_recorded (does path) g o))
+      (subst (λ z. Goes dialects types_at attr (does path) (next_of ls) (waiting ls) o old.stream.rest next frames z rest) (fails path items more o st) (goes_recorded (does path) refl g o))
 
   -- ---- a block
-  module _ (k : Unbounded dialects types_at attr recorder) (splits : (step : Step) → Splits (piece_at types_at attr true step)) (base : Base) (kb : BegunBlock) (r : BegunRegion) (iso : Bool) (place : ℕ) (last : Option (Ptr BasicBlock)) (more : List (Level T A)) (v : StreamView)
+  module _ (k : Unbounded dialects types_at attr recorder) (splits : (step : Step) → Splits (piece_at types_at attr (setting true false) step)) (base : Base) (kb : BegunBlock) (r : BegunRegion) (iso : Bool) (place : ℕ) (last : Option (Ptr BasicBlock)) (more : List (Level T A)) (v : StreamView)
       (follows_on : operation_follows kb.first old.stream.rest ≡ true) (at : v.rest ≡ text_there kb.first old.stream.rest) (same : whole v ≡ whole old.stream) where
     abbrev in_region : List (Level T A)
     in_region = at_region r iso place last ∷ more
@@ -85,13 +85,13 @@ module _ {T A U : Type 0} (types_at : Reader T) (attr : Reader (AttrView A)) (be
         (acts_none before old.state (pledges_of in_region)) (subst (λ t. IsTextFault t d.cause (length v.rest - length d.upto) fault) same d.fault_is)
     no_operation_begins (read.no_front names id lead middle e d flag) = at_text [] [] before old.state (pledges_of in_region) d.cause (length middle - length d.upto)
         (stuck_at (one_comes types_at attr base before old k kb r iso place last more v kb.first follows_on at) (no_front dialects types_at attr recorder following true [] v.rest names id lead middle e [] d.cause (length middle - length d.upto)
-        (front_misses dialects types_at attr recorder true splits (front_steps (steps_in dialects id)) [] middle [] d.cause d.upto d.bad)))
+        (front_misses dialects types_at attr recorder (setting true false) splits (front_steps (steps_in dialects id)) [] middle [] d.cause d.upto d.bad)))
         (acts_none before old.state (pledges_of in_region)) (subst (λ t. IsTextFault t d.cause (length middle - length d.upto) fault) same d.fault_is)
     no_operation_begins (read.no_uses rest q f) = by_names f.failure (subst (λ t. IsFailure t f.failure fault) same f.is)
         (failing (at_block kb ∷ in_region) (Some (an_operation (begun_by types_at attr true (with_stream old v) rest q))) following (did_use (length v.rest) q.id q.parts ∷ []) rest f.failure
         (goes_trans (one_comes types_at attr base before old k kb r iso place last more v kb.first follows_on at)
         (operation_begins dialects types_at attr recorder following true [] v.rest q.names q.id q.lead q.middle q.led q.parts rest
-        (front_reads dialects types_at attr recorder true splits (front_steps (steps_in dialects q.id)) [] q.parts q.middle q.taken rest [] q.front)))
+        (front_reads dialects types_at attr recorder (setting true false) splits (front_steps (steps_in dialects q.id)) [] q.parts q.middle q.taken rest [] q.front)))
         (λ path items others o st. f.so path items (others ++ pledges_of in_region) o (subst (λ ps. MachineAgrees path items ps before old.state o) (sym (append-nil (others ++ pledges_of in_region))) st)))
 
   -- ---- an operation

@@ -45,5 +45,6 @@ pub mod Telling
 pub mod Turning
 pub mod Under
 pub mod Undoing
+pub mod Unresolved
 pub mod WholeRoot
 pub mod WholeSteps

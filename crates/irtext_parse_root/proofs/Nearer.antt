@@ -10,6 +10,7 @@ use Rattle.irtext_tokens.specs.Infix.{Reader, ◌▷◌}
 use Rattle.irtext_tokens.specs.Tokens as tokens
 use Rattle.irtext_tokens.specs.Tokens.{space_at, word}
 use Rattle.irtext_tokens.proofs.Honest.{honest_space}
+use Rattle.irtext_grammar.specs.declared.parsed.Setting.{Setting}
 use Rattle.irtext_grammar.specs.Grammar.Tree as tree
 use Rattle.irtext_grammar.specs.Grammar.Tree.{Name, Part, Head}
 use Rattle.irtext_grammar.specs.Promises.Section.{Moves}
@@ -37,14 +38,14 @@ some_character test [] b = absurd (cc b)
 some_character test (c ∷ text) b = refl
 
 module _ {T A : Type 0} {types_at : Reader T} {attr : Reader (AttrView A)} (no_more : LeavesNoMore types_at) (none_more : LeavesNoMore attr) where
-  front_within : (b : ℕ) (inside : Bool) (ss : List Step) (found : List (Part ℕ T A)) → Within b (front_at types_at attr inside ss found)
-  front_within b inside [] found = record { leaves = λ text l. leaves_read b found [] text l }
-  front_within b inside (step ∷ ss) found =
-      ◌so◌ (◌then◌ (within_honest honest_space) (piece_within no_more none_more inside step)) (λ p. front_within b inside ss (found ++ tree.piece p ∷ []))
+  front_within : (b : ℕ) (at : Setting) (ss : List Step) (found : List (Part ℕ T A)) → Within b (front_at types_at attr at ss found)
+  front_within b at [] found = record { leaves = λ text l. leaves_read b found [] text l }
+  front_within b at (step ∷ ss) found =
+      ◌so◌ (◌then◌ (within_honest honest_space) (piece_within no_more none_more at step)) (λ p. front_within b at ss (found ++ tree.piece p ∷ []))
 
   -- pieces before regions
-  pub front_fewer : (inside : Bool) (ss : List Step) (text : Text) (parts : List (Part ℕ T A)) (taken rest : Text) → front_at types_at attr inside ss [] text ≡ Read parts taken rest → length rest ≤ length text
-  front_fewer inside ss text parts taken rest e = ((front_within (length text) inside ss []).leaves text (le_refl (length text))).by parts taken rest e
+  pub front_fewer : (at : Setting) (ss : List Step) (text : Text) (parts : List (Part ℕ T A)) (taken rest : Text) → front_at types_at attr at ss [] text ≡ Read parts taken rest → length rest ≤ length text
+  front_fewer at ss text parts taken rest e = ((front_within (length text) at ss []).leaves text (le_refl (length text))).by parts taken rest e
 
   -- a block's header
   pub head_fewer : (text : Text) (h : Head ℕ T A) (taken rest : Text) → begins (λ z. true) text ≡ true → head_at types_at attr text ≡ Read h taken rest → length rest < length text

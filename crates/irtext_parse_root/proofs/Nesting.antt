@@ -22,7 +22,7 @@ use Rattle.irtext_grammar.specs.Promises.Root.{UnlessMemory}
 use Rattle.irtext_grammar.specs.Promises.Supported.{is_committed}
 use Rattle.irtext_grammar.proofs.Joins.Answers.{Splits}
 use Rattle.irtext_grammar.proofs.Joins.Attributes.{splits_attr}
-use Rattle.irtext_grammar.specs.Heads.{front_steps}
+use Rattle.irtext_grammar.specs.Heads.{front_steps, setting}
 use Rattle.irtext_grammar.specs.Reached.{Advanced, Stopped, Actions, steps_in, front_by, operation_at}
 use Rattle.irtext_grammar.specs.Resume.{OpenOperation, to_come, an_operation, EndsIn, Goes}
 use Rattle.irtext_grammar.proofs.Naming.Keeps.{failed_keeps}
@@ -108,20 +108,21 @@ module _ {T A U : Type 0} (types_at : Reader T) (reading : Reader A) (h : Splits
     root_is_here = record { base = outermost b.op; v = length before.values; l = length before.labels; ls = alone; here = root_here }
 
     -- its front, as it is parsed outside of each region, is parsed so inside of one too
-    front_there : (inside : Bool) {S : Type 0} (d : Actions T A S) (s : S) → front_by dialects types_at attr d inside (front_steps (steps_in dialects bg.begins.read.id)) [] bg.begins.read.middle s ≡ Advanced bg.begins.read.parts s s1.stream.rest
+    front_there : (inside : Bool) {S : Type 0} (d : Actions T A S) (s : S) → front_by dialects types_at attr d (setting inside false) (front_steps (steps_in dialects bg.begins.read.id)) [] bg.begins.read.middle s ≡ Advanced bg.begins.read.parts s s1.stream.rest
     front_there false d s =
         let q = bg.begins.read in
-        front_reads dialects types_at attr d false (splits_piece types_at reading h k false) (front_steps (steps_in dialects q.id)) [] q.parts q.middle q.taken s1.stream.rest s q.front
+        front_reads dialects types_at attr d (setting false false) (splits_piece types_at reading h k false) (front_steps (steps_in dialects q.id)) [] q.parts q.middle q.taken s1.stream.rest s q.front
     front_there true d s =
         let q = bg.begins.read in
         let m = front_inside types_at reading h k (front_steps (steps_in dialects q.id)) [] q.parts q.middle q.taken s1.stream.rest q.front in
-        front_reads dialects types_at attr d true (splits_piece types_at reading h k true) (front_steps (steps_in dialects q.id)) [] q.parts q.middle m.0 s1.stream.rest s m.1
+        front_reads dialects types_at attr d (setting true false) (splits_piece types_at reading h k true) (front_steps (steps_in dialects q.id)) [] q.parts q.middle m.0 s1.stream.rest s m.1
 
     -- what was parsed of it so far
-    begun_goes : (inside : Bool) {S : Type 0} (d : Actions T A S) (s : S) → Goes dialects types_at attr d (Some (to_come inside)) [] s old.stream.rest (Some (an_operation begun_here)) [] (d.uses begun_here.place begun_here.id begun_here.parts s) s1.stream.rest
-    begun_goes inside d s =
+    begun_goes : (inside : Bool) {S : Type 0} (d : Actions T A S) → false ≡ d.any_key → (s : S) → Goes dialects types_at attr d (Some (to_come inside)) [] s old.stream.rest (Some (an_operation begun_here)) [] (d.uses begun_here.place begun_here.id begun_here.parts s) s1.stream.rest
+    begun_goes inside d same s =
         let q = bg.begins.read in
-        operation_begins dialects types_at attr d [] inside s old.stream.rest q.names q.id q.lead q.middle q.led q.parts s1.stream.rest (front_there inside d s)
+        operation_begins dialects types_at attr d [] inside s old.stream.rest q.names q.id q.lead q.middle q.led q.parts s1.stream.rest
+        (subst (λ k. front_by dialects types_at attr d (setting inside k) (front_steps (steps_in dialects q.id)) [] q.middle s ≡ Advanced q.parts s s1.stream.rest) same (front_there inside d s))
 
     begun_agrees : (path : ℕ → Path) (items : Made) (o : Machine) → MachineAgrees path items [] before old.state o → MachineAgrees path (item ∷ items) (pledge_of b begun_here.place ∷ []) n1 s1.state ((does path).uses begun_here.place begun_here.id begun_here.parts o)
     begun_agrees path items o st = bg.begins.acts.so path items [] o st
@@ -141,7 +142,7 @@ module _ {T A U : Type 0} (types_at : Reader T) (reading : Reader A) (h : Splits
     begun_falls =
         let q = bg.begins.read in
         let lead = led_fewer dialects old.stream.rest (q.names, q.id) q.lead q.middle (led_some dialects old.stream.rest (q.names, q.id) q.lead q.middle q.led) q.led in
-        let front = front_fewer (leaves_no_more types_at h) (leaves_no_more attr (splits_attr reading k)) false (front_steps (steps_in dialects q.id)) q.middle q.parts q.taken s1.stream.rest q.front in
+        let front = front_fewer (leaves_no_more types_at h) (leaves_no_more attr (splits_attr reading k)) (setting false false) (front_steps (steps_in dialects q.id)) q.middle q.parts q.taken s1.stream.rest q.front in
         (omega (arith, lead, front), le_refl (length old.stream.rest))
 
     -- ---- all of it was parsed
@@ -152,8 +153,8 @@ module _ {T A U : Type 0} (types_at : Reader T) (reading : Reader A) (h : Splits
       turned : Turned types_at attr dialects old.state.src (whole old.stream) (outermost b.op) alone n1 s1 [] n2 s2
       turned = turned_over s1.state.ctx.now.dialects dialects s1.state.src old.state.src (whole s1.stream) (whole old.stream) bg.carries.lasts.dialects bg.carries.rest.src same_text turned_raw
 
-      nested_goes : {S : Type 0} (d : Actions T A S) (s : S) → operation_at dialects types_at attr d true old.stream.rest s ≡ Advanced tt (all_done d (turned.did ++ first) s) s2.stream.rest
-      nested_goes d s = (goes_recorded d (goes_trans (begun_goes true recorder []) (goes_after turned.goes first)) s).so
+      nested_goes : {S : Type 0} (d : Actions T A S) → false ≡ d.any_key → (s : S) → operation_at dialects types_at attr d true old.stream.rest s ≡ Advanced tt (all_done d (turned.did ++ first) s) s2.stream.rest
+      nested_goes d same s = (goes_recorded d same (goes_trans (begun_goes true recorder refl []) (goes_after turned.goes first)) s).so
 
       nested_held : IsHeld (format_of dialects) (IsLocated old.state.src (whole old.stream)) (outermost b.op) old.state.ctx.now s2.state.ctx.now (turned.made ++ item ∷ []) turned.marks [] (Some b.op) (turned.did ++ first)
       nested_held = turned.builds old.state.ctx.now (item ∷ []) [] first begun_held
@@ -166,14 +167,14 @@ module _ {T A U : Type 0} (types_at : Reader T) (reading : Reader A) (h : Splits
           record {
             tree = t.0;
             moves = (carries_both bg.carries f.carries).moves;
-            builds = nested_goes (building (format_of dialects)) nothing_open ∙ ap (λ z. Advanced tt z s2.stream.rest) t.1;
+            builds = nested_goes (building (format_of dialects)) refl nothing_open ∙ ap (λ z. Advanced tt z s2.stream.rest) t.1;
             made = turned.made ++ item ∷ [];
             runs = λ path items o st. (
               all_done (does path) (turned.did ++ first) o,
               subst (λ z. MachineAgrees path z [] n2 s2.state (all_done (does path) (turned.did ++ first) o)) (sym (append_assoc turned.made (item ∷ []) items))
                   (subst (λ z. MachineAgrees path (turned.made ++ item ∷ items) [] n2 s2.state z) (sym (done_both (does path) turned.did first o))
                   (turned.acts.so path (item ∷ items) [] ((does path).uses begun_here.place begun_here.id begun_here.parts o) (begun_agrees path items o st))),
-              nested_goes (does path) o,
+              nested_goes (does path) refl o,
             );
             objects = held.whole;
             holds = subst (λ z. HoldsMade (IsLocated old.state.src (whole old.stream)) old.state.ctx.now s2.state.ctx.now (turned.made ++ item ∷ []) held.whole [] (Some b.op) z) t.1 held.holds;
@@ -190,9 +191,9 @@ module _ {T A U : Type 0} (types_at : Reader T) (reading : Reader A) (h : Splits
       inside_refused (inr (at_text did made names mid still cause place g a f)) = inr (nested.at_text cause place (subst (λ t. IsTextFault t cause place fault) same_text f) (st.committed ∙ sym (ap is_committed bg.begins.read.led))
           (λ path items o agreed.
           let z = a.so path (item ∷ items) [] ((does path).uses begun_here.place begun_here.id begun_here.parts o) (begun_agrees path items o agreed) in
-          (z.state, (stuck_recorded (does path) (stuck_at (begun_goes false recorder []) (stuck_after g first)) o).so ∙ ap (λ y. Stopped y cause place) (done_both (does path) did first o ∙ z.going))))
+          (z.state, (stuck_recorded (does path) refl (stuck_at (begun_goes false recorder refl []) (stuck_after g first)) o).so ∙ ap (λ y. Stopped y cause place) (done_both (does path) did first o ∙ z.going))))
       inside_refused (inr (by_names failure f ends)) = inr (nested.by_names failure (subst (λ t. IsFailure t failure fault) same_text f)
-          (λ path items o agreed. subst (EndsIn (failed failure)) (sym (begun_goes false (does path) o).so)
+          (λ path items o agreed. subst (EndsIn (failed failure)) (sym (begun_goes false (does path) refl o).so)
           (ends path (item ∷ items) [] ((does path).uses begun_here.place begun_here.id begun_here.parts o) (begun_agrees path items o agreed))))
 
       pub nested_stops : UnlessMemory (RefusesNested types_at attr before old) fault
@@ -207,7 +208,7 @@ module _ {T A U : Type 0} (types_at : Reader T) (reading : Reader A) (h : Splits
       (λ path items o agreed. (
         agreed.state,
         (no_front dialects types_at attr (does path) [] false o old.stream.rest names id lead middle e o d.cause (length middle - length d.upto)
-            (front_misses dialects types_at attr (does path) false (splits_piece types_at reading h k false) (front_steps (steps_in dialects id)) [] middle o d.cause d.upto d.bad)).so
+            (front_misses dialects types_at attr (does path) (setting false false) (splits_piece types_at reading h k false) (front_steps (steps_in dialects id)) [] middle o d.cause d.upto d.bad)).so
             ∙ ap (λ y. Stopped y d.cause (length middle - length d.upto)) agreed.going,
       )))
   none_begins fault (inr (read.no_uses rest q f)) = inr (nested.by_names f.failure f.is (λ path items o agreed.
@@ -215,4 +216,4 @@ module _ {T A U : Type 0} (types_at : Reader T) (reading : Reader A) (h : Splits
       failed_at (failed_keeps {T = T} {A = A} (format_of dialects) path f.failure)
       (subst (λ z. Goes dialects types_at attr (does path) (Some (to_come false)) [] o old.stream.rest (Some (an_operation (begun_by types_at attr false old rest q))) [] z rest) at
       (operation_begins dialects types_at attr (does path) [] false o old.stream.rest q.names q.id q.lead q.middle q.led q.parts rest
-      (front_reads dialects types_at attr (does path) false (splits_piece types_at reading h k false) (front_steps (steps_in dialects q.id)) [] q.parts q.middle q.taken rest o q.front)))))
+      (front_reads dialects types_at attr (does path) (setting false false) (splits_piece types_at reading h k false) (front_steps (steps_in dialects q.id)) [] q.parts q.middle q.taken rest o q.front)))))

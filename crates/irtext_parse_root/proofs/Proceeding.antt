@@ -22,7 +22,7 @@ use Rattle.irtext_grammar.specs.Grammar.Tree.{Part}
 use Rattle.irtext_grammar.specs.Graphs.Build.{put_all, stored}
 use Rattle.irtext_grammar.proofs.Joins.Answers.{Splits}
 use Rattle.irtext_grammar.proofs.Joins.Attributes.{splits_attr}
-use Rattle.irtext_grammar.specs.Heads.{Step, one, all, front_steps}
+use Rattle.irtext_grammar.specs.Heads.{Step, one, all, front_steps, setting}
 use Rattle.irtext_grammar.specs.Reached.{Actions, begins_region, begins_block, steps_in}
 use Rattle.irtext_grammar.specs.Resume.{OpenOperation, with_steps, Open, to_come, an_operation, a_region, a_block, work, by_character}
 use Rattle.irtext_grammar.proofs.Knot.Whole.{leaves_no_more}
@@ -564,7 +564,7 @@ module _ {T A U : Type 0} (types_at : Reader T) (reading : Reader A) (h : Splits
       front_less =
           let lead = led_fewer ctx.dialects v.rest (bg.begins.read.names, bg.begins.read.id) bg.begins.read.lead bg.begins.read.middle
           (led_some ctx.dialects v.rest (bg.begins.read.names, bg.begins.read.id) bg.begins.read.lead bg.begins.read.middle bg.begins.read.led) bg.begins.read.led in
-          let front = front_fewer (leaves_no_more types_at h) (leaves_no_more attr (splits_attr reading k)) true (front_steps (steps_in ctx.dialects bg.begins.read.id)) bg.begins.read.middle bg.begins.read.parts bg.begins.read.taken new.stream.rest bg.begins.read.front in
+          let front = front_fewer (leaves_no_more types_at h) (leaves_no_more attr (splits_attr reading k)) (setting true false) (front_steps (steps_in ctx.dialects bg.begins.read.id)) bg.begins.read.middle bg.begins.read.parts bg.begins.read.taken new.stream.rest bg.begins.read.front in
           omega (arith, lead, front)
 
       -- as much is left to do of the one as is shown of the other

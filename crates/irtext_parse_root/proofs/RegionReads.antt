@@ -185,8 +185,9 @@ module _ {T A U : Type 0} (types_at : Reader T) (types_written : T → Text) (re
   ran =
       let found = knot.region_found types_at types_written reading written ds types_split splits (naming (format_of ds) named.0) words true blocks old.stream.rest new.stream.rest (going begun) region_reads in
       let came = subst (λ b. region_at ds types_at (attr_at reading) (doing ds named.0) b old.stream.rest (going begun) ≡ Advanced tt at_end.0 new.stream.rest) closed at_end.2 in
+      let comes = knot.region_comes types_at types_written reading written ds types_split splits (naming (format_of ds) named.0) words accepted true old.stream.rest (going begun) at_end.0 new.stream.rest came in
       region_runs types owns (format_of ds) named.0 (isolated ds) true (0 ∷ []) place blocks old.stream.rest new.stream.rest region_reads named.1 (going begun)
-      ∙ (came_same tt tt _ _ new.stream.rest new.stream.rest (sym found ∙ came) ∙ at_end.1.going)
+      ∙ (came_same tt tt _ _ new.stream.rest new.stream.rest (sym found ∙ comes) ∙ at_end.1.going)
 
   -- they resolve, and none of their marks was recorded earlier
   resolves : failures (outside_with earlier) script ≡ []

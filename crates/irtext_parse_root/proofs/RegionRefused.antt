@@ -22,7 +22,7 @@ use Rattle.irtext_parse_state.specs.States.{IsFresh, marks_of}
 use Rattle.irtext_parse_state.specs.declared.parsable.state.StateStream.{StateStream}
 use Rattle.irtext_stream.specs.declared.position.SourcePosition.{SourcePosition}
 use Rattle.irtext_grammar.specs.Contexts.Formats.{format_of, isolated}
-use Rattle.irtext_grammar.specs.Contexts.Held.{whole}
+use Rattle.irtext_grammar.specs.Contexts.Held.{whole, IsPosition}
 use Rattle.irtext_grammar.specs.Grammar.Forest.{Blocks}
 use Rattle.irtext_grammar.specs.Grammar.Reads as grammar
 use Rattle.irtext_grammar.specs.Grammar.Tree.{Op, Head, Brace, shown}
@@ -36,16 +36,20 @@ use Rattle.irtext_grammar.specs.Promises.Section.{indices_of}
 use Rattle.irtext_grammar.specs.Readers.Refusals.{Refusal}
 use Rattle.irtext_grammar.proofs.Joins.Answers.{Splits}
 use Rattle.irtext_grammar.specs.Exact.{NeedsWord}
-use Rattle.irtext_grammar.specs.Naming.{naming}
+use Rattle.irtext_grammar.specs.Entries.{fault_for}
+use Rattle.irtext_grammar.specs.Naming.{naming, paths_in_blocks}
+use Rattle.irtext_grammar.specs.Spelling.Spellable.{Each}
 use Rattle.irtext_grammar.specs.Reached.{Reached, Advanced, Stopped, begins_region, region_at, do_region, do_blocks}
 use Rattle.irtext_grammar.specs.Resume.{EndsIn}
 use Rattle.irtext_grammar.proofs.Knot.Whole as knot
+use Rattle.irtext_grammar.proofs.Knot.Tested.{Ends, there, at_key, region_is_tested}
+use Rattle.irtext_grammar.proofs.Naming.Follows.{Follows, broke}
 use Rattle.irtext_grammar.proofs.Naming.Shorter.{Shortens}
 use Rattle.irtext_names.proofs.Linked.Passes.{ran_into}
 use Rattle.irtext_names.specs.Alone as alone
 use Rattle.irtext_names.specs.Alone.{region_alone, RefusesRegion, first}
 use Rattle.irtext_names.specs.Promises.{start_with, IsOf, IsFirst}
-use Rattle.irtext_names.proofs.Refuses.{first_is}
+use Rattle.irtext_names.proofs.Refuses.{first_is, stuck_of, stuck_state}
 use Rattle.irtext_names.specs.Items.{Names, MachineAgrees, doing}
 use Rattle.irtext_parse_root.specs.AnyRegion as region
 use Rattle.irtext_parse_root.specs.AnyRegion.{IsRegionText, HasRegionFault, MissesRegion}
@@ -194,34 +198,61 @@ module _ {T A : Type 0} (types_at : Text → Outcome T) (types_written : T → T
   begins_there : (bs : Blocks (Op ℕ T A) (Head ℕ T A) (Brace ℕ)) (text rest : Text) → IsRead bs text rest → begins_region text ≡ true
   begins_there bs text rest (at, (m, opened, more)) = begins_so text m opened
 
-  -- where the text is at fault, it parses as no blocks in braces
-  stuck_unread : (text : Text) (s t : history.Outcome) (cause : Fault) (place : ℕ) (path : ℕ → Path) → region_at dialects types_at (attr_at reading) (doing dialects path) true text s ≡ Stopped t cause place → (bs : Blocks (Op ℕ T A) (Head ℕ T A) (Brace ℕ)) (rest : Text) → IsRead bs text rest → ⊥
-  stuck_unread text s t cause place path e bs rest r =
-      let f = knot.region_found types_at types_written reading written dialects types_split splits (naming (format_of dialects) path) words true bs text rest s r in cc (e, f)
+  module _ (text rest : Text) (fault : ParseFault A) (bs : Blocks (Op ℕ T A) (Head ℕ T A) (Brace ℕ)) (left : Text) (r : IsRead bs rest left) where
+    abbrev Named : Type 0
+    Named = (path : ℕ → Path) × Each (λ item. path item.0 ≡ item.1) (paths_in_blocks (0 ∷ []) 0 bs)
 
-  -- where a name fails so, that is the first failure of whatever blocks the text parses as
-  region_first : (text rest : Text) (f : Failure Text ℕ) (fault : ParseFault A) → IsOf text f fault → ((path : ℕ → Path) → EndsIn (failed f) (region_at dialects types_at (attr_at reading) (doing dialects path) true rest (going start)))
-      → (bs : Blocks (Op ℕ T A) (Head ℕ T A) (Brace ℕ)) (left : Text) → IsRead bs rest left → IsFirst text (failures no_scope (region_alone dialects (length rest) bs)) fault
-  region_first text rest f fault is ends bs left r =
-      let types = texts_of types_at types_written in
-      let owns = texts_of reading written in
-      let p = paths_exist types owns (format_of dialects) short_types short_owns (0 ∷ []) (shown (length rest)) bs rest left r in
-      let found = knot.region_found types_at types_written reading written dialects types_split splits (naming (format_of dialects) p.0) words true bs rest left (going start) r in
-      let did : do_region {T = T} {A = A} (isolated dialects) (naming (format_of dialects) p.0) true (shown (length rest)) (do_blocks (isolated dialects) (naming (format_of dialects) p.0) bs) (going start) ≡ failed f = subst (EndsIn (failed f)) found (ends p.0) in
-      let ran : run (going start) (events (region_alone dialects (length rest) bs)) ≡ failed f =
-      region_runs types owns (format_of dialects) p.0 (isolated dialects) true (0 ∷ []) (length rest) bs rest left r p.1 (going start) ∙ did in
-      let all = ran_into (region_alone dialects (length rest) bs) f ran in
-      first_is text f (failures no_scope (region_alone dialects (length rest) bs)) all.0 fault all.1 is
+    -- paths of the items of the blocks
+    named : Named
+    named = paths_exist (texts_of types_at types_written) (texts_of reading written) (format_of dialects) short_types short_owns (0 ∷ []) (shown (length rest)) bs rest left r
+
+    -- what the actions of the blocks come to
+    abbrev did : (ℕ → Path) → history.Outcome
+    did path = do_region {T = T} {A = A} (isolated dialects) (naming (format_of dialects) path) true (shown (length rest)) (do_blocks (isolated dialects) (naming (format_of dialects) path) bs) (going start)
+
+    -- what the actions of the blocks fail with is the first failure
+    fails_so : (p : Named) (f : Failure Text ℕ) → did p.0 ≡ failed f → IsOf text f fault → IsFirst text (failures no_scope (region_alone dialects (length rest) bs)) fault
+    fails_so p f does is =
+        let ran : run (going start) (events (region_alone dialects (length rest) bs)) ≡ failed f =
+        region_runs (texts_of types_at types_written) (texts_of reading written) (format_of dialects) p.0 (isolated dialects) true (0 ∷ []) (length rest) bs rest left r p.1 (going start) ∙ does in
+        let all = ran_into (region_alone dialects (length rest) bs) f ran in
+        first_is text f (failures no_scope (region_alone dialects (length rest) bs)) all.0 fault all.1 is
+
+    -- the parser comes to the end of the blocks, or to an attribute that is not allowed under its key
+    ends : (path : ℕ → Path) → Ends (Follows (going start)) (region_at dialects types_at (attr_at reading) (doing dialects path) true rest (going start)) tt (did path) left
+    ends path =
+        let found = knot.region_found types_at types_written reading written dialects types_split splits (naming (format_of dialects) path) words true bs rest left (going start) r in
+        ((region_is_tested types_at types_written reading written dialects types_split splits words path true).at rest (going start) tt).by tt (did path) left found
+
+    -- where the text is at fault, it is at such an attribute
+    text_first : (p : Named) (cause : Fault) (place : ℕ) (st : history.State) → fault_of fault.cause ≡ cause → IsPosition text place fault.pos
+        → region_at dialects types_at (attr_at reading) (doing dialects p.0) true rest (going start) ≡ Stopped (going st) cause place
+        → Ends (Follows (going start)) (region_at dialects types_at (attr_at reading) (doing dialects p.0) true rest (going start)) tt (did p.0) left → IsFirst text (failures no_scope (region_alone dialects (length rest) bs)) fault
+    text_first p cause place st because at stuck (there e k) = absurd (cc (e, stuck))
+    text_first p cause place st because at stuck (at_key u f here e a is) =
+        let same : u ≡ going st = stuck_state u (going st) (fault_for f.cause) cause here place (sym e ∙ stuck) in
+        fails_so p f (is ∙ ap (λ u. failed (broke u f)) same) (stuck_of text f place here cause u (going st) fault (sym e ∙ stuck) a because at)
+
+    -- where a name fails so, that is the first failure
+    name_first : (p : Named) (f : Failure Text ℕ) → IsOf text f fault → EndsIn (failed f) (region_at dialects types_at (attr_at reading) (doing dialects p.0) true rest (going start))
+        → Ends (Follows (going start)) (region_at dialects types_at (attr_at reading) (doing dialects p.0) true rest (going start)) tt (did p.0) left → IsFirst text (failures no_scope (region_alone dialects (length rest) bs)) fault
+    name_first p f is stuck (there e k) = fails_so p f (subst (EndsIn (failed f)) e stuck) is
+    name_first p f is stuck (at_key u g here e a went) =
+        let same : u ≡ failed f = subst (EndsIn (failed f)) e stuck in
+        fails_so p f (went ∙ ap (λ u. failed (broke u g)) same) is
 
   -- so the promise of an error is kept, where no mark was recorded
   in_text_refused : (old : StreamView) (fault : ParseFault A) (iso : Option (Location A)) → iso ≡ None → HasRegionFault types_at (attr_at reading) dialects [] old fault → RefusesRegion (texts_of types_at types_written) (texts_of reading written) dialects iso old fault
   in_text_refused old fault iso none (region.no_brace begins because at flag) = first none (λ bs rest r. let b = begins_there bs old.rest rest r in absurd (cc (begins, b)))
   in_text_refused old fault iso none (region.at_text begins cause place because at flag so) =
-      let path : ℕ → Path = λ n. [] in
-      let stuck = so path in
-      first none (λ bs rest r. absurd (stuck_unread old.rest (going start) (going stuck.0) cause place path stuck.1 bs rest r))
-  in_text_refused old fault iso none (region.by_names begins f is flag ends) =
-      first none (λ bs rest r. record { first = region_first (whole old) old.rest f fault is ends bs rest r; flag = flag })
+      first none (λ bs rest r.
+      let p = named (whole old) old.rest fault bs rest r in
+      let stuck = so p.0 in
+      record { first = text_first (whole old) old.rest fault bs rest r p cause place stuck.0 because at stuck.1 (ends (whole old) old.rest fault bs rest r p.0); flag = flag })
+  in_text_refused old fault iso none (region.by_names begins f is flag so) =
+      first none (λ bs rest r.
+      let p = named (whole old) old.rest fault bs rest r in
+      record { first = name_first (whole old) old.rest fault bs rest r p f is (so p.0) (ends (whole old) old.rest fault bs rest r p.0); flag = flag })
 
 module _ {T A U : Type 0} (types_at : Reader T) (types_written : T → Text) (reading : Reader A) (written : A → Text) (types_split : Splits types_at) (splits : Splits reading) (words : NeedsWord reading)
     (short_types : Shortens (texts_of types_at types_written)) (short_owns : Shortens (texts_of reading written)) (op : Ptr Operation) (old : StateStream T A U) (fresh : IsFresh old) (fault : ParseFault A) where

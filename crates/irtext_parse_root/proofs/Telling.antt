@@ -1,6 +1,6 @@
 -- Each function of the state performs the recorded actions of items as the items themselves do; and what was recorded before remains after
 -- what is recorded.
-use Rattle.std.proofs.Common.{◌≡◌, ◌∙◌, ℕ, List, [], ◌∷◌, ◌++◌, Option, refl, sym, ap, subst}
+use Rattle.std.proofs.Common.{◌≡◌, ◌∙◌, ℕ, false, List, [], ◌∷◌, ◌++◌, Option, refl, sym, ap, subst}
 use Rattle.irtext_base.specs.Text.{Text}
 use Rattle.irtext_base.specs.Faults.{Fault}
 use Rattle.irtext_base.specs.Answers.{Outcome}
@@ -46,25 +46,25 @@ module _ {T A : Type 0} where
   all_recorded (d ∷ ds) es = one_recorded d (all_done recorder ds es) ∙ ap (λ z. d ∷ z) (all_recorded ds es)
 
 module _ {T A : Type 0} {dialects : List (Text × Table)} {types_at : Text → Outcome T} {attr : Text → Outcome (AttrView A)} {next : Option (Open T A)} {frames : List (Open T A)} {text : Text} where
-  -- where the recording parse goes, the parse with other actions goes too
-  pub goes_recorded : {S : Type 0} (does : Actions T A S) {next' : Option (Open T A)} {frames' : List (Open T A)} {text' : Text} {did : List (Did T A)}
+  -- where the recording parse goes, the parse with other actions goes too, where keys are tested
+  pub goes_recorded : {S : Type 0} (does : Actions T A S) → false ≡ does.any_key → {next' : Option (Open T A)} {frames' : List (Open T A)} {text' : Text} {did : List (Did T A)}
       → Goes dialects types_at attr recorder next frames [] text next' frames' did text' → (s : S) → Goes dialects types_at attr does next frames s text next' frames' (all_done does did s) text'
-  goes_recorded does {next'} {frames'} {text'} {did} g s = record {
-    so = sym (seen_whole dialects types_at attr (λ ds. all_done does ds s) recorder does (tells_does does s) next frames [] text)
-        ∙ (ap (seen_as (λ ds. all_done does ds s)) g.so ∙ seen_whole dialects types_at attr (λ ds. all_done does ds s) recorder does (tells_does does s) next' frames' did text');
+  goes_recorded does same {next'} {frames'} {text'} {did} g s = record {
+    so = sym (seen_whole dialects types_at attr (λ ds. all_done does ds s) recorder does (tells_does does s) same next frames [] text)
+        ∙ (ap (seen_as (λ ds. all_done does ds s)) g.so ∙ seen_whole dialects types_at attr (λ ds. all_done does ds s) recorder does (tells_does does s) same next' frames' did text');
   }
 
-  pub stuck_recorded : {S : Type 0} (does : Actions T A S) {did : List (Did T A)} {cause : Fault} {place : ℕ}
+  pub stuck_recorded : {S : Type 0} (does : Actions T A S) → false ≡ does.any_key → {did : List (Did T A)} {cause : Fault} {place : ℕ}
       → StoppedAt dialects types_at attr recorder next frames [] text did cause place → (s : S) → StoppedAt dialects types_at attr does next frames s text (all_done does did s) cause place
-  stuck_recorded does g s = record {
-    so = sym (seen_whole dialects types_at attr (λ ds. all_done does ds s) recorder does (tells_does does s) next frames [] text) ∙ ap (seen_as (λ ds. all_done does ds s)) g.so;
+  stuck_recorded does same g s = record {
+    so = sym (seen_whole dialects types_at attr (λ ds. all_done does ds s) recorder does (tells_does does s) same next frames [] text) ∙ ap (seen_as (λ ds. all_done does ds s)) g.so;
   }
 
   -- the same with what was recorded before
   pub goes_after : {next' : Option (Open T A)} {frames' : List (Open T A)} {text' : Text} {did : List (Did T A)}
       → Goes dialects types_at attr recorder next frames [] text next' frames' did text' → (es : List (Did T A)) → Goes dialects types_at attr recorder next frames es text next' frames' (did ++ es) text'
-  goes_after {next'} {frames'} {text'} {did} g es = subst (λ z. Goes dialects types_at attr recorder next frames es text next' frames' z text') (all_recorded did es) (goes_recorded recorder g es)
+  goes_after {next'} {frames'} {text'} {did} g es = subst (λ z. Goes dialects types_at attr recorder next frames es text next' frames' z text') (all_recorded did es) (goes_recorded recorder refl g es)
 
   pub stuck_after : {did : List (Did T A)} {cause : Fault} {place : ℕ}
       → StoppedAt dialects types_at attr recorder next frames [] text did cause place → (es : List (Did T A)) → StoppedAt dialects types_at attr recorder next frames es text (did ++ es) cause place
-  stuck_after {did} {cause} {place} g es = subst (λ z. StoppedAt dialects types_at attr recorder next frames es text z cause place) (all_recorded did es) (stuck_recorded recorder g es)
+  stuck_after {did} {cause} {place} g es = subst (λ z. StoppedAt dialects types_at attr recorder next frames es text z cause place) (all_recorded did es) (stuck_recorded recorder refl g es)

@@ -21,7 +21,7 @@ use Rattle.irtext_grammar.specs.Grammar.Tree.{Part}
 use Rattle.irtext_grammar.specs.Graphs.Build.{put_all, stored, read_names}
 use Rattle.irtext_grammar.specs.Readers.Parts.{without_first}
 use Rattle.irtext_grammar.proofs.Joins.Answers.{Splits}
-use Rattle.irtext_grammar.specs.Heads.{Step, one, all, front_steps, piece_at, head_at}
+use Rattle.irtext_grammar.specs.Heads.{Step, one, all, front_steps, piece_at, head_at, setting}
 use Rattle.irtext_grammar.specs.Reached.{begins_region, begins_block, steps_in}
 use Rattle.irtext_grammar.specs.Resume.{OpenOperation, with_steps, is_flat, Open, to_come, an_operation, a_region, a_block, Goes}
 use Rattle.irtext_grammar.proofs.Resume.Frames.{goes_trans}
@@ -121,7 +121,7 @@ module _ {T A U : Type 0} (types_at : Reader T) (attr : Reader (AttrView A)) (ba
     waits_after = record { block = kb.block; first = false }
 
     -- ---- an operation begins in it
-    pub operation_in_block : (splits : (step : Step) → Splits (piece_at types_at attr true step)) (b : BegunOperation) (names : Names) (new : StateStream T A U) → operation_follows kb.first old.stream.rest ≡ true → v.rest ≡ text_there kb.first old.stream.rest
+    pub operation_in_block : (splits : (step : Step) → Splits (piece_at types_at attr (setting true false) step)) (b : BegunOperation) (names : Names) (new : StateStream T A U) → operation_follows kb.first old.stream.rest ≡ true → v.rest ≡ text_there kb.first old.stream.rest
         → whole v ≡ text → last ≡ Some kb.block → (length new.stream.rest < length v.rest) × (length v.rest ≤ length old.stream.rest) → (h : Begins types_at attr before (with_stream old v) (Some kb.block) b names new)
         → Makes (at_block kb ∷ in_region) (at_operation b (begun_by types_at attr true (with_stream old v) new.stream.rest h.begins.read) h.own ∷ at_block waits_after ∷ in_region) names new
     operation_in_block splits b names new follows_on e same is falls h =
@@ -132,7 +132,7 @@ module _ {T A U : Type 0} (types_at : Reader T) (attr : Reader (AttrView A)) (ba
           made = (o.place, TheOperation b.op) ∷ [];
           goes = goes_trans (one_comes kb.first follows_on e)
               (operation_begins dialects types_at attr recorder (outward (map open_of in_region) ++ a_block false ∷ []) true [] v.rest q.names q.id q.lead q.middle q.led q.parts new.stream.rest
-              (front_reads dialects types_at attr recorder true splits (front_steps (steps_in dialects q.id)) [] q.parts q.middle q.taken new.stream.rest [] q.front));
+              (front_reads dialects types_at attr recorder (setting true false) splits (front_steps (steps_in dialects q.id)) [] q.parts q.middle q.taken new.stream.rest [] q.front));
           acts = acts_open ((o.place, TheOperation b.op) ∷ []) (λ path. uses_of types_at attr true (with_stream old v) new.stream.rest q path) before names old.state new.state (pledges_of in_region) (pledge_of b o.place)
               (record { so = λ path made others z st. h.begins.acts.so path made others z st });
           stays = stay_placed old.state.ctx.now new.state.ctx.now b.op kb.block came.2;

@@ -301,8 +301,8 @@ module _ {T A U : Type 0} (types_at : Reader T) (reading : Reader A) (h : Splits
         (subst (λ z. HoldsRegion (format_of dialects) L (within b.region) old.state.ctx.now s2.state.ctx.now (turned.made ++ []) turned.marks b.region z) (append-nil turned.did)
         (turned.builds old.state.ctx.now [] [] [] held))
 
-    all_done_goes : {S : Type 0} (d : Actions T A S) (s : S) → region_at dialects types_at attr d iso old.stream.rest s ≡ Advanced tt (all_done d turned.did (d.enters iso s)) s2.stream.rest
-    all_done_goes d s = begun_goes d s ∙ (goes_recorded d turned.goes (d.enters iso s)).so
+    all_done_goes : {S : Type 0} (d : Actions T A S) → false ≡ d.any_key → (s : S) → region_at dialects types_at attr d iso old.stream.rest s ≡ Advanced tt (all_done d turned.did (d.enters iso s)) s2.stream.rest
+    all_done_goes d same s = begun_goes d s ∙ (goes_recorded d same turned.goes (d.enters iso s)).so
 
     pub reads_under : (op : Ptr Operation) (new : StateStream T A U) → IsolatedAs old.state.ctx.now op iso → new.stream ≡ s2.stream → marks_of new.state ≡ marks_of s2.state
         → ((m : ℕ) → m ≤ old.state.ctx.now.graph.made → IsSound m before old.state → IsSound m n2 s2.state)
@@ -321,7 +321,7 @@ module _ {T A U : Type 0} (types_at : Reader T) (reading : Reader A) (h : Splits
       runs = λ path items o st. (
         all_done (does path) turned.did ((does path).enters iso o),
         turned.acts.so path items [] ((does path).enters iso o) (begun_agrees path items o st),
-        subst (λ v. region_at dialects types_at attr (does path) iso old.stream.rest o ≡ Advanced tt (all_done (does path) turned.did ((does path).enters iso o)) v.rest) (sym stream) (all_done_goes (does path) o),
+        subst (λ v. region_at dialects types_at attr (does path) iso old.stream.rest o ≡ Advanced tt (all_done (does path) turned.did ((does path).enters iso o)) v.rest) (sym stream) (all_done_goes (does path) refl o),
       );
       falls = subst (λ v. Falls (length old.stream.rest) turned.made (length v.rest)) (sym stream) (falls_from (length old.stream.rest) (length s1.stream.rest) turned.made (length s2.stream.rest) (moves_fewer old.stream s1.stream bg.moves) turned.falls);
       marks = turned.marks;
@@ -340,7 +340,7 @@ module _ {T A U : Type 0} (types_at : Reader T) (reading : Reader A) (h : Splits
     inside_fails begins (inr (at_text did made names mid still cause place g a f)) = inr (under.at_text begins cause place (subst (λ t. IsTextFault t cause place fault) same_text f) st.committed
         (λ path items o agreed.
         let z = a.so path items [] ((does path).enters iso o) (begun_agrees path items o agreed) in
-        (z.state, begun_goes (does path) o ∙ ((stuck_recorded (does path) g ((does path).enters iso o)).so ∙ ap (λ y. Stopped y cause place) z.going))))
+        (z.state, begun_goes (does path) o ∙ ((stuck_recorded (does path) refl g ((does path).enters iso o)).so ∙ ap (λ y. Stopped y cause place) z.going))))
     inside_fails begins (inr (by_names failure f ends)) = inr (under.by_names begins failure (subst (λ t. IsFailure t failure fault) same_text f)
         (λ path items o agreed. subst (EndsIn (failed failure)) (sym (begun_goes (does path) o)) (ends path items [] ((does path).enters iso o) (begun_agrees path items o agreed))))
 

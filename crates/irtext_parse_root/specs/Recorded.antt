@@ -1,6 +1,6 @@
 -- Between functions: everything that was done while nested text was parsed, as a list, the last action first. It does not depend on what
 -- the actions do to names or objects.
-use Rattle.std.specs.Prelude.{ℕ, Bool, List, [], ◌∷◌, Option}
+use Rattle.std.specs.Prelude.{ℕ, Bool, false, List, [], ◌∷◌, Option}
 use Rattle.irtext_base.specs.Format.{Id}
 use Rattle.irtext_grammar.specs.Grammar.Tree.{Name, Mark, Piece, Part, Head}
 use Rattle.irtext_grammar.specs.Reached.{Actions}
@@ -27,6 +27,7 @@ module _ {T A : Type 0} where
     closes = λ place names id parts ds. did_close place names id parts ∷ ds;
     marks = λ mark ds. did_mark mark ∷ ds;
     heads = λ head ds. did_head head ∷ ds;
+    any_key = false;
   }
 
 module _ {T A S : Type 0} (does : Actions T A S) where

@@ -36,7 +36,6 @@ use irtext_parse_nested::regions::region_begin;
 use irtext_parse_state::parsable::StateStream;
 use irtext_parse_state::parsable::state::State;
 use irtext_tokens::irfmt::faults::{next_is, out_of_memory, unexpected};
-use std::alloc::AllocError;
 
 /// Whether operations with this id are isolated from above.
 pub(crate) fn isolated_by<T: IrText<A>, A: AttrText<A>>(ctx: &Context<T, A>, id: &OpId) -> bool
@@ -151,7 +150,7 @@ fn region_placed<T: IrText<A>, A: AttrText<A>, U>(
     let ctx = &mut *s.state.ctx;
     match region.insert_at_back(op, ctx) {
         Ok(()) => Ok(()),
-        Err(AllocError) => Err(out_of_memory(&mut s.stream)),
+        Err(_) => Err(out_of_memory(&mut s.stream)),
     }
 }
 

@@ -4,7 +4,7 @@ ghost use Rattle.irtext_context.specs.Context.{KeepsOlder};
 ghost use Rattle.irtext_graph.specs.Back.{IsClosedBelow};
 ghost use Rattle.irtext_parse_state.specs.States.{IsFresh};
 ghost use Rattle.irtext_grammar.specs.Readers.Refusals.{FailedRefusal};
-ghost use Rattle.irtext_parse_root.specs.Parses.{CanUndo, Parses, AnswersOperation};
+ghost use Rattle.irtext_parse_root.specs.Parses.{Undoes, CanUndo, ResolvesOperation, FirstOfOperation, AnswersOperation};
 
 use crate::tree::tree_parse;
 use crate::undo::{start_of, undone_on_error};
@@ -70,7 +70,9 @@ pub fn outermost_parse<T: IrText<A>, A: AttrText<A>, U>(
     look: bool,
 ) -> ParseResult<Ptr<Operation>, A>
     ensures lent { s.new.state.ctx.ghost_name ≡ s.old.state.ctx.ghost_name }
-    ensures parses { Parses (AnswersOperation T.IrText.own A.IrText.own look) s.old result s.new }
+    ensures undone { Undoes s.old result s.new }
+    ensures resolves { ResolvesOperation T.IrText.own A.IrText.own look s.old result s.new }
+    ensures first { FirstOfOperation T.IrText.own A.IrText.own look s.old result s.new }
     ensures keeps { IsFresh s.old → OnOk result (KeepsOlder s.old.state.ctx.now.graph.made s.old.state.ctx.now
         s.new.state.ctx.now) }
     ensures closed { OnOk result (IsClosedBelow s.old.state.ctx.now.graph.made s.old.state.ctx.now.graph →

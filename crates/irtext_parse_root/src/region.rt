@@ -1,7 +1,7 @@
 //! The parser for one region of a live operation, with names of its own. On an error it removes the objects that it created.
 ghost use Rattle.std.specs.Prelude.{◌≡◌, false, IsSome};
 ghost use Rattle.irtext_context.specs.Context.{operation};
-ghost use Rattle.irtext_parse_root.specs.Parses.{CanUndo, Parses, AnswersRegion};
+ghost use Rattle.irtext_parse_root.specs.Parses.{Undoes, CanUndo, ResolvesRegion, FirstOfRegion, AnswersRegion};
 ghost use Rattle.irtext_parse_root.specs.Region.{unisolated, IsReportedAt};
 
 use crate::beside::ended;
@@ -99,7 +99,9 @@ impl<T: IrText<A>, A: AttrText<A>, U> Parsable<T, A, U> for Region {
     ) -> ParseResult<Ptr<Region>, A>
         requires { IsSome (operation stream.old.state.ctx.now op) }
         ensures lent { stream.new.state.ctx.ghost_name ≡ stream.old.state.ctx.ghost_name }
-        ensures parses { Parses (AnswersRegion T.IrText.own A.IrText.own op) stream.old result stream.new }
+        ensures undone { Undoes stream.old result stream.new }
+        ensures resolves { ResolvesRegion T.IrText.own A.IrText.own op stream.old result stream.new }
+        ensures first { FirstOfRegion T.IrText.own A.IrText.own op stream.old result stream.new }
     {
         if stream.stream.has_failed() {
             return Err(failed_fault(&stream.stream));

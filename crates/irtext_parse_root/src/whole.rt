@@ -8,7 +8,7 @@ ghost use Rattle.irtext_grammar.specs.Readers.Refusals.{CommittedRefusal};
 ghost use Rattle.irtext_grammar.specs.Promises.Root.{UnlessMemory};
 ghost use Rattle.irtext_parse_locations.specs.Applied.{AreNewer};
 ghost use Rattle.irtext_parse_root.specs.Ended.{EndsAny, MissesEnd};
-ghost use Rattle.irtext_parse_root.specs.Parses.{CanUndo, Parses, AnswersWhole};
+ghost use Rattle.irtext_parse_root.specs.Parses.{Undoes, CanUndo, ResolvesWhole, FirstOfWhole, AnswersWhole};
 ghost use Rattle.irtext_parse_root.specs.Whole.{OnlySpace, ExpectsEnd};
 
 use crate::outermost::failed_fault;
@@ -91,7 +91,9 @@ pub fn whole_parse<T: IrText<A>, A: AttrText<A>, U>(
     s: &mut StateStream<'_, T, A, U>,
 ) -> ParseResult<Ptr<Operation>, A>
     ensures lent { s.new.state.ctx.ghost_name ≡ s.old.state.ctx.ghost_name }
-    ensures parses { Parses (AnswersWhole T.IrText.own A.IrText.own) s.old result s.new }
+    ensures undone { Undoes s.old result s.new }
+    ensures resolves { ResolvesWhole T.IrText.own A.IrText.own s.old result s.new }
+    ensures first { FirstOfWhole T.IrText.own A.IrText.own s.old result s.new }
 {
     if s.stream.has_failed() {
         return Err(failed_fault(&s.stream));

@@ -1,7 +1,7 @@
 -- For callers: the section's text for items of which some may have been erased, and its entries.
 use Rattle.std.specs.declared.alloc.Global.{Global}
 use Rattle.std.specs.declared.string.String.{String}
-use Rattle.std.specs.Prelude.{ℕ, Bool, cond, suc, ◌+◌, List, [], ◌∷◌, ◌++◌, map, length, filter_map, Option, Some, None, codes, decimal, ⊤}
+use Rattle.std.specs.Prelude.{ℕ, Bool, cond, suc, List, [], ◌∷◌, ◌++◌, map, length, filter_map, Option, Some, None, codes, decimal, ⊤}
 use Rattle.irtext_base.specs.Own.{Language}
 use Rattle.irtext_base.specs.Text.{Text}
 use Rattle.irtext_base.specs.declared.text.AttrText as attr_text

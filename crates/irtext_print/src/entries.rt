@@ -1,7 +1,8 @@
 //! The entries of a section, piece by piece. An item is an operation or a block that carries a mark. Each of these calls fails only if
 //! out of memory; what was appended up to the error remains.
-ghost use Rattle.std.specs.Prelude.{◌≡◌, ◌++◌, ◌<◌, ◌^◌, [], OnOk, codes, cond, decimal, string_bytes, true, false};
+ghost use Rattle.std.specs.Prelude.{◌≡◌, ◌++◌, ◌<◌, ◌^◌, [], OnOk, OnErr, codes, cond, decimal, string_bytes, true, false};
 ghost use Rattle.std.specs.Str.{encode_utf8_all};
+ghost use Rattle.irtext_base.specs.Appending.{OnlyAppends};
 ghost use Rattle.irtext_base.specs.declared.location.Source.TheVariants as source;
 ghost use Rattle.irtext_grammar.specs.Contexts.Held.{attribute_of};
 ghost use Rattle.irtext_grammar.specs.Grammar.Tree.{own};
@@ -27,14 +28,16 @@ use std::fmt;
 /// Appends `!` and an index.
 #[inline(never)]
 fn fmt_index(index: usize, f: &mut String) -> fmt::Result
-    ensures { OnOk result (AppendsText f.old (codes "!" ++ decimal index) f.new) }
+    ensures text { OnOk result (AppendsText f.old (codes "!" ++ decimal index) f.new) }
+    ensures appended { OnErr result (OnlyAppends f.old f.new) }
 {
     fmt_led_number("!", index as u64, f)
 }
 
 /// Appends a label under the key of labels.
 fn fmt_label(label: &Identifier, f: &mut String) -> fmt::Result
-    ensures { OnOk result (AppendsText f.old (texts.label_text label.now) f.new) }
+    ensures text { OnOk result (AppendsText f.old (texts.label_text label.now) f.new) }
+    ensures appended { OnErr result (OnlyAppends f.old f.new) }
 {
     f.push_str("builtin_block_label = builtin.identifier ")?;
     f.push_str(label.as_str())?;
@@ -43,7 +46,8 @@ fn fmt_label(label: &Identifier, f: &mut String) -> fmt::Result
 
 /// Appends `, `, except before the first attribute.
 fn fmt_comma(first: bool, f: &mut String) -> fmt::Result
-    ensures { OnOk result (string_bytes f.new ≡ string_bytes f.old ++ cond first [] comma) }
+    ensures text { OnOk result (string_bytes f.new ≡ string_bytes f.old ++ cond first [] comma) }
+    ensures appended { OnErr result (OnlyAppends f.old f.new) }
 {
     if !first {
         f.push_str(", ")?;
@@ -64,7 +68,8 @@ fn fmt_memory(index: usize, line: usize, column: usize, f: &mut String) -> fmt::
     requires index { index < 1000000 }
     requires line { line < 1000000 }
     requires column { column < 1000000 }
-    ensures { OnOk result (string_bytes f.new ≡ string_bytes f.old ++ texts.memory_text index line column) }
+    ensures text { OnOk result (string_bytes f.new ≡ string_bytes f.old ++ texts.memory_text index line column) }
+    ensures appended { OnErr result (OnlyAppends f.old f.new) }
 {
     let mut front: InPlace = ArrayString::new();
     front.push_str("!");
@@ -82,7 +87,8 @@ fn fmt_memory(index: usize, line: usize, column: usize, f: &mut String) -> fmt::
 #[cold]
 #[inline(never)]
 fn fmt_memory_slowly(index: usize, pos: &SourcePosition, f: &mut String) -> fmt::Result
-    ensures { OnOk result (string_bytes f.new ≡ texts.memory_front (string_bytes f.old) index pos.now) }
+    ensures text { OnOk result (string_bytes f.new ≡ texts.memory_front (string_bytes f.old) index pos.now) }
+    ensures appended { OnErr result (OnlyAppends f.old f.new) }
 {
     fmt_index(index, f)?;
     f.push_str(" = @[<in-memory>: line: ")?;
@@ -94,7 +100,8 @@ fn fmt_memory_slowly(index: usize, pos: &SourcePosition, f: &mut String) -> fmt:
 /// Appends what is before an entry's attributes for a position in memory.
 #[inline(always)]
 fn fmt_memory_front(index: usize, pos: &SourcePosition, f: &mut String) -> fmt::Result
-    ensures { OnOk result (string_bytes f.new ≡ texts.memory_front (string_bytes f.old) index pos.now) }
+    ensures text { OnOk result (string_bytes f.new ≡ texts.memory_front (string_bytes f.old) index pos.now) }
+    ensures appended { OnErr result (OnlyAppends f.old f.new) }
 {
     let Some(line) = in_place(&pos.line) else {
         return fmt_memory_slowly(index, pos, f);
@@ -115,8 +122,9 @@ fn fmt_entry_location<T: IrText<A>, A: AttrText<A>>(
     ctx: &Context<T, A>,
     f: &mut String,
 ) -> fmt::Result
-    ensures { OnOk result (string_bytes f.new ≡ texts.location_front A.written ctx.now.paths location.now
+    ensures text { OnOk result (string_bytes f.new ≡ texts.location_front A.written ctx.now.paths location.now
         (string_bytes f.old)) }
+    ensures appended { OnErr result (OnlyAppends f.old f.new) }
 {
     if let Location::Unknown = location {
         f.push_str(" = [")?;
@@ -134,8 +142,9 @@ fn fmt_front<T: IrText<A>, A: AttrText<A>>(
     ctx: &Context<T, A>,
     f: &mut String,
 ) -> fmt::Result
-    ensures { OnOk result (string_bytes f.new ≡ texts.location_front A.written ctx.now.paths location.now
+    ensures text { OnOk result (string_bytes f.new ≡ texts.location_front A.written ctx.now.paths location.now
         (string_bytes f.old ++ encode_utf8_all (codes "!" ++ decimal index))) }
+    ensures appended { OnErr result (OnlyAppends f.old f.new) }
 {
     if let Location::SrcPos { src, pos } = location {
         if is_in_memory(*src) {
@@ -151,8 +160,9 @@ impl<'c, A: AttrText<A>> Mentions<'c, A> {
     /// from then on.
     fn fmt_reference(&mut self, attr: &'c A, f: &mut String) -> fmt::Result
         requires { self.old.items < 2 ^ 63 }
-        ensures { OnOk result (texts.WritesReference A.IrText.own A.AttrText.own A.eq self.old self.new
+        ensures writes { OnOk result (texts.WritesReference A.IrText.own A.AttrText.own A.eq self.old self.new
             f.old f.new attr.now) }
+        ensures appended { OnErr result (OnlyAppends f.old f.new) }
     {
         let place = self.note(attr)?;
         let index = self.items + place;
@@ -162,8 +172,9 @@ impl<'c, A: AttrText<A>> Mentions<'c, A> {
     /// Appends an attribute of the caller, or the reference to a print-once one.
     fn fmt_own(&mut self, attr: &'c A, f: &mut String) -> fmt::Result
         requires { self.old.items < 2 ^ 63 }
-        ensures { OnOk result (texts.WritesItem A.IrText.own A.AttrText.own A.eq self.old self.new f.old
+        ensures writes { OnOk result (texts.WritesItem A.IrText.own A.AttrText.own A.eq self.old self.new f.old
             f.new (own attr.now)) }
+        ensures appended { OnErr result (OnlyAppends f.old f.new) }
     {
         if attr.is_print_once() {
             return self.fmt_reference(attr, f);
@@ -175,8 +186,9 @@ impl<'c, A: AttrText<A>> Mentions<'c, A> {
     #[inline(always)]
     fn fmt_attribute(&mut self, attr: &'c AttrObj<A>, f: &mut String) -> fmt::Result
         requires { self.old.items < 2 ^ 63 }
-        ensures { OnOk result (texts.WritesItem A.IrText.own A.AttrText.own A.eq self.old self.new f.old
+        ensures writes { OnOk result (texts.WritesItem A.IrText.own A.AttrText.own A.eq self.old self.new f.old
             f.new (attribute_of attr.now)) }
+        ensures appended { OnErr result (OnlyAppends f.old f.new) }
     {
         match attr {
             AttrObj::Own(own) => self.fmt_own(own, f),
@@ -188,8 +200,9 @@ impl<'c, A: AttrText<A>> Mentions<'c, A> {
     #[inline(always)]
     fn fmt_pair(&mut self, pair: GivenAttribute<'c, A>, f: &mut String) -> fmt::Result
         requires { self.old.items < 2 ^ 63 }
-        ensures { OnOk result (texts.WritesPair A.IrText.own A.AttrText.own A.eq self.old self.new f.old
+        ensures writes { OnOk result (texts.WritesPair A.IrText.own A.AttrText.own A.eq self.old self.new f.old
             f.new (given_pair pair.entry)) }
+        ensures appended { OnErr result (OnlyAppends f.old f.new) }
     {
         match pair {
             GivenAttribute::Label(label) => fmt_label(label, f),
@@ -205,9 +218,10 @@ impl<'c, A: AttrText<A>> Mentions<'c, A> {
     #[inline(always)]
     fn fmt_pairs(&mut self, given: &Given<'c, A>, f: &mut String) -> fmt::Result
         requires { self.old.items < 2 ^ 63 }
-        ensures { OnOk result (texts.WritesPairs A.IrText.own A.AttrText.own A.eq self.old self.new f.old
+        ensures writes { OnOk result (texts.WritesPairs A.IrText.own A.AttrText.own A.eq self.old self.new f.old
             f.new
             (attributes_of A.outlined given.now)) }
+        ensures appended { OnErr result (OnlyAppends f.old f.new) }
     {
         let mut first = true;
         for pair in given.attributes() {
@@ -227,10 +241,11 @@ impl<'c, A: AttrText<A>> Mentions<'c, A> {
         f: &mut String,
     ) -> fmt::Result
         requires { self.old.items < 2 ^ 63 }
-        ensures { OnOk result (texts.WritesEntry A.IrText.own A.AttrText.own A.eq self.old self.new f.old
+        ensures writes { OnOk result (texts.WritesEntry A.IrText.own A.AttrText.own A.eq self.old self.new f.old
             f.new index
             (known_text A.written ctx.now.paths given.now.location.now) (attributes_of A.outlined
             given.now)) }
+        ensures appended { OnErr result (OnlyAppends f.old f.new) }
     {
         fmt_front(index, given.location, ctx, f)?;
         self.fmt_pairs(given, f)?;

@@ -1,6 +1,7 @@
 //! The printing state with its guards, the items that it gathered, why a printing fails, and the texts of attributes and of new lines.
-ghost use Rattle.std.specs.Prelude.{◌≡◌, ◌≤◌, ◌-◌, [], ◌∷◌, OnOk, ◌++◌, codes, cond, length, take, drop, replicate, string_bytes};
+ghost use Rattle.std.specs.Prelude.{◌≡◌, ◌≤◌, ◌-◌, [], ◌∷◌, OnOk, OnErr, ◌++◌, codes, cond, length, take, drop, replicate, string_bytes};
 ghost use Rattle.std.specs.Str.{IsAscii};
+ghost use Rattle.irtext_base.specs.Appending.{OnlyAppends};
 ghost use Rattle.irtext_print.specs.Printers.Printing.{indent_of};
 ghost use Rattle.irtext_grammar.specs.Spelling.Spell.{newline};
 
@@ -60,8 +61,9 @@ const OPENING: &str = " \n{\n                                                   
 /// Appends the opening brace of a region at indentation 0, as [`fmt_opening`] does.
 fn fmt_outer_opening(joins: bool, inner: u16, f: &mut String) -> fmt::Result
     requires { inner ≤ 64 }
-    ensures { OnOk result (string_bytes f.new ≡ string_bytes f.old ++
+    ensures text { OnOk result (string_bytes f.new ≡ string_bytes f.old ++
         (cond joins [] (codes " ") ++ (newline 0 ++ (codes "{" ++ newline inner)))) }
+    ensures appended { OnErr result (OnlyAppends f.old f.new) }
 {
     let end = 4 + inner as usize;
     if joins {
@@ -79,8 +81,9 @@ fn fmt_indented(indent: u16, line: &str, end: usize, f: &mut String) -> fmt::Res
     requires ends { (256 ≤ end) × (end ≤ length line.now) }
     requires line { line.now ≡ replicate 256 32 ++ drop 256 line.now }
     requires ascii { IsAscii line.now }
-    ensures { OnOk result (string_bytes f.new ≡ string_bytes f.old ++ (replicate indent 32 ++ take (end - 256)
+    ensures text { OnOk result (string_bytes f.new ≡ string_bytes f.old ++ (replicate indent 32 ++ take (end - 256)
         (drop 256 line.now))) }
+    ensures appended { OnErr result (OnlyAppends f.old f.new) }
 {
     f.push_str(&line[256 - indent as usize..end])?;
     Ok(())
@@ -89,8 +92,9 @@ fn fmt_indented(indent: u16, line: &str, end: usize, f: &mut String) -> fmt::Res
 /// Appends a newline, after a space unless what follows joins what is before it.
 #[inline(always)]
 fn fmt_line_end(joins: bool, f: &mut String) -> fmt::Result
-    ensures { OnOk result (string_bytes f.new ≡ string_bytes f.old
+    ensures text { OnOk result (string_bytes f.new ≡ string_bytes f.old
         ++ (cond joins [] (codes " ") ++ codes "\n")) }
+    ensures appended { OnErr result (OnlyAppends f.old f.new) }
 {
     if joins {
         f.push_str("\n")?;
@@ -103,8 +107,9 @@ fn fmt_line_end(joins: bool, f: &mut String) -> fmt::Result
 /// Appends the opening brace of a region at any indentation, as [`fmt_opening`] does.
 #[cold]
 fn fmt_deep_opening(joins: bool, indent: u16, inner: u16, f: &mut String) -> fmt::Result
-    ensures { OnOk result (string_bytes f.new ≡ string_bytes f.old ++
+    ensures text { OnOk result (string_bytes f.new ≡ string_bytes f.old ++
         (cond joins [] (codes " ") ++ (newline indent ++ (codes "{" ++ newline inner)))) }
+    ensures appended { OnErr result (OnlyAppends f.old f.new) }
 {
     if !joins {
         f.push_str(" ")?;
@@ -116,8 +121,9 @@ fn fmt_deep_opening(joins: bool, indent: u16, inner: u16, f: &mut String) -> fmt
 /// Appends the opening brace of a region on a line of its own at this indentation, then a newline and the inner indentation, both in
 /// spaces. A space comes first, unless the region joins what is before it. Fails only if out of memory.
 pub fn fmt_opening(joins: bool, indent: u16, inner: u16, f: &mut String) -> fmt::Result
-    ensures { OnOk result (string_bytes f.new ≡ string_bytes f.old ++
+    ensures text { OnOk result (string_bytes f.new ≡ string_bytes f.old ++
         (cond joins [] (codes " ") ++ (newline indent ++ (codes "{" ++ newline inner)))) }
+    ensures appended { OnErr result (OnlyAppends f.old f.new) }
 {
     if indent == 0 && inner <= 64 {
         return fmt_outer_opening(joins, inner, f);
@@ -131,7 +137,8 @@ pub fn fmt_opening(joins: bool, indent: u16, inner: u16, f: &mut String) -> fmt:
 
 /// Appends a newline, so many spaces and a closing brace. Fails only if out of memory.
 pub fn fmt_closing(indent: u16, f: &mut String) -> fmt::Result
-    ensures { OnOk result (string_bytes f.new ≡ string_bytes f.old ++ (newline indent ++ codes "}")) }
+    ensures text { OnOk result (string_bytes f.new ≡ string_bytes f.old ++ (newline indent ++ codes "}")) }
+    ensures appended { OnErr result (OnlyAppends f.old f.new) }
 {
     if indent > 256 {
         fmt_newline(indent, f)?;
@@ -147,7 +154,8 @@ pub fn fmt_closing(indent: u16, f: &mut String) -> fmt::Result
 fn fmt_line(front: &str, line: &str, indent: u16, f: &mut String) -> fmt::Result
     requires line { line.now ≡ front.now ++ 10 ∷ replicate 256 32 }
     requires ascii { IsAscii line.now }
-    ensures { OnOk result (string_bytes f.new ≡ string_bytes f.old ++ (front.now ++ newline indent)) }
+    ensures text { OnOk result (string_bytes f.new ≡ string_bytes f.old ++ (front.now ++ newline indent)) }
+    ensures appended { OnErr result (OnlyAppends f.old f.new) }
 {
     if indent > 256 {
         f.push_str(front)?;
@@ -159,28 +167,32 @@ fn fmt_line(front: &str, line: &str, indent: u16, f: &mut String) -> fmt::Result
 
 /// Appends a semicolon, a newline and so many spaces. Fails only if out of memory.
 pub fn fmt_semicolon_newline(indent: u16, f: &mut String) -> fmt::Result
-    ensures { OnOk result (string_bytes f.new ≡ string_bytes f.old ++ (codes ";" ++ newline indent)) }
+    ensures text { OnOk result (string_bytes f.new ≡ string_bytes f.old ++ (codes ";" ++ newline indent)) }
+    ensures appended { OnErr result (OnlyAppends f.old f.new) }
 {
     fmt_line(";", SEMICOLON, indent, f)
 }
 
 /// Appends a colon, a newline and so many spaces. Fails only if out of memory.
 pub fn fmt_colon_newline(indent: u16, f: &mut String) -> fmt::Result
-    ensures { OnOk result (string_bytes f.new ≡ string_bytes f.old ++ (codes ":" ++ newline indent)) }
+    ensures text { OnOk result (string_bytes f.new ≡ string_bytes f.old ++ (codes ":" ++ newline indent)) }
+    ensures appended { OnErr result (OnlyAppends f.old f.new) }
 {
     fmt_line(":", COLON, indent, f)
 }
 
 /// Appends an opening brace, a newline and so many spaces.
 fn fmt_brace_newline(indent: u16, f: &mut String) -> fmt::Result
-    ensures { OnOk result (string_bytes f.new ≡ string_bytes f.old ++ (codes "{" ++ newline indent)) }
+    ensures text { OnOk result (string_bytes f.new ≡ string_bytes f.old ++ (codes "{" ++ newline indent)) }
+    ensures appended { OnErr result (OnlyAppends f.old f.new) }
 {
     fmt_line("{", BRACE, indent, f)
 }
 
 /// Appends a newline and so many spaces. Fails only if out of memory.
 pub fn fmt_newline(indent: u16, f: &mut String) -> fmt::Result
-    ensures { OnOk result (string_bytes f.new ≡ string_bytes f.old ++ newline indent) }
+    ensures text { OnOk result (string_bytes f.new ≡ string_bytes f.old ++ newline indent) }
+    ensures appended { OnErr result (OnlyAppends f.old f.new) }
 {
     f.push_str(&NEWLINE[..1 + (indent % 256) as usize])?;
     for _block in 0..indent / 256 {
@@ -191,7 +203,8 @@ pub fn fmt_newline(indent: u16, f: &mut String) -> fmt::Result
 
 /// Appends a newline and as many spaces as the state's indentation. Fails only if out of memory.
 pub fn fmt_indented_newline<U>(state: &State<U>, f: &mut String) -> fmt::Result
-    ensures { OnOk result (string_bytes f.new ≡ string_bytes f.old ++ newline (indent_of state.now)) }
+    ensures text { OnOk result (string_bytes f.new ≡ string_bytes f.old ++ newline (indent_of state.now)) }
+    ensures appended { OnErr result (OnlyAppends f.old f.new) }
 {
     fmt_newline(state.current_indent(), f)
 }

@@ -1,5 +1,6 @@
 //! The section after a root. An item is an operation or a block that carries a mark.
-ghost use Rattle.std.specs.Prelude.{◌≡◌, ◌++◌, ◌<◌, ◌^◌, OnOk, IfErr, codes, string_bytes};
+ghost use Rattle.std.specs.Prelude.{◌≡◌, ◌++◌, ◌<◌, ◌^◌, OnOk, OnErr, IfErr, codes, string_bytes};
+ghost use Rattle.irtext_base.specs.Appending.{OnlyAppends};
 ghost use Rattle.irtext_grammar.specs.Spelling.Locations.{known_text};
 ghost use Rattle.irtext_grammar.specs.Spelling.Section.{once_texts};
 ghost use Rattle.irtext_print.specs.Entries as texts;
@@ -25,7 +26,8 @@ use std::fmt;
 
 /// Appends a print-once attribute, after its index.
 fn fmt_once<A: AttrText<A>>(index: usize, attr: &A, f: &mut String) -> fmt::Result
-    ensures { OnOk result (AppendsText f.old (texts.once_text A.IrText.written index attr.now) f.new) }
+    ensures text { OnOk result (AppendsText f.old (texts.once_text A.IrText.written index attr.now) f.new) }
+    ensures appended { OnErr result (OnlyAppends f.old f.new) }
 {
     f.push_str("!")?;
     fmt_number(index as u64, f)?;
@@ -45,8 +47,9 @@ impl<'c, A: AttrText<A>> Mentions<'c, A> {
         f: &mut String,
     ) -> fmt::Result
         requires { self.old.items < 2 ^ 63 }
-        ensures { OnOk result (section.WritesItemEntry T.IrText.own A.IrText.own A.AttrText.own A.eq ctx.now
+        ensures writes { OnOk result (section.WritesItemEntry T.IrText.own A.IrText.own A.AttrText.own A.eq ctx.now
             self.old self.new f.old f.new index item) }
+        ensures appended { OnErr result (OnlyAppends f.old f.new) }
     {
         match given_of(ctx, item) {
             Some(given) => self.fmt_entry(ctx, index, &given, f),
@@ -62,8 +65,9 @@ impl<'c, A: AttrText<A>> Mentions<'c, A> {
         f: &mut String,
     ) -> fmt::Result
         requires { self.old.items < 2 ^ 63 }
-        ensures { OnOk result (section.WritesEntries T.IrText.own A.IrText.own A.AttrText.own A.eq ctx.now
+        ensures writes { OnOk result (section.WritesEntries T.IrText.own A.IrText.own A.AttrText.own A.eq ctx.now
             self.old self.new f.old f.new items.now) }
+        ensures appended { OnErr result (OnlyAppends f.old f.new) }
     {
         for (index, item) in items.iter().enumerate() {
             self.fmt_item(ctx, index, *item, f)?;
@@ -74,9 +78,10 @@ impl<'c, A: AttrText<A>> Mentions<'c, A> {
     /// Appends the print-once attributes, numbered on after all items.
     fn fmt_all_once(&self, f: &mut String) -> fmt::Result
         requires { self.now.items < 2 ^ 63 }
-        ensures { OnOk result (AppendsText f.old (once_texts (words A.IrText.written) (mentions.asking
+        ensures text { OnOk result (AppendsText f.old (once_texts (words A.IrText.written) (mentions.asking
             A.print_once A.eq)
             self.now.items (mentions.known_in self.now.known)) f.new) }
+        ensures appended { OnErr result (OnlyAppends f.old f.new) }
     {
         let attrs = self.known.as_slice();
         for (place, attr) in attrs.iter().enumerate() {
@@ -92,8 +97,9 @@ fn fmt_section<T: IrText<A>, A: AttrText<A>>(
     items: &[Item],
     f: &mut String,
 ) -> fmt::Result
-    ensures { OnOk result (AppendsText f.old (section.section_at T.IrText.own A.IrText.own A.AttrText.own A.eq
+    ensures text { OnOk result (AppendsText f.old (section.section_at T.IrText.own A.IrText.own A.AttrText.own A.eq
         ctx.now items.now) f.new) }
+    ensures appended { OnErr result (OnlyAppends f.old f.new) }
 {
     if items.is_empty() {
         return Ok(());
@@ -126,6 +132,7 @@ pub fn print_section<T: IrText<A>, A: AttrText<A>>(
     ensures text { OnOk result (AppendsText f.old
         (section.section_at T.IrText.own A.IrText.own A.AttrText.own A.eq ctx.now items.now) f.new) }
     ensures refused { IfErr result (λ e. e ≡ refusal.Memory) }
+    ensures appended { OnErr result (OnlyAppends f.old f.new) }
 {
     memory_alone(fmt_section(ctx, items, f))
 }
@@ -137,9 +144,10 @@ fn fmt_located<T: IrText<A>, A: AttrText<A>>(
     ctx: &Context<T, A>,
     f: &mut String,
 ) -> fmt::Result
-    ensures { OnOk result (string_bytes f.new ≡ string_bytes f.old
+    ensures text { OnOk result (string_bytes f.new ≡ string_bytes f.old
         ++ framed (codes " !0\n\noutlined_attributes:\n!0 = @[") (codes "], []\n")
         (known_text A.written ctx.now.paths location.now)) }
+    ensures appended { OnErr result (OnlyAppends f.old f.new) }
 {
     if let Location::SrcPos { src, pos } = location {
         if is_in_memory(*src) {
@@ -164,8 +172,9 @@ fn fmt_alone<T: IrText<A>, A: AttrText<A>>(
     item: Item,
     f: &mut String,
 ) -> fmt::Result
-    ensures { OnOk result (AppendsText f.old (section.alone_at T.IrText.own A.IrText.own A.AttrText.own A.eq
+    ensures text { OnOk result (AppendsText f.old (section.alone_at T.IrText.own A.IrText.own A.AttrText.own A.eq
         ctx.now item) f.new) }
+    ensures appended { OnErr result (OnlyAppends f.old f.new) }
 {
     let Some(given) = given_of(ctx, item) else {
         return Ok(());
@@ -189,6 +198,7 @@ pub fn print_alone<T: IrText<A>, A: AttrText<A>>(
     ensures text { OnOk result (AppendsText f.old (section.alone_at T.IrText.own A.IrText.own A.AttrText.own
         A.eq ctx.now item) f.new) }
     ensures refused { IfErr result (λ e. e ≡ refusal.Memory) }
+    ensures appended { OnErr result (OnlyAppends f.old f.new) }
 {
     memory_alone(fmt_alone(ctx, item, f))
 }

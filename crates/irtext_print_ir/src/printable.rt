@@ -2,7 +2,7 @@
 ghost use Rattle.std.specs.Prelude.{List, ℕ, OnOk, OnErr, None, Option, ⊤, string_bytes};
 ghost use Rattle.irtext_print.specs.Printers.Shown.{Shown};
 ghost use Rattle.irtext_print.specs.Printers.Appended.{Writes};
-ghost use Rattle.irtext_print_ir.specs.Printers.Refused.{KeepsLayout};
+ghost use Rattle.irtext_print_ir.specs.Printers.Refused.{HasGathered};
 ghost use Rattle.std.specs.declared.string.String.{String};
 ghost use Rattle.std.specs.declared.alloc.Global.{Global};
 ghost use Rattle.irtext_context.specs.declared.base.context.Context.{Context};
@@ -40,11 +40,11 @@ pub trait Printable<U, T: IrText<A>, A: AttrText<A>> {
     ghost prints: { Self → Context T A → Shown U → String Global → Shown U → String Global → Type 0 } = { λ _ _ _ _ _ _. ⊤ };
 
     // what one printing that fails may leave: the state and the text before it, and both after it
-    ghost refuses: { Self → Context T A → Shown U → String Global → Shown U → String Global → Type 0 } = { λ _ _ s _ t _. KeepsLayout s t };
+    ghost refuses: { Self → Context T A → Shown U → String Global → Shown U → String Global → Type 0 } = { λ _ _. HasGathered };
 
     /// Appends the text. Fails if out of memory, if the indentation does not fit 16 bits, if an operation does not fit its format, or
-    /// if a stored closure fails. What was appended up to the error remains. Apart from gathered items an error leaves the state as it was,
-    /// unless a stored closure changed it.
+    /// if a stored closure fails. An error leaves the text that was there, and what was appended up to the error; apart from gathered items
+    /// it leaves the state as it was. Only a stored closure may do otherwise.
     fn fmt(&self, ctx: &Context<T, A>, state: &mut State<U>, f: &mut String) -> fmt::Result
         requires { can_print self.now ctx.now }
         ensures prints { OnOk result (prints self.now ctx.now state.old f.old state.new f.new) }

@@ -1,10 +1,9 @@
 -- A region and a block that are printed alone: what was written before the open frames, with the text that is left, is their text.
-use Rattle.std.proofs.Common.{◌≡◌, ◌+◌, ◌∙◌, ◌⊎◌, inl, inr, ℕ, zero, suc, List, [], ◌∷◌, ◌++◌, length, map, true, false, true≢false, Option, Some, None, option_map, refl, sym, ap, subst, append_assoc, length-append}
+use Rattle.std.proofs.Common.{◌≡◌, ◌+◌, ◌∙◌, ◌⊎◌, inl, inr, ℕ, zero, suc, List, [], ◌∷◌, ◌++◌, length, map, true, true≢false, Option, Some, None, option_map, refl, sym, ap, subst, append_assoc, length-append}
 use Rattle.std.specs.Prelude.{⊤, cond, codes, ◌≤◌, ◌^◌, ◌≢◌, IsSome}
 use Rattle.std.specs.Str.{encode_utf8_all}
 use Rattle.irtext_base.specs.Own.{Language}
 use Rattle.irtext_base.specs.Text.{Text}
-use Rattle.irtext_base.specs.Format as format
 use Rattle.irtext_context.specs.Context.{ContextView, block, block_of}
 use Rattle.irtext_context.specs.declared.base.block.BlockData.{BlockData}
 use Rattle.irtext_context.specs.declared.base.operation.OperationData.{OperationData}

@@ -1,5 +1,5 @@
 -- A list of objects of one kind, and what is at an index of it.
-use Rattle.std.proofs.Common.{◌≡◌, ◌≤◌, ℕ, suc, List, [], ◌∷◌, Some, None, length, map, slice_get, arith, ap, sym, refl}
+use Rattle.std.proofs.Common.{◌≡◌, ◌≤◌, ℕ, suc, List, [], ◌∷◌, None, length, map, slice_get, arith, ap, sym, refl}
 use Rattle.std.proofs.lemmas.Option.{slice_get_past}
 
 -- as many objects as things that they are made of

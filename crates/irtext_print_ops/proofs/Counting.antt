@@ -7,7 +7,7 @@ use Rattle.irtext_base.specs.Text.{Text}
 use Rattle.irtext_grammar.specs.Grammar.Tree.{Attribute}
 use Rattle.irtext_grammar.specs.Graphs.Graph.{lookup}
 use Rattle.irtext_print.specs.Printers.FitFaults.{missing_key}
-use Rattle.irtext_print.specs.Printers.PrintedOperation.{regions_fit, symbol_fits, has_symbol}
+use Rattle.irtext_print.specs.Printers.PrintedOperation.{symbol_fits, has_symbol}
 use Rattle.irtext_print.proofs.Printers.FitsTests.{any_count}
 use Rattle.irtext_print_ops.specs.Fits.{counts_fit, counted, counted_on, places_of, no_places, AreFew, first_failed, tests, uncovered_key}
 use Rattle.irtext_print_ops.specs.declared.fits.Counts.{Counts}

@@ -11,10 +11,9 @@ use Rattle.irtext_grammar.specs.Grammar.Tree.{Attribute}
 use Rattle.irtext_grammar.specs.Graphs.Closed.{FitsCustom, FitsFormat}
 use Rattle.irtext_grammar.specs.Graphs.Graph.{GraphOp, Printing, outlined, written_keys}
 use Rattle.irtext_print.specs.Printers.FitFaults.{missing_key}
-use Rattle.irtext_print.specs.Printers.PrintedOperation.{regions_fit, symbol_fits}
 use Rattle.irtext_print.proofs.Printers.FitFaults.{not_not, key_none, named_by}
 use Rattle.irtext_print.proofs.Printers.FitsTests.{written_key}
-use Rattle.irtext_print_ops.specs.Fits.{counts_fit, first_failed, number_of, refused_by, is_covered, first_uncovered, uncovered_key, tests, Names, counts_of, first_reason, NamesIn, FitsOwn, IsFirstReason}
+use Rattle.irtext_print_ops.specs.Fits.{first_failed, number_of, refused_by, is_covered, first_uncovered, uncovered_key, tests, Names, counts_of, first_reason, NamesIn, FitsOwn, IsFirstReason}
 use Rattle.irtext_print_ops.specs.declared.fits.Counts.{Counts}
 use Rattle.irtext_print_ops.specs.declared.fits.FitFault.{FitFault}
 use Rattle.irtext_print_ops.specs.declared.fits.FitFault.TheVariants as fault

@@ -1,5 +1,5 @@
 -- What the format that was found under an operation's id says of the operation.
-use Rattle.std.proofs.Common.{◌≡◌, ◌∙◌, ℕ, List, Option, Some, Result, IfSome, OnOk, IfErr, sym, ap, subst, length, option_map}
+use Rattle.std.proofs.Common.{◌≡◌, ◌∙◌, List, Option, Some, Result, IfSome, IfErr, sym, ap, subst, length, option_map}
 use Rattle.irtext_base.specs.Faults.{id_of}
 use Rattle.irtext_base.specs.Format as format
 use Rattle.irtext_base.specs.Format.{Accepted, Directive, Format}

@@ -4,6 +4,7 @@ pub mod BlockTexts
 pub mod CanonicalTexts
 pub mod Chained
 pub mod ChildrenAt
+pub mod Continued
 pub mod Counting
 pub mod Depths
 pub mod Descents

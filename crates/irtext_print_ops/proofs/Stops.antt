@@ -1,5 +1,5 @@
 -- The directive that is read next of an operation: which part is next, and that a region stops the pieces before it.
-use Rattle.std.proofs.Common.{◌≡◌, ◌<◌, ◌≤◌, ◌∙◌, ◌∷◌, ◌++◌, ◌+◌, ℕ, List, [], Some, arith, ap, drop, length, refl, sym}
+use Rattle.std.proofs.Common.{◌≡◌, ◌<◌, ◌≤◌, ◌∙◌, ◌∷◌, ◌++◌, ◌+◌, ℕ, List, [], Some, arith, ap, drop, length, sym}
 use Rattle.std.proofs.lemmas.List.{length-map}
 use Rattle.std.specs.List.{cons_option}
 use Rattle.std.specs.Prelude.{⊤}

@@ -1,5 +1,6 @@
 //! What comes before a block's operations: its label, its arguments and its dictionary.
-ghost use Rattle.std.specs.Prelude.{◌≡◌, ◌++◌, IsSome, IfErr, OnOk, codes};
+ghost use Rattle.std.specs.Prelude.{◌≡◌, ◌++◌, IsSome, IfErr, OnOk, OnErr, codes};
+ghost use Rattle.irtext_base.specs.Appending.{OnlyAppends};
 ghost use Rattle.irtext_context.specs.Context as context;
 ghost use Rattle.irtext_graph.specs.Graph.{IsLive};
 ghost use Rattle.irtext_graph.specs.declared.object.Object.TheVariants.{TheBlock};
@@ -35,8 +36,9 @@ fn has_inline<A: AttrText<A>>(attributes: &AttributeDict<A>) -> bool
 
 /// Appends the dictionary of the attributes that are not outlined, after a space, if there are such attributes.
 fn fmt_inline<A: AttrText<A>>(attributes: &AttributeDict<A>, f: &mut String) -> fmt::Result
-    ensures { OnOk result (AppendsText f.old (inline_text A.outlined A.IrText.written
+    ensures text { OnOk result (AppendsText f.old (inline_text A.outlined A.IrText.written
         (entries_of attributes.now)) f.new) }
+    ensures appended { OnErr result (OnlyAppends f.old f.new) }
 {
     if has_inline(attributes) {
         DictPrinter {
@@ -52,9 +54,10 @@ impl<'c, T: IrText<A>, A: AttrText<A>> Printer<'c, T, A> {
     /// Appends the arguments with their types, in parentheses.
     fn fmt_arguments(self, block: Ptr<BasicBlock>, f: &mut String) -> fmt::Result
         requires { IsLive self.ctx.now.graph (TheBlock block) }
-        ensures { OnOk result (AppendsText f.old
+        ensures text { OnOk result (AppendsText f.old
             (codes "(" ++ (list_text T.IrText.written self.entry.ctx.now (Arguments block) 0 ++ codes ")"))
             f.new) }
+        ensures appended { OnErr result (OnlyAppends f.old f.new) }
     {
         self.fmt_enclosed(Listed::Arguments(block), "(", ")", "()", f)
     }
@@ -62,8 +65,9 @@ impl<'c, T: IrText<A>, A: AttrText<A>> Printer<'c, T, A> {
     /// Appends a block's label, its arguments and its dictionary, as [`fmt_block_head`] does.
     fn fmt_head(self, block: Ptr<BasicBlock>, f: &mut String) -> fmt::Result
         requires live { IsSome (context.block self.ctx.now block) }
-        ensures { OnOk result (AppendsText f.old (heads.block_head_at T.IrText.own A.IrText.own
+        ensures text { OnOk result (AppendsText f.old (heads.block_head_at T.IrText.own A.IrText.own
             A.AttrText.own A.eq self.entry.ctx.now block) f.new) }
+        ensures appended { OnErr result (OnlyAppends f.old f.new) }
     {
         fmt_block_label(self.ctx, block, f)?;
         self.fmt_arguments(block, f)?;
@@ -83,6 +87,7 @@ pub fn fmt_block_head<T: IrText<A>, A: AttrText<A>>(
     ensures text { OnOk result (AppendsText f.old
         (heads.block_head_at T.IrText.own A.IrText.own A.AttrText.own A.eq ctx.now block) f.new) }
     ensures refused { IfErr result (λ e. e ≡ refusal.Memory) }
+    ensures appended { OnErr result (OnlyAppends f.old f.new) }
 {
     memory_alone(Printer { ctx }.fmt_head(block, f))
 }

@@ -1,5 +1,6 @@
 //! The canonical form, which any operation has, except for its results, its id and its regions.
-ghost use Rattle.std.specs.Prelude.{◌≡◌, ◌++◌, Some, IsSome, IfSome, IfErr, OnOk, codes};
+ghost use Rattle.std.specs.Prelude.{◌≡◌, ◌++◌, Some, IsSome, IfSome, IfErr, OnOk, OnErr, codes};
+ghost use Rattle.irtext_base.specs.Appending.{OnlyAppends};
 ghost use Rattle.irtext_base.specs.Format as format;
 ghost use Rattle.irtext_context.specs.Context.{operation};
 ghost use Rattle.irtext_graph.specs.Graph.{IsLive};
@@ -28,9 +29,10 @@ impl<'c, T: IrText<A>, A: AttrText<A>> Printer<'c, T, A> {
     /// ` (x_v1) [^a_block1v1] [`.
     fn fmt_uses(self, op: Ptr<Operation>, f: &mut String) -> fmt::Result
         requires { IsLive self.ctx.now.graph (TheOperation op) }
-        ensures { OnOk result (AppendsText f.old
+        ensures text { OnOk result (AppendsText f.old
             (codes " (" ++ (list_text T.IrText.written self.entry.ctx.now (Operands op) 0 ++ (codes ") [" ++
             (list_text T.IrText.written self.entry.ctx.now (Successors op) 0 ++ codes "] [")))) f.new) }
+        ensures appended { OnErr result (OnlyAppends f.old f.new) }
     {
         f.push_str(" (")?;
         self.fmt_listed(Listed::Operands(op), 0, f)?;
@@ -40,10 +42,11 @@ impl<'c, T: IrText<A>, A: AttrText<A>> Printer<'c, T, A> {
     /// Appends what follows the id in the canonical form, as [`fmt_canonical_front`](Self::fmt_canonical_front) does.
     fn fmt_canonical(self, op: Ptr<Operation>, f: &mut String) -> fmt::Result
         requires live { IsSome (operation self.ctx.now op) }
-        ensures { OnOk result (IfSome (seen_own A.IrText.written self.entry.ctx.now op) (λ o.
+        ensures text { OnOk result (IfSome (seen_own A.IrText.written self.entry.ctx.now op) (λ o.
             AppendsText f.old (body_front (language_in T.IrText.own A.IrText.own self.entry.ctx.now)
             (body_of (printing_by A.AttrText.own A.eq self.entry.ctx.now) o
             (Some format.canonical))) f.new)) }
+        ensures appended { OnErr result (OnlyAppends f.old f.new) }
     {
         self.fmt_uses(op, f)?;
         DictPrinter {
@@ -68,6 +71,7 @@ impl<'c, T: IrText<A>, A: AttrText<A>> Printer<'c, T, A> {
             (body_of (printing_by A.AttrText.own A.eq self.entry.ctx.now) o
             (Some format.canonical))) f.new)) }
         ensures refused { IfErr result (λ e. e ≡ refusal.Memory) }
+        ensures appended { OnErr result (OnlyAppends f.old f.new) }
     {
         memory_alone(self.fmt_canonical(op, f))
     }

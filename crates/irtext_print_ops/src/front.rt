@@ -1,5 +1,6 @@
 //! What is printed of an operation before its parts, by its format.
-ghost use Rattle.std.specs.Prelude.{◌≡◌, ◌≢◌, OnOk, IfOk, IfErr, IsSome, is_none};
+ghost use Rattle.std.specs.Prelude.{◌≡◌, ◌≢◌, OnOk, OnErr, IfOk, IfErr, IsSome, is_none};
+ghost use Rattle.irtext_base.specs.Appending.{OnlyAppends};
 ghost use Rattle.irtext_context.specs.Context.{operation};
 ghost use Rattle.irtext_print.specs.Printers.Appended.{AppendsText};
 ghost use Rattle.irtext_print.specs.declared.printable.refusal.Refusal.TheVariants as refusal;
@@ -27,6 +28,7 @@ fn fmt_front<T: IrText<A>, A: AttrText<A>>(
         (AppendsText f.old (heads.operation_front_at T.IrText.own A.IrText.own A.AttrText.own A.eq ctx.now op)
         f.new) }
     ensures refused { IfErr result (λ e. e ≡ refusal.Memory) }
+    ensures appended { OnErr result (OnlyAppends f.old f.new) }
 {
     let printer = Printer { ctx };
     printer.fmt_results(op, f)?;
@@ -75,6 +77,7 @@ pub fn begin_front<'c, T: IrText<A>, A: AttrText<A>>(
     ensures fits { OnOk result (heads.FitsAt T.IrText.own A.IrText.own A.AttrText.own A.eq ctx.now op) }
     ensures refused { IfErr result (λ e. e ≢ refusal.Memory →
         (e ≡ refusal.Misfit) × (heads.FitsAt T.IrText.own A.IrText.own A.AttrText.own A.eq ctx.now op → ⊥)) }
+    ensures appended { OnErr result (OnlyAppends f.old f.new) }
 {
     let directives = find_directives(ctx, op)?;
     fmt_front(ctx, op, directives.is_none(), f)?;

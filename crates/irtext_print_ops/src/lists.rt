@@ -1,7 +1,8 @@
 //! The lists of operations and blocks, as they are printed: with `, ` between the items, and without the items that have no text.
-ghost use Rattle.std.specs.Prelude.{◌≡◌, ◌<◌, ◌&&◌, ◌++◌, not, true, drop, is_some, length, slice_get, option_and_then, option_map, Some, IsSome, IfOk, IfSome, OnOk};
+ghost use Rattle.std.specs.Prelude.{◌≡◌, ◌<◌, ◌&&◌, ◌++◌, not, true, drop, is_some, length, slice_get, option_and_then, option_map, Some, IsSome, IfOk, IfSome, OnOk, OnErr};
 ghost use Rattle.std.specs.Char.{is_ascii};
 ghost use Rattle.std.specs.List.{list_all};
+ghost use Rattle.irtext_base.specs.Appending.{OnlyAppends};
 ghost use Rattle.irtext_context.specs.Context.{block};
 ghost use Rattle.irtext_graph.specs.Graph.{IsLive};
 ghost use Rattle.irtext_graph.specs.Parts.{operands, successors, value_at, IsDefinedValue};
@@ -51,7 +52,8 @@ pub(crate) type StillFirst = Result<bool, fmt::Error>;
 /// Appends `, `, except before the first item.
 #[inline(always)]
 fn fmt_between(first: bool, f: &mut String) -> fmt::Result
-    ensures { OnOk result (AppendsText f.old (texts.gap first) f.new) }
+    ensures text { OnOk result (AppendsText f.old (texts.gap first) f.new) }
+    ensures appended { OnErr result (OnlyAppends f.old f.new) }
 {
     if !first {
         f.push_str(", ")?;
@@ -90,8 +92,9 @@ impl<'c, T: IrText<A>, A: AttrText<A>> Printer<'c, T, A> {
     #[inline(always)]
     fn fmt_operand(self, value: Value, first: bool, f: &mut String) -> fmt::Result
         requires { IsDefinedValue self.ctx.now.graph value }
-        ensures { OnOk result (AppendsText f.old
+        ensures text { OnOk result (AppendsText f.old
             (texts.next_text first (operand_text self.entry.ctx.now value)) f.new) }
+        ensures appended { OnErr result (OnlyAppends f.old f.new) }
     {
         fmt_between(first, f)?;
         fmt_value_name(self.ctx, value, f)
@@ -101,8 +104,9 @@ impl<'c, T: IrText<A>, A: AttrText<A>> Printer<'c, T, A> {
     #[inline(always)]
     fn fmt_successor(self, p: Ptr<BasicBlock>, first: bool, f: &mut String) -> fmt::Result
         requires { IsSome (block self.ctx.now p) }
-        ensures { OnOk result (AppendsText f.old
+        ensures text { OnOk result (AppendsText f.old
             (texts.next_text first (Some (label_text self.entry.ctx.now p))) f.new) }
+        ensures appended { OnErr result (OnlyAppends f.old f.new) }
     {
         fmt_between(first, f)?;
         fmt_block_label(self.ctx, p, f)
@@ -112,8 +116,9 @@ impl<'c, T: IrText<A>, A: AttrText<A>> Printer<'c, T, A> {
     #[inline(always)]
     fn fmt_facet(self, value: Value, of_type: &T, facet: Facet, f: &mut String) -> fmt::Result
         requires { IsDefinedValue self.ctx.now.graph value }
-        ensures { OnOk result (IfSome (number_of self.entry.ctx.now value) (λ n. AppendsText f.old
+        ensures text { OnOk result (IfSome (number_of self.entry.ctx.now value) (λ n. AppendsText f.old
             (texts.facet_text T.IrText.written self.entry.ctx.now facet (n, of_type.now)) f.new)) }
+        ensures appended { OnErr result (OnlyAppends f.old f.new) }
     {
         match facet {
             Facet::Name => fmt_value_name(self.ctx, value, f),
@@ -136,6 +141,7 @@ impl<'c, T: IrText<A>, A: AttrText<A>> Printer<'c, T, A> {
         ensures left { IfOk result (λ left. left ≡ (first && not (is_some
             (option_and_then (texts.typed_text T.IrText.written self.entry.ctx.now facet)
             (value_at self.entry.ctx.now.graph value))))) }
+        ensures appended { OnErr result (OnlyAppends f.old f.new) }
     {
         let Some(of_type) = self.ctx.graph().type_of(value) else {
             return Ok(first);
@@ -153,6 +159,7 @@ impl<'c, T: IrText<A>, A: AttrText<A>> Printer<'c, T, A> {
             T.IrText.written self.entry.ctx.now value)) f.new) }
         ensures left { IfOk result (λ left. left ≡ (first && not
             (is_some (texts.operand_type_text T.IrText.written self.entry.ctx.now value)))) }
+        ensures appended { OnErr result (OnlyAppends f.old f.new) }
     {
         keeps_values(self.ctx, value);
         self.fmt_typed(value, Facet::Type, first, f)
@@ -188,6 +195,7 @@ impl<'c, T: IrText<A>, A: AttrText<A>> Printer<'c, T, A> {
             (texts.text_at T.IrText.written self.entry.ctx.now listed index)) f.new) }
         ensures left { IfOk result (λ left. left ≡ (first && not (is_some
             (texts.text_at T.IrText.written self.entry.ctx.now listed index)))) }
+        ensures appended { OnErr result (OnlyAppends f.old f.new) }
     {
         match listed {
             Listed::Operands(op) => {
@@ -220,6 +228,7 @@ impl<'c, T: IrText<A>, A: AttrText<A>> Printer<'c, T, A> {
             (texts.list_text T.IrText.written self.entry.ctx.now listed from) f.new) }
         ensures none { IfOk result (λ none. none ≡ texts.are_none
             (known_types (drop from (texts.texts_of T.IrText.written self.entry.ctx.now listed)))) }
+        ensures appended { OnErr result (OnlyAppends f.old f.new) }
     {
         let mut first = true;
         for index in from..self.count(listed) {
@@ -242,9 +251,10 @@ impl<'c, T: IrText<A>, A: AttrText<A>> Printer<'c, T, A> {
         requires joined { both.now ≡ before.now ++ after.now }
         requires before { list_all is_ascii before.now ≡ true }
         requires after { list_all is_ascii after.now ≡ true }
-        ensures { OnOk result (AppendsText f.old
+        ensures text { OnOk result (AppendsText f.old
             (before.now ++ (texts.list_text T.IrText.written self.entry.ctx.now listed 0
             ++ after.now)) f.new) }
+        ensures appended { OnErr result (OnlyAppends f.old f.new) }
     {
         if self.count(listed) == 0 {
             f.push_str(both)?;

@@ -1,5 +1,6 @@
 //! The names of values and the labels of blocks, as they are printed.
-ghost use Rattle.std.specs.Prelude.{◌≡◌, ◌++◌, Some, IsSome, OnOk, IfSome, option_copied, codes, decimal};
+ghost use Rattle.std.specs.Prelude.{◌≡◌, ◌++◌, Some, IsSome, OnOk, OnErr, IfSome, option_copied, codes, decimal};
+ghost use Rattle.irtext_base.specs.Appending.{OnlyAppends};
 ghost use Rattle.irtext_graph.specs.Parts.{value_at, IsDefinedValue};
 ghost use Rattle.irtext_context.specs.Context.{block};
 ghost use Rattle.irtext_grammar.specs.Contexts.Nested.{given_to, type_of};
@@ -29,7 +30,8 @@ pub(crate) fn keeps_values<T: IrText<A>, A: AttrText<A>>(ctx: &Context<T, A>, va
 /// Appends what follows a given name in the name of a value with this number: `_v1`.
 #[inline(never)]
 fn fmt_suffix(number: u64, f: &mut String) -> fmt::Result
-    ensures { OnOk result (AppendsText f.old (codes "_v" ++ decimal number) f.new) }
+    ensures text { OnOk result (AppendsText f.old (codes "_v" ++ decimal number) f.new) }
+    ensures appended { OnErr result (OnlyAppends f.old f.new) }
 {
     fmt_led_number("_v", number, f)
 }
@@ -37,7 +39,8 @@ fn fmt_suffix(number: u64, f: &mut String) -> fmt::Result
 /// Appends the name of a value with this given name or none, and this number: `x_v1` or `v1`.
 #[inline(always)]
 fn fmt_numbered(given: Option<&Identifier>, number: u64, f: &mut String) -> fmt::Result
-    ensures { OnOk result (AppendsText f.old (printed.value_name (option_copied given.entry) number) f.new) }
+    ensures text { OnOk result (AppendsText f.old (printed.value_name (option_copied given.entry) number) f.new) }
+    ensures appended { OnErr result (OnlyAppends f.old f.new) }
 {
     match given {
         Some(name) => {
@@ -51,8 +54,9 @@ fn fmt_numbered(given: Option<&Identifier>, number: u64, f: &mut String) -> fmt:
 /// Appends `^` and what comes before the place in the name of a block with this label or none: `^a_block` or `^block`.
 #[inline(always)]
 fn fmt_block_front(label: Option<&Identifier>, f: &mut String) -> fmt::Result
-    ensures { OnOk result (AppendsText f.old
+    ensures text { OnOk result (AppendsText f.old
         (codes "^" ++ printed.prefixed (option_copied label.entry) (codes "block")) f.new) }
+    ensures appended { OnErr result (OnlyAppends f.old f.new) }
 {
     match label {
         Some(label) => {
@@ -76,8 +80,9 @@ fn fmt_placed(
     generation: u32,
     f: &mut String,
 ) -> fmt::Result
-    ensures { OnOk result (AppendsText f.old
+    ensures text { OnOk result (AppendsText f.old
         (codes "^" ++ printed.block_name (option_copied label.entry) (place, generation)) f.new) }
+    ensures appended { OnErr result (OnlyAppends f.old f.new) }
 {
     fmt_block_front(label, f)?;
     fmt_number(place, f)?;
@@ -96,7 +101,8 @@ pub fn fmt_value_name<T: IrText<A>, A: AttrText<A>>(
     f: &mut String,
 ) -> fmt::Result
     requires { IsDefinedValue ctx.now.graph value }
-    ensures { OnOk result (AppendsText f.old (or_nothing (operand_text ctx.now value)) f.new) }
+    ensures text { OnOk result (AppendsText f.old (or_nothing (operand_text ctx.now value)) f.new) }
+    ensures appended { OnErr result (OnlyAppends f.old f.new) }
 {
     keeps_values(ctx, value);
     fmt_numbered(given_name(ctx, value), ctx.graph().number_of(value), f)
@@ -109,7 +115,8 @@ pub fn fmt_block_label<T: IrText<A>, A: AttrText<A>>(
     f: &mut String,
 ) -> fmt::Result
     requires { IsSome (block ctx.now p) }
-    ensures { OnOk result (AppendsText f.old (label_text ctx.now p) f.new) }
+    ensures text { OnOk result (AppendsText f.old (label_text ctx.now p) f.new) }
+    ensures appended { OnErr result (OnlyAppends f.old f.new) }
 {
     let place = ctx.graph().number_of_place(p);
     fmt_placed(p.label(ctx), place, p.generation(), f)

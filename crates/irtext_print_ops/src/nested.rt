@@ -1,5 +1,6 @@
 //! Printing of an operation, a block or a region with everything nested in it. An item is an operation or a block that carries a mark.
-ghost use Rattle.std.specs.Prelude.{◌≡◌, ◌++◌, OnOk, IfErr, IsSome, length, true};
+ghost use Rattle.std.specs.Prelude.{◌≡◌, ◌++◌, OnOk, OnErr, IfErr, IsSome, length, true};
+ghost use Rattle.irtext_base.specs.Appending.{OnlyAppends};
 ghost use Rattle.irtext_context.specs.Context.{operation};
 ghost use Rattle.irtext_context.specs.Context as context;
 ghost use Rattle.irtext_graph.specs.Graph.{IsLive};
@@ -53,6 +54,7 @@ pub fn print_nested<T: IrText<A>, A: AttrText<A>, U>(
         state.now → ⊥) }
     ensures refused { IfErr result (heads.RefusesUnder T.IrText.own A.IrText.own A.AttrText.own A.eq ctx.now
         op state.now) }
+    ensures appended { OnErr result (OnlyAppends f.old f.new) }
 {
     let width = state.indent_width();
     let indent = state.current_indent();
@@ -86,6 +88,7 @@ pub fn print_nested_block<T: IrText<A>, A: AttrText<A>, U>(
         refusal.Misfit → ⊥) }
     ensures refused { IfErr result (heads.RefusesBlockUnder T.IrText.own A.IrText.own A.AttrText.own A.eq
         ctx.now block state.now) }
+    ensures appended { OnErr result (OnlyAppends f.old f.new) }
 {
     let width = state.indent_width();
     let indent = state.current_indent();
@@ -129,6 +132,7 @@ pub fn print_nested_region<T: IrText<A>, A: AttrText<A>, U>(
         refusal.Misfit → ⊥) }
     ensures refused { IfErr result (heads.RefusesRegionUnder T.IrText.own A.IrText.own A.AttrText.own A.eq
         ctx.now region state.now) }
+    ensures appended { OnErr result (OnlyAppends f.old f.new) }
 {
     let width = state.indent_width();
     let indent = state.current_indent();

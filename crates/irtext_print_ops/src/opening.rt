@@ -1,5 +1,6 @@
 //! What comes before regions, blocks and operations, and after them.
-ghost use Rattle.std.specs.Prelude.{◌≡◌, ◌≢◌, ◌+◌, ◌≤◌, ◌^◌, ◌++◌, [], OnOk, IfOk, IfErr, codes, cond, decimal};
+ghost use Rattle.std.specs.Prelude.{◌≡◌, ◌≢◌, ◌+◌, ◌≤◌, ◌^◌, ◌++◌, [], OnOk, OnErr, IfOk, IfErr, codes, cond, decimal};
+ghost use Rattle.irtext_base.specs.Appending.{OnlyAppends};
 ghost use Rattle.irtext_grammar.specs.Spelling.Spell.{newline};
 ghost use Rattle.irtext_print.specs.Printers.Appended.{AppendsText};
 ghost use Rattle.irtext_print.specs.Printers.Printing.{lowered};
@@ -50,6 +51,7 @@ pub(crate) fn inside(limit: RegionPrintDepthLimit) -> Option<RegionPrintDepthLim
 fn fmt_line(indent: u16, f: &mut String) -> Result<(), Refusal>
     ensures text { OnOk result (AppendsText f.old (newline indent) f.new) }
     ensures refused { IfErr result (λ e. e ≡ refusal.Memory) }
+    ensures appended { OnErr result (OnlyAppends f.old f.new) }
 {
     match fmt_newline(indent, f) {
         Ok(()) => Ok(()),
@@ -65,6 +67,7 @@ pub(crate) fn fmt_between_operations(
 ) -> Result<(), Refusal>
     ensures text { OnOk result (AppendsText f.old (unless_first first (between_operations indent)) f.new) }
     ensures refused { IfErr result (λ e. e ≡ refusal.Memory) }
+    ensures appended { OnErr result (OnlyAppends f.old f.new) }
 {
     if first {
         return Ok(());
@@ -76,6 +79,7 @@ pub(crate) fn fmt_between_operations(
 pub(crate) fn fmt_between_blocks(first: bool, indent: u16, f: &mut String) -> Result<(), Refusal>
     ensures text { OnOk result (AppendsText f.old (unless_first first (between_blocks indent)) f.new) }
     ensures refused { IfErr result (λ e. e ≡ refusal.Memory) }
+    ensures appended { OnErr result (OnlyAppends f.old f.new) }
 {
     if first {
         return Ok(());
@@ -88,6 +92,7 @@ pub(crate) fn fmt_between_blocks(first: bool, indent: u16, f: &mut String) -> Re
 pub(crate) fn fmt_colon(indent: u16, f: &mut String) -> Result<(), Refusal>
     ensures text { OnOk result (AppendsText f.old (codes ":" ++ newline indent) f.new) }
     ensures refused { IfErr result (λ e. e ≡ refusal.Memory) }
+    ensures appended { OnErr result (OnlyAppends f.old f.new) }
 {
     memory_alone(fmt_colon_newline(indent, f))
 }
@@ -96,6 +101,7 @@ pub(crate) fn fmt_colon(indent: u16, f: &mut String) -> Result<(), Refusal>
 pub(crate) fn fmt_closing(indent: u16, f: &mut String) -> Result<(), Refusal>
     ensures text { OnOk result (AppendsText f.old (closing indent) f.new) }
     ensures refused { IfErr result (λ e. e ≡ refusal.Memory) }
+    ensures appended { OnErr result (OnlyAppends f.old f.new) }
 {
     memory_alone(printable::fmt_closing(indent, f))
 }
@@ -105,6 +111,7 @@ pub(crate) fn fmt_closing(indent: u16, f: &mut String) -> Result<(), Refusal>
 pub(crate) fn fmt_index(index: usize, f: &mut String) -> Result<(), Refusal>
     ensures text { OnOk result (AppendsText f.old (codes " !" ++ decimal index) f.new) }
     ensures refused { IfErr result (λ e. e ≡ refusal.Memory) }
+    ensures appended { OnErr result (OnlyAppends f.old f.new) }
 {
     match fmt_led_number(" !", index as u64, f) {
         Ok(()) => Ok(()),
@@ -116,6 +123,7 @@ pub(crate) fn fmt_index(index: usize, f: &mut String) -> Result<(), Refusal>
 fn fmt_elided(joins: bool, f: &mut String) -> Result<(), Refusal>
     ensures text { OnOk result (AppendsText f.old (cond joins [] (codes " ") ++ codes "{..}") f.new) }
     ensures refused { IfErr result (λ e. e ≡ refusal.Memory) }
+    ensures appended { OnErr result (OnlyAppends f.old f.new) }
 {
     if joins {
         f.push_str("{..}")?;
@@ -130,6 +138,7 @@ fn fmt_begun(joins: bool, indent: u16, inner: u16, f: &mut String) -> Result<(),
     ensures text { OnOk result (AppendsText f.old
         (cond joins [] (codes " ") ++ (newline indent ++ (codes "{" ++ newline inner))) f.new) }
     ensures refused { IfErr result (λ e. e ≡ refusal.Memory) }
+    ensures appended { OnErr result (OnlyAppends f.old f.new) }
 {
     match fmt_opening(joins, indent, inner, f) {
         Ok(()) => Ok(()),
@@ -153,6 +162,7 @@ pub(crate) fn begin_region(
     ensures opens { IfOk result (λ begun. begun_frames begun ≡ region_frames region indent limit) }
     ensures refused { IfErr result (λ e. e ≢ refusal.Memory → (e ≡ refusal.Depth)
         × IsTooDeep width indent limit) }
+    ensures appended { OnErr result (OnlyAppends f.old f.new) }
 {
     let Some(limit) = inside(limit) else {
         fmt_elided(joins, f)?;

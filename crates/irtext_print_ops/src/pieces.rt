@@ -1,5 +1,6 @@
 //! What a directive of a format prints of an operation, if it prints no region.
-ghost use Rattle.std.specs.Prelude.{◌≡◌, ◌<◌, ℕ, is_some, option_map, option_and_then, length, slice_get, Some, None, IsSome, IfSome, IfErr, OnOk};
+ghost use Rattle.std.specs.Prelude.{◌≡◌, ◌<◌, ℕ, is_some, option_map, option_and_then, length, slice_get, Some, None, IsSome, IfSome, IfErr, OnOk, OnErr};
+ghost use Rattle.irtext_base.specs.Appending.{OnlyAppends};
 ghost use Rattle.irtext_base.specs.Format as format;
 ghost use Rattle.irtext_base.specs.Format.{operand_places, successor_places};
 ghost use Rattle.irtext_context.specs.Context.{operation};
@@ -47,8 +48,9 @@ impl<'c, T: IrText<A>, A: AttrText<A>> Printer<'c, T, A> {
         requires live { IsLive self.ctx.now.graph (owner list) }
         requires text { index < length (texts.texts_of T.IrText.written self.ctx.now list)
             → IsSome (texts.text_at T.IrText.written self.ctx.now list index) }
-        ensures { OnOk result (AppendsText f.old
+        ensures text { OnOk result (AppendsText f.old
             (spaced_if (texts.text_at T.IrText.written self.entry.ctx.now list index)) f.new) }
+        ensures appended { OnErr result (OnlyAppends f.old f.new) }
     {
         if index >= self.count(list) {
             return Ok(());
@@ -74,9 +76,10 @@ impl<'c, T: IrText<A>, A: AttrText<A>> Printer<'c, T, A> {
     /// Appends the type at an index among the known types of the results, after a space, if there is one.
     fn fmt_result_type_at(self, op: Ptr<Operation>, index: usize, f: &mut String) -> fmt::Result
         requires { IsLive self.ctx.now.graph (TheOperation op) }
-        ensures { OnOk result (AppendsText f.old (spaced_if (slice_get
+        ensures text { OnOk result (AppendsText f.old (spaced_if (slice_get
             (known_types (texts.texts_of T.IrText.written self.entry.ctx.now (listed.ResultTypes op))) index))
             f.new) }
+        ensures appended { OnErr result (OnlyAppends f.old f.new) }
     {
         let mut left = index;
         for place in 0..self.count(Listed::ResultTypes(op)) {
@@ -95,8 +98,9 @@ impl<'c, T: IrText<A>, A: AttrText<A>> Printer<'c, T, A> {
     /// Appends the items of a list from an index on, after a space.
     fn fmt_spaced(self, list: Listed, from: usize, f: &mut String) -> fmt::Result
         requires { IsLive self.ctx.now.graph (owner list) }
-        ensures { OnOk result (AppendsText f.old
+        ensures text { OnOk result (AppendsText f.old
             (spaced (texts.list_text T.IrText.written self.entry.ctx.now list from)) f.new) }
+        ensures appended { OnErr result (OnlyAppends f.old f.new) }
     {
         f.push_str(" ")?;
         self.fmt_listed(list, from, f)?;
@@ -112,11 +116,12 @@ impl<'c, T: IrText<A>, A: AttrText<A>> Printer<'c, T, A> {
         f: &mut String,
     ) -> fmt::Result
         requires live { IsSome (operation self.ctx.now op) }
-        ensures { OnOk result (IfSome (seen_own A.IrText.written self.entry.ctx.now op) (λ o. AppendsText
+        ensures text { OnOk result (IfSome (seen_own A.IrText.written self.entry.ctx.now op) (λ o. AppendsText
             f.old
             (part_text (language_in T.IrText.own A.IrText.own self.entry.ctx.now)
             (part_of (printing_by A.AttrText.own A.eq self.entry.ctx.now) (directives_of directives.now) o
             (directive_of directive.now))) f.new)) }
+        ensures appended { OnErr result (OnlyAppends f.old f.new) }
     {
         self.keeps_operands(op);
         match directive {
@@ -189,6 +194,7 @@ pub fn fmt_piece<T: IrText<A>, A: AttrText<A>>(
         (directive_of directive.now)))
         f.new)) }
     ensures refused { IfErr result (λ e. e ≡ refusal.Memory) }
+    ensures appended { OnErr result (OnlyAppends f.old f.new) }
 {
     memory_alone(Printer { ctx }.fmt_part(op, directives, directive, f))
 }

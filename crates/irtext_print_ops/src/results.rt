@@ -1,5 +1,6 @@
 //! The names of an operation's results, which come before its id.
-ghost use Rattle.std.specs.Prelude.{◌≡◌, map, IsSome, IfSome, IfErr, OnOk};
+ghost use Rattle.std.specs.Prelude.{◌≡◌, map, IsSome, IfSome, IfErr, OnOk, OnErr};
+ghost use Rattle.irtext_base.specs.Appending.{OnlyAppends};
 ghost use Rattle.irtext_context.specs.Context.{operation};
 ghost use Rattle.irtext_graph.specs.Graph.{IsLive};
 ghost use Rattle.irtext_graph.specs.declared.object.Object.TheVariants.{TheOperation};
@@ -26,8 +27,9 @@ impl<'c, T: IrText<A>, A: AttrText<A>> Printer<'c, T, A> {
     /// Appends the names of an operation's results and ` = `, or nothing if there are none.
     fn fmt_defined(self, op: Ptr<Operation>, f: &mut String) -> fmt::Result
         requires { IsLive self.ctx.now.graph (TheOperation op) }
-        ensures { OnOk result (AppendsText f.old
+        ensures text { OnOk result (AppendsText f.old
             (defined_text (known_types (texts_of T.IrText.written self.entry.ctx.now (Results op)))) f.new) }
+        ensures appended { OnErr result (OnlyAppends f.old f.new) }
     {
         let none = self.fmt_listed(Listed::Results(op), 0, f)?;
         if none {
@@ -45,6 +47,7 @@ impl<'c, T: IrText<A>, A: AttrText<A>> Printer<'c, T, A> {
             AppendsText f.old (results (language_in T.IrText.own A.IrText.own self.entry.ctx.now)
             (map (λ r. value (printing_by A.AttrText.own A.eq self.entry.ctx.now) r.0) o.results)) f.new)) }
         ensures refused { IfErr result (λ e. e ≡ refusal.Memory) }
+        ensures appended { OnErr result (OnlyAppends f.old f.new) }
     {
         memory_alone(self.fmt_defined(op, f))
     }

@@ -1,5 +1,6 @@
 //! The steps of the walk: what is printed next of the innermost open frame, and what is open after that.
-ghost use Rattle.std.specs.Prelude.{◌≡◌, ◌≢◌, ◌++◌, ◌∷◌, [], OnOk, IfOk, IfErr, IsSome, length, option_map};
+ghost use Rattle.std.specs.Prelude.{◌≡◌, ◌≢◌, ◌++◌, ◌∷◌, [], OnOk, OnErr, IfOk, IfErr, IsSome, length, option_map};
+ghost use Rattle.irtext_base.specs.Appending.{OnlyAppends};
 ghost use Rattle.irtext_context.specs.Context.{operation};
 ghost use Rattle.irtext_context.specs.Context as context;
 ghost use Rattle.irtext_graph.specs.Graph.{IsLive};
@@ -54,6 +55,7 @@ fn fmt_pieces<T: IrText<A>, A: AttrText<A>>(
     ensures stop { IfOk result (λ stop. heads.StopsAt T.IrText.own A.IrText.own A.AttrText.own A.eq ctx.now op
         from stop) }
     ensures refused { IfErr result (λ e. e ≡ refusal.Memory) }
+    ensures appended { OnErr result (OnlyAppends f.old f.new) }
 {
     let Some(directives) = found else {
         return Ok(Stop::End);
@@ -93,6 +95,7 @@ pub(crate) fn begin_operation<'c, T: IrText<A>, A: AttrText<A>>(
     ensures fits { OnOk result (heads.FitsAt T.IrText.own A.IrText.own A.AttrText.own A.eq ctx.now op) }
     ensures refused { IfErr result (λ e. e ≢ refusal.Memory →
         (e ≡ refusal.Misfit) × (heads.FitsAt T.IrText.own A.IrText.own A.AttrText.own A.eq ctx.now op → ⊥)) }
+    ensures appended { OnErr result (OnlyAppends f.old f.new) }
 {
     let directives = begin_front(ctx, op, f)?;
     Ok(OperationFrame {
@@ -121,6 +124,7 @@ fn region_turn<'c, T: IrText<A>, A: AttrText<A>>(
         steps.region_turn_frames ctx.now frame.old) }
     ensures refused { IfErr result (λ e. e ≢ refusal.Memory → (e ≡ refusal.Depth) × steps.NextTooDeep ctx.now
         width frame.old) }
+    ensures appended { OnErr result (OnlyAppends f.old f.new) }
 {
     let Some(region) = region_at(ctx.graph(), frame.op, frame.region) else {
         frame.repeats = false;
@@ -143,6 +147,7 @@ fn entered<T: IrText<A>, A: AttrText<A>>(
     ensures text { OnOk result (AppendsText f.old (steps.ended_text ctx.now begun) f.new) }
     ensures left { IfOk result (λ turn. turn ≡ steps.ended_turn ctx.now begun) }
     ensures refused { IfErr result (λ e. e ≡ refusal.Memory) }
+    ensures appended { OnErr result (OnlyAppends f.old f.new) }
 {
     let Some(inside) = begun else {
         return Ok(Turn::Stays);
@@ -172,6 +177,7 @@ impl<'c, T: IrText<A>, A: AttrText<A>> Printer<'c, T, A> {
         ensures items { OnOk result (items.new.items ≡ items.old.items ++
             heads.own_items_at T.IrText.own A.IrText.own A.AttrText.own A.eq self.entry.ctx.now op marked) }
         ensures refused { IfErr result (λ e. e ≡ refusal.Memory) }
+        ensures appended { OnErr result (OnlyAppends f.old f.new) }
     {
         if !marked {
             return Ok(());
@@ -197,6 +203,7 @@ impl<'c, T: IrText<A>, A: AttrText<A>> Printer<'c, T, A> {
         ensures items { OnOk result (items.new.items ≡ items.old.items ++
             heads.block_items_at T.IrText.own A.IrText.own A.AttrText.own A.eq self.entry.ctx.now block) }
         ensures refused { IfErr result (λ e. e ≡ refusal.Memory) }
+        ensures appended { OnErr result (OnlyAppends f.old f.new) }
     {
         if !is_block_marked(self.ctx, block) {
             return Ok(());
@@ -223,6 +230,7 @@ fn operation_turn<'c, T: IrText<A>, A: AttrText<A>>(
     ensures refused { IfErr result (heads.RefusesFrame T.IrText.own A.IrText.own A.AttrText.own A.eq
         ctx.now width
         (framed.Operation frame.old)) }
+    ensures appended { OnlyAppends f.old f.new }
 {
     ctx.graph().keeps_nesting();
     if frame.repeats {
@@ -265,6 +273,7 @@ pub(crate) fn operation_turns<'c, T: IrText<A>, A: AttrText<A>>(
     ensures refused { IfErr result (heads.RefusesFrame T.IrText.own A.IrText.own A.AttrText.own A.eq
         ctx.now width
         (framed.Operation frame.old)) }
+    ensures appended { OnlyAppends f.old f.new }
 {
     loop {
         match operation_turn(ctx, width, frame, items, f)? {
@@ -295,6 +304,7 @@ fn operation_step<'c, T: IrText<A>, A: AttrText<A>>(
     ensures refused { IfErr result (heads.RefusesFrame T.IrText.own A.IrText.own A.AttrText.own A.eq
         ctx.now width
         (framed.Operation frame.entry)) }
+    ensures appended { OnlyAppends f.old f.new }
 {
     let mut left = frame;
     let Some(inside) = operation_turns(ctx, width, &mut left, items, f)? else {
@@ -322,6 +332,7 @@ fn region_step<'c, T: IrText<A>, A: AttrText<A>>(
         f.old f.new) }
     ensures refused { IfErr result (heads.RefusesFrame T.IrText.own A.IrText.own A.AttrText.own A.eq ctx.now
         width (framed.Region frame)) }
+    ensures appended { OnlyAppends f.old f.new }
 {
     let graph = ctx.graph();
     graph.keeps_nesting();
@@ -371,6 +382,7 @@ fn block_turn<'c, T: IrText<A>, A: AttrText<A>>(
         frames.new.items f.old f.new) }
     ensures refused { IfErr result (heads.RefusesFrame T.IrText.own A.IrText.own A.AttrText.own A.eq ctx.now
         width (framed.Block frame)) }
+    ensures appended { OnlyAppends f.old f.new }
 {
     let graph = ctx.graph();
     graph.keeps_nesting();
@@ -418,6 +430,7 @@ fn next_block<'c, T: IrText<A>, A: AttrText<A>>(
         f.old f.new) }
     ensures refused { IfErr result (heads.RefusesFrame T.IrText.own A.IrText.own A.AttrText.own A.eq ctx.now
         width (framed.Block frame)) }
+    ensures appended { OnlyAppends f.old f.new }
 {
     match block_turn(ctx, width, frame, frames, items, f)? {
         BlockTurn::Ends => Ok(None),
@@ -442,6 +455,7 @@ fn block_step<'c, T: IrText<A>, A: AttrText<A>>(
         items.old.items items.new.items frames.old.items frames.new.items f.old f.new) }
     ensures refused { IfErr result (heads.RefusesFrame T.IrText.own A.IrText.own A.AttrText.own A.eq ctx.now
         width (framed.Block frame)) }
+    ensures appended { OnlyAppends f.old f.new }
 {
     let mut left = frame;
     loop {
@@ -469,6 +483,7 @@ fn innermost_block<'c, T: IrText<A>, A: AttrText<A>>(
         f.old f.new) }
     ensures refused { IfErr result (heads.RefusesFrame T.IrText.own A.IrText.own A.AttrText.own A.eq ctx.now
         width frame.entry) }
+    ensures appended { OnlyAppends f.old f.new }
 {
     match frame {
         Frame::Operation(frame) => {
@@ -499,6 +514,7 @@ pub(crate) fn step<'c, T: IrText<A>, A: AttrText<A>>(
         items.old.items items.new.items frames.old.items frames.new.items f.old f.new) }
     ensures refused { IfErr result (heads.RefusesFrame T.IrText.own A.IrText.own A.AttrText.own A.eq ctx.now
         width frame.entry) }
+    ensures appended { OnlyAppends f.old f.new }
 {
     let Some(block) = innermost_block(ctx, width, frame, frames, items, f)? else {
         return Ok(());

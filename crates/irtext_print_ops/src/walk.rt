@@ -1,5 +1,6 @@
 //! The loop over the open frames, which prints what is left of them. An item is an operation or a block that carries a mark.
-ghost use Rattle.std.specs.Prelude.{◌≡◌, ◌≢◌, ◌++◌, ◌∷◌, [], OnOk, IfErr, IfNone, length};
+ghost use Rattle.std.specs.Prelude.{◌≡◌, ◌≢◌, ◌++◌, ◌∷◌, [], OnOk, OnErr, IfErr, IfNone, length};
+ghost use Rattle.irtext_base.specs.Appending.{OnlyAppends};
 ghost use Rattle.irtext_print.specs.Printers.Appended.{AppendsText};
 ghost use Rattle.irtext_print.specs.declared.printable.refusal.Refusal.TheVariants as refusal;
 ghost use Rattle.irtext_print_ops.specs.Heads as heads;
@@ -58,6 +59,7 @@ pub(crate) fn print_frames<'c, T: IrText<A>, A: AttrText<A>>(
     ensures refused { IfErr result (λ e. e ≢ refusal.Memory →
         heads.FramesFault T.IrText.own A.IrText.own A.AttrText.own A.eq ctx.now width e
         (frames.old.items ++ listed first.entry)) }
+    ensures appended { OnErr result (OnlyAppends f.old f.new) }
 {
     open_first(first, frames)?;
     while let Some(frame) = close(frames) {
@@ -89,6 +91,7 @@ pub(crate) fn print_operation<'c, T: IrText<A>, A: AttrText<A>>(
     ensures refused { IfErr result (λ e. e ≢ refusal.Memory →
         heads.FramesFault T.IrText.own A.IrText.own A.AttrText.own A.eq ctx.now width e
         (framed.Operation frame.entry ∷ [])) }
+    ensures appended { OnErr result (OnlyAppends f.old f.new) }
 {
     let mut left = frame;
     let Some(inside) = operation_turns(ctx, width, &mut left, items, f)? else {

@@ -3,9 +3,10 @@ use Rattle.std.proofs.Common.{◌≡◌, ◌+◌, ℕ, suc, length, length-appen
 use Rattle.std.specs.Option.{option_or}
 use Rattle.irtext_scopes.specs.declared.scopes.Entry.{Entry}
 use Rattle.irtext_scopes.specs.declared.scopes.Entry.TheVariants.{Defined}
-use Rattle.irtext_scopes.specs.Scopes.{Scope, find, innermost, in_innermost, mentioned, resolved, defined, defined_from, is_open, names_held, LacksMemory, IsFull}
-use Rattle.irtext_scopes.specs.declared.scopes.NoRoom.{NoRoom}
-use Rattle.irtext_scopes.specs.declared.scopes.NoRoom.TheVariants.{Memory, Full}
+use Rattle.irtext_scopes.specs.Scopes.{Scope, find, innermost, in_innermost, mentioned, resolved, defined, defined_from, is_open, names_held, IsFull}
+use Rattle.irtext_memory.specs.declared.NoRoom.{NoRoom}
+use Rattle.irtext_memory.specs.declared.NoRoom.TheVariants.{Memory, Full}
+use Rattle.irtext_memory.specs.Rooms.{LacksMemory}
 use Rattle.std.specs.Prelude.{◌↔◌}
 use Rattle.std.specs.Result.{IsErrAnd}
 use Rattle.irtext_memory.specs.declared.OutOfMemory.{OutOfMemory}

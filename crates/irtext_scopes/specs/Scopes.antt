@@ -6,8 +6,6 @@ use Rattle.irtext_scopes.specs.declared.scopes.Entry.{Entry}
 use Rattle.irtext_scopes.specs.declared.scopes.Entry.TheVariants.{Defined, Pending}
 use Rattle.irtext_scopes.specs.declared.scopes.DefineFault.{DefineFault}
 use Rattle.irtext_scopes.specs.declared.scopes.DefineFault.TheVariants as fault
-use Rattle.irtext_scopes.specs.declared.scopes.NoRoom.{NoRoom}
-use Rattle.irtext_scopes.specs.declared.scopes.NoRoom.TheVariants.{Memory, Full}
 
 -- a scope: its names in the order in which they were first mentioned, each with what it refers to
 abbrev pub Scope : Type 0 → Type 0
@@ -82,11 +80,6 @@ if_pending n (Pending h) = Some n
 abbrev pub first_pending : {V : Type 0} → Scope V → Option ℕ
 first_pending [] = None
 first_pending (e ∷ es) = option_or (if_pending e.0 e.1) (first_pending es)
-
--- there is no room since an allocation was refused
-abbrev pub LacksMemory : NoRoom → Type 0
-LacksMemory (Memory e) = Unit {0}
-LacksMemory Full = ⊥
 
 -- a name was not defined, since there is no room for it
 abbrev pub LacksRoom : {A : Type 0} → Result A DefineFault → Type 0

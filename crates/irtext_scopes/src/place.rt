@@ -1,8 +1,8 @@
 //! Places in a vector, in 32 bits.
 ghost use Rattle.std.specs.Prelude.{◌≡◌, ◌<◌, ◌≤◌, None, Some, IfOk, IfErr, OnOk};
-ghost use Rattle.irtext_scopes.specs.declared.scopes.NoRoom.{NoRoom};
+ghost use Rattle.irtext_memory.specs.declared.NoRoom.{NoRoom};
 
-use crate::scopes::NoRoom;
+use irtext_memory::NoRoom;
 use std::marker::Model;
 
 /// The index of a binding, or that there is none.

@@ -1,16 +1,15 @@
 //! The open scopes of one kind of names, as one vector of bindings. Leaving a scope truncates the vector to where the scope began.
 ghost use Rattle.std.specs.Prelude.{◌≡◌, ℕ, ◌<◌, ◌≤◌, [], ◌∷◌, length, None, Some, true, OnOk, OnErr, IfOk, cond, nat_eq, slice_get, drop, take, set, Err, ◌↔◌};
 ghost use Rattle.irtext_scopes.specs.declared.scopes.DefineFault.{DefineFault};
-ghost use Rattle.irtext_scopes.specs.declared.scopes.NoRoom.{NoRoom};
-ghost use Rattle.irtext_scopes.specs.declared.scopes.NoRoom.TheVariants.{Memory};
+ghost use Rattle.irtext_memory.specs.declared.NoRoom.{NoRoom};
 ghost use Rattle.irtext_scopes.specs.declared.scopes.Binding.{Binding};
 ghost use Rattle.irtext_scopes.specs.Bindings.{Chained, entries_of, rebound, head_at, place_in};
-ghost use Rattle.irtext_scopes.specs.Scopes.{LacksRoom, LacksMemory, IsFull, innermost, outer, in_innermost, is_open, find, mentioned, resolved, defined, is_defined, placeholder_of, first_pending};
+ghost use Rattle.irtext_scopes.specs.Scopes.{LacksRoom, IsFull, innermost, outer, in_innermost, is_open, find, mentioned, resolved, defined, is_defined, placeholder_of, first_pending};
 
 use crate::marks::Marks;
 use crate::place::Place;
-use irtext_memory::{OutOfMemory, Refused, vec};
-use std::alloc::{AllocError, Global};
+use irtext_memory::{NoRoom, OutOfMemory, vec};
+use std::alloc::Global;
 use std::marker::Model;
 
 /// What a name refers to in a scope.
@@ -20,40 +19,6 @@ pub enum Entry<V> {
     Defined(V),
     /// A placeholder: the name was used and is not defined yet.
     Pending(V),
-}
-
-/// Why a name could not be added to the scopes.
-#[derive(PartialEq, Eq, Debug, Drop)]
-pub enum NoRoom {
-    /// Out of memory.
-    Memory(OutOfMemory),
-    /// The number of the name is above 2³² - 1, or the open scopes have 2³² - 1 names.
-    Full,
-}
-
-impl From<OutOfMemory> for NoRoom {
-    ghost from_gives = { λ e room. room ≡ Memory e };
-
-    #[inline(always)]
-    fn from(error: OutOfMemory) -> NoRoom {
-        NoRoom::Memory(error)
-    }
-}
-
-impl<X: Drop> From<Refused<X>> for NoRoom {
-    ghost from_gives = { λ _ room. LacksMemory room };
-
-    #[inline(always)]
-    fn from(refused: Refused<X>) -> NoRoom {
-        NoRoom::Memory(OutOfMemory::from(refused))
-    }
-}
-
-impl From<NoRoom> for AllocError {
-    #[inline(always)]
-    fn from(_: NoRoom) -> AllocError {
-        AllocError
-    }
 }
 
 /// Why a name could not be defined.

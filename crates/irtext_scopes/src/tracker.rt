@@ -5,16 +5,16 @@ ghost use Rattle.std.specs.Str.{bytes_eq};
 ghost use Rattle.irtext_scopes.specs.declared.scopes.Entry.{Entry};
 ghost use Rattle.irtext_scopes.specs.declared.scopes.Entry.TheVariants.{Defined, Pending};
 ghost use Rattle.irtext_scopes.specs.declared.scopes.DefineFault.{DefineFault};
-ghost use Rattle.irtext_scopes.specs.declared.scopes.NoRoom.{NoRoom};
+ghost use Rattle.irtext_memory.specs.declared.NoRoom.{NoRoom};
 ghost use Rattle.irtext_scopes.specs.declared.tracker.EnterFault.{EnterFault};
 ghost use Rattle.irtext_scopes.specs.Names.{number_of, with_name, KeepsNames, AreDistinct};
 ghost use Rattle.irtext_scopes.specs.Scopes.{LacksRoom, IsFull, innermost, outer, in_innermost, is_open, find, mentioned, defined, is_defined, placeholder_of, value_of};
 ghost use Rattle.irtext_scopes.specs.Tracker.{EntersRegion, left, unresolved, are_known};
 
-use crate::scopes::{DefineFault, Entry, NoRoom, Scopes};
+use crate::scopes::{DefineFault, Entry, Scopes};
 use irtext_interner::Interner;
 use irtext_interner::seed::Seed;
-use irtext_memory::OutOfMemory;
+use irtext_memory::{NoRoom, OutOfMemory};
 use std::alloc::Global;
 
 /// Why a region can't be entered.

@@ -15,7 +15,7 @@ use Rattle.irtext_grammar.specs.Contexts.Held.{whole}
 use Rattle.irtext_grammar.specs.Promises.Root.{UnlessMemory}
 use Rattle.irtext_grammar.specs.Promises.Section.{Moves}
 use Rattle.irtext_grammar.specs.Grammar.Tree.{Name}
-use Rattle.irtext_grammar.specs.Heads.{front_steps, led_at}
+use Rattle.irtext_grammar.specs.Heads.{front_steps, led_at, setting}
 use Rattle.irtext_grammar.specs.Reached.{Advanced, steps_in}
 use Rattle.irtext_grammar.specs.Resume as theory
 use Rattle.irtext_grammar.specs.Resume.{OpenOperation, Open, front_at, begun, to_come, an_operation, a_region, a_block, Goes, StoppedAt, weight, weights, to_do, work, by_character}
@@ -23,7 +23,7 @@ use Rattle.irtext_grammar.specs.Parsed.{Each}
 use Rattle.irtext_grammar.proofs.Joins.Answers.{Splits}
 use Rattle.irtext_grammar.proofs.Readers.Answered.{moves_none, moves_more}
 use Rattle.irtext_grammar.proofs.Resume.Frames.{goes_trans, stuck_at}
-use Rattle.irtext_grammar.proofs.Resume.Front.{splits_piece, front_reads, front_misses}
+use Rattle.irtext_grammar.proofs.Resume.Front.{splits_inside, front_reads, front_misses}
 use Rattle.irtext_grammar.proofs.Resume.Turns.{operation_begins, no_lead, no_front}
 use Rattle.irtext_survey.specs.Notes.{Noted, nothing_noted, noter}
 use Rattle.irtext_survey.specs.Walk.{IsNote, IsNoted, IsOpen, IsNext, IsHere, IsReady, IsMissed, Begun, NotBegun, Arrives, Nearer, Proceeds, Stops}
@@ -154,10 +154,10 @@ module _ {T A : Type 0} (types_at : Reader T) (reading : Reader A) (h : Splits t
       part {cause} {place} x = record { s = nothing_noted; cause = cause; place = place; read = x.so; noted = still; same = u.same }
 
       stuck : IsMissed (led_at dialects old.rest) ⊎ ((lead : (List (Name ℕ) × Id) × Text × Text) × (led_at dialects old.rest ≡ Read lead.0 lead.1 lead.2)
-          × IsMissed (front_at types_at attr true (front_steps (steps_in dialects lead.0.1)) [] lead.2)) → PartNoted types_at attr dialects name old later new
+          × IsMissed (front_at types_at attr (setting true true) (front_steps (steps_in dialects lead.0.1)) [] lead.2)) → PartNoted types_at attr dialects name old later new
       stuck (inl m) = part (no_lead dialects types_at attr (noter name) [] true nothing_noted old.rest m.cause m.upto m.bad)
       stuck (inr (lead, led, m)) = part (no_front dialects types_at attr (noter name) [] true nothing_noted old.rest lead.0.0 lead.0.1 lead.1 lead.2 led nothing_noted m.cause _
-          (front_misses dialects types_at attr (noter name) true (splits_piece types_at reading h k true) (front_steps (steps_in dialects lead.0.1)) [] lead.2 nothing_noted m.cause m.upto m.bad))
+          (front_misses dialects types_at attr (noter name) (setting true true) (splits_inside types_at reading h k true) (front_steps (steps_in dialects lead.0.1)) [] lead.2 nothing_noted m.cause m.upto m.bad))
 
   module _ (b : Held) (names : List Text) (mid : Notebook) (v : StreamView) (e : Begun types_at attr dialects name before book old b names mid v) where
     abbrev o : OpenOperation T A
@@ -168,7 +168,7 @@ module _ {T A : Type 0} (types_at : Reader T) (reading : Reader A) (h : Splits t
 
     begins : Goes dialects types_at attr (noter name) (Some (to_come true)) [] nothing_noted old.rest (Some (an_operation o)) [] s v.rest
     begins = operation_begins dialects types_at attr (noter name) [] true nothing_noted old.rest e.results e.id e.lead e.middle e.led e.parts v.rest
-        (front_reads dialects types_at attr (noter name) true (splits_piece types_at reading h k true) (front_steps (steps_in dialects e.id)) [] e.parts e.middle e.taken v.rest nothing_noted e.front)
+        (front_reads dialects types_at attr (noter name) (setting true true) (splits_inside types_at reading h k true) (front_steps (steps_in dialects e.id)) [] e.parts e.middle e.taken v.rest nothing_noted e.front)
 
     here : IsHere dialects names (whole v) mid (Some (framed.Operation b)) [] (Some (an_operation o)) [] s
     here = subst (λ t. IsHere dialects names t mid (Some (framed.Operation b)) [] (Some (an_operation o)) [] s) (sym (moved_whole old v e.moves))

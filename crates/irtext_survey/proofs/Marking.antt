@@ -37,6 +37,7 @@ marker = record {
   closes = λ place names id parts b. b;
   marks = λ mark b. b || is_some mark;
   heads = λ h b. b || is_some h.mark;
+  any_key = true;
 }
 
 marker_shown : {T A : Type 0} (name : Text) → Shows {T = T} {A = A} (λ s. s.marked) (noter name) marker

@@ -15,7 +15,7 @@ use Rattle.irtext_tokens.specs.Tokens.{space_at, word}
 use Rattle.irtext_grammar.specs.Contexts.Formats.{format_of, isolated}
 use Rattle.irtext_grammar.specs.Grammar.Tree as tree
 use Rattle.irtext_grammar.specs.Grammar.Tree.{Name, Piece, Part}
-use Rattle.irtext_grammar.specs.Heads.{Step, flat, types, one, all, front_steps, region_steps, piece_at, head_at, led_at, mark_if_at}
+use Rattle.irtext_grammar.specs.Heads.{Step, flat, types, one, all, front_steps, region_steps, piece_at, head_at, led_at, mark_if_at, setting}
 use Rattle.irtext_grammar.specs.Reached.{Reached, Advanced, Stopped, came, tells, Actions, Reads, begins_operation, steps_in, regions_by, more_by, operations_by, blocks_by, front_by, steps_by, end_by, body_by, operation_by, block_by, region_by, region_within, region_at, operation_at}
 use Rattle.irtext_grammar.specs.Readers.Parts.{without_first}
 use Rattle.irtext_grammar.specs.Spelling.Spellable.{Each}
@@ -140,14 +140,14 @@ module _ (whole name : Text) where
       pub spelled_so : Each (IsSpelled whole) (piece_uses p)
       pub ends : IsEnd whole rest
 
-    piece_there : (step : Step) (text : Text) (p : Piece ℕ T A) (taken rest : Text) → IsEnd whole text → (space_at ▷ piece_at types_at attr true step) text ≡ Read p taken rest → PieceThere p rest
+    piece_there : (step : Step) (text : Text) (p : Piece ℕ T A) (taken rest : Text) → IsEnd whole text → (space_at ▷ piece_at types_at attr (setting true true) step) text ≡ Read p taken rest → PieceThere p rest
     piece_there step text p taken rest h e =
-        let a = followed_read (space_at text) (λ _ t. piece_at types_at attr true step t) p taken rest e in
+        let a = followed_read (space_at text) (λ _ t. piece_at types_at attr (setting true true) step t) p taken rest e in
         let r = piece_read types_at types_written reading written (format_of dialects) types_split splits step a.middle p a.more rest a.second in
         let f = end_later a.front a.middle (splits_space text a.value a.front a.middle a.first) h in
         record { spelled_so = piece_spelled whole types_at types_written reading written dialects types_split p a.middle rest f r.0.1; ends = end_later a.more rest r.1 f }
 
-    front_keeps : (ss : List Step) (ps : List (Part ℕ T A)) (text : Text) (s : Noted) → IsEnd whole text → AllThere s → Each PartThere ps → Keeps (Each PartThere) (front_by dialects types_at attr does true ss ps text s)
+    front_keeps : (ss : List Step) (ps : List (Part ℕ T A)) (text : Text) (s : Noted) → IsEnd whole text → AllThere s → Each PartThere ps → Keeps (Each PartThere) (front_by dialects types_at attr does (setting true true) ss ps text s)
     front_keeps [] ps text s e h k = keeps_came ps s text k h e
     front_keeps (step ∷ ss) ps text s e h k = keeps_tells _ text s _ h (λ p taken rest r.
         let w = piece_there step text p taken rest e r in

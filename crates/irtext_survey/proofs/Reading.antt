@@ -19,7 +19,7 @@ use Rattle.irtext_tokens.proofs.Steps.{alone, starts, spaced, last}
 use Rattle.irtext_scopes.specs.Names.{KeepsNames}
 use Rattle.irtext_grammar.specs.Contexts.Held.{whole}
 use Rattle.irtext_grammar.specs.Grammar.Tree.{Name, Mark}
-use Rattle.irtext_grammar.specs.Heads.{Step, steps_of, front_steps, region_steps, led_at, piece_at, mark_if_at, flat, types, one, all}
+use Rattle.irtext_grammar.specs.Heads.{Step, steps_of, front_steps, region_steps, led_at, piece_at, mark_if_at, flat, types, one, all, setting}
 use Rattle.irtext_grammar.specs.Promises.Root.{UnlessMemory}
 use Rattle.irtext_grammar.specs.Promises.Section.{Moves}
 use Rattle.irtext_grammar.specs.Reached.{steps_in}
@@ -181,7 +181,7 @@ module _ (name : Text) (names : List Text) (results : List ReadName) (old new : 
 
 -- ---- a piece
 module _ {T A : Type 0} (types_at : Reader T) (attr : Reader (AttrView A)) (name : Text) (step : Step) (names : List Text) (old new : StreamView) (piece : ReadPiece T A)
-    (m : MustPiece {A = A} itself replaced names (space_at ▷ piece_at types_at attr true step) old (Ok piece) new) where
+    (m : MustPiece {A = A} itself replaced names (space_at ▷ piece_at types_at attr (setting true true) step) old (Ok piece) new) where
   pub piece_names : AreNamed names (read_uses piece)
   piece_names = record { text = whole old; all = piece_uses (m.meant piece); are = piece_named names (whole old) piece (m.meant piece) m.means }
 
@@ -250,21 +250,21 @@ module _ {T A : Type 0} (types_at : Text → Outcome T) (reading : Text → Outc
     same_steps = sym (steps_are types_at reading dialects true old fine op info h known) ∙ ap (steps_in dialects) h.means.1
 
     -- a piece is missing
-    pub no_front : {fault : ParseFault A} {new : StreamView} (book : Notebook) → MustFront {T = T} itself replaced more types_at (attr_at reading) true (steps_of (format_of info.format)) mid (Err fault) new
+    pub no_front : {fault : ParseFault A} {new : StreamView} (book : Notebook) → MustFront {T = T} itself replaced more types_at (attr_at reading) (setting true true) (steps_of (format_of info.format)) mid (Err fault) new
         → UnlessMemory (λ _. NotBegun types_at (attr_at reading) dialects name book old book new) fault
     no_front {fault} {new} book f = elim (must_miss (ap (λ v. v.failed) led_is.takes.is ∙ fine) f.read) [
       | inl m ↦ inl m
       | inr r ↦ inr (record {
-        missed = inr ((h.meant op, led_is.taken, mid.rest), led_is.is, subst (λ ss. IsMissed (front_at types_at (attr_at reading) true (front_steps ss) [] mid.rest)) same_steps r.0);
+        missed = inr ((h.meant op, led_is.taken, mid.rest), led_is.is, subst (λ ss. IsMissed (front_at types_at (attr_at reading) (setting true true) (front_steps ss) [] mid.rest)) same_steps r.0);
         same = r.1 ∙ may_whole alone {A = A} h.read;
         still = refl;
       })
     ]
 
-    module _ (keeps : KeepsNames names more) (pieces : List (ReadPiece T A)) (new : StreamView) (f : MustFront {A = A} itself replaced more types_at (attr_at reading) true (steps_of (format_of info.format)) mid (Ok pieces) new)
+    module _ (keeps : KeepsNames names more) (pieces : List (ReadPiece T A)) (new : StreamView) (f : MustFront {A = A} itself replaced more types_at (attr_at reading) (setting true true) (steps_of (format_of info.format)) mid (Ok pieces) new)
         (count : length pieces ≡ length (front_steps (steps_of (format_of info.format)))) where
-      comes : FrontComes types_at (attr_at reading) dialects true more old op.0 op.1 pieces new
-      comes = front_comes types_at reading dialects true old fine op info h known more keeps pieces new f count
+      comes : FrontComes types_at (attr_at reading) dialects (setting true true) more old op.0 op.1 pieces new
+      comes = front_comes types_at reading dialects true old fine op info h known (setting true true) more keeps pieces new f count
 
       pub front_names : AreNamed more (all_read pieces)
       front_names = record { text = whole old; all = flat_map part_uses comes.parts; are = parts_named more (whole old) pieces comes.parts comes.are }

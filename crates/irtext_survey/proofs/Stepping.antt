@@ -22,7 +22,7 @@ use Rattle.irtext_grammar.specs.Grammar.Tree.{Name, Part}
 use Rattle.irtext_grammar.specs.Promises.Root.{UnlessMemory}
 use Rattle.irtext_grammar.specs.Promises.Section.{Moves}
 use Rattle.irtext_grammar.specs.Readers.Parts.{without_first}
-use Rattle.irtext_grammar.specs.Heads.{Step, one, all, front_steps, piece_at, head_at, led_at}
+use Rattle.irtext_grammar.specs.Heads.{Step, one, all, front_steps, piece_at, head_at, led_at, setting}
 use Rattle.irtext_grammar.specs.Reached.{Actions, begins_region, begins_block, steps_in}
 use Rattle.irtext_grammar.specs.Resume.{OpenOperation, with_steps, begun, is_flat, Open, to_come, an_operation, a_region, a_block, Pops, Goes, StoppedAt, front_at, work, by_character}
 use Rattle.irtext_grammar.specs.Parsed.{Leaves, Each}
@@ -31,7 +31,7 @@ use Rattle.irtext_grammar.proofs.Joins.Attributes.{splits_attr}
 use Rattle.irtext_grammar.proofs.Knot.Whole.{leaves_no_more}
 use Rattle.irtext_grammar.proofs.Readers.Answered.{moves_more}
 use Rattle.irtext_grammar.proofs.Resume.Frames.{goes_trans, stuck_at}
-use Rattle.irtext_grammar.proofs.Resume.Front.{splits_piece, front_reads, front_misses}
+use Rattle.irtext_grammar.proofs.Resume.Front.{splits_inside, front_reads, front_misses}
 use Rattle.irtext_grammar.proofs.Resume.Unbounded.{Unbounded, unbounded}
 use Rattle.irtext_grammar.proofs.Resume.Turns.{operation_begins, no_lead, no_front, piece_reads, no_piece, operation_ends, no_end, first_operation, no_operation, region_begins, no_region, no_more_regions, another_region, block_begins, no_block, region_ends, no_brace, another_operation, no_more_operations}
 use Rattle.irtext_grammar.proofs.Resume.Weights.{steps_fewer, operation_nearer, step_nearer, region_nearer, another_nearer, block_nearer, first_nearer, other_nearer, end_nearer}
@@ -200,7 +200,7 @@ module _ {T A : Type 0} (types_at : Reader T) (reading : Reader A) (h : Splits t
           less = step_nearer often fs old.rest new.rest o step ss ps (left o is) (moves_fewer old new r.moves);
         })
 
-    pub piece_stops : is_flat step ≡ true → (later : Notebook) (new : StreamView) → Unread ((space_at ▷ piece_at types_at attr true step) old.rest) book old later new
+    pub piece_stops : is_flat step ≡ true → (later : Notebook) (new : StreamView) → Unread ((space_at ▷ piece_at types_at attr (setting true true) step) old.rest) book old later new
         → (f : Option (Open T A)) (fs : List (Open T A)) (s : Noted) → Here (framed.Operation b) f fs s → Stuck later f fs s
     piece_stops flat later new u f fs s at = operation_next dialects before text (λ f. Stuck later f fs s) b f at.next_is (λ o is. (
       s,
@@ -475,8 +475,8 @@ module _ {T A : Type 0} (types_at : Reader T) (reading : Reader A) (h : Splits t
       operation_nearer_by names later new b waits e push f fs s at = block_next dialects before text (λ f. Near (framed.Block first) names later (Some (framed.Operation b)) waits new f fs s) first f at.next_is
           (let o = begun {T = T} {A = A} dialects (length v.rest) e.results e.id e.parts in
           let begins = operation_begins dialects types_at attr does (fs ++ a_block false ∷ []) true s v.rest e.results e.id e.lead e.middle e.led e.parts new.rest
-          (front_reads dialects types_at attr does true (splits_piece types_at reading h k true) (front_steps (steps_in dialects e.id)) [] e.parts e.middle e.taken new.rest s e.front) in
-          let m = front_fewer (leaves_no_more types_at h) (leaves_no_more attr (splits_attr reading k)) true (front_steps (steps_in dialects e.id)) e.middle e.parts e.taken new.rest e.front in
+          (front_reads dialects types_at attr does (setting true true) (splits_inside types_at reading h k true) (front_steps (steps_in dialects e.id)) [] e.parts e.middle e.taken new.rest s e.front) in
+          let m = front_fewer (leaves_no_more types_at h) (leaves_no_more attr (splits_attr reading k)) (setting true true) (front_steps (steps_in dialects e.id)) e.middle e.parts e.taken new.rest e.front in
           let n = led_fewer dialects v.rest (e.results, e.id) e.lead e.middle (led_some dialects v.rest (e.results, e.id) e.lead e.middle e.led) e.led in
           let w = operation_nearer often (fs ++ a_block false ∷ []) v.rest new.rest true o (steps_fewer dialects e.id) (omega (arith, m, n)) in
           let x = one_nearer fs in
@@ -502,14 +502,14 @@ module _ {T A : Type 0} (types_at : Reader T) (reading : Reader A) (h : Splits t
           still = subst (λ z. IsNoted text z s) (sym u.still) at.noted
 
           stuck : IsMissed (led_at dialects v.rest) ⊎ ((lead : (List (Name ℕ) × Id) × Text × Text) × (led_at dialects v.rest ≡ Read lead.0 lead.1 lead.2)
-              × IsMissed (front_at types_at attr true (front_steps (steps_in dialects lead.0.1)) [] lead.2)) → Stuck later (Some (a_block first)) fs s
+              × IsMissed (front_at types_at attr (setting true true) (front_steps (steps_in dialects lead.0.1)) [] lead.2)) → Stuck later (Some (a_block first)) fs s
           stuck (inl m) = (s, m.cause, _, stuck_at (one_comes fs s) (no_lead dialects types_at attr does (fs ++ a_block false ∷ []) true s v.rest m.cause m.upto m.bad), still)
           stuck (inr (lead, led, m)) = (
             s,
             m.cause,
             _,
             stuck_at (one_comes fs s) (no_front dialects types_at attr does (fs ++ a_block false ∷ []) true s v.rest lead.0.0 lead.0.1 lead.1 lead.2 led s m.cause (length lead.2 - length m.upto)
-                (front_misses dialects types_at attr does true (splits_piece types_at reading h k true) (front_steps (steps_in dialects lead.0.1)) [] lead.2 s m.cause m.upto m.bad)),
+                (front_misses dialects types_at attr does (setting true true) (splits_inside types_at reading h k true) (front_steps (steps_in dialects lead.0.1)) [] lead.2 s m.cause m.upto m.bad)),
             still,
           )
 

@@ -78,6 +78,7 @@ noter name = record {
   closes = λ place names id parts s. with_notes s (notes_of name (mentioned DefinesValue names));
   marks = λ mark s. with_mark s (is_some mark);
   heads = λ h s. with_notes (with_mark s (is_some h.mark)) (notes_of name (head_names h));
+  any_key = true;
 }
 
 -- the state that a parse reached, also if it is stuck

@@ -14,7 +14,7 @@ use Rattle.irtext_tokens.specs.Tokens.{space_at, word}
 use Rattle.irtext_scopes.specs.Names.{KeepsNames}
 use Rattle.irtext_grammar.specs.Contexts.Held.{whole}
 use Rattle.irtext_grammar.specs.Grammar.Tree.{Name, Mark, Piece, Part, Head}
-use Rattle.irtext_grammar.specs.Heads.{Step, front_steps, led_at, head_at, piece_at, mark_if_at}
+use Rattle.irtext_grammar.specs.Heads.{Step, front_steps, led_at, head_at, piece_at, mark_if_at, setting}
 use Rattle.irtext_grammar.specs.Promises.Root.{UnlessMemory}
 use Rattle.irtext_grammar.specs.Promises.Section.{Moves}
 use Rattle.irtext_grammar.specs.Reached.{steps_in}
@@ -145,7 +145,7 @@ module _ {T A : Type 0} (types_at : Reader T) (attr : Reader (AttrView A)) (dial
     pub led : led_at dialects old.rest ≡ Read (results, id) lead middle
     pub parts : List (Part ℕ T A)
     pub taken : Text
-    pub front : front_at types_at attr true (front_steps (steps_in dialects id)) [] middle ≡ Read parts taken new.rest
+    pub front : front_at types_at attr (setting true true) (front_steps (steps_in dialects id)) [] middle ≡ Read parts taken new.rest
     pub moves : Moves old new
     pub keeps : KeepsNames before names
     pub held : IsHeld dialects names (whole old) b (begun {T = T} {A = A} dialects (length old.rest) results id parts)
@@ -154,7 +154,7 @@ module _ {T A : Type 0} (types_at : Reader T) (attr : Reader (AttrView A)) (dial
   -- nothing is noted of an operation whose lead or whose front is at fault
   pub record NotBegun (book : Notebook) (old : StreamView) (later : Notebook) (new : StreamView) : Type 0 where
     pub missed : IsMissed (led_at dialects old.rest) ⊎ ((lead : (List (Name ℕ) × Id) × Text × Text) × (led_at dialects old.rest ≡ Read lead.0 lead.1 lead.2)
-        × IsMissed (front_at types_at attr true (front_steps (steps_in dialects lead.0.1)) [] lead.2))
+        × IsMissed (front_at types_at attr (setting true true) (front_steps (steps_in dialects lead.0.1)) [] lead.2))
     pub same : whole new ≡ whole old
     pub still : later ≡ book
 
@@ -168,7 +168,7 @@ module _ {T A : Type 0} (types_at : Reader T) (attr : Reader (AttrView A)) (name
   pub record PieceRead (step : Step) (before : List Text) (book : Notebook) (old : StreamView) (names : List Text) (later : Notebook) (new : StreamView) : Type 0 where
     pub piece : Piece ℕ T A
     pub taken : Text
-    pub read : (space_at ▷ piece_at types_at attr true step) old.rest ≡ Read piece taken new.rest
+    pub read : (space_at ▷ piece_at types_at attr (setting true true) step) old.rest ≡ Read piece taken new.rest
     pub moves : Moves old new
     pub keeps : KeepsNames before names
     pub noted : Does (whole old) (λ s. with_notes s (notes_of name (piece_uses piece))) book later
@@ -176,7 +176,7 @@ module _ {T A : Type 0} (types_at : Reader T) (attr : Reader (AttrView A)) (name
   -- the same; or an allocation failed, or the text is at fault
   abbrev pub ReadsPiece : Step → List Text → Notebook → StreamView → Result (Unit {0}) (ParseFault A) → List Text → Notebook → StreamView → Type 0
   ReadsPiece step before book old (Ok done) names later new = PieceRead step before book old names later new
-  ReadsPiece step before book old (Err fault) names later new = UnlessMemory (λ _. Unread ((space_at ▷ piece_at types_at attr true step) old.rest) book old later new) fault
+  ReadsPiece step before book old (Err fault) names later new = UnlessMemory (λ _. Unread ((space_at ▷ piece_at types_at attr (setting true true) step) old.rest) book old later new) fault
 
   -- the header of a block was parsed, and the names that it defines were noted
   pub record HeadRead (before : List Text) (book : Notebook) (old : StreamView) (names : List Text) (later : Notebook) (new : StreamView) : Type 0 where

@@ -15,7 +15,7 @@ use irtext_base::text::{AttrText, IrText};
 use irtext_context::base::Context;
 use irtext_few::Few;
 use irtext_grammar::found::Pieces;
-use irtext_grammar::parsed::{ReadName, ReadPiece};
+use irtext_grammar::parsed::{ReadName, ReadPiece, Setting};
 use irtext_names::entering::brace_demanded;
 use irtext_parse_pieces::fronts::front_parse;
 use irtext_parse_pieces::headers::{BlockHead, block_head_parse};
@@ -28,7 +28,7 @@ use irtext_tokens::irfmt::demanded::text_demanded;
 use irtext_tokens::irfmt::faults::out_of_memory;
 use irtext_tokens::irfmt::parsers::skip_white_space;
 
-/// Parses what precedes an operation's first region, and notes the names that it uses.
+/// Parses what precedes an operation's first region, and notes the names that it uses. Any attribute is accepted under a reserved key.
 pub(crate) fn operation_begin<T: IrText<A>, A: AttrText<A>>(
     stream: &mut TextStream,
     ctx: &Context<T, A>,
@@ -45,7 +45,11 @@ pub(crate) fn operation_begin<T: IrText<A>, A: AttrText<A>>(
         Ok(led) => led,
         Err(fault) => return Err(fault),
     };
-    let pieces: Pieces<T, A> = match front_parse(stream, names, &info.format, true, keys) {
+    let setting = Setting {
+        inside: true,
+        any_key: true,
+    };
+    let pieces: Pieces<T, A> = match front_parse(stream, names, &info.format, setting, keys) {
         Ok(pieces) => pieces,
         Err(fault) => return Err(fault),
     };
@@ -74,7 +78,11 @@ pub(crate) fn piece_parse<T: IrText<A>, A: AttrText<A>>(
         names.old.names book.old stream.old result names.new.names book.new stream.new }
 {
     skip_white_space(stream);
-    let piece: ReadPiece<T, A> = match step_parse(stream, names, step, true, keys) {
+    let setting = Setting {
+        inside: true,
+        any_key: true,
+    };
+    let piece: ReadPiece<T, A> = match step_parse(stream, names, step, setting, keys) {
         Ok(piece) => piece,
         Err(fault) => return Err(fault),
     };

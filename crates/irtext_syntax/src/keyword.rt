@@ -1,10 +1,11 @@
 //! Words that are fixed: required ones, and ones that are there or not.
-ghost use Rattle.std.specs.Prelude.{◌≡◌, ◌++◌, [], true, false, refl, OnOk, string_bytes};
+ghost use Rattle.std.specs.Prelude.{◌≡◌, ◌++◌, [], true, false, refl, OnOk, OnErr, string_bytes};
 ghost use Rattle.std.specs.Bool.{beq, MatchBool};
 ghost use Rattle.std.specs.Cmp.{on_equiv, on_per, partial_equiv_from_equiv, bool_eq_equiv, booleans_Decides};
 ghost use Rattle.std.specs.Hash as fed;
 ghost use Rattle.std.specs.Str.{bytes_eq, encode_utf8_all};
 ghost use Rattle.std.proofs.Common.{ap};
+ghost use Rattle.irtext_base.specs.Appending.{OnlyAppends};
 ghost use Rattle.irtext_base.specs.Text.{front, in_word};
 ghost use Rattle.irtext_tokens.specs.MustRead.{MayRead};
 ghost use Rattle.irtext_tokens.specs.Reads.{TakesFront};
@@ -201,7 +202,8 @@ fn flag_parse<W: Word, A>(stream: &mut TextStream) -> ParseResult<bool, A>
 
 /// Appends the word.
 fn write_word<W: Word>(f: &mut String) -> fmt::Result
-    ensures { OnOk result (string_bytes f.new ≡ string_bytes f.old ++ encode_utf8_all W.word.characters) }
+    ensures text { OnOk result (string_bytes f.new ≡ string_bytes f.old ++ encode_utf8_all W.word.characters) }
+    ensures appended { OnErr result (OnlyAppends f.old f.new) }
 {
     f.push_str(W::word())?;
     Ok(())

@@ -1,9 +1,10 @@
 //! Lists of parts in brackets, with a separator between the items.
-ghost use Rattle.std.specs.Prelude.{◌≡◌, ◌++◌, ℕ, List, IfOk, OnOk, string_bytes};
+ghost use Rattle.std.specs.Prelude.{◌≡◌, ◌++◌, ℕ, List, IfOk, OnOk, OnErr, string_bytes};
 ghost use Rattle.std.specs.Cmp.{on_equiv, on_per};
 ghost use Rattle.std.specs.Cmp.Lexicographic.{pointwise, lists_equiv, lists_per};
 ghost use Rattle.std.specs.Hash as fed;
 ghost use Rattle.std.specs.Str.{encode_utf8_all};
+ghost use Rattle.irtext_base.specs.Appending.{OnlyAppends};
 ghost use Rattle.irtext_tokens.specs.ListOutcomes.{separated_at};
 ghost use Rattle.irtext_tokens.specs.MustRead.{MayRead, MustRead};
 ghost use Rattle.irtext_syntax.specs.ListParts.{SeparatorLaw, tail_text, joined_text, list_text, items_at, list_at};
@@ -148,11 +149,13 @@ fn items_parse<B: Separated, P: Part<A>, A: Drop>(stream: &mut TextStream) -> Pa
 
 /// Appends the separator, a space and the item, for each item.
 fn write_tail<P: Part<A>, A>(separator: char, items: &[P], f: &mut String) -> fmt::Result
-    ensures { OnOk result (string_bytes f.new ≡ string_bytes f.old ++ encode_utf8_all
+    ensures text { OnOk result (string_bytes f.new ≡ string_bytes f.old ++ encode_utf8_all
         (tail_text separator P.text.written items.now)) }
+    ensures appended { OnErr result (OnlyAppends f.old f.new) }
 {
     for item in items {
-        write!(f, "{separator} ")?;
+        f.push(separator)?;
+        f.push_str(" ")?;
         item.write_text(f)?;
     }
     Ok(())
@@ -160,8 +163,9 @@ fn write_tail<P: Part<A>, A>(separator: char, items: &[P], f: &mut String) -> fm
 
 /// Appends the items, with the separator and a space between two.
 fn write_joined<P: Part<A>, A>(separator: char, items: &[P], f: &mut String) -> fmt::Result
-    ensures { OnOk result (string_bytes f.new ≡ string_bytes f.old ++ encode_utf8_all (joined_text separator
+    ensures text { OnOk result (string_bytes f.new ≡ string_bytes f.old ++ encode_utf8_all (joined_text separator
         P.text.written items.now)) }
+    ensures appended { OnErr result (OnlyAppends f.old f.new) }
 {
     if let Some((first, rest)) = items.split_first() {
         first.write_text(f)?;
@@ -172,9 +176,10 @@ fn write_joined<P: Part<A>, A>(separator: char, items: &[P], f: &mut String) -> 
 
 /// Appends the items in brackets.
 fn write_list<B: Separated, P: Part<A>, A>(items: &[P], f: &mut String) -> fmt::Result
-    ensures { OnOk result (string_bytes f.new ≡
+    ensures text { OnOk result (string_bytes f.new ≡
         string_bytes f.old ++ encode_utf8_all (list_text B.opener_printed B.separator P.text.written
         B.closer_printed items.now)) }
+    ensures appended { OnErr result (OnlyAppends f.old f.new) }
 {
     f.push_str(B::printed_opening())?;
     write_joined(B::separator(), items, f)?;

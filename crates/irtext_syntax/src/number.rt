@@ -1,15 +1,18 @@
 //! Decimal numbers of every integer type.
-ghost use Rattle.std.specs.Prelude.{◌≡◌, ◌↔◌, ℤ, pos, Some, IsTrue, OnOk, ◌++◌, string_bytes, true, refl};
+ghost use Rattle.std.specs.Prelude.{◌≡◌, ◌↔◌, ℤ, pos, Some, IsTrue, OnOk, OnErr, ◌++◌, string_bytes, true, refl};
 ghost use Rattle.std.specs.Cmp.{on_equiv, on_per, unsigned_Decides, signed_Decides};
 ghost use Rattle.std.specs.Fmt.{signed_decimal};
+ghost use Rattle.irtext_base.specs.Appending.{OnlyAppends};
 ghost use Rattle.irtext_tokens.specs.Integers.{itself};
 ghost use Rattle.irtext_syntax.specs.Numbers.{fits, natural};
 
 use crate::part::{Item, Last, Part, Plain};
+use arrayvec::ArrayString;
 use irtext_base::parsable::{ParseResult, TextStream};
 use irtext_tokens::irfmt::parsers::{FromStrRadix, int_parse};
 use std::alloc::AllocError;
 use std::fmt;
+use std::fmt::Write;
 use std::hash::{Hash, Hasher};
 
 /// An integer type whose numbers can be parsed and printed in decimal.
@@ -215,11 +218,14 @@ impl<N: Integer> Number<N> {
     }
 }
 
-/// Appends a number in decimal.
+/// Appends a number in decimal. Its digits are put together in place, and appended at once: no integer type has more than 40.
 fn write_number<N: Integer>(value: N, f: &mut String) -> fmt::Result
-    ensures { OnOk result (string_bytes f.new ≡ string_bytes f.old ++ signed_decimal (N.number value)) }
+    ensures text { OnOk result (string_bytes f.new ≡ string_bytes f.old ++ signed_decimal (N.number value)) }
+    ensures appended { OnErr result (OnlyAppends f.old f.new) }
 {
-    write!(f, "{value}")?;
+    let mut digits: ArrayString<40> = ArrayString::new();
+    write!(digits, "{value}")?;
+    f.push_str(digits.as_str())?;
     Ok(())
 }
 

@@ -1,6 +1,7 @@
 //! Parts of the texts of types and attributes.
-ghost use Rattle.std.specs.Prelude.{◌≡◌, ℕ, List, ◌++◌, true, IfOk, MatchOption, Ok, string_bytes};
+ghost use Rattle.std.specs.Prelude.{◌≡◌, ℕ, List, ◌++◌, true, IfOk, OnErr, MatchOption, Ok, string_bytes};
 ghost use Rattle.std.specs.Str.{encode_utf8_all};
+ghost use Rattle.irtext_base.specs.Appending.{OnlyAppends};
 ghost use Rattle.irtext_tokens.specs.MustRead.{MayRead};
 ghost use Rattle.irtext_syntax.specs.PartLaws.{PartText, PartLaws, MissesClosers, EndsAnywhere};
 
@@ -31,10 +32,12 @@ pub trait Part<A>: Sized + Drop + Eq {
         None
     }
 
-    /// Appends the text of the value. Fails only when out of memory.
+    /// Appends the text of the value. Fails only when out of memory. The text that was there before stands then too, and what was appended
+    /// up to the error remains.
     fn write_text(&self, f: &mut String) -> fmt::Result
-        ensures { IfOk result (λ _. string_bytes f.new ≡ string_bytes f.old ++ encode_utf8_all
-            (text.written self.now)) };
+        ensures text { IfOk result (λ _. string_bytes f.new ≡ string_bytes f.old ++ encode_utf8_all
+            (text.written self.now)) }
+        ensures appended { OnErr result (OnlyAppends f.old f.new) };
 
     ghost sound: { PartLaws text Self.eq };
 }

@@ -1,9 +1,11 @@
 //! Numbers in decimal digits without a sign: those of a range, and values of any type that are made of such numbers.
-ghost use Rattle.std.specs.Prelude.{◌≡◌, ℕ, true, Option, OnOk, ◌++◌, string_bytes, decimal};
+ghost use Rattle.std.specs.Prelude.{◌≡◌, ℕ, true, Option, OnOk, OnErr, ◌++◌, string_bytes, decimal};
+ghost use Rattle.irtext_base.specs.Appending.{OnlyAppends};
 ghost use Rattle.irtext_tokens.specs.MustRead.{MayRead};
 ghost use Rattle.irtext_syntax.specs.Ranges.{Bounds, is_between, digits_at};
 
 use crate::part::{Item, Last, Part, Plain};
+use arrayvec::ArrayString;
 use irtext_base::parsable::{CharStream, ParseResult, TextStream};
 use irtext_base::result::{Cause, Expected};
 use irtext_tokens::irfmt::faults::{begins, refuse, unexpected};
@@ -11,6 +13,7 @@ use irtext_tokens::irfmt::parsers::Class;
 use irtext_tokens::irfmt::parsers::digits::{Radix, out_of_range, take_digits};
 use std::alloc::AllocError;
 use std::fmt;
+use std::fmt::Write;
 use std::marker::PhantomData;
 
 /// A range of numbers, both ends included. That they are numbers of 64 bits is computed: `ghost bounds = { from_to 1 100 refl }`.
@@ -111,11 +114,14 @@ impl<R: Range> FromDigits for Ranged<R> {
     }
 }
 
-/// Appends a number in decimal.
-fn write_decimal(value: u64, f: &mut String) -> fmt::Result
-    ensures { OnOk result (string_bytes f.new ≡ string_bytes f.old ++ decimal value) }
+/// Appends a number in decimal. Its digits are put together in place, and appended at once. Fails only when out of memory.
+pub fn write_decimal(value: u64, f: &mut String) -> fmt::Result
+    ensures text { OnOk result (string_bytes f.new ≡ string_bytes f.old ++ decimal value) }
+    ensures appended { OnErr result (OnlyAppends f.old f.new) }
 {
-    write!(f, "{value}")?;
+    let mut digits: ArrayString<20> = ArrayString::new();
+    write!(digits, "{value}")?;
+    f.push_str(digits.as_str())?;
     Ok(())
 }
 

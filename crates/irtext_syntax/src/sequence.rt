@@ -1,6 +1,7 @@
 //! Two parts with a fixed text between them, and a part in brackets.
-ghost use Rattle.std.specs.Prelude.{◌≡◌, ◌++◌, OnOk, string_bytes};
+ghost use Rattle.std.specs.Prelude.{◌≡◌, ◌++◌, OnOk, OnErr, string_bytes};
 ghost use Rattle.std.specs.Str.{encode_utf8_all};
+ghost use Rattle.irtext_base.specs.Appending.{OnlyAppends};
 ghost use Rattle.irtext_tokens.specs.MustRead.{MustRead};
 ghost use Rattle.irtext_syntax.specs.Sequences.{then_text, second_at, within_text, inside_at};
 
@@ -62,8 +63,9 @@ pub fn write_then<P: Part<A>, W: Between, Q: Part<A>, A>(
     second: &Q,
     f: &mut String,
 ) -> fmt::Result
-    ensures { OnOk result (string_bytes f.new ≡ string_bytes f.old ++ encode_utf8_all
+    ensures text { OnOk result (string_bytes f.new ≡ string_bytes f.old ++ encode_utf8_all
         (then_text P.text.written W.printed Q.text.written first.now second.now)) }
+    ensures appended { OnErr result (OnlyAppends f.old f.new) }
 {
     first.write_text(f)?;
     f.push_str(W::printed())?;
@@ -116,8 +118,9 @@ fn inside_parse<B: Brackets, P: Part<A>, A>(stream: &mut TextStream) -> ParseRes
 
 /// Appends a part in the brackets of `B`. Fails only when out of memory.
 pub fn write_within<B: Brackets, P: Part<A>, A>(inside: &P, f: &mut String) -> fmt::Result
-    ensures { OnOk result (string_bytes f.new ≡ string_bytes f.old ++ encode_utf8_all
+    ensures text { OnOk result (string_bytes f.new ≡ string_bytes f.old ++ encode_utf8_all
         (within_text B.opener_printed P.text.written B.closer_printed inside.now)) }
+    ensures appended { OnErr result (OnlyAppends f.old f.new) }
 {
     f.push_str(B::printed_opening())?;
     inside.write_text(f)?;

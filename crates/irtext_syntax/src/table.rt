@@ -1,6 +1,7 @@
 //! Families of types or attributes whose texts begin with dotted words: what comes after each word.
-ghost use Rattle.std.specs.Prelude.{◌≡◌, ◌++◌, ◌∷◌, OnOk, List, ℕ, Option, string_bytes, MatchOption, IfSome, Ok};
+ghost use Rattle.std.specs.Prelude.{◌≡◌, ◌++◌, ◌∷◌, OnOk, OnErr, List, ℕ, Option, string_bytes, MatchOption, IfSome, Ok};
 ghost use Rattle.std.specs.Str.{encode_utf8_all};
+ghost use Rattle.irtext_base.specs.Appending.{OnlyAppends};
 ghost use Rattle.irtext_base.specs.Answers.{Outcome, Gives, unless_failed};
 ghost use Rattle.irtext_base.specs.Faults.{characters, demand_of};
 ghost use Rattle.irtext_tokens.specs.Infix.{nothing, ◌▷◌};
@@ -175,8 +176,9 @@ pub fn word_alone<E: Drop, A>(stream: &mut TextStream, value: E) -> ParseResult<
 
 /// Appends a word, a space and a part. Fails only when out of memory.
 pub fn write_row<P: Part<A>, A>(word: &str, part: &P, f: &mut String) -> fmt::Result
-    ensures { OnOk result (string_bytes f.new ≡ string_bytes f.old ++ encode_utf8_all
+    ensures text { OnOk result (string_bytes f.new ≡ string_bytes f.old ++ encode_utf8_all
         (characters word.now ++ (32 ∷ P.text.written part.now))) }
+    ensures appended { OnErr result (OnlyAppends f.old f.new) }
 {
     f.push_str(word)?;
     f.push_str(" ")?;
@@ -186,7 +188,8 @@ pub fn write_row<P: Part<A>, A>(word: &str, part: &P, f: &mut String) -> fmt::Re
 
 /// Appends a word that has nothing after it. Fails only when out of memory.
 pub fn write_word(word: &str, f: &mut String) -> fmt::Result
-    ensures { OnOk result (string_bytes f.new ≡ string_bytes f.old ++ encode_utf8_all (characters word.now)) }
+    ensures text { OnOk result (string_bytes f.new ≡ string_bytes f.old ++ encode_utf8_all (characters word.now)) }
+    ensures appended { OnErr result (OnlyAppends f.old f.new) }
 {
     f.push_str(word)?;
     Ok(())

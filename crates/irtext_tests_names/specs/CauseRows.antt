@@ -47,6 +47,7 @@ nothing = record {
   closes = λ place names id parts s. s;
   marks = λ mark s. s;
   heads = λ h s. s;
+  any_key = false;
 }
 
 -- a text is no operation, for this cause at this place, which is one that an error of the text can have there

@@ -1,6 +1,5 @@
 //! Worked rows of what is `Printable`: values, lists, causes, errors, locations and roots; the printing state, which operations fit their
-//! formats, and the section after a root. Also of what needs no context: notations of formats and which formats are accepted,
-//! and the ready parts of types and attributes.
+//! formats, and the section after a root. Also of the ready parts of types and attributes.
 #![tactic(auto)]
 
 #[cfg(test)]

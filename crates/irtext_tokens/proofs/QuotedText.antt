@@ -1,5 +1,5 @@
 -- Quoted texts, byte by byte.
-use Rattle.std.proofs.Common.{◌≡◌, ◌∙◌, ◌<◌, ◌≤◌, ◌+◌, ◌-◌, ℕ, suc, Bool, true, false, cond, ◌==◌, List, [], ◌∷◌, ◌++◌, length, take, drop, get_or, codes, refl, sym, ap, subst, true≢false, arith, ⊎_elim}
+use Rattle.std.proofs.Common.{◌≡◌, ◌∙◌, ◌<◌, ◌≤◌, ◌+◌, ◌-◌, ◌/◌, ◌%◌, ℕ, suc, Bool, true, false, cond, nat_lt, ◌==◌, List, [], ◌∷◌, ◌++◌, length, take, drop, get_or, codes, refl, sym, ap, subst, true≢false, arith, ⊎_elim}
 use Rattle.std.proofs.lemmas.Bool.{cases_lt}
 use Rattle.std.proofs.lemmas.Bool.Decides.{nat_tests}
 use Rattle.std.proofs.lemmas.List.{append_assoc, append-nil, get_or-drop, length-drop, take_all, take_more, take_rest}
@@ -13,19 +13,15 @@ use Rattle.std.specs.Char.{encode_utf8, is_ascii_control}
 use Rattle.std.specs.Str.{chars, encode_utf8_all, IsUtf8, IsCharBoundary}
 use Rattle.irtext_base.specs.Quoted.{hexadecimal, image_of, images}
 use Rattle.irtext_base.specs.Text.{Text}
-use Rattle.irtext_tokens.specs.QuotedBytes.{is_escaped, quoted_bytes}
+use Rattle.irtext_tokens.specs.QuotedBytes.{by_code, is_escaped, quoted_bytes}
 
 -- a test that fails selects the second alternative
 passed : (b : Bool) (x y : Text) → b ≡ false → cond b x y ≡ y
 passed true x y e = absurd (true≢false e)
 passed false x y e = refl
 
--- an escape by the character's number
-abbrev by_number : ℕ → Text
-by_number c = codes "\\u{" ++ (hexadecimal c ++ codes "}")
-
 -- for a character that is none of the six
-others : (c : ℕ) → (c == 0) ≡ false → (c == 9) ≡ false → (c == 10) ≡ false → (c == 13) ≡ false → (c == 34) ≡ false → (c == 92) ≡ false → image_of c ≡ cond (is_ascii_control c) (by_number c) (c ∷ [])
+others : (c : ℕ) → (c == 0) ≡ false → (c == 9) ≡ false → (c == 10) ≡ false → (c == 13) ≡ false → (c == 34) ≡ false → (c == 92) ≡ false → image_of c ≡ cond (is_ascii_control c) (by_code c) (c ∷ [])
 others c p q r s t u = passed (c == 0) _ _ p ∙ passed (c == 9) _ _ q ∙ passed (c == 10) _ _ r ∙ passed (c == 13) _ _ s ∙ passed (c == 34) _ _ t ∙ passed (c == 92) _ _ u
 
 -- a character that isn't escaped is its own image
@@ -129,3 +125,34 @@ pub record Run (bs : List ℕ) (at begun : ℕ) (now old : List ℕ) : Type 0 wh
 -- the same of equal values
 pub run-same : (bs : List ℕ) (at b b' : ℕ) (now now' old : List ℕ) → b' ≡ b → now' ≡ now → Run bs at b now old → Run bs at b' now' old
 run-same bs at b b' now now' old p q h = subst (λ z. Run bs at z now' old) (sym p) (subst (λ z. Run bs at b z old) (sym q) h)
+
+-- a test that holds selects the first alternative
+chosen : (b : Bool) (x y : Bool) → b ≡ true → cond b x y ≡ x
+chosen true x y e = refl
+chosen false x y e = absurd (true≢false (sym e))
+
+-- a number below 16 is one hexadecimal digit, a slice of all digits
+pub digit-slice : (n : ℕ) → n < 16 → slice_range {X = ℕ} (codes "0123456789abcdef") n (n + 1) ≡ hexadecimal n
+unfolding digits
+digit-slice n l =
+    let test : nat_lt n 16 ≡ true = grind (arith, nat_tests) in
+    (bytes_decides (slice_range {X = ℕ} (codes "0123456789abcdef") n (n + 1)) (hexadecimal n)).0
+    (sym (chosen (nat_lt n 16) _ true test) ∙ ascii (λ n. cond (nat_lt n 16) (bytes_eq (slice_range {X = ℕ} (codes "0123456789abcdef") n (n + 1)) (hexadecimal n)) true) refl n (omega (arith, l)))
+
+-- the code of an ASCII character from 16 on has two digits
+two-digits : (n : ℕ) → 16 ≤ n → n < 128 → hexadecimal (n / 16) ++ hexadecimal (n % 16) ≡ hexadecimal n
+unfolding digits
+two-digits n g l =
+    let test : nat_lt 15 n ≡ true = grind (arith, nat_tests) in
+    (bytes_decides (hexadecimal (n / 16) ++ hexadecimal (n % 16)) (hexadecimal n)).0
+    (sym (chosen (nat_lt 15 n) _ true test) ∙ ascii (λ n. cond (nat_lt 15 n) (bytes_eq (hexadecimal (n / 16) ++ hexadecimal (n % 16)) (hexadecimal n)) true) refl n l)
+
+-- the two digits, one after the other
+pub code-appended : (n : ℕ) (old now new high low : List ℕ) → 16 ≤ n → n < 128 → high ≡ hexadecimal (n / 16) → low ≡ hexadecimal (n % 16) → now ≡ old ++ high → new ≡ now ++ low → new ≡ old ++ hexadecimal n
+code-appended n old now new high low g l h k p q = let e = two-digits n g l in q ∙ ap (λ z. z ++ low) p ∙ append_assoc old high low ∙ ap (λ z. old ++ z) (ap (λ z. z ++ low) h ∙ ap (λ z. hexadecimal (n / 16) ++ z) k ∙ e)
+
+-- a code below 16 is one digit
+pub digit-appended : (n : ℕ) (old now new low : List ℕ) → n < 16 → low ≡ hexadecimal (n % 16) → now ≡ old → new ≡ now ++ low → new ≡ old ++ hexadecimal n
+digit-appended n old now new low l k p q =
+    let same : n % 16 ≡ n = omega (arith, l) in
+    q ∙ ap (λ z. z ++ low) p ∙ ap (λ z. old ++ z) (k ∙ ap hexadecimal same)

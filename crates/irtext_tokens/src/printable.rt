@@ -1,7 +1,8 @@
 //! Prints quoted strings.
-ghost use Rattle.std.specs.Prelude.{◌≡◌, ◌++◌, OnOk, true, string_bytes};
-ghost use Rattle.irtext_base.specs.Quoted.{image_of, images};
-ghost use Rattle.irtext_tokens.specs.QuotedBytes.{is_escaped, quoted_bytes};
+ghost use Rattle.std.specs.Prelude.{◌≡◌, ◌<◌, ◌++◌, OnOk, OnErr, true, string_bytes};
+ghost use Rattle.irtext_base.specs.Appending.{OnlyAppends};
+ghost use Rattle.irtext_base.specs.Quoted.{hexadecimal, image_of, images};
+ghost use Rattle.irtext_tokens.specs.QuotedBytes.{by_code, is_escaped, quoted_bytes};
 
 use std::fmt;
 
@@ -12,10 +13,50 @@ fn is_escaped(byte: u8) -> bool
     byte.is_ascii_control() || byte == b'"' || byte == b'\\'
 }
 
+/// The digits of hexadecimal numbers.
+const DIGITS: &str = "0123456789abcdef";
+
+/// Returns a number below 16 as one hexadecimal digit.
+fn digit(number: u8) -> &'static str
+    requires { number < 16 }
+    ensures { result.now ≡ hexadecimal number }
+{
+    let from = number as usize;
+    &DIGITS[from..from + 1]
+}
+
+/// Appends the code of an ASCII character in hexadecimal.
+fn fmt_code(byte: u8, f: &mut String) -> fmt::Result
+    requires { byte < 128 }
+    ensures text { OnOk result (string_bytes f.new ≡ string_bytes f.old ++ hexadecimal byte) }
+    ensures appended { OnErr result (OnlyAppends f.old f.new) }
+{
+    if byte >= 16 {
+        f.push_str(digit(byte / 16))?;
+    }
+    f.push_str(digit(byte % 16))?;
+    Ok(())
+}
+
+/// Appends an escape by the character's code, as `\u{1f}`.
+#[cold]
+#[inline(never)]
+fn fmt_by_code(byte: u8, f: &mut String) -> fmt::Result
+    requires { byte < 128 }
+    ensures text { OnOk result (string_bytes f.new ≡ string_bytes f.old ++ by_code byte) }
+    ensures appended { OnErr result (OnlyAppends f.old f.new) }
+{
+    f.push_str("\\u{")?;
+    fmt_code(byte, f)?;
+    f.push_str("}")?;
+    Ok(())
+}
+
 /// Appends the escape of such a character.
 fn fmt_escape(byte: u8, f: &mut String) -> fmt::Result
     requires { is_escaped byte ≡ true }
-    ensures { OnOk result (string_bytes f.new ≡ string_bytes f.old ++ image_of byte) }
+    ensures text { OnOk result (string_bytes f.new ≡ string_bytes f.old ++ image_of byte) }
+    ensures appended { OnErr result (OnlyAppends f.old f.new) }
 {
     let escape = match byte {
         b'\0' => "\\0",
@@ -24,10 +65,7 @@ fn fmt_escape(byte: u8, f: &mut String) -> fmt::Result
         b'\r' => "\\r",
         b'"' => "\\\"",
         b'\\' => "\\\\",
-        _ => {
-            write!(f, "\\u{{{byte:x}}}")?;
-            return Ok(());
-        }
+        _ => return fmt_by_code(byte, f),
     };
     f.push_str(escape)?;
     Ok(())
@@ -35,7 +73,8 @@ fn fmt_escape(byte: u8, f: &mut String) -> fmt::Result
 
 /// Appends the characters of a text, each that must be escaped as its escape. The text between two escapes is copied in one piece.
 fn fmt_images(text: &str, f: &mut String) -> fmt::Result
-    ensures { OnOk result (string_bytes f.new ≡ string_bytes f.old ++ images text.now) }
+    ensures text { OnOk result (string_bytes f.new ≡ string_bytes f.old ++ images text.now) }
+    ensures appended { OnErr result (OnlyAppends f.old f.new) }
 {
     let bytes = text.as_bytes();
     let mut begun = 0;
@@ -52,9 +91,11 @@ fn fmt_images(text: &str, f: &mut String) -> fmt::Result
 
 /// Appends the text as a quoted string, such as `"a\n"` for `a` and a newline. A NUL, tab, newline, carriage return, quotation mark and
 /// backslash are printed as `\0`, `\t`, `\n`, `\r`, `\"` and `\\`, every other ASCII control character as `\u{N}` with N in lower-case
-/// hexadecimal, and every other character as itself. Fails only if an allocation fails; what was appended before stays.
+/// hexadecimal, and every other character as itself. Fails only if an allocation fails; the text that was there stands then too, and
+/// what was appended up to the error remains.
 pub fn fmt_quoted(text: &str, f: &mut String) -> fmt::Result
-    ensures { OnOk result (string_bytes f.new ≡ string_bytes f.old ++ quoted_bytes text.now) }
+    ensures text { OnOk result (string_bytes f.new ≡ string_bytes f.old ++ quoted_bytes text.now) }
+    ensures appended { OnErr result (OnlyAppends f.old f.new) }
 {
     f.push_str("\"")?;
     fmt_images(text, f)?;

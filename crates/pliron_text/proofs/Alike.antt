@@ -4,3 +4,4 @@ pub mod Ids
 pub mod Orders
 pub mod There
 pub mod Seen
+pub mod Limited

@@ -39,7 +39,8 @@ use Rattle.irtext_parse_state.specs.declared.parsable.state.StateStream.{StateSt
 use Rattle.irtext_tokens.specs.AttrTexts.{attr_at}
 use Rattle.irtext_grammar.specs.Back.{ClosedRoot, HeldBack, HeldWhole}
 use Rattle.irtext_grammar.specs.RootParts.{KeptRoot}
-use Rattle.pliron_text.specs.Alike.{KnowAlike, KnowsRoot, AreKnownAlike}
+use Rattle.irtext_alike.specs.Alike.{KnowsRoot}
+use Rattle.pliron_text.specs.Alike.{AreKnownAlike}
 use Rattle.pliron_text.specs.PrintedRoot.{PrintedRoot}
 use Rattle.pliron_text.proofs.Alike.Seen.{seen_alike}
 use Rattle.pliron_text.proofs.PrintedBack.{without_limit, gives_back_root, gives_back_whole, not_refused, none_read}
@@ -95,7 +96,7 @@ module _ {T A : Type 0} (types : ir_text.Ghosts T A) (owns : ir_text.Ghosts A A)
   pub record IsBack (g : Graph T A) (text : List ℕ) (other : ContextView T A) : Type 0 where
     pub back : ShowsAll types owns attributes same ctx p layout g → (Fit C (isolated ctx.dialects) g → ClosedRoot C (isolated ctx.dialects) g) → (q : Ptr Operation) (left : ContextView T A) → ReadsText texts own_texts attr text other q left → ComesBack types owns attributes same ctx p layout other q left g
     pub whole : ShowsAll types owns attributes same ctx p layout g → (Fit C (isolated ctx.dialects) g → ClosedRoot C (isolated ctx.dialects) g × Named C g) → (q : Ptr Operation) (left : ContextView T A) → ReadsText texts own_texts attr text other q left → ComesBackWhole types owns attributes same ctx p layout other q left g
-    pub limited : Fit C (isolated ctx.dialects) g → (ShowsAll types owns attributes same ctx p layout g → ⊥) → KnowAlike other.dialects ctx.dialects → (q : Ptr Operation) (left : ContextView T A) → ReadsText texts own_texts attr text other q left → ⊥
+    pub limited : Fit C (isolated ctx.dialects) g → (ShowsAll types owns attributes same ctx p layout g → ⊥) → (q : Ptr Operation) (left : ContextView T A) → ReadsText texts own_texts attr text other q left → ⊥
     pub refused : ShowsAll types owns attributes same ctx p layout g → (Fit C (isolated ctx.dialects) g → ClosedRoot C (isolated ctx.dialects) g) → (f : ParseFault A) → UnlessMemory (RefusesText texts own_texts attr text other types.reading) f → fault_of f.cause ≡ faults.Memory
 
   module _ (types_law : Lawful T texts) (owns_law : Lawful A own_texts) (unreserved : Unreserved A own_texts) (sound : (a b : A) → same a b ≡ true → a ≡ b) (reflexive : (a : A) → same a a ≡ true)
@@ -112,10 +113,10 @@ module _ {T A : Type 0} (types : ir_text.Ghosts T A) (owns : ir_text.Ghosts A A)
     alike_there old s = subst (λ z. AreKnownAlike z ctx.dialects g) (sym (ap (λ (v : ContextView T A). v.dialects) s.context)) (seen_alike ctx owns.written p nested other.dialects knows g sees)
 
     -- nothing is parsed from a root of which a region was left out
-    nothing_back : Fit C (isolated ctx.dialects) g → (ShowsAll types owns attributes same ctx p layout g → ⊥) → KnowAlike other.dialects ctx.dialects → (q : Ptr Operation) (left : ContextView T A) → ReadsText texts own_texts attr text other q left → ⊥
-    nothing_back fits out all q left r =
+    nothing_back : Fit C (isolated ctx.dialects) g → (ShowsAll types owns attributes same ctx p layout g → ⊥) → (q : Ptr Operation) (left : ContextView T A) → ReadsText texts own_texts attr text other q left → ⊥
+    nothing_back fits out q left r =
         none_read texts owns.reading owns.written types_law owns_law unreserved attributes.outlined attributes.print_once same sound reflexive ctx p g layout.width layout.indent bytes (levels layout.limit) (as_printed fits) r.old (begins r.old r.begins)
-        (subst (λ z. KnowAlike z ctx.dialects) (sym (ap (λ (v : ContextView T A). v.dialects) r.begins.context)) all) out q r.new r.builds
+        (alike_there r.old r.begins) out q r.new r.builds
 
     module _ (shown : ShowsAll types owns attributes same ctx p layout g) where
       fits_there : Fit C (isolated ctx.dialects) g

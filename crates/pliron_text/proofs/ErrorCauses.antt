@@ -25,7 +25,7 @@ use Rattle.irtext_grammar.proofs.Causes.Found.{cause_longer, operation_cause, re
 use Rattle.irtext_parse_root.specs.AnyRegion.{MissesRegion, not_isolated, HasRegionFault, no_brace}
 use Rattle.irtext_parse_root.specs.AnyRegion as region
 use Rattle.irtext_parse_root.specs.AnyState.{MissesSection, MissesAny, no_operation, no_section}
-use Rattle.irtext_parse_root.specs.Parses.{Undoes, Answers}
+use Rattle.irtext_parse_root.specs.Parses.{FirstFault}
 use Rattle.irtext_parse_root.specs.Whole.{ExpectsEnd}
 use Rattle.irtext_parse_root.specs.WholeAny.{HasSection, IsRest, MissesWholeAny, no_root, more_left}
 use Rattle.irtext_parse_section.specs.Said.{rules_of}
@@ -133,14 +133,14 @@ module _ {T A U : Type 0} (types_at : Reader T) (owns_at : Reader A) (sincere_ty
   alone_fails op (not_isolated u) = by_name (ap is_name_fault u.because)
   alone_fails op (region.in_text is h) = region_fails old.state.ctx.now.dialects types_at owns_at sincere_types sincere old.stream fault _ h
 
-module _ {T A U X : Type 0} (P : ParseFault A → Type 0) {Reads Builds : X → StateStream T A U → StateStream T A U → Type 0} {Misses Refuses : StateStream T A U → ParseFault A → Type 0}
+module _ {T A U X : Type 0} (P : ParseFault A → Type 0) {Reads : X → StateStream T A U → StateStream T A U → Type 0} {Misses Fails : StateStream T A U → ParseFault A → Type 0}
     (old new : StateStream T A U) (failed : (fault : ParseFault A) → old.stream.failed ≡ true → fault_of fault.cause ≡ Failed → P fault)
     (ran_out : (fault : ParseFault A) → fault_of fault.cause ≡ Memory → P fault) (missed : (fault : ParseFault A) → Misses old fault → P fault) where
   -- why a parser that meets its contract fails
-  pub why : (result : Result X (ParseFault A)) → Undoes old result new → Answers Reads Builds Misses Refuses old result new → IfErr result P
-  why (Ok x) u a = tt
-  why (Err fault) u a = go old.stream.failed refl
+  pub why : (result : Result X (ParseFault A)) → FirstFault Reads Misses Fails old result new → IfErr result P
+  why (Ok x) a = tt
+  why (Err fault) a = go old.stream.failed refl
     where
       go : (b : Bool) → old.stream.failed ≡ b → P fault
-      go true e = failed fault e (u.failed e).because
+      go true e = failed fault e (a.failed e).because
       go false e = elim (a.missed e) [ inl m ↦ ran_out fault m.because | inr m ↦ missed fault m ]

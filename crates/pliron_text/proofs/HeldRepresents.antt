@@ -271,7 +271,7 @@ module _ {T A : Type 0} (c : ContextView T A) (counters : KeepsCounters c.graph)
       block_represents = record {
         shape = record { argument_types = argument_types_are };
         label = ap (λ (z : GraphBlock T A). C.label z.place) s.sees
-            ∙ (label_seen k s.whole.view s.whole.is ∙ (there s.whole.view.label s.whole.labelled ∙ ap Some (sym (ap (λ (z : BuiltBlock T A (Written A)). z.label) head_is))));
+            ∙ (label_seen k s.whole.view s.whole.is ∙ (there s.whole.view.label (subst (λ (v : BlockView T A). is_some v.label ≡ true) (some_eq (sym h.is ∙ s.whole.is)) h.labelled) ∙ ap Some (sym (ap (λ (z : BuiltBlock T A (Written A)). z.label) head_is))));
         attributes = ap (λ (z : GraphBlock T A). z.attributes) s.sees ∙ sym (ap (λ (z : BuiltBlock T A (Written A)). z.attributes) head_is);
       }
 

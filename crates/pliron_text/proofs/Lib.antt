@@ -1,10 +1,13 @@
 pub mod Again
 pub mod Alike
+pub mod AllInside
 pub mod Back
 pub mod BeforeAndAfter
+pub mod ClosedThere
 pub mod Closing
 pub mod Covered
 pub mod ErrorCauses
+pub mod Filling
 pub mod Fitting
 pub mod Forests
 pub mod HeldRepresents
@@ -18,6 +21,7 @@ pub mod PrintedBack
 pub mod ReadClosed
 pub mod RoundTrips
 pub mod SameFaults
+pub mod SameLocations
 pub mod SameNames
 pub mod SameText
 pub mod Shown

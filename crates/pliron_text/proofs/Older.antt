@@ -24,7 +24,7 @@ use Rattle.irtext_graph.specs.declared.object.Defined.TheVariants.{OfValue}
 use Rattle.irtext_graph.specs.declared.object.Site.{Site}
 use Rattle.irtext_graph.specs.declared.object.Site.TheVariants.{AtOperand}
 use Rattle.irtext_graph.specs.Graph.{GraphView, IsInside, children, parent, children_of, content_of}
-use Rattle.irtext_graph.specs.Nested.{Nested, Within, climb}
+use Rattle.irtext_graph.specs.Nested.{Nested}
 use Rattle.irtext_graph.specs.Parts.{regions, blocks, operations_in, operands, results_of, arguments_of, value_at}
 use Rattle.irtext_graph.specs.Store.{get}
 use Rattle.irtext_grammar.specs.Contexts.Nested.{operations_by, blocks_by, regions_by, within, pointers, number_of, seen_operation, seen_block, seen_regions, seen_blocks, seen_operations, seen_root}
@@ -35,10 +35,12 @@ use Rattle.irtext_grammar.specs.Grammar.Forest.{Regions, no_regions, region, Blo
 use Rattle.irtext_grammar.specs.Graphs.Build.{Built, BuiltOp, BuiltBlock}
 use Rattle.irtext_grammar.specs.Names.Script.{Path}
 use Rattle.irtext_names.specs.Held.{PtrRegions, PtrBlocks, PtrOperations, placed_under, held_op, held_head, held_regions, held_blocks, held_operations, held_root, OperationWhole, BlockWhole, IsWhole}
-use Rattle.pliron_text.specs.Older.{IsLocatedIn, OperationLocated, BlockLocated, KeepsRoot, IsOlder}
+use Rattle.pliron_text.proofs.AllInside.{Inside, region_in, block_in, operation_in, all_inside}
+use Rattle.irtext_closed.specs.Located.{IsLocatedIn}
+use Rattle.pliron_text.specs.Older.{OperationLocated, BlockLocated, KeepsRoot, IsOlder}
 use Rattle.irtext_graph.proofs.Frames.{operation_content_same, block_content_same}
 use Rattle.irtext_names.proofs.Ages.{here_is_live}
-use Rattle.irtext_print_ops.proofs.Depths.{region_up, block_up, operation_up, inside_is}
+use Rattle.irtext_print_ops.proofs.Depths.{inside_is}
 
 -- ---- forests of pointers
 module _ {O B T : Type 0} (g k : GraphView O B T) (f h : Ptr Operation → Regions (Ptr Operation) (Ptr BasicBlock) (Ptr Region)) where
@@ -66,35 +68,18 @@ enough g nested (suc d) n p e =
     operations_frame g g (within g (d + top)) (within g top) (operations_in g b) (λ i q at. enough g nested d (d + top) q refl)))
     ∙ sym (inside_is g nested p)
 
--- what is one step further down is inside too
-further_in : (up : Object → Option Object) (p k x : Object) → up x ≡ Some k → Within up p k → Within up p x
-further_in up p k x e (n, h) = (suc n, ap (climb up n) e ∙ h)
-
 module _ {T A : Type 0} (old new : ContextView T A) (root : Ptr Operation) (kept : KeepsRoot root old new) (nested : Nested (children old.graph) (parent old.graph)) where
-  -- an object is the root or nested in it
-  abbrev Inside : Object → Type 0
-  Inside q = IsInside old.graph (TheOperation root) q
-
-  region_in : (p : Ptr Operation) (r : Ptr Region) (m : ℕ) → slice_get (regions old.graph p) m ≡ Some r → Inside (TheOperation p) → Inside (TheRegion r)
-  region_in p r m at = further_in (parent old.graph) (TheOperation root) (TheOperation p) (TheRegion r) (region_up old.graph nested p r m at)
-
-  block_in : (r : Ptr Region) (b : Ptr BasicBlock) (j : ℕ) → slice_get (blocks old.graph r) j ≡ Some b → Inside (TheRegion r) → Inside (TheBlock b)
-  block_in r b j at = further_in (parent old.graph) (TheOperation root) (TheRegion r) (TheBlock b) (block_up old.graph nested r b j at)
-
-  operation_in : (b : Ptr BasicBlock) (q : Ptr Operation) (i : ℕ) → slice_get (operations_in old.graph b) i ≡ Some q → Inside (TheBlock b) → Inside (TheOperation q)
-  operation_in b q i at = further_in (parent old.graph) (TheOperation root) (TheBlock b) (TheOperation q) (operation_up old.graph nested b q i at)
-
-  inside_frame : (n : ℕ) (p : Ptr Operation) → Inside (TheOperation p) → within new.graph n p ≡ within old.graph n p
+  inside_frame : (n : ℕ) (p : Ptr Operation) → Inside old.graph root nested (TheOperation p) → within new.graph n p ≡ within old.graph n p
   inside_frame zero p l = refl
   inside_frame (suc n) p l =
       ap (λ e. regions_by new.graph (within new.graph n) (children_of e)) (kept.operations p l)
       ∙ regions_frame old.graph new.graph (within new.graph n) (within old.graph n) (regions old.graph p) (λ m r at.
-      let s = region_in p r m at l in
+      let s = region_in old.graph root nested p r m at l in
       ap (λ e. blocks_by new.graph (within new.graph n) (children_of e)) (kept.regions r s)
       ∙ blocks_frame old.graph new.graph (within new.graph n) (within old.graph n) (blocks old.graph r) (λ j b at.
-      let t = block_in r b j at s in
+      let t = block_in old.graph root nested r b j at s in
       ap (λ e. operations_by new.graph (within new.graph n) (children_of e)) (kept.blocks b t)
-      ∙ operations_frame old.graph new.graph (within new.graph n) (within old.graph n) (operations_in old.graph b) (λ i q at. inside_frame n q (operation_in b q i at t))))
+      ∙ operations_frame old.graph new.graph (within new.graph n) (within old.graph n) (operations_in old.graph b) (λ i q at. inside_frame n q (operation_in old.graph root nested b q i at t))))
 
   -- the same pointers are nested in it
   pub pointers_frame : Nested (children new.graph) (parent new.graph) → pointers new.graph root ≡ pointers old.graph root
@@ -110,31 +95,6 @@ module _ {T A : Type 0} (old new : ContextView T A) (root : Ptr Operation) (kept
 
   abbrev pub SameBlock : Ptr BasicBlock → Type 0
   SameBlock b = get new.graph.blocks b ≡ get old.graph.blocks b
-
-  all_operations : (f : Ptr Operation → PtrRegions) (ps : List (Ptr Operation)) → ((i : ℕ) (q : Ptr Operation) → slice_get ps i ≡ Some q → SameOp q × AllRegions SameOp SameBlock (λ r. ⊤) (f q))
-      → AllOperations SameOp SameBlock (λ r. ⊤) (operations_by old.graph f ps)
-  all_operations f [] e = tt
-  all_operations f (p ∷ ps) e = let x = e 0 p refl in (x.0, x.1, all_operations f ps (λ i q at. e (suc i) q at))
-
-  all_blocks : (f : Ptr Operation → PtrRegions) (bs : List (Ptr BasicBlock)) → ((j : ℕ) (b : Ptr BasicBlock) → slice_get bs j ≡ Some b → SameBlock b × AllOperations SameOp SameBlock (λ r. ⊤) (operations_by old.graph f (operations_in old.graph b)))
-      → AllBlocks SameOp SameBlock (λ r. ⊤) (blocks_by old.graph f bs)
-  all_blocks f [] e = tt
-  all_blocks f (b ∷ bs) e = let x = e 0 b refl in (x.0, x.1, all_blocks f bs (λ j c at. e (suc j) c at))
-
-  all_regions : (f : Ptr Operation → PtrRegions) (rs : List (Ptr Region)) → ((m : ℕ) (r : Ptr Region) → slice_get rs m ≡ Some r → AllBlocks SameOp SameBlock (λ r. ⊤) (blocks_by old.graph f (blocks old.graph r)))
-      → AllRegions SameOp SameBlock (λ r. ⊤) (regions_by old.graph f rs)
-  all_regions f [] e = tt
-  all_regions f (r ∷ rs) e = (tt, e 0 r refl, all_regions f rs (λ m s at. e (suc m) s at))
-
-  all_within : (n : ℕ) (p : Ptr Operation) → Inside (TheOperation p) → AllRegions SameOp SameBlock (λ r. ⊤) (within old.graph n p)
-  all_within zero p l = tt
-  all_within (suc n) p l = all_regions (within old.graph n) (regions old.graph p) (λ m r at.
-      let s = region_in p r m at l in
-      all_blocks (within old.graph n) (blocks old.graph r) (λ j b at.
-      let t = block_in r b j at s in (
-        kept.blocks b t,
-        all_operations (within old.graph n) (operations_in old.graph b) (λ i q at. let u = operation_in b q i at t in (kept.operations q u, all_within n q u)),
-      )))
 
   -- ---- the contents
   pub operation_same : (p : Ptr Operation) → SameOp p → operation new p ≡ operation old p
@@ -280,7 +240,9 @@ module _ {T A : Type 0} (p : Ptr Operation) (old new : ContextView T A) (older :
   nested_stays = pointers_frame old new p older.kept older.before.nested older.after.nested
 
   pub inside : AllRegions (SameOp old new p older.kept older.before.nested) (SameBlock old new p older.kept older.before.nested) (λ r. ⊤) (pointers old.graph p).regions
-  inside = all_within old new p older.kept older.before.nested (suc (length old.graph.operations.cells)) p (0, refl)
+  inside =
+      let all = all_inside old.graph p older.before.nested (SameOp old new p older.kept older.before.nested) (SameBlock old new p older.kept older.before.nested) older.kept.operations older.kept.blocks in
+      all.1
 
   -- what is built under these pointers
   abbrev built_under : ContextView T A → Root (Ptr Operation) (Ptr BasicBlock) (Ptr Region) → OperationView T A → Built T A (Written A)

@@ -4,7 +4,7 @@ use Rattle.std.proofs.lemmas.Str.{chars_from_encodes, length-le-encodes}
 use Rattle.std.specs.Str.{chars, encode_utf8_all}
 use Rattle.irtext_base.specs.Answers.{Outcome}
 use Rattle.irtext_base.specs.Locations.{AttrView}
-use Rattle.irtext_base.specs.Own.{Texts, texts_of, Lawful, Unreserved, language, unplaced}
+use Rattle.irtext_base.specs.Own.{Texts, texts_of, Lawful, Unreserved, unplaced}
 use Rattle.irtext_base.specs.Text.{Text}
 use Rattle.irtext_base.specs.declared.parsable.fault.ParseFault.{ParseFault}
 use Rattle.irtext_base.specs.Paths.{Written}
@@ -31,13 +31,13 @@ use Rattle.irtext_names.specs.Held.{held_root}
 use Rattle.irtext_names.specs.Promises.{BuildsRoot, IsFirst, RefusesRoot}
 use Rattle.irtext_tokens.specs.AttrTexts.{attr_at}
 use Rattle.irtext_grammar.specs.Back.{ClosedRoot, IsTextOf, ReadsAs}
-use Rattle.irtext_grammar.proofs.Limited.{limited_refused}
 use Rattle.irtext_grammar.proofs.TextBack.{held_back, held_whole, readable}
 use Rattle.irtext_parse_state.specs.declared.parsable.state.StateStream.{StateStream}
-use Rattle.pliron_text.specs.Alike.{KnowAlike, AreKnownAlike}
+use Rattle.pliron_text.specs.Alike.{AreKnownAlike}
 use Rattle.pliron_text.specs.PrintedRoot.{PrintedRoot, GivesBackRoot, GivesBackWhole}
 use Rattle.pliron_text.proofs.Alike.Names.{failures_alike, build_alike}
-use Rattle.pliron_text.proofs.Alike.There.{ReadsHere, same_formats, reads_too, reads_there}
+use Rattle.pliron_text.proofs.Alike.Limited.{limited_refused_there}
+use Rattle.pliron_text.proofs.Alike.There.{ReadsHere, reads_too, reads_there}
 use Rattle.pliron_text.proofs.Unlimited.{text_shown}
 
 -- what was printed under a limit that leaves no region out was printed as without one
@@ -71,11 +71,10 @@ module _ {T A : Type 0} (types : Texts T) (reading : Text → Outcome A) (text_o
         record { kept = printed.kept; fits = printed.fits; is = sym is; few = omega (arith, few, same, size, low) }
 
     -- nothing is parsed from it if a region was left out
-    pub none_read : {U : Type 0} (old : StateStream T A U) → old.stream.rest ≡ chars bytes → KnowAlike old.state.ctx.now.dialects ctx.dialects → (AllShown (written C limit g) → ⊥) → (q : Ptr Operation) (new : StateStream T A U) → BuildsRoot types owns attr q old new → ⊥
+    pub none_read : {U : Type 0} (old : StateStream T A U) → old.stream.rest ≡ chars bytes → AreKnownAlike old.state.ctx.now.dialects ctx.dialects g → (AllShown (written C limit g) → ⊥) → (q : Ptr Operation) (new : StateStream T A U) → BuildsRoot types owns attr q old new → ⊥
     none_read old follows_on alike left q new b =
-        limited_refused types owns types_law owns_law unreserved attr C (isolated ctx.dialects) g width n limit (chars bytes) new.stream.rest b.tree b.entries is_text left
-        (subst (λ t. reads_root (supported ctx.dialects types owns) (location_verdict attr) b.tree b.entries t new.stream.rest) follows_on
-        (subst (λ f. reads_root (language types owns f) (location_verdict attr) b.tree b.entries old.stream.rest new.stream.rest) (same_formats old.state.ctx.now.dialects ctx.dialects alike) b.reads))
+        limited_refused_there types owns types_law owns_law unreserved attr C ctx.dialects old.state.ctx.now.dialects refl (isolated ctx.dialects) g alike width n limit (chars bytes) new.stream.rest b.tree b.entries is_text left
+        (subst (λ t. reads_root (supported old.state.ctx.now.dialects types owns) (location_verdict attr) b.tree b.entries t new.stream.rest) follows_on b.reads)
 
   module _ (printed : PrintedRoot types owns attr C ctx p g width n None bytes) (closed : ClosedRoot C (isolated ctx.dialects) g)
       {U : Type 0} (old : StateStream T A U) (follows_on : old.stream.rest ≡ chars bytes) (alike : AreKnownAlike old.state.ctx.now.dialects ctx.dialects g) where

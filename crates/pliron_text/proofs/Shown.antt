@@ -1,6 +1,6 @@
 -- What printing sees of pointers under which all is there, and what is held there: item by item, with the types of all values.
 use Rattle.std.proofs.Common.{◌≡◌, ◌∙◌, ℕ, List, [], ◌∷◌, map, filter_map, Option, Some, None, option_map, refl, sym, ap, subst}
-use Rattle.std.specs.Prelude.{⊤, option_and_then}
+use Rattle.std.specs.Prelude.{⊤, true, is_some, option_and_then}
 use Rattle.std.specs.List.{cons_option}
 use Rattle.irtext_base.specs.Paths.{Written}
 use Rattle.irtext_context.specs.Context.{ContextView, OperationView, BlockView, known, operation, operation_of, view_of, block, block_of}
@@ -70,15 +70,25 @@ module _ {T A : Type 0} (c : ContextView T A) where
       go None e = absurd (cc)
       go (Some x) e = let f = some_eq e in ap (λ (v : BlockView T A). v.arg_types) (sym f)
 
+  -- a block is there, and the types of its arguments are known
+  pub record BlockThere (b : Ptr BasicBlock) : Type 0 where
+    pub view : BlockView T A
+    pub is : block c b ≡ Some view
+    pub types : List T
+    pub known_as : view.arg_types ≡ known types
+
+  abbrev there_is : (b : Ptr BasicBlock) → BlockWhole c b → BlockThere b
+  there_is b w = record { view = w.view; is = w.is; types = w.types; known_as = w.known_as }
+
   module _ (text_of : A → Text) (all : List (Object × Path)) where
     -- an operation is there, with types that are known, and printing sees it so
     pub record SeenOp (p : Ptr Operation) (o : GraphOp T A) : Type 0 where
       pub whole : OperationWhole c p
       pub sees : o ≡ seen_operation text_of c p whole.view
 
-    -- so is a block, with its label
+    -- so is a block
     pub record SeenBlock (b : Ptr BasicBlock) (d : GraphBlock T A) : Type 0 where
-      pub whole : BlockWhole c b
+      pub whole : BlockThere b
       pub sees : d ≡ seen_block text_of c b whole.view
 
     -- an operation is present, and this is what the context has of it
@@ -87,10 +97,11 @@ module _ {T A : Type 0} (c : ContextView T A) where
       pub is : operation c p ≡ Some view
       pub holds : b ≡ held_op c all p view
 
-    -- so is a block
+    -- so is a block, with its label
     pub record HeldBlock (p : Ptr BasicBlock) (b : BuiltBlock T A (Written A)) : Type 0 where
       pub view : BlockView T A
       pub is : block c p ≡ Some view
+      pub labelled : is_some view.label ≡ true
       pub holds : b ≡ held_head c all view
 
     -- forests of pointers, and what printing sees of them
@@ -128,13 +139,31 @@ module _ {T A : Type 0} (c : ContextView T A) where
       blocks_both no_blocks w = record { seen = tt; held = tt }
       blocks_both (forest.block b os ps) w =
           subst (λ z. Both (SeenBlocks (forest.block b os ps) (elim z [ Some view ↦ forest.block (seen_block text_of c b view) (seen_operations text_of c os) (seen_blocks text_of c ps) | None ↦ seen_blocks text_of c ps ])) (HeldBlocks (forest.block b os ps) (elim z [ Some view ↦ forest.block (held_head c all view) (held_operations c all os) (held_blocks c all ps) | None ↦ held_blocks c all ps ]))) (sym w.0.is)
-          (record { seen = (record { whole = w.0; sees = refl }, (operations_both os w.1).seen, (blocks_both ps w.2).seen); held = (record { view = w.0.view; is = w.0.is; holds = refl }, (operations_both os w.1).held, (blocks_both ps w.2).held) })
+          (record { seen = (record { whole = there_is b w.0; sees = refl }, (operations_both os w.1).seen, (blocks_both ps w.2).seen); held = (record { view = w.0.view; is = w.0.is; labelled = w.0.labelled; holds = refl }, (operations_both os w.1).held, (blocks_both ps w.2).held) })
 
       operations_both : (ps : PtrOperations) → AllOperations (OperationWhole c) (BlockWhole c) (λ r. ⊤) ps → Both (SeenOperations ps (seen_operations text_of c ps)) (HeldOperations ps (held_operations c all ps))
       operations_both no_operations w = record { seen = tt; held = tt }
       operations_both (forest.operation p rs ps) w =
           subst (λ z. Both (SeenOperations (forest.operation p rs ps) (elim z [ Some view ↦ forest.operation (seen_operation text_of c p view) (seen_regions text_of c rs) (seen_operations text_of c ps) | None ↦ seen_operations text_of c ps ])) (HeldOperations (forest.operation p rs ps) (elim z [ Some view ↦ forest.operation (held_op c all p view) (held_regions c all rs) (held_operations c all ps) | None ↦ held_operations c all ps ]))) (sym w.0.is)
           (record { seen = (record { whole = w.0; sees = refl }, (regions_both rs w.1).seen, (operations_both ps w.2).seen); held = (record { view = w.0.view; is = w.0.is; holds = refl }, (regions_both rs w.1).held, (operations_both ps w.2).held) })
+
+    mutual
+      -- what printing sees of regions of pointers, where blocks may have no label
+      pub regions_seen : (ps : PtrRegions) → AllRegions (OperationWhole c) BlockThere (λ r. ⊤) ps → SeenRegions ps (seen_regions text_of c ps)
+      regions_seen no_regions w = tt
+      regions_seen (forest.region r bs ps) w = (tt, blocks_seen bs w.1, regions_seen ps w.2)
+
+      pub blocks_seen : (ps : PtrBlocks) → AllBlocks (OperationWhole c) BlockThere (λ r. ⊤) ps → SeenBlocks ps (seen_blocks text_of c ps)
+      blocks_seen no_blocks w = tt
+      blocks_seen (forest.block b os ps) w =
+          subst (λ z. SeenBlocks (forest.block b os ps) (elim z [ Some view ↦ forest.block (seen_block text_of c b view) (seen_operations text_of c os) (seen_blocks text_of c ps) | None ↦ seen_blocks text_of c ps ])) (sym w.0.is)
+          (record { whole = w.0; sees = refl }, operations_seen os w.1, blocks_seen ps w.2)
+
+      operations_seen : (ps : PtrOperations) → AllOperations (OperationWhole c) BlockThere (λ r. ⊤) ps → SeenOperations ps (seen_operations text_of c ps)
+      operations_seen no_operations w = tt
+      operations_seen (forest.operation p rs ps) w =
+          subst (λ z. SeenOperations (forest.operation p rs ps) (elim z [ Some view ↦ forest.operation (seen_operation text_of c p view) (seen_regions text_of c rs) (seen_operations text_of c ps) | None ↦ seen_operations text_of c ps ])) (sym w.0.is)
+          (record { whole = w.0; sees = refl }, regions_seen rs w.1, operations_seen ps w.2)
 
     -- what printing sees of regions of pointers under which all is there
     pub regions_shown : (ps : PtrRegions) → AllRegions (OperationWhole c) (BlockWhole c) (λ r. ⊤) ps → SeenRegions ps (seen_regions text_of c ps)

@@ -10,6 +10,7 @@ use Rattle.irtext_base.specs.Text.{Text}
 use Rattle.irtext_base.specs.declared.parsable.fault.ParseFault.{ParseFault}
 use Rattle.irtext_base.specs.declared.text.AttrText as attr_text
 use Rattle.irtext_base.specs.declared.text.IrText as ir_text
+use Rattle.irtext_alike.specs.First.{IsFirstUnlike}
 use Rattle.irtext_context.specs.Context.{ContextView}
 use Rattle.irtext_graph.specs.declared.arena.Ptr.{Ptr}
 use Rattle.irtext_graph.specs.declared.object.Operation.{Operation}
@@ -31,7 +32,7 @@ use Rattle.irtext_grammar.specs.Back.{HeldBack, HeldWhole}
 use Rattle.irtext_parse_state.specs.FromText.{at_beginning, Begins}
 use Rattle.irtext_parse_state.specs.declared.parsable.state.StateStream.{StateStream}
 use Rattle.pliron_text.specs.declared.calls.NotAgain.{NotAgain}
-use Rattle.pliron_text.specs.declared.calls.NotAgain.TheVariants.{Refused, Lost}
+use Rattle.pliron_text.specs.declared.calls.NotAgain.TheVariants.{Refused, Unlike, Lost}
 use Rattle.pliron_text.specs.declared.calls.NotBack.{NotBack}
 use Rattle.pliron_text.specs.declared.calls.NotBack.TheVariants.{Unprinted, Unread}
 
@@ -99,10 +100,11 @@ module _ {T A : Type 0} (types : ir_text.Ghosts T A) (owns : ir_text.Ghosts A A)
     pub whole : ShowsAll types owns attributes same after p layout graph → ComesBackWhole types owns attributes same after p layout other q left graph
     pub only : OnlyNew q other left
 
-  -- Why a text's root is not parsed again: the text was rejected, its root was not printed in this layout, or memory ran out. If the
-  -- layout leaves a region out, the printed text may also be rejected.
-  abbrev pub IsExcusedAgain : ContextView T A → Shown (Unit {0}) → NotAgain A → Type 0
-  IsExcusedAgain after layout (Refused f) = UnlessMemory (RefusesText (texts_of types.reading types.written) (texts_of owns.reading owns.written) (attr_at owns.reading) bytes ctx types.reading) f
-  IsExcusedAgain after layout (Lost lost) =
+  -- Why a text's root is not parsed again: the text was rejected, the other context knows an operation of its root otherwise, the root was
+  -- not printed in this layout, or memory ran out. If the layout leaves a region out, the printed text may also be rejected.
+  abbrev pub IsExcusedAgain : ContextView T A → ContextView T A → Shown (Unit {0}) → NotAgain A → Type 0
+  IsExcusedAgain after other layout (Unlike unlike) = (p : Ptr Operation) × ReadsText (texts_of types.reading types.written) (texts_of owns.reading owns.written) (attr_at owns.reading) bytes ctx p after × IsFirstUnlike after other.dialects p unlike
+  IsExcusedAgain after other layout (Refused f) = UnlessMemory (RefusesText (texts_of types.reading types.written) (texts_of owns.reading owns.written) (attr_at owns.reading) bytes ctx types.reading) f
+  IsExcusedAgain after other layout (Lost lost) =
       (p : Ptr Operation) × ReadsText (texts_of types.reading types.written) (texts_of owns.reading owns.written) (attr_at owns.reading) bytes ctx p after
       × ((g : Graph T A) → seen_root owns.written after p ≡ Some g → ShowsAll types owns attributes same after p layout g → IsExcused types owns attributes same after p layout lost)

@@ -3,6 +3,7 @@
 -- streams, faults and causes, what a parser returns, what a printer appends.
 pub mod Alike
 pub mod Calls
+pub mod Fills
 pub mod Misfits
 pub mod Older
 pub mod PrintsAsBefore

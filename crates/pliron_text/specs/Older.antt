@@ -1,6 +1,6 @@
 -- For callers: a root of a context, after a text was parsed in the same context.
-use Rattle.std.specs.Prelude.{◌≡◌, true, length, Some, IsSome, ⊤}
-use Rattle.irtext_base.specs.Paths.{are_known, KeepsPaths}
+use Rattle.std.specs.Prelude.{◌≡◌, Some, IsSome, ⊤}
+use Rattle.irtext_base.specs.Paths.{KeepsPaths}
 use Rattle.irtext_context.specs.Context.{ContextView, operation, block}
 use Rattle.irtext_graph.specs.Graph.{CountsOn, IsInside, IsLive, content}
 use Rattle.irtext_graph.specs.Store.{get}
@@ -13,21 +13,16 @@ use Rattle.irtext_graph.specs.declared.object.Region.{Region}
 use Rattle.irtext_grammar.specs.ContextParts.{KeepsCounters}
 use Rattle.irtext_grammar.specs.Contexts.Nested.{pointers}
 use Rattle.irtext_grammar.specs.Grammar.Forest.{AllRegions}
-use Rattle.irtext_base.specs.declared.location.Location.{Location}
-use Rattle.irtext_base.specs.Locations.{location_view}
+use Rattle.irtext_closed.specs.Located.{IsLocatedIn}
 
 module _ {T A : Type 0} (c : ContextView T A) where
-  -- the files of a location are kept
-  abbrev pub IsLocatedIn : Location A → Type 0
-  IsLocatedIn l = are_known (length c.paths) (location_view l) ≡ true
-
   -- the files of the operation's location are kept
   abbrev pub OperationLocated : Ptr Operation → Type 0
-  OperationLocated p = (view : _) → operation c p ≡ Some view → IsLocatedIn view.loc
+  OperationLocated p = (view : _) → operation c p ≡ Some view → IsLocatedIn c view.loc
 
   -- the files of the block's location are kept
   abbrev pub BlockLocated : Ptr BasicBlock → Type 0
-  BlockLocated b = (view : _) → block c b ≡ Some view → IsLocatedIn view.loc
+  BlockLocated b = (view : _) → block c b ≡ Some view → IsLocatedIn c view.loc
 
   -- the same of a root and everything nested in it
   abbrev pub RootLocated : Ptr Operation → Type 0

@@ -15,6 +15,7 @@ ghost use Rattle.irtext_grammar.specs.Promises.Root.{UnlessMemory};
 ghost use Rattle.irtext_parse_state.specs.States.{IsFresh};
 ghost use Rattle.irtext_grammar.specs.Promises.Section.{IsOutOfMemory};
 ghost use Rattle.irtext_print.specs.Printers.Appended.{fresh};
+ghost use Rattle.irtext_print.specs.declared.printable.state.RegionPrintDepthLimit.TheVariants.{Unlimited};
 ghost use Rattle.irtext_print.specs.Printers.PrintedOperation.{levels};
 ghost use Rattle.irtext_print_ir.specs.Printers.Printed.{block_round};
 ghost use Rattle.irtext_print_ops.specs.Heads as heads;
@@ -23,10 +24,15 @@ ghost use Rattle.irtext_names.specs.Promises.{BuildsRoot, RefusesRoot};
 ghost use Rattle.irtext_tokens.specs.AttrTexts.{attr_at};
 ghost use Rattle.irtext_grammar.specs.Back.{ClosedRoot};
 ghost use Rattle.irtext_closed.specs.Closed.{IsClosedRoot};
-ghost use Rattle.pliron_text.specs.Alike.{KnowAlike, KnowsRoot};
+ghost use Rattle.irtext_closed.specs.Located.{IsLocatedRoot};
+ghost use Rattle.irtext_alike.specs.Alike.{KnowsRoot};
 ghost use Rattle.pliron_text.specs.Calls.{IsPrinted, ReadsPrinted, ComesBack, ComesBackWhole, ReadsText, RefusesText, IsExcused, IsAgain, IsExcusedAgain};
+ghost use Rattle.pliron_text.specs.Fills.{IsFilled, IsNotRejected};
 ghost use Rattle.pliron_text.specs.Older.{IsOlder, KeepsRoot, RootLocated};
 
+use crate::laws::older::tested_root_is_located;
+use irtext_alike::root::knows_root;
+use irtext_alike::unlike::UnlikeOperation;
 use irtext_base::location::Source;
 use irtext_base::parsable::{ParseFault, ParseResult, SourcePosition, TextStream};
 use irtext_base::result::Cause;
@@ -52,6 +58,8 @@ pub enum NotBack<A> {
 pub enum NotAgain<A> {
     /// The text was rejected, or there was no memory to parse it.
     Refused(ParseFault<A>),
+    /// The other context knows this operation of its root otherwise.
+    Unlike(UnlikeOperation),
     /// Its root was not printed, or was not parsed back.
     Lost(NotBack<A>),
 }
@@ -170,8 +178,7 @@ pub fn there_and_back<T: IrText<A>, A: AttrText<A>>(
         (Fit C (isolated ctx.now.dialects) g → ClosedRoot C (isolated ctx.now.dialects) g × Named C g) →
         IfOk result (λ q. ComesBackWhole T.IrText.own A.IrText.own A.AttrText.own A.eq ctx.now op
         (fresh layout.now.width layout.now.indent layout.now.limit) other.old q other.new g) }
-    ensures limited { KnowAlike other.old.dialects ctx.now.dialects → block_round ctx.now op ≡ None → (g : Graph T A) → seen_root A.written ctx.now
-        op ≡ Some g →
+    ensures limited { block_round ctx.now op ≡ None → (g : Graph T A) → seen_root A.written ctx.now op ≡ Some g →
         let C = printing_over ctx.now A.outlined A.print_once A.eq in
         Fit C (isolated ctx.now.dialects) g → (AllShown (written C (levels layout.now.limit) g) → ⊥)
         → IfOk result (λ q. ⊥) }
@@ -197,18 +204,18 @@ pub fn there_and_back<T: IrText<A>, A: AttrText<A>>(
     }
 }
 
-/// Prints a root, and parses the text in another context that knows the root's operations alike: each with the same format and isolation,
-/// in whatever order they were registered. It prints as `print` does with a state of this layout
+/// Prints a root, and parses the text in another context that knows the root's operations alike, which `knows_root` says: each with the
+/// same format and isolation, in whatever order they were registered. It prints as `print` does with a state of this layout
 /// (as `disp` does if the layout is that of a new state), and parses as `top_level_parse` does.
 ///
 /// If the root is closed, which `check_closed` says, and the layout leaves no region out, the returned operation, however deep, is equal
 /// to the root up to fillings, uses inside included, and only white space is left of the printed text. If in addition each block has a
 /// label, and everything that has results or arguments holds given names, only positions are filled in. In both cases an error is one of
-/// these: out of memory, an operation does not fit its format, or an indentation does not fit 16 bits.
+/// these: out of memory, an operation does not fit its format, or an indentation does not fit 16 bits. The clauses `equal` and `accepted`
+/// say this of what the two contexts hold, without what the printed text is.
 ///
 /// On success only the returned operation and what is inside it is new in the other context. On an error the objects of the other
-/// context are unchanged. If the root is closed, its operations fit, the layout leaves a region out and both contexts know all operations
-/// alike, the call never succeeds.
+/// context are unchanged. If the root is closed, its operations fit and the layout leaves a region out, the call never succeeds.
 pub fn printed_and_read<T: IrText<A>, A: AttrText<A>>(
     ctx: &Context<T, A>,
     op: Ptr<Operation>,
@@ -224,12 +231,15 @@ pub fn printed_and_read<T: IrText<A>, A: AttrText<A>>(
         AllShown (written C (levels layout.now.limit) g) →
         IfOk result (λ q. ComesBack T.IrText.own A.IrText.own A.AttrText.own A.eq ctx.now op
         (fresh layout.now.width layout.now.indent layout.now.limit) other.old q other.new g) }
+    ensures equal { IsClosedRoot ctx.now op → layout.now.limit ≡ Unlimited →
+        IfOk result (λ q. IsFilled ctx.now op other.new q) }
+    ensures accepted { IsClosedRoot ctx.now op → layout.now.limit ≡ Unlimited → IfErr result IsNotRejected }
     ensures whole { IsClosedRoot ctx.now op → (g : Graph T A) → seen_root A.written ctx.now op ≡ Some g →
         let C = printing_over ctx.now A.outlined A.print_once A.eq in
         AllShown (written C (levels layout.now.limit) g) → Named C g →
         IfOk result (λ q. ComesBackWhole T.IrText.own A.IrText.own A.AttrText.own A.eq ctx.now op
         (fresh layout.now.width layout.now.indent layout.now.limit) other.old q other.new g) }
-    ensures limited { KnowAlike other.old.dialects ctx.now.dialects → IsClosedRoot ctx.now op → (g : Graph T A) → seen_root A.written ctx.now op ≡ Some g →
+    ensures limited { IsClosedRoot ctx.now op → (g : Graph T A) → seen_root A.written ctx.now op ≡ Some g →
         let C = printing_over ctx.now A.outlined A.print_once A.eq in
         Fit C (isolated ctx.now.dialects) g → (AllShown (written C (levels layout.now.limit) g) → ⊥)
         → IfOk result (λ q. ⊥) }
@@ -242,24 +252,25 @@ pub fn printed_and_read<T: IrText<A>, A: AttrText<A>>(
     ensures objects { OnErr result (SameObjects other.old other.new) }
 {
     keeps_parts(ctx);
-    there_and_back(ctx, op, layout, other)
+    let answer = there_and_back(ctx, op, layout, other);
+    keeps_parts(other);
+    answer
 }
 
-/// Parses a text, prints the root, and parses the printed text in another context that knows all operations alike. On success returns both
-/// roots. If the layout leaves no region out, the second is equal to the first, with a position if a location was unknown, and with no
-/// name and no label filled in. Then an error is one of these: the text is rejected, out of memory, an operation does not fit its
-/// format, or an indentation does not fit 16 bits. If the layout leaves a region out, the printed text may also be rejected.
+/// Parses a text, prints the root, and parses the printed text in another context. On success returns both roots. If the layout leaves no
+/// region out, the second is equal to the first, with a position if a location was unknown, and with no name and no label filled in. Then
+/// an error is one of these: the text is rejected, out of memory, the other context knows an operation of the root otherwise, an operation
+/// does not fit its format, or an indentation does not fit 16 bits. If the layout leaves a region out, the printed text may also be rejected.
 pub fn read_printed_and_read<T: IrText<A>, A: AttrText<A>>(
     text: &str,
     ctx: &mut Context<T, A>,
     layout: &PrintState<()>,
     other: &mut Context<T, A>,
 ) -> Result<(Ptr<Operation>, Ptr<Operation>), NotAgain<A>>
-    requires dialects { KnowAlike other.old.dialects ctx.old.dialects }
     ensures again { IfOk result (λ r. IsAgain T.IrText.own A.IrText.own A.AttrText.own A.eq text.now ctx.old
         (fresh layout.now.width layout.now.indent layout.now.limit) r.0 ctx.new other.old r.1 other.new) }
     ensures refused { IfErr result (IsExcusedAgain T.IrText.own A.IrText.own A.AttrText.own A.eq text.now
-        ctx.old ctx.new
+        ctx.old ctx.new other.old
         (fresh layout.now.width layout.now.indent layout.now.limit)) }
 {
     let root = match read_text(ctx, text) {
@@ -267,6 +278,9 @@ pub fn read_printed_and_read<T: IrText<A>, A: AttrText<A>>(
         Err(fault) => return Err(NotAgain::Refused(fault)),
     };
     keeps_parts(ctx);
+    if let Err(unlike) = knows_root(ctx, root, other) {
+        return Err(NotAgain::Unlike(unlike));
+    }
     match there_and_back(ctx, root, layout, other) {
         Ok(again) => Ok((root, again)),
         Err(lost) => Err(NotAgain::Lost(lost)),
@@ -292,7 +306,7 @@ fn read_beside<T: IrText<A>, A: AttrText<A>>(
 /// Prints a root, parses a text in the same context, and prints the root again. The two texts are the same, whether the parsed text is
 /// accepted or rejected. It prints as `print` does with a state of this layout, and parses as `top_level_parse` does.
 ///
-/// Each `Err` is the reason why the root is not printed: it is out of memory, or one that the root gives before the text is parsed.
+/// The context has to keep the files of the root's locations, which `is_located` tests. Each `Err` is the reason why the root is not printed: it is out of memory, or one that the root gives before the text is parsed.
 /// What the parse returns is dropped. The root is unchanged, and where a root was parsed, it stays in the context.
 pub fn printed_before_and_after<T: IrText<A>, A: AttrText<A>>(
     ctx: &mut Context<T, A>,
@@ -300,14 +314,14 @@ pub fn printed_before_and_after<T: IrText<A>, A: AttrText<A>>(
     layout: &PrintState<()>,
     text: &str,
 ) -> (Result<String, Refusal>, Result<String, Refusal>)
-    requires live { IsSome (operation ctx.old op) }
-    requires located { RootLocated ctx.old op }
+    requires { IsLocatedRoot ctx.old op }
     ensures same { block_round ctx.old op ≡ None → IfOk result.0 (λ before. IfOk result.1 (λ after.
         string_bytes after ≡ string_bytes before)) }
     ensures refused { IfErr result.1 (heads.RefusesUnder T.IrText.own A.IrText.own A.AttrText.own A.eq ctx.old
         op (fresh layout.now.width layout.now.indent layout.now.limit)) }
     ensures kept { KeepsRoot op ctx.old ctx.new }
 {
+    tested_root_is_located(ctx);
     let before = text_of_root(ctx, op, layout);
     let _answer = read_beside(ctx, op, text);
     let after = text_of_root(ctx, op, layout);

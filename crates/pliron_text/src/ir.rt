@@ -4,8 +4,13 @@ pub mod misfit;
 pub mod printing;
 mod text;
 
+pub use irtext_alike::dialects::same_dialects;
+pub use irtext_alike::known::unlike_id;
+pub use irtext_alike::root::knows_root;
+pub use irtext_alike::unlike::{Unlike, UnlikeOperation};
 pub use irtext_checked::context::keeps_parts;
 pub use irtext_closed::check::check_closed;
+pub use irtext_closed::located::is_located;
 pub use irtext_closed::not_closed::NotClosed;
 pub use irtext_parse_root::ir::read::OperationParserConfig;
 pub use irtext_print_ir::ir::print::debug::{OpDbg, print_dbg, print_elided};

@@ -13,7 +13,6 @@ use irtext_context::base::context::making::Making;
 use irtext_context::base::{AttributeDict, BasicBlock, Context, Ptr};
 use irtext_context::dialect::invalid;
 use irtext_few::Few;
-use std::alloc::AllocError;
 
 /// Makes blocks: `BasicBlock::new`.
 pub trait NewBlock {
@@ -34,7 +33,7 @@ pub trait NewBlock {
         let attributes = AttributeDict::with_seed(ctx.allocator(), ctx.seed());
         match ctx.make_block(label, attributes, Location::Unknown, arg_types) {
             Ok(p) => Ok(p),
-            Err(AllocError) => Err(invalid(Cause::Memory)),
+            Err(_) => Err(invalid(Cause::Memory)),
         }
     }
 }

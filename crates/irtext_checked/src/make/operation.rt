@@ -19,7 +19,7 @@ use irtext_context::base::context::making::Making;
 use irtext_context::base::{AttributeDict, BasicBlock, Context, Operation, Ptr, Value};
 use irtext_context::dialect::invalid;
 use irtext_few::Few;
-use std::alloc::AllocError;
+use irtext_memory::NoRoom;
 
 /// Adds `count` empty regions to an operation. Fails if an allocation fails or a counter is at its limit; the regions that were added
 /// before stay.
@@ -27,7 +27,7 @@ pub fn add_regions<T: IrText<A>, A: AttrText<A>>(
     ctx: &mut Context<T, A>,
     op: Ptr<Operation>,
     count: usize,
-) -> Result<(), AllocError>
+) -> Result<(), NoRoom>
     requires { IsLive ctx.old.graph (TheOperation op) }
     ensures adds { OnOk result (AddsRegions count ctx.old ctx.new op) }
     ensures kept { (mark : ℕ) → mark ≤ ctx.old.graph.made → before mark ctx.old.graph.operations op ≡ None
@@ -48,7 +48,7 @@ fn make<T: IrText<A>, A: AttrText<A>>(
     operands: &[Value],
     successors: &[Ptr<BasicBlock>],
     num_regions: usize,
-) -> Result<Ptr<Operation>, AllocError>
+) -> Result<Ptr<Operation>, NoRoom>
     requires operands { AreDefinedValues ctx.old operands.now }
     requires successors { AreLiveBlocks ctx.old successors.now }
     ensures made { IfOk result (λ op. MakesWithRegions num_regions ctx.old ctx.new op id result_types
@@ -96,7 +96,7 @@ pub trait NewOperation {
         let made = ctx.made();
         match make(ctx, id, result_types, operands, successors, num_regions) {
             Ok(op) => Ok(op),
-            Err(AllocError) => {
+            Err(_) => {
                 ctx.roll_back(made);
                 Err(invalid(Cause::Memory))
             }

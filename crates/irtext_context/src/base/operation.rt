@@ -1,19 +1,21 @@
 //! Operations: the data that a context keeps of an operation, and the calls that read and change it.
-ghost use Rattle.std.specs.Prelude.{◌≡◌, ◌≤◌, ℕ, List, Some, None, false, IsSome, IfOk, IfErr, OnOk, OnErr, option_map, option_and_then};
+ghost use Rattle.std.specs.Prelude.{◌≡◌, ◌≤◌, ◌↔◌, ℕ, List, Some, None, Err, false, IsSome, IfOk, IfErr, OnOk, OnErr, option_map, option_and_then};
 ghost use Rattle.std.specs.Borrow.{sem};
 ghost use Rattle.irtext_base.specs.Text.{Text};
 ghost use Rattle.irtext_context.specs.Dictionary.{is_reserved_for, RefusesEntry};
+ghost use Rattle.irtext_graph.specs.Limits.{NoMoreRegions};
 ghost use Rattle.irtext_graph.specs.Parts.{operation_at};
 ghost use Rattle.irtext_graph.specs.Store.{before};
 ghost use Rattle.irtext_context.specs.Context.{operation, with_attribute, with_attributes, with_changed_operation, with_loc, AddsRegion, EditsOperation, KeepsOlder};
 ghost use Rattle.irtext_context.specs.AttributeLends.{LendsHeld};
+ghost use Rattle.irtext_memory.specs.declared.NoRoom.{NoRoom};
 
 use crate::base::context::making::Making;
 use crate::base::{AttributeDict, Context, Operation, Ptr, Region};
 use irtext_base::base::{AttrObj, Identifier, OpId, Refusal};
 use irtext_base::location::Location;
 use irtext_base::text::{AttrText, IrText};
-use std::alloc::AllocError;
+use irtext_memory::NoRoom;
 
 /// An operation's id, attributes and location. Its operands, successors, results and regions are kept by the graph.
 #[derive(Drop)]
@@ -121,14 +123,15 @@ pub trait OperationAccess: Sized {
         ensures kept { (mark : ℕ) → before mark ctx.old.graph.operations (pointer self) ≡ None
             → KeepsOlder mark ctx.old ctx.new };
 
-    /// Adds an empty region to the operation, after its other regions. Nothing else changes. Fails if an allocation fails or a counter is
-    /// at its limit; then the context is unchanged.
+    /// Adds an empty region to the operation, after its other regions. Nothing else changes. Fails with `Full` exactly if no more regions
+    /// can be made, since a counter is at its limit, and else only when out of memory; then the context is unchanged.
     fn add_region<T: IrText<A>, A: AttrText<A>>(
         self,
         ctx: &mut Context<T, A>,
-    ) -> Result<Ptr<Region>, AllocError>
+    ) -> Result<Ptr<Region>, NoRoom>
         requires { IsSome (operation ctx.old (pointer self)) }
         ensures added { IfOk result (λ r. AddsRegion ctx.old ctx.new (pointer self) r) }
+        ensures full { (result ≡ Err NoRoom.Full) ↔ NoMoreRegions ctx.old.graph }
         ensures err { OnErr result (ctx.new ≡ ctx.old) }
         ensures kept { (mark : ℕ) → mark ≤ ctx.old.graph.made → before mark ctx.old.graph.operations
             (pointer self) ≡ None →
@@ -172,7 +175,7 @@ impl OperationAccess for Ptr<Operation> {
     fn add_region<T: IrText<A>, A: AttrText<A>>(
         self,
         ctx: &mut Context<T, A>,
-    ) -> Result<Ptr<Region>, AllocError> {
+    ) -> Result<Ptr<Region>, NoRoom> {
         ctx.add_region(self)
     }
 }

@@ -3,16 +3,17 @@ ghost use Rattle.std.specs.Prelude.{◌≡◌, IfOk, Err};
 ghost use Rattle.irtext_context.specs.Context.{known};
 
 use irtext_few::{Few, Items};
-use std::alloc::{AllocError, Global};
+use irtext_memory::{OutOfMemory, vec};
+use std::alloc::Global;
 
 /// Wraps each type of a vector in `Some`.
 #[inline(never)]
-fn many_known_types<T: Drop>(alloc: Global, types: Vec<T>) -> Result<Vec<Option<T>>, AllocError>
+fn many_known_types<T: Drop>(alloc: Global, types: Vec<T>) -> Result<Vec<Option<T>>, OutOfMemory>
     ensures { IfOk result (λ all. all.items ≡ known types.items) }
 {
-    let mut all = Vec::with_capacity(alloc, types.len())?;
+    let mut all = vec::with_capacity_of(alloc, types.len(), &types)?;
     for of_type in types {
-        all.push(Some(of_type))?;
+        vec::push(&mut all, Some(of_type))?;
     }
     Ok(all)
 }
@@ -22,7 +23,7 @@ fn many_known_types<T: Drop>(alloc: Global, types: Vec<T>) -> Result<Vec<Option<
 pub(crate) fn known_types<T: Drop>(
     alloc: Global,
     types: Few<T>,
-) -> Result<Few<Option<T>>, AllocError>
+) -> Result<Few<Option<T>>, OutOfMemory>
     ensures { IfOk result (λ all. all ≡ known types) }
 {
     match types.into_items() {

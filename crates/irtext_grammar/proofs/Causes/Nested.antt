@@ -15,7 +15,8 @@ use Rattle.irtext_grammar.specs.Grammar.Tree as tree
 use Rattle.irtext_grammar.specs.Grammar.Tree.{Name, Part}
 use Rattle.irtext_grammar.specs.Readers.Parts.{without_first}
 use Rattle.irtext_grammar.specs.Readers.RestLengths.{Leaves}
-use Rattle.irtext_grammar.specs.Heads.{Step, flat, types, one, all, front_steps, region_steps, piece_at, led_at}
+use Rattle.irtext_grammar.specs.declared.parsed.Setting.{Setting}
+use Rattle.irtext_grammar.specs.Heads.{Step, flat, types, one, all, front_steps, region_steps, piece_at, led_at, setting}
 use Rattle.irtext_grammar.specs.Reached.{Reached, Advanced, Stopped, came, tells, Actions, Reads, begins_operation, steps_in, regions_by, more_by, operations_by, blocks_by, front_by, steps_by, end_by, body_by, operation_by, block_by, region_by, region_within, region_at, operation_at}
 use Rattle.irtext_grammar.proofs.Knot.Alike.{IsLoop}
 use Rattle.irtext_grammar.proofs.Knot.Bound.{regions_loop, more_loop, blocks_loop}
@@ -122,13 +123,13 @@ module _ {K : Allowed} {S : Type 0} (b : ℕ) where
 
 module _ {K : Allowed} {T A S : Type 0} (dialects : List (Text × Table)) (types_at : Reader T) (attr : Reader (AttrView A)) (does : Actions T A S)
     (of_types : AllObey K types_at) (of_attr : AllObey K attr) (of_led : AllObey K (led_at dialects)) where
-  spaced_piece : (inside : Bool) (step : Step) → AllObey K (space_at ▷ piece_at types_at attr inside step)
-  spaced_piece inside step = ◌then◌ obeying_space (piece_obeys of_types of_attr inside step)
+  spaced_piece : (at : Setting) (step : Step) → AllObey K (space_at ▷ piece_at types_at attr at step)
+  spaced_piece at step = ◌then◌ obeying_space (piece_obeys of_types of_attr at step)
 
-  front_ends : (inside : Bool) (ss : List Step) (found : List (Part ℕ T A)) (text : Text) (s : S) → Ends K text (front_by dialects types_at attr does inside ss found text s)
-  front_ends inside [] found text s = ends_came text found s [] text refl
-  front_ends inside (step ∷ ss) found text s = ends_tells text _ s _ ((spaced_piece inside step).at text)
-      (λ p rest e. front_ends inside ss (found ++ tree.piece p ∷ []) rest s)
+  front_ends : (at : Setting) (ss : List Step) (found : List (Part ℕ T A)) (text : Text) (s : S) → Ends K text (front_by dialects types_at attr does at ss found text s)
+  front_ends at [] found text s = ends_came text found s [] text refl
+  front_ends at (step ∷ ss) found text s = ends_tells text _ s _ ((spaced_piece at step).at text)
+      (λ p rest e. front_ends at ss (found ++ tree.piece p ∷ []) rest s)
 
   end_ends : (place : ℕ) (names : List (Name ℕ)) (id : Id) (parts : List (Part ℕ T A)) (text : Text) (s : S) → Ends K text (end_by dialects types_at attr does place names id parts text s)
   end_ends place names id parts text s = ends_tells text _ _ _ ((◌then◌ obeying_space mark_if_obeys).at text) (λ m rest e. ends_came rest tt _ [] rest refl)
@@ -145,15 +146,15 @@ module _ {K : Allowed} {T A S : Type 0} (dialects : List (Text × Table)) (types
         ends_next text (regions_by (inner iso) (length text) (after_space text) s) _
         (ends_spaced text _ ((loop_ends b (regions_loop (inner iso)) (inner_ends iso) (length text)).at (after_space text) s (let j = space_shorter text in omega (arith, j, k))))
         (λ _ t rest e. steps_end iso place id ss (found ++ tree.regions ∷ []) rest t (omega (arith, e, k)))
-    steps_end iso place id (flat d ∷ ss) found text s k = ends_tells text _ s _ ((spaced_piece true (flat d)).at text)
+    steps_end iso place id (flat d ∷ ss) found text s k = ends_tells text _ s _ ((spaced_piece (setting true does.any_key) (flat d)).at text)
         (λ p rest e. steps_end iso place id ss (found ++ tree.piece p ∷ []) rest (does.late place id p s) (omega (arith, e, k)))
-    steps_end iso place id (types ∷ ss) found text s k = ends_tells text _ s _ ((spaced_piece true types).at text)
+    steps_end iso place id (types ∷ ss) found text s k = ends_tells text _ s _ ((spaced_piece (setting true does.any_key) types).at text)
         (λ p rest e. steps_end iso place id ss (found ++ tree.piece p ∷ []) rest (does.late place id p s) (omega (arith, e, k)))
 
     body_ends : (iso inside : Bool) (place : ℕ) (names : List (Name ℕ)) (id : Id) (text : Text) (s : S) → length text ≤ b
         → Ends K text (body_by dialects types_at attr does (inner iso) inside place names id text s)
     body_ends iso inside place names id text s k =
-        ends_next text _ _ (front_ends inside (front_steps (steps_in dialects id)) [] text s) (λ found t rest e.
+        ends_next text _ _ (front_ends (setting inside does.any_key) (front_steps (steps_in dialects id)) [] text s) (λ found t rest e.
         ends_next rest _ _ (steps_end iso place id (region_steps (steps_in dialects id)) found rest (does.uses place id found t) (omega (arith, e, k))) (λ parts u left f.
         end_ends place names id parts left u))
 

@@ -21,6 +21,7 @@ use Rattle.irtext_grammar.specs.Readers.Directives.{attribute_at}
 use Rattle.irtext_grammar.specs.Readers.Marker.{marker, starts_with}
 use Rattle.irtext_grammar.specs.Readers.Operations.{registered_after}
 use Rattle.irtext_grammar.specs.Readers.Parts.{after_lead}
+use Rattle.irtext_grammar.specs.declared.parsed.Setting.{Setting}
 use Rattle.irtext_grammar.specs.Heads.{name_at, label_at, symbol_at, mark_at, mark_if_at, outside, used_at, target_at, allowed, pair_at, entry_by, dictionary_by, outlined_or_at, Step, flat, types, one, all, directive_at, piece_at, argument_at, dictionary_if_at, head_at, results_at, named, lead_at, led_by, led_at}
 use Rattle.irtext_grammar.proofs.Causes.Outcomes.{Allowed, Obeys, AllObey, obeys_read, obeys_missing, obeys_bad, obeys_either, obeys_mapped, ◌then◌, ◌kept◌, ◌so◌, seen, obeying_either, obeying_nothing, misses}
 use Rattle.irtext_grammar.proofs.Causes.Tokens.{obeying_word, obeying_space, obeying_name, obeying_id, obeying_spaced, obeying_index, obeying_separated}
@@ -87,14 +88,14 @@ module _ {K : Allowed} {A : Type 0} where
     allowed_obeys text (Missing cause) k = k
     allowed_obeys text (Bad cause upto) k = k
 
-    entry_obeys : (inside : Bool) → AllObey K (entry_by attr inside)
+    entry_obeys : (any_key : Bool) → AllObey K (entry_by attr any_key)
     entry_obeys true = record { at = λ text. pair_obeys.at text }
     entry_obeys false = record { at = λ text. allowed_obeys text (pair_at attr text) (pair_obeys.at text) }
 
-    dictionary_obeys : (inside : Bool) → AllObey K (dictionary_by attr inside)
+    dictionary_obeys : (any_key : Bool) → AllObey K (dictionary_by attr any_key)
     unfolding dictionary_by
-    dictionary_obeys inside = ◌then◌ (obeying_word (codes "[")) (◌then◌ obeying_space
-        (◌kept◌ (obeying_separated 44 (entry_by attr inside) (entry_obeys inside)) (obeying_word (codes "]"))))
+    dictionary_obeys any_key = ◌then◌ (obeying_word (codes "[")) (◌then◌ obeying_space
+        (◌kept◌ (obeying_separated 44 (entry_by attr any_key) (entry_obeys any_key)) (obeying_word (codes "]"))))
 
     outlined_obeys : AllObey K (outlined_or_at attr)
     outlined_obeys = obeying_either (starts_with marker) (seen (λ _. None) (obeying_word marker)) (seen Some attribute_obeys)
@@ -104,25 +105,25 @@ module _ {K : Allowed} {T A : Type 0} {types_at : Reader T} {attr : Reader (Attr
   no_piece : {X : Type 0} → AllObey {X = X} K (λ text. Missing (Unexpected (first_of text) AnOperation))
   no_piece = record { at = λ text. misses text _ refl }
 
-  directive_obeys : (inside : Bool) (d : Directive) → AllObey K (directive_at types_at attr inside d)
-  directive_obeys inside (format.word s) = seen _ (obeying_word s)
-  directive_obeys inside (format.operand i) = seen _ (used_obeys inside)
-  directive_obeys inside format.operands = seen _ (obeying_separated 44 (used_at inside) (used_obeys inside))
-  directive_obeys inside (format.successor i) = seen _ (target_obeys inside)
-  directive_obeys inside format.successors = seen _ (obeying_separated 44 (target_at inside) (target_obeys inside))
-  directive_obeys inside (format.attribute key) = seen _ (outlined_obeys h)
-  directive_obeys inside format.dictionary = seen _ (dictionary_obeys h inside)
-  directive_obeys inside (format.result_type i) = seen _ k
-  directive_obeys inside format.header = seen _ symbol_obeys
-  directive_obeys inside (format.region i) = no_piece
-  directive_obeys inside format.regions = no_piece
+  directive_obeys : (at : Setting) (d : Directive) → AllObey K (directive_at types_at attr at d)
+  directive_obeys at (format.word s) = seen _ (obeying_word s)
+  directive_obeys at (format.operand i) = seen _ (used_obeys at.inside)
+  directive_obeys at format.operands = seen _ (obeying_separated 44 (used_at at.inside) (used_obeys at.inside))
+  directive_obeys at (format.successor i) = seen _ (target_obeys at.inside)
+  directive_obeys at format.successors = seen _ (obeying_separated 44 (target_at at.inside) (target_obeys at.inside))
+  directive_obeys at (format.attribute key) = seen _ (outlined_obeys h)
+  directive_obeys at format.dictionary = seen _ (dictionary_obeys h at.any_key)
+  directive_obeys at (format.result_type i) = seen _ k
+  directive_obeys at format.header = seen _ symbol_obeys
+  directive_obeys at (format.region i) = no_piece
+  directive_obeys at format.regions = no_piece
 
   -- a step that is no region
-  pub piece_obeys : (inside : Bool) (step : Step) → AllObey K (piece_at types_at attr inside step)
-  piece_obeys inside (flat d) = directive_obeys inside d
-  piece_obeys inside types = seen _ (obeying_separated 44 types_at k)
-  piece_obeys inside (one i) = no_piece
-  piece_obeys inside all = no_piece
+  pub piece_obeys : (at : Setting) (step : Step) → AllObey K (piece_at types_at attr at step)
+  piece_obeys at (flat d) = directive_obeys at d
+  piece_obeys at types = seen _ (obeying_separated 44 types_at k)
+  piece_obeys at (one i) = no_piece
+  piece_obeys at all = no_piece
 
   argument_obeys : AllObey K (argument_at types_at attr)
   argument_obeys = ◌so◌ name_obeys (λ n. ◌then◌ (obeying_spaced (codes ":")) (seen _ k))

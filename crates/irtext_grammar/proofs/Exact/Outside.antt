@@ -1,6 +1,6 @@
 -- Outside of each region no name may be used, and an attribute has to be allowed under its key: there the parsers return what the grammar
 -- parses, up to the first such name or key.
-use Rattle.std.proofs.Common.{◌≡◌, ◌∙◌, inl, inr, ℕ, suc, Bool, true, false, cond, List, [], ◌∷◌, ◌++◌, map, length, Option, Some, codes, refl, sym, ap, subst}
+use Rattle.std.proofs.Common.{◌≡◌, ◌∙◌, inl, inr, ℕ, suc, Bool, true, false, cond, List, [], ◌∷◌, ◌++◌, map, length, Option, Some, codes, refl, sym, ap, subst, true≢false}
 use Rattle.std.proofs.lemmas.List.{map-id}
 use Rattle.std.specs.Prelude.{flat_map}
 use Rattle.std.specs.List.{list_all}
@@ -29,8 +29,8 @@ use Rattle.irtext_grammar.proofs.Joins.Brackets.{bracketed_read, bracketed_found
 use Rattle.irtext_grammar.proofs.Joins.Lists.{Items, Stop}
 use Rattle.irtext_grammar.proofs.Joins.Tokens.{text-literal}
 use Rattle.irtext_grammar.specs.Agrees.{StopsAt, ReadOrStops}
-use Rattle.irtext_grammar.specs.Exact.{NeedsWord, step_piece}
-use Rattle.irtext_grammar.specs.Heads.{Step, flat, types, one, all, name_at, outside, used_at, target_at, allowed, pair_at, dictionary_by, piece_at}
+use Rattle.irtext_grammar.specs.Exact.{NeedsWord, IsOfStep, step_piece}
+use Rattle.irtext_grammar.specs.Heads.{Step, flat, types, one, all, name_at, outside, used_at, target_at, allowed, pair_at, dictionary_by, piece_at, setting}
 use Rattle.irtext_grammar.proofs.Exact.Attributes.{exact_pair, starts_pair, exact_dictionary}
 use Rattle.irtext_grammar.proofs.Exact.Listed.{Starts, starts_so, starts_word, none_listed}
 use Rattle.irtext_grammar.proofs.Exact.Names.{exact_name, starts_name, starts_target}
@@ -135,6 +135,22 @@ module _ {A : Type 0} where
       let g : holds b ≡ true = and_left (holds b) (list_all holds before) h in
       rw g (first_wrong before following e (and_right (holds b) (list_all holds before) h) f)
 
+-- the failures of the keys of a piece
+abbrev pub key_failures : {T A : Type 0} → Piece ℕ T A → List Failure
+key_failures (tree.dictionary es) = fails_outside (map (key_act may_hold) es)
+key_failures _ = []
+
+abbrev is_dictionary : Step → Bool
+is_dictionary (flat format.dictionary) = true
+is_dictionary _ = false
+
+other_piece : {T A : Type 0} (step : Step) (p : Piece ℕ T A) → IsOfStep step p → is_dictionary step ≡ false → key_failures p ≡ []
+other_piece (flat d) (tree.dictionary es) is n = let f : format.dictionary ≡ d = cc is in absurd (true≢false (subst (λ d. is_dictionary (flat d) ≡ false) (sym f) n))
+other_piece types (tree.dictionary es) is n = absurd is
+other_piece (one i) (tree.dictionary es) is n = absurd is
+other_piece all (tree.dictionary es) is n = absurd is
+other_piece step p is n = refl
+
 -- what is seen of a text that is read or stops
 seen_outside : {X Y : Type 0} (see : X → Y) {text : Text} {o : Outcome X} {x : X} {rest : Text} {fs : List Failure} → ReadOrStops text o x rest fs → ReadOrStops text (mapped see o) (see x) rest fs
 seen_outside see (inl (none, (taken, e))) = inl (none, (taken, ap (mapped see) e))
@@ -226,7 +242,7 @@ module _ {T A : Type 0} (types_at : Text → Outcome T) (types_written : T → T
   -- ---- pieces
   -- What the grammar parses as a piece is accepted outside of each region, up to its first failure there.
   pub piece_outside : NeedsWord reading → (path : Path) (j k : ℕ) (step : Step) (p : Piece ℕ T A) (text rest : Text) → step_piece l step p text rest
-      → ReadOrStops text (piece_at types_at attr false step text) p rest (fails_outside (piece_acts path j k p))
+      → ReadOrStops text (piece_at types_at attr (setting false false) step text) p rest (fails_outside (piece_acts path j k p))
   piece_outside words path j k (flat (format.operand i)) p text rest (is, r) =
       let b = is_made (format.operand i) p is in
       let q : reads.piece l (tree.operand i b.0) text rest = subst (λ p. reads.piece l p text rest) (sym b.1) r in
@@ -265,17 +281,15 @@ module _ {T A : Type 0} (types_at : Text → Outcome T) (types_written : T → T
   piece_outside words path j k all p text rest r = absurd r.0
 
   -- What a step parses outside of each region it parses inside of one too.
-  pub outside_read : (step : Step) (text : Text) (p : Piece ℕ T A) (taken rest : Text) → piece_at types_at attr false step text ≡ Read p taken rest
-      → ((more : Text) × (piece_at types_at attr true step text ≡ Read p more rest)) × (taken ++ rest ≡ text)
+  pub outside_read : (step : Step) (text : Text) (p : Piece ℕ T A) (taken rest : Text) → piece_at types_at attr (setting false false) step text ≡ Read p taken rest
+      → ((more : Text) × (piece_at types_at attr (setting true false) step text ≡ Read p more rest)) × (taken ++ rest ≡ text)
   outside_read (flat (format.operand i)) text p taken rest e = absurd (let m = mapped_read (tree.operand i) (used_at false text) p taken rest e in used_never text m.0 taken rest m.1)
   outside_read (flat (format.successor i)) text p taken rest e = absurd (let m = mapped_read (tree.successor i) (target_at false text) p taken rest e in target_never text m.0 taken rest m.1)
   outside_read (flat format.operands) text p taken rest e = empty_either_way tree.operands starts_outside starts_name used_never text p taken rest e
   outside_read (flat format.successors) text p taken rest e = empty_either_way tree.successors starts_no_target starts_target target_never text p taken rest e
   outside_read (flat format.dictionary) text p taken rest e =
       let m = mapped_read tree.dictionary (dictionary_by attr false text) p taken rest e in
-      let r = dictionary_read text m.0 taken rest m.1 in
-      let f = (exact_dictionary (texts_of types_at types_written) reading written formats splits).found text m.0 rest r.0 in
-      ((f.0, ap (mapped tree.dictionary) f.1 ∙ ap (λ p. Read p f.0 rest) m.2), r.1)
+      ((taken, e), (dictionary_read text m.0 taken rest m.1).1)
   outside_read (flat (format.word w)) text p taken rest e = ((taken, e), (piece_read types_at types_written reading written formats types_split splits (flat (format.word w)) text p taken rest e).1)
   outside_read (flat (format.attribute t)) text p taken rest e = ((taken, e), (piece_read types_at types_written reading written formats types_split splits (flat (format.attribute t)) text p taken rest e).1)
   outside_read (flat (format.result_type i)) text p taken rest e = ((taken, e), (piece_read types_at types_written reading written formats types_split splits (flat (format.result_type i)) text p taken rest e).1)
@@ -285,3 +299,22 @@ module _ {T A : Type 0} (types_at : Text → Outcome T) (types_written : T → T
   outside_read types text p taken rest e = ((taken, e), (piece_read types_at types_written reading written formats types_split splits types text p taken rest e).1)
   outside_read (one i) text p taken rest e = absurd (cc e)
   outside_read all text p taken rest e = absurd (cc e)
+
+  -- ---- inside of a region
+  -- What a step parses inside of a region the grammar parses as a piece of that step, whatever is accepted under a reserved key.
+  pub inside_read : (any_key : Bool) (step : Step) (text : Text) (p : Piece ℕ T A) (taken rest : Text) → piece_at types_at attr (setting true any_key) step text ≡ Read p taken rest → step_piece l step p text rest × (taken ++ rest ≡ text)
+  inside_read true step text p taken rest e = piece_read types_at types_written reading written formats types_split splits step text p taken rest e
+  inside_read false (flat format.dictionary) text p taken rest e =
+      let m = mapped_read tree.dictionary (dictionary_by attr false text) p taken rest e in
+      let r = dictionary_read text m.0 taken rest m.1 in
+      (subst (λ p. step_piece l (flat format.dictionary) p text rest) m.2 (refl, r.0), r.1)
+  inside_read false step text p taken rest e = piece_read types_at types_written reading written formats types_split splits step text p taken rest e
+
+  -- What the grammar parses as a piece is accepted inside of a region, up to the first key under which its attribute is not allowed.
+  pub piece_inside : NeedsWord reading → (step : Step) (p : Piece ℕ T A) (text rest : Text) → step_piece l step p text rest
+      → ReadOrStops text (piece_at types_at attr (setting true false) step text) p rest (key_failures p)
+  piece_inside words (flat format.dictionary) p text rest (is, r) =
+      let b = is_made format.dictionary p is in
+      let q : reads.piece l (tree.dictionary b.0) text rest = subst (λ p. reads.piece l p text rest) (sym b.1) r in
+      subst (λ p. ReadOrStops text (mapped tree.dictionary (dictionary_by attr false text)) p rest (key_failures p)) b.1 (seen_outside tree.dictionary (dictionary_found text b.0 rest q))
+  piece_inside words step p text rest r = inl (other_piece step p r.0 refl, (exact_piece types_at types_written reading written formats types_split splits step (λ _. words)).found text p rest r)

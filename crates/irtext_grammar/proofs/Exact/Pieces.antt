@@ -15,7 +15,7 @@ use Rattle.irtext_grammar.specs.Grammar.Tree as tree
 use Rattle.irtext_grammar.specs.Grammar.Tree.{Name, Attribute, Piece, directive_of_piece}
 use Rattle.irtext_grammar.proofs.Joins.Answers.{Splits, mapped_read}
 use Rattle.irtext_grammar.specs.Exact.{Exact, NeedsWord, IsOfStep, step_piece}
-use Rattle.irtext_grammar.specs.Heads.{Step, flat, types, one, all, piece_at, outlined_or_at}
+use Rattle.irtext_grammar.specs.Heads.{Step, flat, types, one, all, piece_at, outlined_or_at, setting}
 use Rattle.irtext_grammar.proofs.Exact.Combined.{exact_word}
 use Rattle.irtext_grammar.proofs.Exact.Listed.{exact_list}
 use Rattle.irtext_grammar.proofs.Exact.Names.{exact_used, exact_target, exact_symbol, starts_name, starts_target}
@@ -89,7 +89,7 @@ module _ {T A : Type 0} (types_at : Text → Outcome T) (types_written : T → T
 
   -- A piece that a step parses, and no other, is what the grammar parses as a piece of that step; where a marker may be in place of an
   -- attribute, each attribute begins as a word does.
-  pub exact_piece : (step : Step) → (Marks step → NeedsWord reading) → Exact (piece_at types_at (attr_at reading) true step) (step_piece l step)
+  pub exact_piece : (step : Step) → (Marks step → NeedsWord reading) → Exact (piece_at types_at (attr_at reading) (setting true true) step) (step_piece l step)
   exact_piece (flat (format.word s)) h = by_step (exact_word s) (flat (format.word s)) (λ _. tree.word s) (λ x. refl) (λ x text rest. (λ r. r, λ r. r)) (is_made (format.word s))
   exact_piece (flat (format.operand i)) h =
       by_step (exact_used (texts_of types_at types_written) (texts_of reading written) formats) (flat (format.operand i)) (tree.operand i) (λ x. refl) (λ x text rest. (λ r. r, λ r. r)) (is_made (format.operand i))
@@ -116,7 +116,7 @@ module _ {T A : Type 0} (types_at : Text → Outcome T) (types_written : T → T
   exact_piece all h = by_none all _ (λ p i. i)
 
   -- What a step parses, the grammar parses as a piece of that step, however attributes begin.
-  pub piece_read : (step : Step) (text : Text) (p : Piece ℕ T A) (taken rest : Text) → piece_at types_at (attr_at reading) true step text ≡ Read p taken rest → step_piece l step p text rest × (taken ++ rest ≡ text)
+  pub piece_read : (step : Step) (text : Text) (p : Piece ℕ T A) (taken rest : Text) → piece_at types_at (attr_at reading) (setting true true) step text ≡ Read p taken rest → step_piece l step p text rest × (taken ++ rest ≡ text)
   piece_read (flat (format.attribute k)) text p taken rest e =
       let m = mapped_read (tree.attribute k) (outlined_or_at (attr_at reading) text) p taken rest e in
       let r = outlined_read (texts_of types_at types_written) reading written formats splits k text m.0 taken rest m.1 in

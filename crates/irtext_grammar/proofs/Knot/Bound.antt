@@ -15,7 +15,8 @@ use Rattle.irtext_grammar.specs.Grammar.Tree.{Name, Part, Piece}
 use Rattle.irtext_grammar.specs.Readers.Parts.{without_first}
 use Rattle.irtext_grammar.specs.Readers.RestLengths.{LeavesNoMore}
 use Rattle.irtext_grammar.proofs.Locations.RestLengths.{within_honest, ◌then◌, space_bound}
-use Rattle.irtext_grammar.specs.Heads.{Step, flat, types, one, all, front_steps, region_steps, piece_at}
+use Rattle.irtext_grammar.specs.declared.parsed.Setting.{Setting}
+use Rattle.irtext_grammar.specs.Heads.{Step, flat, types, one, all, front_steps, region_steps, piece_at, setting}
 use Rattle.irtext_grammar.specs.Reached.{Reached, tells, Actions, Reads, begins_operation, begins_region, begins_block, steps_in, regions_by, more_by, operations_by, blocks_by, front_by, steps_by, end_by, body_by, operation_by, block_by, region_by, region_within, region_at, operation_at}
 use Rattle.irtext_grammar.proofs.Knot.Leaving.{brace_leaves, mark_within, piece_within, head_leaves, led_leaves}
 use Rattle.irtext_grammar.proofs.Knot.Alike.{Alike, alike_came, alike_stuck, alike_either, alike_after, alike_tells, weaker, Agree, Shrink, IsLoop, loops_agree}
@@ -60,21 +61,21 @@ module _ {S : Type 0} where
 
 module _ {T A S : Type 0} (dialects : List (Text × Table)) (types_at : Reader T) (attr : Reader (AttrView A)) (does : Actions T A S) where
   module _ (no_more : LeavesNoMore types_at) (none_more : LeavesNoMore attr) where
-    front_agree : (b : ℕ) (inside : Bool) (ss : List Step) (found : List (Part ℕ T A)) (text : Text) (s : S) → length text ≤ b
-        → Alike b (front_by dialects types_at attr does inside ss found text s) (front_by dialects types_at attr does inside ss found text s)
-    front_agree b inside [] found text s k = alike_came b found s text k
-    front_agree b inside (step ∷ ss) found text s k = alike_tells b b _ text s _ _
-        ((◌then◌ (within_honest honest_space) (piece_within no_more none_more inside step)).leaves text k)
-        (λ p rest e. front_agree b inside ss (found ++ tree.piece p ∷ []) rest s e)
+    front_agree : (b : ℕ) (at : Setting) (ss : List Step) (found : List (Part ℕ T A)) (text : Text) (s : S) → length text ≤ b
+        → Alike b (front_by dialects types_at attr does at ss found text s) (front_by dialects types_at attr does at ss found text s)
+    front_agree b at [] found text s k = alike_came b found s text k
+    front_agree b at (step ∷ ss) found text s k = alike_tells b b _ text s _ _
+        ((◌then◌ (within_honest honest_space) (piece_within no_more none_more at step)).leaves text k)
+        (λ p rest e. front_agree b at ss (found ++ tree.piece p ∷ []) rest s e)
 
     -- ---- over parsers of regions that agree
     module _ (b : ℕ) (f g : Bool → Reads S) (agree : (iso : Bool) → Agree b (f iso) (g iso)) where
       late_agree : (iso : Bool) (place : ℕ) (id : Id) (step : Step) (found : List (Part ℕ T A)) (text : Text) (s : S)
           (next other : Piece ℕ T A → Text → Reached (List (Part ℕ T A)) S) → length text ≤ b
           → ((p : Piece ℕ T A) (rest : Text) → length rest ≤ b → Alike b (next p rest) (other p rest))
-          → Alike b (tells ((space_at ▷ piece_at types_at attr true step) text) text s next) (tells ((space_at ▷ piece_at types_at attr true step) text) text s other)
+          → Alike b (tells ((space_at ▷ piece_at types_at attr (setting true does.any_key) step) text) text s next) (tells ((space_at ▷ piece_at types_at attr (setting true does.any_key) step) text) text s other)
       late_agree iso place id step found text s next other k again =
-          alike_tells b b _ text s next other ((◌then◌ (within_honest honest_space) (piece_within no_more none_more true step)).leaves text k) again
+          alike_tells b b _ text s next other ((◌then◌ (within_honest honest_space) (piece_within no_more none_more (setting true does.any_key) step)).leaves text k) again
 
       steps_agree : (iso : Bool) (place : ℕ) (id : Id) (ss : List Step) (found : List (Part ℕ T A)) (text : Text) (s : S) → length text ≤ b
           → Alike b (steps_by dialects types_at attr does (f iso) place id ss found text s) (steps_by dialects types_at attr does (g iso) place id ss found text s)
@@ -98,7 +99,7 @@ module _ {T A S : Type 0} (dialects : List (Text × Table)) (types_at : Reader T
       body_agree : (iso inside : Bool) (place : ℕ) (names : List (Name ℕ)) (id : Id) (text : Text) (s : S) → length text ≤ b
           → Alike b (body_by dialects types_at attr does (f iso) inside place names id text s) (body_by dialects types_at attr does (g iso) inside place names id text s)
       body_agree iso inside place names id text s k =
-          alike_after b b _ _ _ _ (front_agree b inside (front_steps (steps_in dialects id)) [] text s k) (λ found t rest e.
+          alike_after b b _ _ _ _ (front_agree b (setting inside does.any_key) (front_steps (steps_in dialects id)) [] text s k) (λ found t rest e.
           alike_after b b _ _ _ _ (steps_agree iso place id (region_steps (steps_in dialects id)) found rest (does.uses place id found t) e) (λ parts u left e.
           end_agree place names id parts left u e))
 

@@ -21,7 +21,7 @@ use Rattle.irtext_grammar.proofs.Joins.Answers.{followed-read}
 use Rattle.irtext_grammar.proofs.Joins.Tokens.{text-literal}
 use Rattle.irtext_grammar.proofs.Locations.RestLengths.{space_bound}
 use Rattle.irtext_grammar.specs.Exact.{IsOfStep}
-use Rattle.irtext_grammar.specs.Heads.{Step, flat, types, one, all, steps_of, front_steps, region_steps, piece_at, head_at, led_at, mark_if_at}
+use Rattle.irtext_grammar.specs.Heads.{Step, flat, types, one, all, steps_of, front_steps, region_steps, piece_at, head_at, led_at, mark_if_at, setting}
 use Rattle.irtext_grammar.specs.Reached.{Reached, Advanced, came, tells, Actions, Reads, begins_operation, begins_region, begins_block, steps_in, regions_by, operations_by, front_by, steps_by, end_by, operation_by, block_by, region_by, region_at, operation_at, front_parts, region_parts, each_of, do_parts, do_operation, do_regions, do_blocks, do_operations, do_tree}
 use Rattle.irtext_grammar.proofs.Exact.Head.{block_in_parts}
 use Rattle.irtext_grammar.proofs.Knot.Alike.{Shrink}
@@ -40,18 +40,18 @@ begins_by_word (c ∷ text) e = rw e refl
 
 -- ---- what an operation, a block and a region are made of
 module _ {T A S : Type 0} (texts : Texts T) (owns : Texts A) (dialects : List (Text × Table)) (types_at : Reader T) (attr : Reader (AttrView A)) (does : Actions T A S)
-    (heads : FoundHeads texts owns dialects types_at attr) where
+    (heads : FoundHeads texts owns dialects types_at attr does.any_key) where
   -- a piece is parsed after white space
   piece_found : (step : Step) (p : Piece ℕ T A) (text mid : Text) → IsOfStep step p → reads.piece (l texts owns dialects) p (after_space text) mid
-      → (taken : Text) × ((space_at ▷ piece_at types_at attr true step) text ≡ Read p taken mid)
+      → (taken : Text) × ((space_at ▷ piece_at types_at attr (setting true does.any_key) step) text ≡ Read p taken mid)
   piece_found step p text mid is r =
       let k = heads.piece step (after_space text) p mid (is, r) in
-      (_, followed-read (space_at text) (λ _ t. piece_at types_at attr true step t) tt p (front is_whitespace text) (after_space text) k.0 mid refl k.1)
+      (_, followed-read (space_at text) (λ _ t. piece_at types_at attr (setting true does.any_key) step t) tt p (front is_whitespace text) (after_space text) k.0 mid refl k.1)
 
   -- the parts before the first region are parsed, and the other parts follow them
   record FrontFound (ss : List Step) (found : List (Part ℕ T A)) (ps : List (Part ℕ T A)) (rs : List Reading) (text rest : Text) (s : S) : Type 0 where
     pub mid : Text
-    pub is : front_by dialects types_at attr does true (front_steps ss) found text s ≡ Advanced (found ++ front_parts ps) s mid
+    pub is : front_by dialects types_at attr does (setting true does.any_key) (front_steps ss) found text s ≡ Advanced (found ++ front_parts ps) s mid
     pub following : reads.parts (l texts owns dialects) (region_parts ps) rs mid rest
 
   front_none : (found : List (Part ℕ T A)) (s : S) (text : Text) → Advanced found s text ≡ Advanced (found ++ []) s text
@@ -64,8 +64,8 @@ module _ {T A S : Type 0} (texts : Texts T) (owns : Texts A) (dialects : List (T
       let first = piece_found step p text m is r in
       record {
         mid = k.mid;
-        is = ap (λ ss. front_by dialects types_at attr does true ss found text s) front
-            ∙ (tells_found ((space_at ▷ piece_at types_at attr true step) text) text s (λ p rest. front_by dialects types_at attr does true (front_steps ss) (found ++ tree.piece p ∷ []) rest s) p first.0 m first.1
+        is = ap (λ ss. front_by dialects types_at attr does (setting true does.any_key) ss found text s) front
+            ∙ (tells_found ((space_at ▷ piece_at types_at attr (setting true does.any_key) step) text) text s (λ p rest. front_by dialects types_at attr does (setting true does.any_key) (front_steps ss) (found ++ tree.piece p ∷ []) rest s) p first.0 m first.1
             ∙ (k.is ∙ ap (λ ps. Advanced ps s k.mid) (append_assoc found (tree.piece p ∷ []) (front_parts ps))));
         following = k.following;
       }
@@ -87,10 +87,10 @@ module _ {T A S : Type 0} (texts : Texts T) (owns : Texts A) (dialects : List (T
     late_found : (place : ℕ) (id : Id) (step : Step) (p : Piece ℕ T A) (ps found : List (Part ℕ T A)) (fs : List (S → S)) (text m rest : Text) (s : S)
         (next : Piece ℕ T A → Text → Reached (List (Part ℕ T A)) S) → IsOfStep step p → reads.piece (l texts owns dialects) p (after_space text) m
         → next p m ≡ Advanced ((found ++ tree.piece p ∷ []) ++ ps) (do_parts (isolated dialects) does place id ps fs (does.late place id p s)) rest
-        → tells ((space_at ▷ piece_at types_at attr true step) text) text s next ≡ Advanced (found ++ tree.piece p ∷ ps) (do_parts (isolated dialects) does place id (tree.piece p ∷ ps) fs s) rest
+        → tells ((space_at ▷ piece_at types_at attr (setting true does.any_key) step) text) text s next ≡ Advanced (found ++ tree.piece p ∷ ps) (do_parts (isolated dialects) does place id (tree.piece p ∷ ps) fs s) rest
     late_found place id step p ps found fs text m rest s next is r e =
         let first = piece_found step p text m is r in
-        tells_found ((space_at ▷ piece_at types_at attr true step) text) text s next p first.0 m first.1
+        tells_found ((space_at ▷ piece_at types_at attr (setting true does.any_key) step) text) text s next p first.0 m first.1
         ∙ (e ∙ ap (λ qs. Advanced qs (do_parts (isolated dialects) does place id ps fs (does.late place id p s)) rest) (append_assoc found (tree.piece p ∷ []) ps))
 
     -- The parts from the first region on are parsed, with what the regions do.
@@ -145,7 +145,7 @@ module _ {T A S : Type 0} (texts : Texts T) (owns : Texts A) (dialects : List (T
 
   -- what follows an id, given these steps
   abbrev body_with : Reads S → ℕ → List (Name ℕ) → Id → List Step → Reads S
-  body_with inner place names id ss text s = came (front_by dialects types_at attr does true (front_steps ss) [] text s) (λ found t rest.
+  body_with inner place names id ss text s = came (front_by dialects types_at attr does (setting true does.any_key) (front_steps ss) [] text s) (λ found t rest.
       came (steps_by dialects types_at attr does inner place id (region_steps ss) found rest (does.uses place id found t)) (λ parts u left. end_by dialects types_at attr does place names id parts left u))
 
   body_found : (inner : Reads S) (shrink : (b : ℕ) → Shrink b inner inner) (o : Op ℕ T A) (ss : List Step) (rs : List Reading) (fs : List (S → S)) (text mid rest : Text) (s : S)
@@ -210,7 +210,7 @@ module _ {T A S : Type 0} (texts : Texts T) (owns : Texts A) (dialects : List (T
 
 -- ---- trees
 module _ {T A S : Type 0} (texts : Texts T) (owns : Texts A) (dialects : List (Text × Table)) (types_at : Reader T) (attr : Reader (AttrView A)) (does : Actions T A S)
-    (heads : FoundHeads texts owns dialects types_at attr) (no_more : LeavesNoMore types_at) (none_more : LeavesNoMore attr) where
+    (heads : FoundHeads texts owns dialects types_at attr does.any_key) (no_more : LeavesNoMore types_at) (none_more : LeavesNoMore attr) where
   abbrev TreeRegions : Type 0
   TreeRegions = Regions (Op ℕ T A) (Head ℕ T A) (Brace ℕ)
 

@@ -26,6 +26,7 @@ use Rattle.irtext_grammar.specs.Readers.Operations.{registered_after}
 use Rattle.irtext_grammar.specs.Readers.Parts.{after_lead}
 use Rattle.irtext_grammar.specs.Readers.RestLengths.{Leaves, LeavesNoMore}
 use Rattle.irtext_grammar.proofs.Locations.RestLengths.{Within, within_honest, within_no_more, within_either, ◌so◌, ◌then◌, seen, leaves_read, leaves_missing, leaves_bad, leaves_prefixed, leaves_word}
+use Rattle.irtext_grammar.specs.declared.parsed.Setting.{Setting}
 use Rattle.irtext_grammar.specs.Heads.{name_at, label_at, symbol_at, mark_if_at, outside, used_at, target_at, allowed, pair_at, entry_by, dictionary_by, outlined_or_at, Step, flat, types, one, all, directive_at, piece_at, argument_at, dictionary_if_at, head_at, results_at, named, lead_at, led_by, led_at}
 
 -- ---- parsers put together
@@ -151,14 +152,14 @@ module _ {b : ℕ} {A : Type 0} {attr : Reader (AttrView A)} (h : LeavesNoMore a
   allowed_leaves (Missing cause) k = leaves_missing b cause
   allowed_leaves (Bad cause upto) k = leaves_bad b cause upto
 
-  entry_within : (inside : Bool) → Within b (entry_by attr inside)
+  entry_within : (any_key : Bool) → Within b (entry_by attr any_key)
   entry_within true = record { leaves = λ text i. pair_within.leaves text i }
   entry_within false = record { leaves = λ text i. allowed_leaves (pair_at attr text) (pair_within.leaves text i) }
 
-  dictionary_within : (inside : Bool) → Within b (dictionary_by attr inside)
+  dictionary_within : (any_key : Bool) → Within b (dictionary_by attr any_key)
   unfolding dictionary_by
-  dictionary_within inside = ◌then◌ (within_honest (honest_word (codes "["))) (◌then◌ (within_honest honest_space)
-      (kept_within (separated_within 44 (entry_within inside)) (within_honest (honest_word (codes "]")))))
+  dictionary_within any_key = ◌then◌ (within_honest (honest_word (codes "["))) (◌then◌ (within_honest honest_space)
+      (kept_within (separated_within 44 (entry_within any_key)) (within_honest (honest_word (codes "]")))))
 
   outlined_within : Within b (outlined_or_at attr)
   outlined_within = within_either (starts_with marker) (seen (λ _. None) (within_honest (honest_word marker))) (seen Some attribute_within)
@@ -168,25 +169,25 @@ module _ {b : ℕ} {T A : Type 0} {types_at : Reader T} {attr : Reader (AttrView
   no_piece : {X : Type 0} → Within {X = X} b (λ text. Missing (Unexpected (first_of text) AnOperation))
   no_piece = record { leaves = λ text i. leaves_missing b _ }
 
-  directive_within : (inside : Bool) (d : Directive) → Within b (directive_at types_at attr inside d)
-  directive_within inside (format.word s) = seen _ (within_honest (honest_word s))
-  directive_within inside (format.operand i) = seen _ (used_within inside)
-  directive_within inside format.operands = seen _ (separated_within 44 (used_within inside))
-  directive_within inside (format.successor i) = seen _ (target_within inside)
-  directive_within inside format.successors = seen _ (separated_within 44 (target_within inside))
-  directive_within inside (format.attribute k) = seen _ (outlined_within h)
-  directive_within inside format.dictionary = seen _ (dictionary_within h inside)
-  directive_within inside (format.result_type i) = seen _ (within_no_more no_more)
-  directive_within inside format.header = seen _ symbol_within
-  directive_within inside (format.region i) = no_piece
-  directive_within inside format.regions = no_piece
+  directive_within : (at : Setting) (d : Directive) → Within b (directive_at types_at attr at d)
+  directive_within at (format.word s) = seen _ (within_honest (honest_word s))
+  directive_within at (format.operand i) = seen _ (used_within at.inside)
+  directive_within at format.operands = seen _ (separated_within 44 (used_within at.inside))
+  directive_within at (format.successor i) = seen _ (target_within at.inside)
+  directive_within at format.successors = seen _ (separated_within 44 (target_within at.inside))
+  directive_within at (format.attribute k) = seen _ (outlined_within h)
+  directive_within at format.dictionary = seen _ (dictionary_within h at.any_key)
+  directive_within at (format.result_type i) = seen _ (within_no_more no_more)
+  directive_within at format.header = seen _ symbol_within
+  directive_within at (format.region i) = no_piece
+  directive_within at format.regions = no_piece
 
   -- a step that is no region leaves no more than its text
-  pub piece_within : (inside : Bool) (step : Step) → Within b (piece_at types_at attr inside step)
-  piece_within inside (flat d) = directive_within inside d
-  piece_within inside types = seen _ (separated_within 44 (within_no_more no_more))
-  piece_within inside (one i) = no_piece
-  piece_within inside all = no_piece
+  pub piece_within : (at : Setting) (step : Step) → Within b (piece_at types_at attr at step)
+  piece_within at (flat d) = directive_within at d
+  piece_within at types = seen _ (separated_within 44 (within_no_more no_more))
+  piece_within at (one i) = no_piece
+  piece_within at all = no_piece
 
   argument_within : Within b (argument_at types_at attr)
   argument_within = ◌so◌ name_within (λ n. ◌then◌ (within_honest (honest_spaced (codes ":"))) (seen _ (within_no_more no_more)))

@@ -23,7 +23,7 @@ use Rattle.irtext_grammar.proofs.Joins.Answers.{followed_read}
 use Rattle.irtext_grammar.proofs.Joins.Tokens.{text_read}
 use Rattle.irtext_grammar.proofs.Locations.RestLengths.{space_bound}
 use Rattle.irtext_grammar.specs.Exact.{IsOfStep, operation_lead}
-use Rattle.irtext_grammar.specs.Heads.{Step, flat, types, one, all, steps_of, front_steps, region_steps, piece_at, head_at, led_at, mark_if_at}
+use Rattle.irtext_grammar.specs.Heads.{Step, flat, types, one, all, steps_of, front_steps, region_steps, piece_at, head_at, led_at, mark_if_at, setting}
 use Rattle.irtext_grammar.specs.Reached.{Reached, Advanced, came, tells, Actions, Reads, begins_operation, regions_by, more_by, operations_by, blocks_by, front_by, steps_by, end_by, body_by, operation_by, block_by, region_by, region_within, region_at, operation_at, front_parts, region_parts, each_of, do_parts, do_regions, do_blocks, do_operations, do_tree}
 use Rattle.irtext_grammar.proofs.Exact.Head.{block_in_parts}
 use Rattle.irtext_grammar.proofs.Knot.Alike.{Shrink}
@@ -100,12 +100,12 @@ module _ {T A S : Type 0} (texts : Texts T) (owns : Texts A) (dialects : List (T
 
 -- ---- the parts of an operation
 module _ {T A S : Type 0} (texts : Texts T) (owns : Texts A) (dialects : List (Text × Table)) (types_at : Reader T) (attr : Reader (AttrView A)) (does : Actions T A S)
-    (heads : ReadHeads texts owns dialects types_at attr) where
+    (heads : ReadHeads texts owns dialects types_at attr does.any_key) where
   -- a piece that was parsed after white space
-  piece_read : (step : Step) (p : Piece ℕ T A) (text taken mid : Text) → (space_at ▷ piece_at types_at attr true step) text ≡ Read p taken mid
+  piece_read : (step : Step) (p : Piece ℕ T A) (text taken mid : Text) → (space_at ▷ piece_at types_at attr (setting true does.any_key) step) text ≡ Read p taken mid
       → IsOfStep step p × reads.piece (l texts owns dialects) p (after_space text) mid
   piece_read step p text taken mid e =
-      let a = followed_read (space_at text) (λ _ t. piece_at types_at attr true step t) p taken mid e in
+      let a = followed_read (space_at text) (λ _ t. piece_at types_at attr (setting true does.any_key) step t) p taken mid e in
       let spaced : a.middle ≡ after_space text = cc a.first in
       let k = heads.piece step a.middle p a.more mid a.second in
       (k.0, subst (λ t. reads.piece (l texts owns dialects) p t mid) spaced k.1)
@@ -157,10 +157,10 @@ module _ {T A S : Type 0} (texts : Texts T) (owns : Texts A) (dialects : List (T
   all_parts ss (tree.regions ∷ qs) h = (h, refl, refl)
 
   front_more : (step : Step) (ss : List Step) (found parts : List (Part ℕ T A)) (s t : S) (text mid : Text) → region_steps (step ∷ ss) ≡ region_steps ss
-      → ((p : Piece ℕ T A) (m : Text) → front_by dialects types_at attr does true (front_steps ss) (found ++ tree.piece p ∷ []) m s ≡ Advanced parts t mid → FrontRead ss (found ++ tree.piece p ∷ []) parts s t m mid)
-      → front_by dialects types_at attr does true (step ∷ front_steps ss) found text s ≡ Advanced parts t mid → FrontRead (step ∷ ss) found parts s t text mid
+      → ((p : Piece ℕ T A) (m : Text) → front_by dialects types_at attr does (setting true does.any_key) (front_steps ss) (found ++ tree.piece p ∷ []) m s ≡ Advanced parts t mid → FrontRead ss (found ++ tree.piece p ∷ []) parts s t m mid)
+      → front_by dialects types_at attr does (setting true does.any_key) (step ∷ front_steps ss) found text s ≡ Advanced parts t mid → FrontRead (step ∷ ss) found parts s t text mid
   front_more step ss found parts s t text mid skips again e =
-      let a = tells_read ((space_at ▷ piece_at types_at attr true step) text) text s (λ p rest. front_by dialects types_at attr does true (front_steps ss) (found ++ tree.piece p ∷ []) rest s) parts t mid e in
+      let a = tells_read ((space_at ▷ piece_at types_at attr (setting true does.any_key) step) text) text s (λ p rest. front_by dialects types_at attr does (setting true does.any_key) (front_steps ss) (found ++ tree.piece p ∷ []) rest s) parts t mid e in
       let p = piece_read step a.0 text a.1 a.2 a.3 in
       let k = again a.0 a.2 a.4 in
       record {
@@ -176,7 +176,7 @@ module _ {T A S : Type 0} (texts : Texts T) (owns : Texts A) (dialects : List (T
             };
       }
 
-  front_read : (ss : List Step) (found parts : List (Part ℕ T A)) (s t : S) (text mid : Text) → front_by dialects types_at attr does true (front_steps ss) found text s ≡ Advanced parts t mid
+  front_read : (ss : List Step) (found parts : List (Part ℕ T A)) (s t : S) (text mid : Text) → front_by dialects types_at attr does (setting true does.any_key) (front_steps ss) found text s ≡ Advanced parts t mid
       → FrontRead ss found parts s t text mid
   front_read [] found parts s t text mid e = front_end [] found parts s t text mid no_parts e
   front_read (one i ∷ ss) found parts s t text mid e = front_end (one i ∷ ss) found parts s t text mid (one_part i ss) e
@@ -200,9 +200,9 @@ module _ {T A S : Type 0} (texts : Texts T) (owns : Texts A) (dialects : List (T
     late_read : (place : ℕ) (id : Id) (step : Step) (ss : List Step) (found parts : List (Part ℕ T A)) (s t : S) (text rest : Text) (next : Piece ℕ T A → Text → Reached (List (Part ℕ T A)) S)
         → ((p : Piece ℕ T A) (m : Text) → next p m ≡ Advanced parts t rest → StepsRead place id ss (found ++ tree.piece p ∷ []) parts (does.late place id p s) t m rest)
         → (ArePieces (step ∷ ss) → ArePieces ss)
-        → tells ((space_at ▷ piece_at types_at attr true step) text) text s next ≡ Advanced parts t rest → StepsRead place id (step ∷ ss) found parts s t text rest
+        → tells ((space_at ▷ piece_at types_at attr (setting true does.any_key) step) text) text s next ≡ Advanced parts t rest → StepsRead place id (step ∷ ss) found parts s t text rest
     late_read place id step ss found parts s t text rest next again pieces e =
-        let a = tells_read ((space_at ▷ piece_at types_at attr true step) text) text s next parts t rest e in
+        let a = tells_read ((space_at ▷ piece_at types_at attr (setting true does.any_key) step) text) text s next parts t rest e in
         let p = piece_read step a.0 text a.1 a.2 a.3 in
         let k = again a.0 a.2 a.4 in
         record {
@@ -256,7 +256,7 @@ module _ {T A S : Type 0} (texts : Texts T) (owns : Texts A) (dialects : List (T
 
     -- what follows an id, given these steps
     abbrev body_with : ℕ → List (Name ℕ) → Id → List Step → Reads S
-    body_with place names id ss text s = came (front_by dialects types_at attr does true (front_steps ss) [] text s) (λ found t rest.
+    body_with place names id ss text s = came (front_by dialects types_at attr does (setting true does.any_key) (front_steps ss) [] text s) (λ found t rest.
         came (steps_by dialects types_at attr does inner place id (region_steps ss) found rest (does.uses place id found t)) (λ parts u left. end_by dialects types_at attr does place names id parts left u))
 
     -- a body that was parsed
@@ -295,7 +295,7 @@ module _ {T A S : Type 0} (texts : Texts T) (owns : Texts A) (dialects : List (T
     body_read : (place : ℕ) (names : List (Name ℕ)) (id : Id) (ss : List Step) (s t : S) (text rest : Text) → EndsRegions (region_steps ss)
         → body_with place names id ss text s ≡ Advanced tt t rest → BodyRead place names id ss s t text rest
     body_read place names id ss s t text rest ends e =
-        let a = came_read (front_by dialects types_at attr does true (front_steps ss) [] text s) (λ found t rest.
+        let a = came_read (front_by dialects types_at attr does (setting true does.any_key) (front_steps ss) [] text s) (λ found t rest.
         came (steps_by dialects types_at attr does inner place id (region_steps ss) found rest (does.uses place id found t)) (λ parts u left. end_by dialects types_at attr does place names id parts left u)) tt t rest e in
         let f = front_read ss [] a.0 s a.1 text a.2 a.3 in
         let b = came_read (steps_by dialects types_at attr does inner place id (region_steps ss) a.0 a.2 (does.uses place id a.0 a.1)) (λ parts u left. end_by dialects types_at attr does place names id parts left u) tt t rest a.4 in
@@ -315,7 +315,7 @@ module _ {T A S : Type 0} (texts : Texts T) (owns : Texts A) (dialects : List (T
 
 -- ---- operations, blocks and regions
 module _ {T A S : Type 0} (texts : Texts T) (owns : Texts A) (dialects : List (Text × Table)) (types_at : Reader T) (attr : Reader (AttrView A)) (does : Actions T A S)
-    (heads : ReadHeads texts owns dialects types_at attr) (no_more : LeavesNoMore types_at) (none_more : LeavesNoMore attr) (accepted : (id : Id) → IsAccepted dialects id) where
+    (heads : ReadHeads texts owns dialects types_at attr does.any_key) (no_more : LeavesNoMore types_at) (none_more : LeavesNoMore attr) (accepted : (id : Id) → IsAccepted dialects id) where
   -- what an operation's parser parsed
   record OperationRead (text : Text) (s t : S) (rest : Text) : Type 0 where
     pub tree : Tree ℕ T A

@@ -12,7 +12,8 @@ use Rattle.irtext_grammar.specs.Contexts.Formats.{isolated}
 use Rattle.irtext_grammar.specs.Grammar.Tree as tree
 use Rattle.irtext_grammar.specs.Grammar.Tree.{Name, Part}
 use Rattle.irtext_grammar.specs.Readers.Parts.{without_first}
-use Rattle.irtext_grammar.specs.Heads.{Step, one, all, front_steps, region_steps, piece_at, head_at, led_at, mark_if_at}
+use Rattle.irtext_grammar.specs.declared.parsed.Setting.{Setting}
+use Rattle.irtext_grammar.specs.Heads.{Step, one, all, front_steps, region_steps, piece_at, head_at, led_at, mark_if_at, setting}
 use Rattle.irtext_grammar.specs.Reached.{Reached, Advanced, Stopped, came, tells, Actions, Reads, begins_operation, begins_region, begins_block, steps_in, regions_by, more_by, operations_by, blocks_by, front_by, steps_by, end_by, body_by, operation_by, block_by, region_by, region_within, region_at, operation_at}
 use Rattle.irtext_grammar.proofs.Naming.Keeps.{Keeps}
 
@@ -65,9 +66,9 @@ module _ {S : Type 0} (s : S) where
 
 module _ {T A S : Type 0} (dialects : List (Text × Table)) (types_at : Text → Outcome T) (attr : Text → Outcome (AttrView A)) (does : Actions T A S) (s : S) (keeps : Keeps does s) where
   -- parts before the first region
-  pub quiet_front : (inside : Bool) (ss : List Step) (found : List (Part ℕ T A)) (text : Text) → done_in (front_by dialects types_at attr does inside ss found text s) ≡ s
-  quiet_front inside [] found text = refl
-  quiet_front inside (step ∷ ss) found text = quiet_tells s ((space_at ▷ piece_at types_at attr inside step) text) text _ (λ p rest. quiet_front inside ss (found ++ tree.piece p ∷ []) rest)
+  pub quiet_front : (at : Setting) (ss : List Step) (found : List (Part ℕ T A)) (text : Text) → done_in (front_by dialects types_at attr does at ss found text s) ≡ s
+  quiet_front at [] found text = refl
+  quiet_front at (step ∷ ss) found text = quiet_tells s ((space_at ▷ piece_at types_at attr at step) text) text _ (λ p rest. quiet_front at ss (found ++ tree.piece p ∷ []) rest)
 
   -- parts from the first region on
   pub quiet_steps : (inner : Reads S) → Quiet s inner → (place : ℕ) (id : Id) (ss : List Step) (found : List (Part ℕ T A)) (text : Text)
@@ -77,7 +78,7 @@ module _ {T A S : Type 0} (dialects : List (Text × Table)) (types_at : Text →
       quiet_came s (inner (after_space text) s) _ (q.at (after_space text)) (λ u rest. quiet_steps inner q place id ss (found ++ tree.region i ∷ []) rest)
   quiet_steps inner q place id (all ∷ ss) found text =
       quiet_came s (regions_by inner (length text) (after_space text) s) _ (quiet_regions s inner q (length text) (after_space text)) (λ u rest. quiet_steps inner q place id ss (found ++ tree.regions ∷ []) rest)
-  quiet_steps inner q place id (step ∷ ss) found text = quiet_tells s ((space_at ▷ piece_at types_at attr true step) text) text _ (λ p rest.
+  quiet_steps inner q place id (step ∷ ss) found text = quiet_tells s ((space_at ▷ piece_at types_at attr (setting true does.any_key) step) text) text _ (λ p rest.
       ap (λ z. done_in (steps_by dialects types_at attr does inner place id ss (found ++ tree.piece p ∷ []) rest z)) (keeps.late place id p)
       ∙ quiet_steps inner q place id ss (found ++ tree.piece p ∷ []) rest)
 
@@ -90,7 +91,7 @@ module _ {T A S : Type 0} (dialects : List (Text × Table)) (types_at : Text →
   -- what follows an operation's id
   pub quiet_body : (inner : Reads S) → Quiet s inner → (inside : Bool) (place : ℕ) (names : List (Name ℕ)) (id : Id) (text : Text) → done_in (body_by dialects types_at attr does inner inside place names id text s) ≡ s
   quiet_body inner q inside place names id text =
-      quiet_came s (front_by dialects types_at attr does inside (front_steps (steps_in dialects id)) [] text s) _ (quiet_front inside (front_steps (steps_in dialects id)) [] text) (λ found rest.
+      quiet_came s (front_by dialects types_at attr does (setting inside does.any_key) (front_steps (steps_in dialects id)) [] text s) _ (quiet_front (setting inside does.any_key) (front_steps (steps_in dialects id)) [] text) (λ found rest.
       ap (λ z. done_in (came (steps_by dialects types_at attr does inner place id (region_steps (steps_in dialects id)) found rest z)
       (λ parts u left. end_by dialects types_at attr does place names id parts left u))) (keeps.uses place id found)
       ∙ quiet_came s (steps_by dialects types_at attr does inner place id (region_steps (steps_in dialects id)) found rest s) _

@@ -8,7 +8,6 @@ use Rattle.irtext_tokens.specs.Infix.{Reader}
 use Rattle.irtext_tokens.specs.ListOutcomes.{or_empty, item_after, items_after, separated_at}
 pub use Rattle.irtext_tokens.proofs.Honest.{CauseIs, NotFailed}
 use Rattle.irtext_tokens.proofs.Honest.{Honest, never_failed, honest_word}
-use Rattle.irtext_grammar.specs.Readers.Parts.{after_lead}
 
 -- the cause of the outcome is not that the stream had failed
 pub record Fine {X : Type 0} (o : Outcome X) : Type 0 where
@@ -41,11 +40,6 @@ module _ {X : Type 0} where
   fine_prefixed t (Read x taken rest) h = fine_read _ _ _
   fine_prefixed t (Missing cause) h = fine_bad cause t h.spares
   fine_prefixed t (Bad cause upto) h = fine_bad cause _ h.spares
-
-  -- the same after a lead
-  pub fine_after_lead : (lead : Text) (o : Outcome X) → Fine o → Fine (after_lead lead o)
-  fine_after_lead [] o h = h
-  fine_after_lead (c ∷ lead) o h = fine_prefixed (c ∷ lead) o h
 
 module _ {X Y : Type 0} where
   -- the same for one parser and then another

@@ -47,6 +47,7 @@ log = record {
   closes = λ place names id parts s. s ++ 5 ∷ place ∷ [];
   marks = λ mark s. s ++ 6 ∷ [];
   heads = λ h s. s ++ 7 ∷ [];
+  any_key = false;
 }
 
 abbrev read_all : Text → Reached (Unit {0}) (List ℕ)

@@ -34,7 +34,7 @@ use Rattle.irtext_grammar.specs.Grammar.Tree as tree
 use Rattle.irtext_grammar.specs.Grammar.Tree.{Name, Mark, Piece, Part, Head}
 use Rattle.irtext_grammar.specs.Readers.Parts.{without_first}
 use Rattle.irtext_grammar.proofs.Locations.RestLengths.{space_bound}
-use Rattle.irtext_grammar.specs.Heads.{Step, flat, types, one, all, front_steps, piece_at, head_at, led_at, mark_if_at}
+use Rattle.irtext_grammar.specs.Heads.{Step, flat, types, one, all, front_steps, piece_at, head_at, led_at, mark_if_at, setting}
 use Rattle.irtext_grammar.specs.Reached.{Reached, Advanced, Stopped, came, tells, Actions, Reads, begins_operation, begins_region, begins_block, steps_in, regions_by, blocks_by, front_by, steps_by, end_by, body_by, region_at, operation_at}
 use Rattle.irtext_grammar.specs.Resume.{OpenOperation, with_steps, begun, is_flat, Open, to_come, an_operation, a_region, a_block, Pops, block_at, rest_of, Goes, StoppedAt}
 use Rattle.irtext_grammar.proofs.Knot.Loops.{tells_found}
@@ -86,7 +86,7 @@ module _ {T A S : Type 0} (dialects : List (Text × Table)) (types_at : Text →
 
     module _ (names : List (Name ℕ)) (id : Id) (taken r : Text) (e : led_at dialects t ≡ Read (names, id) taken r) where
       abbrev front : Reached (List (Part ℕ T A)) S
-      front = front_by dialects types_at attr does inside (front_steps (steps_in dialects id)) [] r s
+      front = front_by dialects types_at attr does (setting inside does.any_key) (front_steps (steps_in dialects id)) [] r s
 
       abbrev after_front : List (Part ℕ T A) → S → Text → Reached Unit S
       after_front found u rest = left_of (an_operation (begun dialects (length t) names id found)) rest (does.uses (length t) id found u)
@@ -110,7 +110,7 @@ module _ {T A S : Type 0} (dialects : List (Text × Table)) (types_at : Text →
     -- a piece
     module _ (step : Step) (ss : List Step) (e : o.steps ≡ step ∷ ss) (f : is_flat step ≡ true) where
       abbrev next_piece : Step → Outcome (Piece ℕ T A)
-      next_piece step = (space_at ▷ piece_at types_at attr true step) t
+      next_piece step = (space_at ▷ piece_at types_at attr (setting true does.any_key) step) t
 
       abbrev after_piece : Piece ℕ T A → Text → Reached (List (Part ℕ T A)) S
       after_piece p rest = go_on o ss (o.parts ++ tree.piece p ∷ []) (does.late o.place o.id p s) rest

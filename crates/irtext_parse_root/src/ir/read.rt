@@ -1,6 +1,6 @@
 //! The parser for operations.
 ghost use Rattle.std.specs.Prelude.{◌≡◌};
-ghost use Rattle.irtext_parse_root.specs.Parses.{Parses, AnswersOperation};
+ghost use Rattle.irtext_parse_root.specs.Parses.{Undoes, ResolvesOperation, FirstOfOperation};
 
 use crate::outermost::outermost_parse;
 use crate::parsable::Parsable;
@@ -29,7 +29,10 @@ impl<T: IrText<A>, A: AttrText<A>, U> Parsable<T, A, U> for Operation {
         config: OperationParserConfig,
     ) -> ParseResult<Ptr<Operation>, A>
         ensures lent { stream.new.state.ctx.ghost_name ≡ stream.old.state.ctx.ghost_name }
-        ensures parses { Parses (AnswersOperation T.IrText.own A.IrText.own config.look_for_outlined_attrs)
+        ensures undone { Undoes stream.old result stream.new }
+        ensures resolves { ResolvesOperation T.IrText.own A.IrText.own config.look_for_outlined_attrs
+            stream.old result stream.new }
+        ensures first { FirstOfOperation T.IrText.own A.IrText.own config.look_for_outlined_attrs
             stream.old result stream.new }
     {
         outermost_parse(stream, config.look_for_outlined_attrs)

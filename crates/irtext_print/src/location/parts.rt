@@ -1,6 +1,7 @@
 //! The text of a location, part by part: what follows after an inner location waits on a stack until that one is printed. So one loop
 //! prints them all, however deep they are nested.
-ghost use Rattle.std.specs.Prelude.{◌≡◌, ◌++◌, IfOk, OnOk, Some, cond, [], ◌∷◌, string_bytes};
+ghost use Rattle.std.specs.Prelude.{◌≡◌, ◌++◌, IfOk, OnOk, OnErr, Some, cond, [], ◌∷◌, string_bytes};
+ghost use Rattle.irtext_base.specs.Appending.{OnlyAppends};
 ghost use Rattle.irtext_grammar.specs.Spelling.Spell.{comma};
 ghost use Rattle.irtext_print.specs.declared.location.parts.Part.TheVariants.{Whole};
 ghost use Rattle.irtext_print.specs.Printers.LocationParts.{WritesPart};
@@ -40,7 +41,8 @@ impl<A> Clone for Part<'_, A> {
 
 /// Appends `, `, except before the first item.
 fn fmt_comma(first: bool, f: &mut String) -> fmt::Result
-    ensures { OnOk result (string_bytes f.new ≡ string_bytes f.old ++ cond first [] comma) }
+    ensures text { OnOk result (string_bytes f.new ≡ string_bytes f.old ++ cond first [] comma) }
+    ensures appended { OnErr result (OnlyAppends f.old f.new) }
 {
     if !first {
         f.push_str(", ")?;
@@ -70,8 +72,9 @@ fn fmt_whole<'l, T: IrText<A>, A: AttrText<A>>(
     waiting: &mut Vec<Part<'l, A>>,
     f: &mut String,
 ) -> Result<Option<Part<'l, A>>, fmt::Error>
-    ensures { IfOk result (WritesPart A.written ctx.now.paths (Whole location.entry) waiting.old f.old
+    ensures text { IfOk result (WritesPart A.written ctx.now.paths (Whole location.entry) waiting.old f.old
         waiting.new f.new) }
+    ensures appended { OnlyAppends f.old f.new }
 {
     match location {
         Location::SrcPos { src, pos } => {
@@ -115,8 +118,9 @@ pub(super) fn fmt_part<'l, T: IrText<A>, A: AttrText<A>>(
     waiting: &mut Vec<Part<'l, A>>,
     f: &mut String,
 ) -> Result<Option<Part<'l, A>>, fmt::Error>
-    ensures { IfOk result (WritesPart A.written ctx.now.paths part.entry waiting.old f.old
+    ensures text { IfOk result (WritesPart A.written ctx.now.paths part.entry waiting.old f.old
         waiting.new f.new) }
+    ensures appended { OnlyAppends f.old f.new }
 {
     match part {
         Part::Whole(location) => fmt_whole(location, ctx, waiting, f),

@@ -1,6 +1,7 @@
 //! Printing of locations: files are printed as the paths that the context keeps for them.
-ghost use Rattle.std.specs.Prelude.{◌≡◌, ◌++◌, FitsSigned, OnOk, codes, option_copied, string_bytes};
+ghost use Rattle.std.specs.Prelude.{◌≡◌, ◌++◌, FitsSigned, OnOk, OnErr, codes, option_copied, string_bytes};
 ghost use Rattle.std.specs.Int.{w32};
+ghost use Rattle.irtext_base.specs.Appending.{OnlyAppends};
 ghost use Rattle.irtext_base.specs.Causes.{position_text};
 ghost use Rattle.irtext_base.specs.Locations.{attr_view_in};
 ghost use Rattle.irtext_base.specs.Paths.{path_of};
@@ -39,7 +40,8 @@ pub fn fmt_source<T: IrText<A>, A: AttrText<A>>(
     ctx: &Context<T, A>,
     f: &mut String,
 ) -> fmt::Result
-    ensures { OnOk result (AppendsText f.old (source_text (path_of ctx.now.paths src)) f.new) }
+    ensures text { OnOk result (AppendsText f.old (source_text (path_of ctx.now.paths src)) f.new) }
+    ensures appended { OnErr result (OnlyAppends f.old f.new) }
 {
     match path_of(src, ctx) {
         Some(path) => fmt_quoted(path, f),
@@ -63,8 +65,9 @@ fn fmt_front<T: IrText<A>, A: AttrText<A>>(
     ctx: &Context<T, A>,
     f: &mut String,
 ) -> fmt::Result
-    ensures { OnOk result (AppendsText f.old
+    ensures text { OnOk result (AppendsText f.old
         (source_text (path_of ctx.now.paths src) ++ codes ": line: ") f.new) }
+    ensures appended { OnErr result (OnlyAppends f.old f.new) }
 {
     match path_of(src, ctx) {
         Some(path) => {
@@ -79,7 +82,8 @@ fn fmt_front<T: IrText<A>, A: AttrText<A>>(
 /// Appends the numbers of line and column, in characters from 1: `1, column: 21`. Fails only if out of memory.
 #[inline(always)]
 pub fn fmt_numbers(pos: &SourcePosition, f: &mut String) -> fmt::Result
-    ensures { OnOk result (AppendsText f.old (numbers_text pos.now) f.new) }
+    ensures text { OnOk result (AppendsText f.old (numbers_text pos.now) f.new) }
+    ensures appended { OnErr result (OnlyAppends f.old f.new) }
 {
     number_fits(&pos.line);
     number_fits(&pos.column);
@@ -93,7 +97,8 @@ pub(super) fn fmt_metadata<A: AttrText<A>>(
     metadata: &Option<AttrObj<A>>,
     f: &mut String,
 ) -> fmt::Result
-    ensures { OnOk result (AppendsText f.old (metadata_text A.written (attr_view_in metadata.now)) f.new) }
+    ensures text { OnOk result (AppendsText f.old (metadata_text A.written (attr_view_in metadata.now)) f.new) }
+    ensures appended { OnErr result (OnlyAppends f.old f.new) }
 {
     if let Some(attr) = metadata {
         f.push_str("<")?;
@@ -111,8 +116,9 @@ pub(crate) fn fmt_place<T: IrText<A>, A: AttrText<A>>(
     ctx: &Context<T, A>,
     f: &mut String,
 ) -> fmt::Result
-    ensures { OnOk result (AppendsText f.old
+    ensures text { OnOk result (AppendsText f.old
         (source_text (path_of ctx.now.paths src) ++ (codes ": " ++ position_text pos.now)) f.new) }
+    ensures appended { OnErr result (OnlyAppends f.old f.new) }
 {
     fmt_front(src, ctx, f)?;
     fmt_numbers(pos, f)
@@ -125,7 +131,8 @@ pub fn fmt_location<T: IrText<A>, A: AttrText<A>>(
     ctx: &Context<T, A>,
     f: &mut String,
 ) -> fmt::Result
-    ensures { OnOk result (AppendsText f.old (location_text A.written ctx.now.paths location.now) f.new) }
+    ensures text { OnOk result (AppendsText f.old (location_text A.written ctx.now.paths location.now) f.new) }
+    ensures appended { OnErr result (OnlyAppends f.old f.new) }
 {
     if let Location::SrcPos { src, pos } = location {
         return fmt_place(*src, pos, ctx, f);
@@ -146,8 +153,9 @@ pub fn fmt_known<T: IrText<A>, A: AttrText<A>>(
     ctx: &Context<T, A>,
     f: &mut String,
 ) -> fmt::Result
-    ensures { OnOk result (string_bytes f.new ≡ string_bytes f.old ++ framed before.now after.now
+    ensures text { OnOk result (string_bytes f.new ≡ string_bytes f.old ++ framed before.now after.now
         (known_text A.written ctx.now.paths location.now)) }
+    ensures appended { OnErr result (OnlyAppends f.old f.new) }
 {
     if let Location::Unknown = location {
         return Ok(());

@@ -1,5 +1,6 @@
 //! The texts of attributes.
-ghost use Rattle.std.specs.Prelude.{OnOk, map};
+ghost use Rattle.std.specs.Prelude.{OnOk, OnErr, map};
+ghost use Rattle.irtext_base.specs.Appending.{OnlyAppends};
 ghost use Rattle.irtext_print.specs.Printers.Appended.{AppendsText};
 ghost use Rattle.irtext_base.specs.Locations.{attr_view};
 ghost use Rattle.irtext_grammar.specs.Spelling.AttrText.{attr_text};
@@ -12,7 +13,8 @@ use std::fmt;
 /// Appends a given name, or `?` if there is none.
 #[inline(always)]
 fn fmt_name(name: &Option<Identifier>, f: &mut String) -> fmt::Result
-    ensures { OnOk result (AppendsText f.old (or_question name.now) f.new) }
+    ensures text { OnOk result (AppendsText f.old (or_question name.now) f.new) }
+    ensures appended { OnErr result (OnlyAppends f.old f.new) }
 {
     match name {
         Some(name) => f.push_str(name.as_str())?,
@@ -24,7 +26,8 @@ fn fmt_name(name: &Option<Identifier>, f: &mut String) -> fmt::Result
 /// Appends given names with `, ` between them.
 #[inline(always)]
 fn fmt_names(names: &[Option<Identifier>], f: &mut String) -> fmt::Result
-    ensures { OnOk result (AppendsText f.old (joined comma (map or_question names.now)) f.new) }
+    ensures text { OnOk result (AppendsText f.old (joined comma (map or_question names.now)) f.new) }
+    ensures appended { OnErr result (OnlyAppends f.old f.new) }
 {
     let Some((first, rest)) = names.split_first() else {
         return Ok(());
@@ -40,7 +43,8 @@ fn fmt_names(names: &[Option<Identifier>], f: &mut String) -> fmt::Result
 /// Appends the text of an attribute: `builtin.identifier b`, `builtin.given_names [x, ?]`, or the caller's text. Fails only if out of
 /// memory; what was appended up to the error remains.
 pub fn fmt_attr<A: AttrText<A>>(attr: &AttrObj<A>, f: &mut String) -> fmt::Result
-    ensures { OnOk result (AppendsText f.old (attr_text A.IrText.written (attr_view attr.now)) f.new) }
+    ensures text { OnOk result (AppendsText f.old (attr_text A.IrText.written (attr_view attr.now)) f.new) }
+    ensures appended { OnErr result (OnlyAppends f.old f.new) }
 {
     match attr {
         AttrObj::GivenNames(names) => {

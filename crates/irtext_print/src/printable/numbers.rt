@@ -1,7 +1,8 @@
 //! Numbers in decimal digits. These calls fail only if out of memory; what was appended up to the error remains.
-ghost use Rattle.std.specs.Prelude.{◌≡◌, ◌+◌, ◌/◌, ◌%◌, ◌<◌, ◌≤◌, ◌∷◌, ◌++◌, [], OnOk, IfSome, decimal, length, string_bytes};
+ghost use Rattle.std.specs.Prelude.{◌≡◌, ◌+◌, ◌/◌, ◌%◌, ◌<◌, ◌≤◌, ◌∷◌, ◌++◌, [], OnOk, OnErr, IfSome, decimal, length, string_bytes};
 ghost use Rattle.std.specs.Fmt.{signed_decimal};
 ghost use Rattle.std.specs.Str.{IsAscii};
+ghost use Rattle.irtext_base.specs.Appending.{OnlyAppends};
 ghost use Rattle.irtext_print.specs.Printers.Appended.{AppendsText};
 
 use arrayvec::ArrayString;
@@ -39,7 +40,8 @@ fn digit(number: usize) -> &'static str
 #[inline(always)]
 fn fmt_short(number: usize, f: &mut String) -> fmt::Result
     requires { number < 100 }
-    ensures { OnOk result (string_bytes f.new ≡ string_bytes f.old ++ decimal number) }
+    ensures text { OnOk result (string_bytes f.new ≡ string_bytes f.old ++ decimal number) }
+    ensures appended { OnErr result (OnlyAppends f.old f.new) }
 {
     if number >= 10 {
         f.push_str(pair(number))?;
@@ -111,7 +113,8 @@ pub(crate) fn in_place(number: &i32) -> Option<usize>
 #[inline(always)]
 fn fmt_joined(front: &str, high: &str, low: &str, f: &mut String) -> fmt::Result
     requires { length front.now + (length high.now + length low.now) ≤ 8 }
-    ensures { OnOk result (string_bytes f.new ≡ string_bytes f.old ++ (front.now ++ (high.now ++ low.now))) }
+    ensures text { OnOk result (string_bytes f.new ≡ string_bytes f.old ++ (front.now ++ (high.now ++ low.now))) }
+    ensures appended { OnErr result (OnlyAppends f.old f.new) }
 {
     let mut joined: ArrayString<8> = ArrayString::new();
     joined.push_str(front);
@@ -126,7 +129,8 @@ fn fmt_joined(front: &str, high: &str, low: &str, f: &mut String) -> fmt::Result
 fn fmt_led(front: &str, number: usize, f: &mut String) -> fmt::Result
     requires few { number < 10000 }
     requires short { length front.now ≤ 4 }
-    ensures { OnOk result (string_bytes f.new ≡ string_bytes f.old ++ (front.now ++ decimal number)) }
+    ensures text { OnOk result (string_bytes f.new ≡ string_bytes f.old ++ (front.now ++ decimal number)) }
+    ensures appended { OnErr result (OnlyAppends f.old f.new) }
 {
     if number < 10 {
         return fmt_joined(front, "", digit(number), f);
@@ -144,7 +148,8 @@ fn fmt_led(front: &str, number: usize, f: &mut String) -> fmt::Result
 #[inline(always)]
 fn fmt_small(number: usize, f: &mut String) -> fmt::Result
     requires { number < 10000 }
-    ensures { OnOk result (string_bytes f.new ≡ string_bytes f.old ++ decimal number) }
+    ensures text { OnOk result (string_bytes f.new ≡ string_bytes f.old ++ decimal number) }
+    ensures appended { OnErr result (OnlyAppends f.old f.new) }
 {
     if number < 100 {
         return fmt_short(number, f);
@@ -155,7 +160,8 @@ fn fmt_small(number: usize, f: &mut String) -> fmt::Result
 /// Appends a number of any size, with its sign if it is negative.
 #[inline(never)]
 fn fmt_any<I: Integer>(number: I, f: &mut String) -> fmt::Result
-    ensures { OnOk result (AppendsText f.old (I.text number) f.new) }
+    ensures text { OnOk result (AppendsText f.old (I.text number) f.new) }
+    ensures appended { OnErr result (OnlyAppends f.old f.new) }
 {
     let mut digits = Buffer::new();
     f.push_str(digits.format(number))?;
@@ -166,7 +172,8 @@ fn fmt_any<I: Integer>(number: I, f: &mut String) -> fmt::Result
 #[inline(never)]
 fn fmt_large(number: u64, f: &mut String) -> fmt::Result
     requires { 10000 ≤ number }
-    ensures { OnOk result (AppendsText f.old (decimal number) f.new) }
+    ensures text { OnOk result (AppendsText f.old (decimal number) f.new) }
+    ensures appended { OnErr result (OnlyAppends f.old f.new) }
 {
     if number >= 1_000_000 {
         return fmt_any(number, f);
@@ -187,7 +194,8 @@ fn has_room(f: &String, bytes: usize) -> bool {
 #[inline(never)]
 fn fmt_slowly(number: usize, f: &mut String) -> fmt::Result
     requires { number < 10000 }
-    ensures { OnOk result (string_bytes f.new ≡ string_bytes f.old ++ decimal number) }
+    ensures text { OnOk result (string_bytes f.new ≡ string_bytes f.old ++ decimal number) }
+    ensures appended { OnErr result (OnlyAppends f.old f.new) }
 {
     fmt_small(number, f)
 }
@@ -195,7 +203,8 @@ fn fmt_slowly(number: usize, f: &mut String) -> fmt::Result
 /// Appends a number. Numbers below 10,000 are appended by slices of a fixed text.
 #[inline(never)]
 pub fn fmt_number(number: u64, f: &mut String) -> fmt::Result
-    ensures { OnOk result (AppendsText f.old (decimal number) f.new) }
+    ensures text { OnOk result (AppendsText f.old (decimal number) f.new) }
+    ensures appended { OnErr result (OnlyAppends f.old f.new) }
 {
     if number >= 10_000 {
         return fmt_large(number, f);
@@ -211,7 +220,8 @@ pub fn fmt_number(number: u64, f: &mut String) -> fmt::Result
 pub fn fmt_led_number(front: &str, number: u64, f: &mut String) -> fmt::Result
     requires short { length front.now ≤ 4 }
     requires ascii { IsAscii front.now }
-    ensures { OnOk result (AppendsText f.old (front.now ++ decimal number) f.new) }
+    ensures text { OnOk result (AppendsText f.old (front.now ++ decimal number) f.new) }
+    ensures appended { OnErr result (OnlyAppends f.old f.new) }
 {
     if number < 10_000 && has_room(f, 8) {
         return fmt_led(front, number as usize, f);
@@ -223,7 +233,8 @@ pub fn fmt_led_number(front: &str, number: u64, f: &mut String) -> fmt::Result
 /// Appends a number that may be negative, with its sign.
 #[inline(always)]
 pub fn fmt_signed(number: i32, f: &mut String) -> fmt::Result
-    ensures { OnOk result (AppendsText f.old (signed_decimal number) f.new) }
+    ensures text { OnOk result (AppendsText f.old (signed_decimal number) f.new) }
+    ensures appended { OnErr result (OnlyAppends f.old f.new) }
 {
     if number >= 0 {
         return fmt_number(number as u64, f);

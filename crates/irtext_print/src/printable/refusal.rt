@@ -1,6 +1,6 @@
 //! Why a printing fails.
 
-ghost use Rattle.std.specs.Prelude.{◌≡◌, OnOk, IfErr, IsOk};
+ghost use Rattle.std.specs.Prelude.{◌≡◌, OnOk, OnErr, IfErr, IsOk, IsErr};
 ghost use Rattle.irtext_print.specs.declared.printable.refusal.Refusal.TheVariants as refusal;
 
 use std::alloc::AllocError;
@@ -20,6 +20,7 @@ pub enum Refusal {
 /// Turns the result of a call that fails only if out of memory into one with the error `Memory`.
 pub fn memory_alone(answer: fmt::Result) -> Result<(), Refusal>
     ensures ok { OnOk result (IsOk answer) }
+    ensures err { OnErr result (IsErr answer) }
     ensures refused { IfErr result (λ e. e ≡ refusal.Memory) }
 {
     match answer {

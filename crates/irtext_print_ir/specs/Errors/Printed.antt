@@ -1,5 +1,5 @@
 -- For callers: what errors and results print as.
-use Rattle.std.specs.Prelude.{◌≡◌, List, ℕ, Option, Some, Result, Ok, Err, string_bytes, ⊤}
+use Rattle.std.specs.Prelude.{List, ℕ, Option, Some, Result, Ok, Err, string_bytes, ⊤}
 use Rattle.irtext_base.specs.Text.{Text}
 use Rattle.irtext_context.specs.declared.base.context.Context.{Context}
 use Rattle.irtext_base.specs.declared.result.Error.{Error}
@@ -8,6 +8,7 @@ use Rattle.std.specs.declared.string.String.{String}
 use Rattle.std.specs.declared.alloc.Global.{Global}
 use Rattle.irtext_print.specs.Printers.Appended.{Appends}
 use Rattle.irtext_print.specs.Printers.Shown.{Shown}
+use Rattle.irtext_print_ir.specs.Printers.Refused.{HasAppended}
 
 -- an error's text with these paths; the printing state is unchanged
 abbrev pub given_of : {A U : Type 0} → (A → Text) → List (List ℕ) → Error A → Shown U → Option (List ℕ × Shown U)
@@ -29,7 +30,7 @@ module _ {X T A : Type 0} where
   may_print written prints (Ok x) ctx s b t d = prints x ctx s b t d
   may_print written prints (Err error) ctx s b t d = Appends (located_error written ctx.paths error, s) t (string_bytes b) (string_bytes d)
 
-  -- what one printing of a result that fails leaves: what that of its value may leave; that of its error leaves the state unchanged
+  -- what one printing of a result that fails leaves: what that of its value may leave; that of its error leaves the state unchanged, and only appends to the text
   abbrev pub may_refuse : {U : Type 0} → (X → Context T A → Shown U → String Global → Shown U → String Global → Type 0) → Result X (Error A) → Context T A → Shown U → String Global → Shown U → String Global → Type 0
   may_refuse refuses (Ok x) ctx s b t d = refuses x ctx s b t d
-  may_refuse refuses (Err error) ctx s b t d = t ≡ s
+  may_refuse refuses (Err error) ctx s b t d = HasAppended s b t d

@@ -1,10 +1,11 @@
 -- For callers: what a printing that fails leaves of the printing state and of the text.
-use Rattle.std.specs.Prelude.{◌≡◌, ◌<◌, ◌≤◌, ◌+◌, ◌⊎◌, List, ℕ, [], ◌∷◌, ◌++◌, length, Bool, true, false, Option, Some, string_bytes, string_len, string_capacity}
+use Rattle.std.specs.Prelude.{◌≡◌, ◌<◌, ◌≤◌, ◌+◌, ◌⊎◌, List, ℕ, [], ◌∷◌, ◌++◌, length, true, false, Option, Some, string_bytes, string_len, string_capacity}
 use Rattle.std.specs.Char.{encode_utf8}
 use Rattle.std.specs.Iterator.{Yields}
 use Rattle.std.specs.List.{FoldsTo}
 use Rattle.std.specs.declared.string.String.{String}
 use Rattle.std.specs.declared.alloc.Global.{Global}
+use Rattle.irtext_base.specs.Appending.{OnlyAppends}
 use Rattle.irtext_tokens.specs.declared.irfmt.separator.ListSeparator.{ListSeparator}
 use Rattle.irtext_tokens.specs.declared.irfmt.separator.ListSeparator.TheVariants as separators
 use Rattle.irtext_print.specs.Printers.Printing.{gathered_of, with_gathered}
@@ -14,6 +15,14 @@ use Rattle.irtext_print_ir.specs.Printers.Items.{Place, Separates, WritesItem}
 -- all of the state but the gathered items is kept
 abbrev pub KeepsLayout : {U : Type 0} → Shown U → Shown U → Type 0
 KeepsLayout s t = t ≡ with_gathered s (gathered_of t)
+
+-- the state is unchanged, and the text was only appended to
+abbrev pub HasAppended : {U : Type 0} → Shown U → String Global → Shown U → String Global → Type 0
+HasAppended s b t d = (t ≡ s) × OnlyAppends b d
+
+-- all of the state but the gathered items is kept, and the text was only appended to
+abbrev pub HasGathered : {U : Type 0} → Shown U → String Global → Shown U → String Global → Type 0
+HasGathered s b t d = KeepsLayout s t × OnlyAppends b d
 
 -- the state and the text are unchanged
 abbrev pub IsUntouched : {U : Type 0} → Shown U → String Global → Shown U → String Global → Type 0
@@ -31,11 +40,11 @@ HasNoRoom text s b t d = IsUntouched s b t d × IsFull b text
 abbrev pub HasNoRoomAfter : {U : Type 0} → List ℕ → List ℕ → Shown U → String Global → Shown U → String Global → Type 0
 HasNoRoomAfter first second s b t d = HasNoRoom first s b t d ⊎ ((t ≡ s) × (string_bytes d ≡ string_bytes b ++ first) × IsFull b (first ++ second))
 
--- a separator: without new lines it failed since there was no room for its characters
+-- a separator: one with a new line was appended in part; without, it failed since there was no room for its characters
 abbrev pub RefusesSeparator : {U : Type 0} → ListSeparator → Shown U → String Global → Shown U → String Global → Type 0
 RefusesSeparator separators.None s b t d = ⊥
-RefusesSeparator separators.Newline s b t d = t ≡ s
-RefusesSeparator (separators.CharNewline c) s b t d = t ≡ s
+RefusesSeparator separators.Newline s b t d = HasAppended s b t d
+RefusesSeparator (separators.CharNewline c) s b t d = HasAppended s b t d
 RefusesSeparator (separators.Char c) s b t d = HasNoRoom (encode_utf8 c) s b t d
 RefusesSeparator (separators.CharSpace c) s b t d = HasNoRoomAfter (encode_utf8 c) (32 ∷ []) s b t d
 

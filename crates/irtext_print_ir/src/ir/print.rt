@@ -1,6 +1,7 @@
 //! Printing of operations, blocks and regions with everything nested in them. The printing state gathers the items, the operations and
 //! blocks that carry a mark; a root in no block is followed by the section, which has an entry for each.
-ghost use Rattle.std.specs.Prelude.{◌≡◌, ◌++◌, [], OnOk, IfErr, IsSome};
+ghost use Rattle.std.specs.Prelude.{◌≡◌, ◌++◌, [], OnOk, OnErr, IfErr, IsSome};
+ghost use Rattle.irtext_base.specs.Appending.{OnlyAppends};
 ghost use Rattle.irtext_context.specs.Context.{operation};
 ghost use Rattle.irtext_context.specs.Context as context;
 ghost use Rattle.irtext_graph.specs.Graph.{IsLive};
@@ -39,6 +40,7 @@ fn gather_operation<T: IrText<A>, A: AttrText<A>, U>(
     ensures refused { IfErr result (heads.RefusesUnder T.IrText.own A.IrText.own A.AttrText.own A.eq ctx.now
         op state.old) }
     ensures rest { state.new ≡ with_gathered state.old (gathered_of state.new) }
+    ensures appended { OnErr result (OnlyAppends f.old f.new) }
 {
     let mut items = take_gathered(state, ctx.allocator());
     let answer = print_nested(ctx, op, marked, state, &mut items, f);
@@ -66,6 +68,7 @@ pub fn print_concrete<T: IrText<A>, A: AttrText<A>, U>(
     ensures refused { IfErr result (heads.RefusesUnder T.IrText.own A.IrText.own A.AttrText.own A.eq ctx.now
         op state.old) }
     ensures rest { state.new ≡ with_gathered state.old (gathered_of state.new) }
+    ensures appended { OnErr result (OnlyAppends f.old f.new) }
 {
     gather_operation(ctx, op, false, state, f)
 }
@@ -95,6 +98,7 @@ pub fn print_block<T: IrText<A>, A: AttrText<A>, U>(
     ensures refused { IfErr result (heads.RefusesBlockUnder T.IrText.own A.IrText.own A.AttrText.own A.eq
         ctx.now block state.old) }
     ensures rest { state.new ≡ with_gathered state.old (gathered_of state.new) }
+    ensures appended { OnErr result (OnlyAppends f.old f.new) }
 {
     let mut items = take_gathered(state, ctx.allocator());
     let answer = print_nested_block(ctx, block, state, &mut items, f);
@@ -120,6 +124,7 @@ pub fn print_region<T: IrText<A>, A: AttrText<A>, U>(
     ensures refused { IfErr result (heads.RefusesRegionUnder T.IrText.own A.IrText.own A.AttrText.own A.eq
         ctx.now region state.old) }
     ensures rest { state.new ≡ with_gathered state.old (gathered_of state.new) }
+    ensures appended { OnErr result (OnlyAppends f.old f.new) }
 {
     let mut items = take_gathered(state, ctx.allocator());
     let answer = print_nested_region(ctx, region, state, &mut items, f);
@@ -142,6 +147,7 @@ fn fmt_end<T: IrText<A>, A: AttrText<A>, U>(
     ensures state { OnOk result (state.new ≡ with_gathered state.old []) }
     ensures refused { IfErr result (λ e. e ≡ refusal.Memory) }
     ensures rest { state.new ≡ with_gathered state.old (gathered_of state.new) }
+    ensures appended { OnErr result (OnlyAppends f.old f.new) }
 {
     if !has_gathered(state) {
         return print_alone(ctx, Item::Operation(op), f);
@@ -189,6 +195,7 @@ pub fn print_root<T: IrText<A>, A: AttrText<A>, U>(
     ensures refused { IfErr result (heads.RefusesUnder T.IrText.own A.IrText.own A.AttrText.own A.eq ctx.now
         op state.old) }
     ensures rest { state.new ≡ with_gathered state.old (gathered_of state.new) }
+    ensures appended { OnErr result (OnlyAppends f.old f.new) }
 {
     let graph = ctx.graph();
     graph.keeps_nesting();

@@ -3,6 +3,7 @@ ghost use Rattle.std.specs.Prelude.{◌≡◌, Some};
 ghost use Rattle.std.specs.Str.{encode_utf8_all};
 ghost use Rattle.irtext_base.specs.Locations.{attr_view};
 ghost use Rattle.irtext_grammar.specs.Spelling.AttrText.{attr_text};
+ghost use Rattle.irtext_print_ir.specs.Printers.Refused.{HasAppended};
 
 use crate::printable::{Printable, State};
 use irtext_base::base::AttrObj;
@@ -16,7 +17,7 @@ use std::fmt;
 impl<T: IrText<A>, A: AttrText<A>, U> Printable<U, T, A> for AttrObj<A> {
     ghost gives = { λ x _ s. Some (encode_utf8_all (attr_text A.IrText.written (attr_view x)), s) };
 
-    ghost refuses = { λ _ _ s _ t _. t ≡ s };
+    ghost refuses = { λ _ _. HasAppended };
 
     fn fmt(&self, _ctx: &Context<T, A>, _state: &mut State<U>, f: &mut String) -> fmt::Result {
         fmt_attr(self, f)

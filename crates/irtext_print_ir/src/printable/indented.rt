@@ -2,6 +2,7 @@
 ghost use Rattle.std.specs.Prelude.{◌≡◌, Some};
 ghost use Rattle.irtext_print.specs.Printers.Printing.{indent_of};
 ghost use Rattle.irtext_grammar.specs.Spelling.Spell.{newline};
+ghost use Rattle.irtext_print_ir.specs.Printers.Refused.{HasAppended};
 
 use crate::printable::state::State;
 use crate::printable::{Printable, fmt_newline};
@@ -39,7 +40,7 @@ impl fmt::Display for IndentedNl {
 impl<T: IrText<A>, A: AttrText<A>, U> Printable<U, T, A> for IndentedNl {
     ghost gives = { λ line _ s. Some (newline line.indent, s) };
 
-    ghost refuses = { λ _ _ s _ t _. t ≡ s };
+    ghost refuses = { λ _ _. HasAppended };
 
     fn fmt(&self, _ctx: &Context<T, A>, _state: &mut State<U>, f: &mut String) -> fmt::Result {
         fmt_newline(self.indent, f)

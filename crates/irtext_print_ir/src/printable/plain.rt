@@ -4,7 +4,7 @@ ghost use Rattle.std.specs.Char.{encode_utf8};
 ghost use Rattle.std.specs.String.{string_bytes};
 ghost use Rattle.irtext_tokens.specs.QuotedBytes.{quoted_bytes};
 ghost use Rattle.irtext_print_ir.specs.Printers.Separator.{bool_text};
-ghost use Rattle.irtext_print_ir.specs.Printers.Refused.{HasNoRoom, RefusesSeparator};
+ghost use Rattle.irtext_print_ir.specs.Printers.Refused.{HasAppended, HasNoRoom, RefusesSeparator};
 
 use crate::printable::state::State;
 use crate::printable::{ListSeparator, Printable, fmt_indented_newline};
@@ -44,7 +44,7 @@ impl<T: IrText<A>, A: AttrText<A>, U> Printable<U, T, A> for &str {
 impl<T: IrText<A>, A: AttrText<A>, U> Printable<U, T, A> for String {
     ghost gives = { λ x _ s. Some (quoted_bytes (string_bytes x), s) };
 
-    ghost refuses = { λ _ _ s _ t _. t ≡ s };
+    ghost refuses = { λ _ _. HasAppended };
 
     fn fmt(&self, _ctx: &Context<T, A>, _state: &mut State<U>, f: &mut String) -> fmt::Result {
         fmt_quoted(self.as_str(), f)

@@ -12,6 +12,7 @@ use crate::tests::nesting::{erases, put};
 use irtext_few::Few;
 use irtext_graph::arena::Ptr;
 use irtext_graph::object::{BasicBlock, Defined, Object, Operation, Value};
+use irtext_graph_queries::contained::{contains_blocks, contains_values};
 use std::alloc::Global;
 use std::process::Abort;
 
@@ -110,7 +111,7 @@ pub(crate) fn make_using(
 ) -> Ptr<Operation>
     ensures kept { (m : ℕ) → m ≤ graph.old.made → KeepsOlder m graph.old graph.new }
 {
-    assert!(rt; graph.contains_values(operands) && graph.contains_blocks(successors));
+    assert!(rt; contains_values(graph, operands) && contains_blocks(graph, successors));
     graph
         .make_operation(value, types, operands, successors)
         .expect(rt, "out of memory")

@@ -15,7 +15,7 @@ use irtext_graph_queries::operation::OperationParts;
 use irtext_graph_queries::region::RegionParts;
 use irtext_graph_queries::types::GraphTypes;
 use irtext_graph_queries::value::{UseSite, ValueUses};
-use std::alloc::AllocError;
+use irtext_memory::OutOfMemory;
 use std::process::Abort;
 
 /// An operation with a region of two blocks, the first of which has two arguments and two operations: one with two results, and
@@ -110,7 +110,7 @@ fn alive(holder: &Holder, s: Scene) -> bool
 /// Whether these are the items of a list.
 pub(crate) fn are<X: PartialEq + Drop>(
     rt: &impl Abort,
-    list: Result<Vec<X>, AllocError>,
+    list: Result<Vec<X>, OutOfMemory>,
     items: &[X],
 ) -> bool {
     list.expect(rt, "out of memory").as_slice() == items

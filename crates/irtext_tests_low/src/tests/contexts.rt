@@ -10,13 +10,14 @@ use irtext_context::base::{AttributeDict, Operation, OperationAccess, Ptr, Regio
 use irtext_graph::graph::Graph;
 use irtext_graph::held::HasGraph;
 use irtext_graph::object::Object;
+use irtext_memory::NoRoom;
 use irtext_tests_common::building::id;
 use irtext_tests_common::contexts::Ctx;
-use std::alloc::{AllocError, Global};
+use std::alloc::Global;
 use std::process::Abort;
 
 /// Makes a module without attributes, if there is a place for it.
-fn try_make(rt: &impl Abort, alloc: Global, ctx: &mut Ctx) -> Result<Ptr<Operation>, AllocError>
+fn try_make(rt: &impl Abort, alloc: Global, ctx: &mut Ctx) -> Result<Ptr<Operation>, NoRoom>
     ensures kept { (mark : ℕ) → mark ≤ ctx.old.graph.made → KeepsOlder mark ctx.old ctx.new }
 {
     let id = must(rt, id(alloc, ("builtin", "module")));

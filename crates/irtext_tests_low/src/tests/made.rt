@@ -11,6 +11,7 @@ use irtext_few::Few;
 use irtext_graph::graph::Graph;
 use irtext_graph::held::HasGraph;
 use irtext_graph::object::{Defined, Object};
+use irtext_graph_queries::contained::{contains_blocks, contains_values};
 use irtext_tests_common::building::id;
 use irtext_tests_common::contexts::Ctx;
 use std::alloc::Global;
@@ -31,7 +32,7 @@ fn answered(
     operands: &[Value],
     successors: &[Ptr<BasicBlock>],
 ) -> Answer<Ptr<Operation>, DemoAttr> {
-    assert!(rt; ctx.graph().contains_values(operands) && ctx.graph().contains_blocks(successors));
+    assert!(rt; contains_values(ctx.graph(), operands) && contains_blocks(ctx.graph(), successors));
     let types = Few::two(DemoType::Pointer, byte(rt));
     let id = must(rt, id(alloc, words));
     Operation::new(ctx, id, types, operands, successors, 2)

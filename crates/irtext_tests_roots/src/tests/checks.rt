@@ -1,6 +1,6 @@
 //! The checks that need a context, and the one place where it is made for them.
 use crate::tests::dialects_page;
-use crate::tests::layer::{checked, dialects, graphs, macros, reexports};
+use crate::tests::layer::{beside, checked, dialects, graphs, macros, reexports};
 use crate::tests::parse::{errors, location_readings, outside, refused, regions};
 use crate::tests::value::{is_done, value_of};
 use irtext_demo::dialects::register_demo;
@@ -36,6 +36,8 @@ pub(crate) enum Check<'t> {
     Regions,
     /// A text that is no root.
     Refused,
+    /// A root beside other texts.
+    Beside,
     /// The example of docs/DIALECTS.md.
     Page,
 }
@@ -87,6 +89,7 @@ fn make_in_demo(rt: &impl Abort, alloc: Global, ctx: &mut Ctx, check: Check<'_>)
         Check::Outside(row) => outside::check(rt, alloc, ctx, row),
         Check::Regions => regions::check(rt, alloc, ctx),
         Check::Refused => refused::check(rt, alloc, ctx),
+        Check::Beside => beside::check(rt, alloc, ctx),
         _ => dialects_page::check(rt, alloc, ctx),
     }
 }

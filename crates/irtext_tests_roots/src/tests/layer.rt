@@ -1,5 +1,6 @@
 //! The tests of what `pliron_text` re-exports, a file for each subject.
 mod apart;
+pub(crate) mod beside;
 mod carried;
 pub(crate) mod checked;
 pub(crate) mod dialects;

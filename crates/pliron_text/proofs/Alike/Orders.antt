@@ -10,7 +10,7 @@ use Rattle.irtext_base.specs.Text.{Text}
 use Rattle.irtext_base.specs.declared.base.identifier.OpId.{OpId}
 use Rattle.irtext_context.specs.Dialects.{Known, Table, same_id, with_op}
 use Rattle.irtext_context.specs.DialectTable.{dialect_of, dialect_or_new, no_operations, registered, with_operation}
-use Rattle.pliron_text.specs.Alike.{KnowAlike}
+use Rattle.irtext_alike.specs.Alike.{KnowAlike}
 
 -- two tests that do not both pass can be made in either order
 either_first : {X : Type 0} (x y : X) (o : Option X) (a b : Bool) → (a ≡ true → b ≡ true → ⊥) → cond a (Some x) (cond b (Some y) o) ≡ cond b (Some y) (cond a (Some x) o)

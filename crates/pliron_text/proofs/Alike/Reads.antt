@@ -1,9 +1,10 @@
--- Two contexts that know the operations of a tree alike: a text that parses as the tree in one parses as it in the other.
+-- Two contexts that know the operations of a tree alike: a text that parses as the tree in one parses as it in the other, whatever is parsed
+-- where a region is left out.
 use Rattle.std.proofs.Common.{◌∙◌, ℕ, List, [], ◌∷◌, ap}
 use Rattle.std.specs.Option.{option_map}
 use Rattle.std.specs.Prelude.{⊤}
 use Rattle.irtext_base.specs.Text.{Text, after_space}
-use Rattle.irtext_base.specs.Reading.{the, separated, more, repeated}
+use Rattle.irtext_base.specs.Reading.{Reading, the, separated, more, repeated}
 use Rattle.irtext_base.specs.Own.{Texts, Language, Verdict}
 use Rattle.irtext_context.specs.Dialects.{Table}
 use Rattle.irtext_grammar.specs.Grammar.Forest.{Regions, no_regions, region, Blocks, no_blocks, block, Operations, no_operations, operation, AllRegions, AllBlocks, AllOperations}
@@ -34,7 +35,7 @@ module _ {T A : Type 0} (d e : List (Text × Table)) where
   abbrev pub AlikeTree : Tree ℕ T A → Type 0
   AlikeTree t = Alike t.own × AlikeRegions t.regions
 
-module _ {T A : Type 0} (types : Texts T) (owns : Texts A) (d e : List (Text × Table)) where
+module _ {T A : Type 0} (types : Texts T) (owns : Texts A) (d e : List (Text × Table)) (left_out : Reading) where
   abbrev Inner : Type 0
   Inner = Regions (Op ℕ T A) (Head ℕ T A) (Brace ℕ)
 
@@ -45,10 +46,10 @@ module _ {T A : Type 0} (types : Texts T) (owns : Texts A) (d e : List (Text × 
   Steps = Operations (Op ℕ T A) (Head ℕ T A) (Brace ℕ)
 
   abbrev L : Language ℕ T A
-  L = supported d types owns
+  L = record (supported d types owns) { left_out = left_out }
 
   abbrev M : Language ℕ T A
-  M = supported e types owns
+  M = record (supported e types owns) { left_out = left_out }
 
   abbrev ReadRegion : Brace ℕ → Leaves → Type 0
   ReadRegion brace bs = AlikeBlocks d e bs → (t u : Text) → reads.region_read L brace (reads.block_readings L bs) t u → reads.region_read M brace (reads.block_readings M bs) t u
@@ -90,11 +91,11 @@ module _ {T A : Type 0} (types : Texts T) (owns : Texts A) (d e : List (Text × 
   alike_leaves (block h os bs) t u s (w, k, q) (m, a, b) = (m, s.0 k t m a, alike_leaves bs (after_space m) u s.1 q b)
 
   alike_region : (brace : Brace ℕ) (bs : Leaves) → EachBlock ReadBlock bs → ReadRegion brace bs
-  alike_region elided no_blocks s k t u a = absurd a
+  alike_region elided no_blocks s k t u a = a
   alike_region elided (block h os bs) s k t u a = absurd a
   alike_region (shown p) bs s k t u (at, (m, o, (n, a, c))) = (at, (m, o, (n, alike_leaves bs (after_space m) n s k a, c)))
 
-  alike_reads : (t : Tree ℕ T A) → AlikeTree d e t → (text rest : Text) → reads.reads L t text rest → reads.reads M t text rest
+  pub alike_reads : (t : Tree ℕ T A) → AlikeTree d e t → (text rest : Text) → reads.reads L t text rest → reads.reads M t text rest
   alike_reads t known text rest a = alike_operation t.own t.regions (all_regions ReadRegion ReadBlock ReadOperation alike_region alike_block alike_operation t.regions) known.0 known.1 text rest a
 
   -- the same of a root with its section

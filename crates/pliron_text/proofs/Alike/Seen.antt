@@ -21,7 +21,8 @@ use Rattle.irtext_grammar.specs.Grammar.Forest as forest
 use Rattle.irtext_grammar.specs.Grammar.Forest.{Regions, no_regions, region, Blocks, no_blocks, Operations, no_operations, AllRegions, AllBlocks, AllOperations}
 use Rattle.irtext_grammar.specs.Graphs.Graph.{Graph, GraphOp, GraphBlock}
 use Rattle.irtext_print_ops.proofs.Depths.{inside_is}
-use Rattle.pliron_text.specs.Alike.{IsKnownAlike, KnowsRoot, AreKnownAlike}
+use Rattle.irtext_alike.specs.Alike.{KnowsRoot}
+use Rattle.pliron_text.specs.Alike.{IsKnownAlike, AreKnownAlike}
 use Rattle.pliron_text.proofs.Forests.{PtrRegions, PtrBlocks, PtrOperations, first_blocks, more_regions, first_block, first_operations, more_blocks, first_operation, first_regions, more_operations}
 
 module _ {T A : Type 0} (ctx : ContextView T A) (text_of : A → Text) (root : Ptr Operation) (nested : Nested (children ctx.graph) (parent ctx.graph)) (dialects : List (Text × Table)) (knows : KnowsRoot ctx dialects root) where

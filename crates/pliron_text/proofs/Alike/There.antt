@@ -1,12 +1,12 @@
 -- A text that parses as a root in one context, in another context that knows the operations of the root alike.
-use Rattle.std.proofs.Common.{◌≡◌, ◌∙◌, ℕ, Bool, List, sym, subst}
-use Rattle.std.specs.Option.{option_map}
+use Rattle.std.proofs.Common.{◌∙◌, ℕ, Bool, List, sym, subst}
 use Rattle.std.specs.Prelude.{⊤}
 use Rattle.irtext_base.specs.Format.{Id}
 use Rattle.irtext_base.specs.Own.{Texts, Lawful, Verdict}
+use Rattle.irtext_base.specs.Reading.{never}
 use Rattle.irtext_base.specs.Text.{Text}
 use Rattle.irtext_context.specs.Dialects.{Table}
-use Rattle.irtext_grammar.specs.Contexts.Formats.{op_id, format_of}
+use Rattle.irtext_grammar.specs.Contexts.Formats.{op_id}
 use Rattle.irtext_grammar.specs.Grammar.Forest.{Regions, no_regions, region, Blocks, no_blocks, block, Operations, no_operations, operation, AllRegions, AllBlocks, AllOperations}
 use Rattle.irtext_grammar.specs.Grammar.Marked.{reads_root}
 use Rattle.irtext_grammar.specs.Grammar.Section.{Entry}
@@ -16,13 +16,10 @@ use Rattle.irtext_grammar.specs.Graphs.Graph.{Graph, GraphOp, GraphBlock, Printi
 use Rattle.irtext_grammar.specs.Graphs.Same.{Locations, UpToFillings, resolved_root}
 use Rattle.irtext_grammar.specs.Promises.Supported.{supported}
 use Rattle.irtext_grammar.proofs.Grammar.UniqueRoot.{one_root}
-use Rattle.pliron_text.specs.Alike.{IsKnownAlike, KnowAlike, AreKnownAlike}
+use Rattle.irtext_alike.specs.Alike.{KnowAlike}
+use Rattle.pliron_text.specs.Alike.{IsKnownAlike, AreKnownAlike}
 use Rattle.pliron_text.proofs.Alike.Ids.{root_ids}
 use Rattle.pliron_text.proofs.Alike.Reads.{AlikeTree, alike_root}
-
--- dialects that know all operations alike have the same formats
-pub same_formats : (a b : List (Text × Table)) → KnowAlike a b → format_of a ≡ format_of b
-same_formats a b alike = λ i. λ id. option_map (λ known. known.format) (alike (op_id id) i)
 
 module _ {T A : Type 0} (a b : List (Text × Table)) (alike : KnowAlike a b) where
   mutual
@@ -54,7 +51,7 @@ module _ {T A X : Type 0} (types : Texts T) (owns : Texts A) (types_law : Lawful
     pub reads_too : ReadsHere t es u
     reads_too =
         let known = root_ids (λ i. IsKnownAlike e d i) K C isolated first es g t same alike in
-        record { here = here; there = alike_root types owns d e location_at t es known text u here; known = known }
+        record { here = here; there = alike_root types owns d e never location_at t es known text u here; known = known }
 
     -- whatever it parses as there, it parses as here
     pub reads_there : (s : Tree ℕ T A) (fs : List (Entry ℕ A X)) (v : Text) → reads_root (supported e types owns) location_at s fs text v → ReadsHere s fs v

@@ -61,7 +61,7 @@ mapped_is f [] i y e = absurd (cc)
 mapped_is f (x ∷ xs) zero y e = (x, some_eq e, refl)
 mapped_is f (x ∷ xs) (suc i) y e = mapped_is f xs i y e
 
-some_of : {X : Type 0} (o : Option X) → IsSome o → (x : X) × (o ≡ Some x)
+pub some_of : {X : Type 0} (o : Option X) → IsSome o → (x : X) × (o ≡ Some x)
 some_of None h = absurd (cc)
 some_of (Some x) h = (x, refl)
 

@@ -1,6 +1,6 @@
 //! The calls that parse an operation, and that give it as a printable value.
 ghost use Rattle.std.specs.Prelude.{◌≡◌, true};
-ghost use Rattle.irtext_parse_root.specs.Parses.{Parses, AnswersOperation, AnswersWhole};
+ghost use Rattle.irtext_parse_root.specs.Parses.{Undoes, ResolvesRoot, ResolvesWhole, FirstOfOperation, FirstOfWhole};
 
 use irtext_base::parsable::ParseResult;
 use irtext_base::text::{AttrText, IrText};
@@ -23,10 +23,11 @@ pub trait OperationText {
     /// committed error with the cause `StreamFailed`. After any error, including out of memory, all objects of the context, the
     /// recorded marks, the source and the caller's data are unchanged; the context may hold more file paths than before.
     ///
-    /// The clause `parses` says this on every state (`read`, `missed`): an operation is returned for a text that has no error, and an
-    /// error that is not out of memory is the first one of the text, of a name or of a mark. On a stream that has not failed, and with no
-    /// mark recorded, it says so in the terms of the grammar (`builds`, `unresolved`): the text is that of a tree and its section, which
-    /// resolve, and what they build is what is new in the context; or whatever tree the text is does not resolve.
+    /// On a stream that has not failed, and with no mark recorded, the clause `resolves` says in the terms of the grammar what is
+    /// accepted: the text is that of a tree and its section, which resolve, and what they build is what is new in the context; or
+    /// whatever tree the text is does not resolve. The clause `first` says it on every state: an operation is returned for a text that
+    /// has no error, and an error that is not out of memory is the first one of the text, of a name or of a mark. The clause `undone`
+    /// says what an error leaves unchanged.
     ///
     /// This text is a module with a region of one block, which contains one operation:
     ///
@@ -40,8 +41,9 @@ pub trait OperationText {
         stream: &mut StateStream<'_, T, A, U>,
     ) -> ParseResult<Ptr<Operation>, A>
         ensures lent { stream.new.state.ctx.ghost_name ≡ stream.old.state.ctx.ghost_name }
-        ensures parses { Parses (AnswersOperation T.IrText.own A.IrText.own true) stream.old result
-            stream.new };
+        ensures undone { Undoes stream.old result stream.new }
+        ensures resolves { ResolvesRoot T.IrText.own A.IrText.own stream.old result stream.new }
+        ensures first { FirstOfOperation T.IrText.own A.IrText.own true stream.old result stream.new };
 
     /// Parses an operation as `top_level_parse` does; only white space may follow it, or the section after it, up to the end of the text.
     /// If something else follows, the error is committed and its position is there: ``Unexpected `b`, expected end of input``. The end is
@@ -52,7 +54,9 @@ pub trait OperationText {
         stream: &mut StateStream<'_, T, A, U>,
     ) -> ParseResult<Ptr<Operation>, A>
         ensures lent { stream.new.state.ctx.ghost_name ≡ stream.old.state.ctx.ghost_name }
-        ensures parses { Parses (AnswersWhole T.IrText.own A.IrText.own) stream.old result stream.new };
+        ensures undone { Undoes stream.old result stream.new }
+        ensures resolves { ResolvesWhole T.IrText.own A.IrText.own stream.old result stream.new }
+        ensures first { FirstOfWhole T.IrText.own A.IrText.own stream.old result stream.new };
 
     /// Returns the operation as a plain value that prints its concrete text: its id and its pieces, without its mark and without a
     /// section.

@@ -12,7 +12,7 @@ ghost use Rattle.irtext_grammar.specs.Names.Acts.{Rule};
 ghost use Rattle.irtext_grammar.specs.Entries.{section_at};
 ghost use Rattle.irtext_grammar.specs.Promises.Supported.{RefusedAs};
 ghost use Rattle.irtext_grammar.specs.Reached.{Stopped, Actions, operation_at, region_at};
-ghost use Rattle.irtext_parse_root.specs.Parses.{Parses, AnswersOperation, AnswersRegion, AnswersWhole};
+ghost use Rattle.irtext_parse_root.specs.Parses.{FirstOfOperation, FirstOfRegion, FirstOfWhole};
 ghost use Rattle.irtext_grammar.specs.Promises.ErrorCauses.{CauseAt, CauseAtPlace, HasReason};
 ghost use Rattle.irtext_parse_state.specs.declared.parsable.state.StateStream.{StateStream};
 
@@ -25,14 +25,14 @@ use irtext_base::text::{AttrText, IrText};
 pub fn causes_of_errors<T: IrText<A>, A: AttrText<A>, U>()
     ensures operation { (look : Bool) (old new : StateStream T A U)
         (result : Result (Ptr Operation) (ParseFault A)) →
-        Parses (AnswersOperation T.IrText.own A.IrText.own look) old result new →
+        FirstOfOperation T.IrText.own A.IrText.own look old result new →
         IfErr result (HasReason old.state.ctx.now.dialects T.IrText.reading A.IrText.reading old.stream) }
     ensures whole_text { (old new : StateStream T A U) (result : Result (Ptr Operation) (ParseFault A)) →
-        Parses (AnswersWhole T.IrText.own A.IrText.own) old result new →
+        FirstOfWhole T.IrText.own A.IrText.own old result new →
         IfErr result (HasReason old.state.ctx.now.dialects T.IrText.reading A.IrText.reading old.stream) }
     ensures region { (op : Ptr Operation) (old new : StateStream T A U)
         (result : Result (Ptr Region) (ParseFault A)) →
-        Parses (AnswersRegion T.IrText.own A.IrText.own op) old result new →
+        FirstOfRegion T.IrText.own A.IrText.own op old result new →
         IfErr result (HasReason old.state.ctx.now.dialects T.IrText.reading A.IrText.reading old.stream) }
 {}
 

@@ -6,7 +6,8 @@ ghost use Rattle.irtext_base.specs.declared.base.identifier.OpId.{OpId};
 ghost use Rattle.irtext_context.specs.Dialects.{Table, same_id};
 ghost use Rattle.irtext_context.specs.DialectTable.{registered, with_operation};
 ghost use Rattle.irtext_grammar.specs.Graphs.Graph.{Graph};
-ghost use Rattle.pliron_text.specs.Alike.{AreKnownAlike, KnowAlike};
+ghost use Rattle.irtext_alike.specs.Alike.{KnowAlike};
+ghost use Rattle.pliron_text.specs.Alike.{AreKnownAlike};
 
 /// Once an operation is registered, what is known of it is the format and the isolation that it was registered with, and of every other
 /// operation what was known before.

@@ -15,7 +15,7 @@ ghost use Rattle.irtext_grammar.specs.UniqueNames.{value_name, block_name};
 ghost use Rattle.irtext_grammar.specs.Back.{ClosedRoot};
 ghost use Rattle.irtext_closed.specs.Closed.{IsClosedRoot};
 ghost use Rattle.irtext_print_ir.specs.Printers.Printed.{block_round};
-ghost use Rattle.pliron_text.specs.Alike.{KnowAlike};
+ghost use Rattle.pliron_text.specs.Alike.{AreKnownAlike};
 ghost use Rattle.pliron_text.specs.PrintedRoot as root;
 
 use irtext_base::text::{AttrText, IrText};
@@ -63,12 +63,12 @@ pub fn checked_root_is_closed<T: IrText<A>, A: AttrText<A>>(ctx: &Context<T, A>)
 }
 
 /// What is printed of a root under a limit that elides a region is not the text of a root: the parser builds nothing from it in any context
-/// that knows all operations alike.
+/// that knows the root's operations alike.
 pub fn limited_root_is_refused<T: IrText<A>, A: AttrText<A>, U>()
     ensures { root.OfLimited T.IrText.own A.IrText.own A.AttrText.own A.eq (λ ctx g limit bytes.
         (AllShown (written (root.printing_in T.IrText.own A.IrText.own A.AttrText.own A.eq ctx) limit g) →
         ⊥) →
-        root.OfParsed T.IrText.own A.IrText.own A.AttrText.own A.eq {U = U} (λ d. KnowAlike d ctx.dialects)
+        root.OfParsed T.IrText.own A.IrText.own A.AttrText.own A.eq {U = U} (λ d. AreKnownAlike d ctx.dialects g)
         bytes (λ q new. ⊥)) }
 {}
 

@@ -10,6 +10,7 @@ ghost use Rattle.irtext_graph.specs.declared.object.Operation.{Operation};
 ghost use Rattle.irtext_graph.specs.declared.object.Region.{Region};
 ghost use Rattle.irtext_graph.specs.Graph.{CountsOn, IsInside, IsLive};
 ghost use Rattle.irtext_grammar.specs.Contexts.Nested.{place_of, pointers, seen_root};
+ghost use Rattle.irtext_closed.specs.Located.{IsLocatedRoot};
 ghost use Rattle.irtext_names.specs.Alone.{OnlyNewIn};
 ghost use Rattle.irtext_names.specs.Held.{held_root, IsWhole};
 ghost use Rattle.irtext_names.specs.OnlyNew.{OnlyNew};
@@ -17,6 +18,8 @@ ghost use Rattle.pliron_text.specs.Older.{IsOlder, KeepsRoot, RootLocated};
 ghost use Rattle.pliron_text.specs.PrintsAsBefore.{PrintsAsBefore};
 
 use irtext_base::text::{AttrText, IrText};
+use irtext_checked::context::keeps_parts;
+use irtext_context::base::Context;
 
 /// A parse keeps each operation that was there before with everything nested in it: one that is accepted (`OnlyNew`, which
 /// `top_level_parse` and the other parsers of operations promise), one that is refused (`SameObjects`), and one of a region
@@ -47,6 +50,14 @@ pub fn older_roots_stay<T: IrText<A>, A: AttrText<A>>()
     ensures located { (p : Ptr Operation) (old new : ContextView T A) → IsOlder p old new
         → RootLocated new p }
 {}
+
+/// A root of a context that keeps the files of all locations in it, as `is_located` says, is one that is printed as before after a parse,
+/// which asks for this (`RootLocated`).
+pub fn tested_root_is_located<T: IrText<A>, A: AttrText<A>>(ctx: &Context<T, A>)
+    ensures { (op : Ptr Operation) → IsLocatedRoot ctx.now op → RootLocated ctx.now op }
+{
+    keeps_parts(ctx);
+}
 
 /// A root that is kept is printed as before, in any layout, and not printed for the same reasons. So if a text is parsed, then others,
 /// accepted or refused, and then the first root is printed, its text is that of the context before the others.

@@ -6,7 +6,9 @@ use Rattle.irtext_graph.specs.Nested.{Nested}
 use Rattle.irtext_graph.specs.Throughout.{all_from}
 use Rattle.irtext_graph.specs.declared.object.Object.{Object}
 use Rattle.irtext_graph.specs.declared.object.Object.TheVariants.{TheOperation}
-use Rattle.irtext_closed.proofs.Reasons.{fewer, refused, closed_on, all_closed, next_reason, root_closed, reason_open}
+use Rattle.irtext_closed.proofs.Reasons.{refused, refused_for, next_reason, root_closed, reason_open}
+use Rattle.irtext_closed.proofs.Walk.{fewer, one_more, all_hold}
+use Rattle.irtext_closed.specs.First.{IsClosedAt, IsFirstReason}
 use Rattle.irtext_closed.proofs.check.check_closed.Goals as goal
 
 pub returns-in_err-check_root-clause-closed : goal.returns-in_err-check_root-clause-closed
@@ -33,6 +35,14 @@ returns-in_err-check_object-clause-closed g c =
     refused _ c.from_residual-in_err-check_object.result c.from_residual-in_err-check_object.ensures.1 (reason_open now c.args.root nested reason
     (next_reason now c.args.root c.loop-at.at c.in-Some.object reason c.in-Some.is c.in_ok-check_root.ensures.bare inside c.loop-at.invariant.so_far c.in_err-check_object.ensures.first))
 
+pub returns-in_err-check_object-clause-first : goal.returns-in_err-check_object-clause-first
+returns-in_err-check_object-clause-first g c =
+    let now = c.args.ctx.now in
+    let reason = c.in_err-check_object.field-0.0 in
+    let inside = subst (λ o. IfSome o (IsInside now.graph (TheOperation c.args.root))) c.in-Some.is c.loop-at.invariant.inside in
+    refused_for (IsFirstReason now c.args.root) reason c.from_residual-in_err-check_object.result c.from_residual-in_err-check_object.ensures.1
+    (next_reason now c.args.root c.loop-at.at c.in-Some.object reason c.in-Some.is c.in_ok-check_root.ensures.bare inside c.loop-at.invariant.so_far c.in_err-check_object.ensures.first)
+
 pub next_inside-at-requires-clause-within : goal.next_inside-at-requires-clause-within
 next_inside-at-requires-clause-within g c =
     subst (λ x. IsInside x (TheOperation c.args.root) c.in-Some.object) (sym c.graph-in-Some.ensures) (subst (λ o. IfSome o (IsInside c.args.ctx.now.graph (TheOperation c.args.root))) c.in-Some.is c.loop-at.invariant.inside)
@@ -51,7 +61,7 @@ loop-at-preserved g c =
     let n = c.next_inside-at.ensures in
     let on = subst (λ x. all_from x top (Some c.in-Some.object) ≡ c.in-Some.object ∷ all_from x top c.next_inside-at.result) c.graph-in-Some.ensures n.next in
     record {
-      so_far = λ q w. closed_on now c.args.root c.loop-at.at c.next_inside-at.result c.in-Some.object c.in-Some.is on c.in_ok-check_object.ensures.closed q (c.loop-at.invariant.so_far q w);
+      so_far = λ q w. one_more now.graph top (IsClosedAt now) c.loop-at.at c.next_inside-at.result c.in-Some.object c.in-Some.is on c.in_ok-check_object.ensures.closed q (c.loop-at.invariant.so_far q w);
       inside = subst (λ x. IfSome c.next_inside-at.result (IsInside x top)) c.graph-in-Some.ensures n.inside;
       live = subst (λ x. IfSome c.next_inside-at.result (IsLive x)) c.graph-in-Some.ensures n.there;
     }
@@ -60,4 +70,4 @@ pub returns-clause-closed : goal.returns-clause-closed
 returns-clause-closed g c =
     let now = c.args.ctx.now in
     let nested = subst (λ x. Nested (children x) (parent x)) c.graph.ensures c.keeps_nesting.ensures.forest in
-    ((λ t. root_closed now c.args.root nested c.in_ok-check_root.ensures.bare (λ q w. all_closed now c.args.root c.loop-at.at c.in_default.is q (c.loop-at.invariant.so_far q w))), (λ r. refl))
+    ((λ t. root_closed now c.args.root nested c.in_ok-check_root.ensures.bare (λ q w. all_hold now.graph (TheOperation c.args.root) (IsClosedAt now) c.loop-at.at c.in_default.is q (c.loop-at.invariant.so_far q w))), (λ r. refl))

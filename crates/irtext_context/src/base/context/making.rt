@@ -1,11 +1,13 @@
 //! Making objects, rolling them back, and keeping paths. These calls are for the crates above, which know when they are safe. Users of
 //! the text layer are not given this trait, so that none of their operations comes to hold a region that is gone.
-ghost use Rattle.std.specs.Prelude.{◌≡◌, ◌≤◌, ℕ, [], None, IsSome, IfOk, OnOk, OnErr};
+ghost use Rattle.std.specs.Prelude.{◌≡◌, ◌≤◌, ◌↔◌, ℕ, [], None, Err, IsSome, IsTrue, IfOk, OnOk, OnErr, length};
 ghost use Rattle.irtext_base.specs.Paths.{path_index, with_path, MayBeRefused};
 ghost use Rattle.irtext_graph.specs.Back.{AllOlder, IsClosedBelow};
 ghost use Rattle.irtext_graph.specs.Graph.{IsLive};
+ghost use Rattle.irtext_graph.specs.Limits.{NoMoreRegions, NoMoreBlocks, NoMoreOperations};
 ghost use Rattle.irtext_graph.specs.Store.{before};
 ghost use Rattle.irtext_graph.specs.declared.object.Object.TheVariants.{TheOperation};
+ghost use Rattle.irtext_memory.specs.declared.NoRoom.{NoRoom};
 ghost use Rattle.irtext_context.specs.Made.{AreLiveBlocks, AreDefinedValues};
 ghost use Rattle.irtext_context.specs.Context.{KeepsOlder, RollsBack, MakesOperation, MakesBlock, AddsRegion};
 
@@ -17,6 +19,7 @@ use irtext_base::base::{Identifier, OpId};
 use irtext_base::location::{Location, PathKey};
 use irtext_base::text::{AttrText, IrText};
 use irtext_few::Few;
+use irtext_memory::{NoRoom, OutOfMemory};
 use std::alloc::AllocError;
 
 /// Makes objects of a context, and rolls them back.
@@ -33,22 +36,23 @@ pub trait Making<T: IrText<A>, A: AttrText<A>> {
         ensures older { AllOlder result (seen self.now).graph }
         ensures closed { IsClosedBelow result (seen self.now).graph };
 
-    /// Makes an operation without results, operands, successors and regions. Fails if an allocation fails or a counter is at its limit;
-    /// then the context is unchanged.
+    /// Makes an operation without results, operands, successors and regions. Fails with `Full` exactly if the graph is full of operations,
+    /// and else only when out of memory; then the context is unchanged.
     fn make_operation(
         &mut self,
         id: OpId,
         attributes: AttributeDict<A>,
         loc: Location<A>,
-    ) -> Result<Ptr<Operation>, AllocError>
+    ) -> Result<Ptr<Operation>, NoRoom>
         ensures made { IfOk result (λ p. MakesOperation (seen self.old) (seen self.new) p
             (record { id = id; attributes = attributes; loc = loc }) [] [] []) }
+        ensures full { (result ≡ Err NoRoom.Full) ↔ NoMoreOperations 0 0 0 (seen self.old).graph }
         ensures err { OnErr result (seen self.new ≡ seen self.old) }
         ensures kept { (mark : ℕ) → mark ≤ (seen self.old).graph.made → KeepsOlder mark (seen self.old)
             (seen self.new) };
 
-    /// Makes an operation without regions, with results of these types and these operands and successors. Fails if an allocation fails or
-    /// a counter is at its limit; then the context is unchanged.
+    /// Makes an operation without regions, with results of these types and these operands and successors. Fails with `Full` exactly if the
+    /// graph can have no such operation, and else only when out of memory; then the context is unchanged.
     fn make_operation_with(
         &mut self,
         id: OpId,
@@ -57,36 +61,40 @@ pub trait Making<T: IrText<A>, A: AttrText<A>> {
         result_types: Few<T>,
         operands: &[Value],
         successors: &[Ptr<BasicBlock>],
-    ) -> Result<Ptr<Operation>, AllocError>
+    ) -> Result<Ptr<Operation>, NoRoom>
         requires operands { AreDefinedValues (seen self.old) operands.now }
         requires successors { AreLiveBlocks (seen self.old) successors.now }
         ensures made { IfOk result (λ p. MakesOperation (seen self.old) (seen self.new) p
             (record { id = id; attributes = attributes; loc = loc }) result_types operands.now
             successors.now) }
+        ensures full { (result ≡ Err NoRoom.Full) ↔ NoMoreOperations (length result_types)
+            (length operands.now) (length successors.now) (seen self.old).graph }
         ensures err { OnErr result (seen self.new ≡ seen self.old) }
         ensures kept { (mark : ℕ) → mark ≤ (seen self.old).graph.made → KeepsOlder mark (seen self.old)
             (seen self.new) };
 
-    /// Makes a block without a parent and without operations, with arguments of these types. Fails if an allocation fails or a counter is
-    /// at its limit; then the context is unchanged.
+    /// Makes a block without a parent and without operations, with arguments of these types. Fails with `Full` exactly if the graph can
+    /// have no such block, and else only when out of memory; then the context is unchanged.
     fn make_block(
         &mut self,
         label: Option<Identifier>,
         attributes: AttributeDict<A>,
         loc: Location<A>,
         arg_types: Few<T>,
-    ) -> Result<Ptr<BasicBlock>, AllocError>
+    ) -> Result<Ptr<BasicBlock>, NoRoom>
         ensures made { IfOk result (λ p. MakesBlock (seen self.old) (seen self.new) p
             (record { label = label; attributes = attributes; loc = loc }) arg_types) }
+        ensures full { (result ≡ Err NoRoom.Full) ↔ NoMoreBlocks (length arg_types) (seen self.old).graph }
         ensures err { OnErr result (seen self.new ≡ seen self.old) }
         ensures kept { (mark : ℕ) → mark ≤ (seen self.old).graph.made → KeepsOlder mark (seen self.old)
             (seen self.new) };
 
-    /// Adds an empty region to an operation, after its other regions. Fails if an allocation fails or a counter is at its limit; then the
-    /// context is unchanged.
-    fn add_region(&mut self, op: Ptr<Operation>) -> Result<Ptr<Region>, AllocError>
+    /// Adds an empty region to an operation, after its other regions. Fails with `Full` exactly if the graph is full of regions, and else
+    /// only when out of memory; then the context is unchanged.
+    fn add_region(&mut self, op: Ptr<Operation>) -> Result<Ptr<Region>, NoRoom>
         requires { IsLive (seen self.old).graph (TheOperation op) }
         ensures added { IfOk result (λ r. AddsRegion (seen self.old) (seen self.new) op r) }
+        ensures full { (result ≡ Err NoRoom.Full) ↔ NoMoreRegions (seen self.old).graph }
         ensures err { OnErr result (seen self.new ≡ seen self.old) }
         ensures kept { (mark : ℕ) → mark ≤ (seen self.old).graph.made
             → before mark (seen self.old).graph.operations op ≡ None →
@@ -108,6 +116,17 @@ pub trait Making<T: IrText<A>, A: AttrText<A>> {
         ensures known { OnErr result (MayBeRefused (seen self.old).paths path.now) };
 }
 
+/// Returns why an object was not made, for which memory was refused, while the graph is full or is not.
+#[cold]
+fn no_room(full: bool, error: OutOfMemory) -> NoRoom
+    ensures { (result ≡ NoRoom.Full) ↔ IsTrue full }
+{
+    if full {
+        return NoRoom::Full;
+    }
+    NoRoom::Memory(error)
+}
+
 impl<T: IrText<A>, A: AttrText<A>> Making<T, A> for Context<T, A> {
     ghost seen = { λ c. c };
 
@@ -120,17 +139,19 @@ impl<T: IrText<A>, A: AttrText<A>> Making<T, A> for Context<T, A> {
         id: OpId,
         attributes: AttributeDict<A>,
         loc: Location<A>,
-    ) -> Result<Ptr<Operation>, AllocError>
+    ) -> Result<Ptr<Operation>, NoRoom>
         ensures made { IfOk result (λ p. MakesOperation self.old self.new p
             (record { id = id; attributes = attributes; loc = loc }) [] [] []) }
+        ensures full { (result ≡ Err NoRoom.Full) ↔ NoMoreOperations 0 0 0 self.old.graph }
         ensures err { OnErr result (self.new ≡ self.old) }
         ensures kept { (mark : ℕ) → mark ≤ self.old.graph.made → KeepsOlder mark self.old self.new }
     {
-        self.graph.make_bare_operation(Some(OperationData {
+        let held = OperationData {
             id,
             attributes,
             loc,
-        }))
+        };
+        self.graph.make_operation(Some(held), Few::none(), &[], &[])
     }
 
     fn make_operation_with(
@@ -141,12 +162,14 @@ impl<T: IrText<A>, A: AttrText<A>> Making<T, A> for Context<T, A> {
         result_types: Few<T>,
         operands: &[Value],
         successors: &[Ptr<BasicBlock>],
-    ) -> Result<Ptr<Operation>, AllocError>
+    ) -> Result<Ptr<Operation>, NoRoom>
         requires operands { AreDefinedValues self.old operands.now }
         requires successors { AreLiveBlocks self.old successors.now }
         ensures made { IfOk result (λ p. MakesOperation self.old self.new p
             (record { id = id; attributes = attributes; loc = loc }) result_types operands.now
             successors.now) }
+        ensures full { (result ≡ Err NoRoom.Full) ↔ NoMoreOperations (length result_types)
+            (length operands.now) (length successors.now) self.old.graph }
         ensures err { OnErr result (self.new ≡ self.old) }
         ensures kept { (mark : ℕ) → mark ≤ self.old.graph.made → KeepsOlder mark self.old self.new }
     {
@@ -155,12 +178,18 @@ impl<T: IrText<A>, A: AttrText<A>> Making<T, A> for Context<T, A> {
             attributes,
             loc,
         };
+        let count = result_types.len();
         match known_types(self.alloc, result_types) {
             Ok(types) => {
                 self.graph
                     .make_operation(Some(held), types, operands, successors)
             }
-            Err(error) => failed(held, error),
+            Err(error) => {
+                let full = self
+                    .graph
+                    .no_more_operations(count, operands.len(), successors.len());
+                failed(held, no_room(full, error))
+            }
         }
     }
 
@@ -170,9 +199,10 @@ impl<T: IrText<A>, A: AttrText<A>> Making<T, A> for Context<T, A> {
         attributes: AttributeDict<A>,
         loc: Location<A>,
         arg_types: Few<T>,
-    ) -> Result<Ptr<BasicBlock>, AllocError>
+    ) -> Result<Ptr<BasicBlock>, NoRoom>
         ensures made { IfOk result (λ p. MakesBlock self.old self.new p
             (record { label = label; attributes = attributes; loc = loc }) arg_types) }
+        ensures full { (result ≡ Err NoRoom.Full) ↔ NoMoreBlocks (length arg_types) self.old.graph }
         ensures err { OnErr result (self.new ≡ self.old) }
         ensures kept { (mark : ℕ) → mark ≤ self.old.graph.made → KeepsOlder mark self.old self.new }
     {
@@ -181,13 +211,17 @@ impl<T: IrText<A>, A: AttrText<A>> Making<T, A> for Context<T, A> {
             attributes,
             loc,
         };
+        let count = arg_types.len();
         match known_types(self.alloc, arg_types) {
             Ok(types) => self.graph.make_block(held, types),
-            Err(error) => failed(held, error),
+            Err(error) => {
+                let full = self.graph.no_more_blocks(count);
+                failed(held, no_room(full, error))
+            }
         }
     }
 
-    fn add_region(&mut self, op: Ptr<Operation>) -> Result<Ptr<Region>, AllocError> {
+    fn add_region(&mut self, op: Ptr<Operation>) -> Result<Ptr<Region>, NoRoom> {
         self.graph.add_region(op)
     }
 

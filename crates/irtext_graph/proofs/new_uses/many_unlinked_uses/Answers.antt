@@ -11,7 +11,7 @@ one_more f xs i d ys new y n m e r low =
 
 pub loop-def-preserved : goal.loop-def-preserved
 loop-def-preserved g c =
-    record { made = one_more unlinked c.args.defs.now c.loop-def.def-index c.def-item.result c.loop-def.uses.items c.push.new.self.items c.unlinked_use.result c.in_ok-push.ensures.items c.loop-def.invariant.made c.unlinked_use.ensures c.def-item.is c.loop-def-test.true }
+    record { made = one_more unlinked c.args.defs.now c.loop-def.def-index c.def-item.result c.loop-def.uses.items c.push.new.items.items c.unlinked_use.result c.in_ok-push.ensures.items c.loop-def.invariant.made c.unlinked_use.ensures c.def-item.is c.loop-def-test.true }
 
-pub returns-clause-uses : goal.returns-clause-uses
-returns-clause-uses g c = c.loop-def.invariant.made ∙ ap (λ ds. map unlinked ds) (take_all c.loop-def.def-index c.args.defs.now c.loop-def-test.false)
+pub returns : goal.returns
+returns g c = c.loop-def.invariant.made ∙ ap (λ ds. map unlinked ds) (take_all c.loop-def.def-index c.args.defs.now c.loop-def-test.false)

@@ -1,6 +1,6 @@
-use Rattle.std.proofs.Common.{sym, ap, ◌∙◌, subst, length, slice_get, true≢false}
+use Rattle.std.proofs.Common.{false, sym, ap, ◌∙◌, subst, length, slice_get, true≢false}
 use Rattle.irtext_base.specs.FormatViews.{format_of}
-use Rattle.irtext_grammar.specs.Heads.{steps_of}
+use Rattle.irtext_grammar.specs.Heads.{steps_of, setting}
 use Rattle.irtext_parse_pieces.proofs.Meanings.{names_more}
 use Rattle.irtext_parse_pieces.specs.Coming.{IsStep}
 use Rattle.irtext_parse_nested.proofs.FrontRead.{lead_misses, lead_unread, piece_misses, piece_commits, front_comes, steps_are, isolated_is}
@@ -29,7 +29,7 @@ returns-in-Err-front_parse-clause-names g c = names_more c.args.names.now c.resu
 
 pub returns-clause-alive : goal.returns-clause-alive
 returns-clause-alive g c =
-    front_comes g.T.IrText.reading g.A.IrText.reading c.args.ctx.now.dialects c.args.inside c.args.stream.now c.requires.fine c.in-Ok.led c.in-Ok.led.2.now c.in-Ok.ensures.read c.in-Ok.ensures.known c.front_parse.new.names.names
+    front_comes g.T.IrText.reading g.A.IrText.reading c.args.ctx.now.dialects c.args.inside c.args.stream.now c.requires.fine c.in-Ok.led c.in-Ok.led.2.now c.in-Ok.ensures.read c.in-Ok.ensures.known (setting c.args.inside false) c.front_parse.new.names.names
     c.front_parse.ensures.names.kept c.in-Ok-front_parse.pieces c.front_parse.new.stream c.in-Ok-front_parse.ensures.read c.in-Ok-front_parse.ensures.count
 
 pub returns-clause-counted : goal.returns-clause-counted

@@ -1,5 +1,5 @@
-use Rattle.std.proofs.Common.{◌∙◌, true, sym, ap, subst, slice_get}
-use Rattle.irtext_grammar.specs.Heads.{piece_at}
+use Rattle.std.proofs.Common.{◌∙◌, true, sym, ap, subst, slice_get, false}
+use Rattle.irtext_grammar.specs.Heads.{piece_at, setting}
 use Rattle.irtext_grammar.specs.Readers.Streams.{itself, replaced}
 use Rattle.irtext_tokens.specs.AttrTexts.{attr_at}
 use Rattle.irtext_parse_pieces.specs.Pieces.{MustPiece}
@@ -22,5 +22,5 @@ returns-clause-read g c = λ step there.
     let b = c.args.begun.now in
     let steps = registered_steps c.args.ctx.now.dialects b.id c.in-Some.info.now (sym c.in-Some.ensures.found) in
     let same = some_same (c.in-Some-step_at.ensures ∙ (ap (λ ss. slice_get ss b.step) (sym steps) ∙ there)) in
-    piece_spaced g.T.IrText.reading (attr_at g.A.IrText.reading) true step c.step_parse-answer.new.names.names c.requires.fine c.skip_white_space.ensures
-    (subst (λ s. MustPiece {T = g.row.T.Denot} {A = g.row.A.Denot} itself replaced c.step_parse-answer.new.names.names (piece_at g.T.IrText.reading (attr_at g.A.IrText.reading) true s) c.skip_white_space.new.stream c.step_parse-answer.result c.step_parse-answer.new.stream) same c.step_parse-answer.ensures.read)
+    piece_spaced g.T.IrText.reading (attr_at g.A.IrText.reading) (setting true false) step c.step_parse-answer.new.names.names c.requires.fine c.skip_white_space.ensures
+    (subst (λ s. MustPiece {T = g.row.T.Denot} {A = g.row.A.Denot} itself replaced c.step_parse-answer.new.names.names (piece_at g.T.IrText.reading (attr_at g.A.IrText.reading) (setting true false) s) c.skip_white_space.new.stream c.step_parse-answer.result c.step_parse-answer.new.stream) same c.step_parse-answer.ensures.read)

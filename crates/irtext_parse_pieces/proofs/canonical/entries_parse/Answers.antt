@@ -14,5 +14,5 @@ pub returns : goal.returns
 returns g c = λ names fine.
     let l = lens_of g.world g.met.S.CharStream in
     let text = whole (l.view c.args.stream.now) in
-    step_read l g.T.IrText.reading (attr_at g.A.IrText.reading) c.args.inside (dictionary_by (attr_at g.A.IrText.reading) c.args.inside) tree.dictionary (flat format.dictionary) (λ u. refl) (λ es ds. AreEntries text es ds) read.Dictionary names (λ y x m. (x, refl, m))
+    step_read l g.T.IrText.reading (attr_at g.A.IrText.reading) c.args.setting (dictionary_by (attr_at g.A.IrText.reading) c.args.setting.any_key) tree.dictionary (flat format.dictionary) (λ u. refl) (λ es ds. AreEntries text es ds) read.Dictionary names (λ y x m. (x, refl, m))
     (spaced_mean l fine c.skip_white_space.ensures (λ e y x m. subst (λ t. AreEntries t y x) e m) c.dictionary_parse.ensures)

@@ -5,12 +5,12 @@ use Rattle.irtext_parse_pieces.proofs.entries.bracketed_parse.Goals as goal
 
 pub returns-in-Err : goal.returns-in-Err
 returns-in-Err g c =
-    no_bracket (lens_of g.world g.met.S.CharStream) (attr_at g.A.IrText.reading) c.args.inside c.in-Err.ensures
+    no_bracket (lens_of g.world g.met.S.CharStream) (attr_at g.A.IrText.reading) c.args.any_key c.in-Err.ensures
 
 pub returns-in-Err-entries_parse : goal.returns-in-Err-entries_parse
 returns-in-Err-entries_parse g c =
-    no_entry_read (lens_of g.world g.met.S.CharStream) (attr_at g.A.IrText.reading) c.args.inside c.in_default.ensures c.skip_white_space.ensures c.in-Err-entries_parse.ensures
+    no_entry_read (lens_of g.world g.met.S.CharStream) (attr_at g.A.IrText.reading) c.args.any_key c.in_default.ensures c.skip_white_space.ensures c.in-Err-entries_parse.ensures
 
 pub returns : goal.returns
 returns g c =
-    bracket_ended (lens_of g.world g.met.S.CharStream) (attr_at g.A.IrText.reading) c.args.inside c.in_default.ensures c.skip_white_space.ensures c.in-Ok.ensures c.text_demanded-answer.result c.closed_by.ensures c.text_demanded-answer.ensures
+    bracket_ended (lens_of g.world g.met.S.CharStream) (attr_at g.A.IrText.reading) c.args.any_key c.in_default.ensures c.skip_white_space.ensures c.in-Ok.ensures c.text_demanded-answer.result c.closed_by.ensures c.text_demanded-answer.ensures

@@ -7,11 +7,11 @@ use Rattle.irtext_parse_pieces.proofs.fronts.canonical_pieces.Goals as goal
 
 pub returns-in-Err-clause-read : goal.returns-in-Err-clause-read
 returns-in-Err-clause-read g c = λ fine.
-    steps_failed (lens_of g.world g.met.S.CharStream) g.T.IrText.reading (attr_at g.A.IrText.reading) c.args.inside c.canonical_parse.new.names.names canonical_front pieces_of (λ ps. ps) (c.in-Err.ensures.read fine)
+    steps_failed (lens_of g.world g.met.S.CharStream) g.T.IrText.reading (attr_at g.A.IrText.reading) c.args.setting c.canonical_parse.new.names.names canonical_front pieces_of (λ ps. ps) (c.in-Err.ensures.read fine)
 
 pub returns-in-Ok-clause-read : goal.returns-in-Ok-clause-read
 returns-in-Ok-clause-read g c = λ fine.
-    steps_seen (lens_of g.world g.met.S.CharStream) g.T.IrText.reading (attr_at g.A.IrText.reading) c.args.inside c.canonical_parse.new.names.names canonical_front pieces_of (λ ps. ps) c.canonical.result c.canonical.ensures (c.in-Ok.ensures.read fine)
+    steps_seen (lens_of g.world g.met.S.CharStream) g.T.IrText.reading (attr_at g.A.IrText.reading) c.args.setting c.canonical_parse.new.names.names canonical_front pieces_of (λ ps. ps) c.canonical.result c.canonical.ensures (c.in-Ok.ensures.read fine)
 
 pub returns-in-Err-clause-names : goal.returns-in-Err-clause-names
 returns-in-Err-clause-names g c = c.in-Err.ensures.names

@@ -15,7 +15,7 @@ loop-step-init g c =
     let steps = custom_steps c.args.directives.now in (
       names_none c.args.names.now,
       subst (λ z. Counts (length z) steps (drop (length z) steps)) (sym c.none-found.ensures) (count_none steps),
-      λ fine. subst (λ z. Fronting l g.T.IrText.reading (attr_at g.A.IrText.reading) c.args.inside names steps (drop (length z) steps) old old z) (sym c.none-found.ensures) (front_begins l g.T.IrText.reading (attr_at g.A.IrText.reading) c.args.inside names steps old fine),
+      λ fine. subst (λ z. Fronting l g.T.IrText.reading (attr_at g.A.IrText.reading) c.args.setting names steps (drop (length z) steps) old old z) (sym c.none-found.ensures) (front_begins l g.T.IrText.reading (attr_at g.A.IrText.reading) c.args.setting names steps old fine),
     )
 
 pub returns-then-not-reads_piece-clause-read : goal.returns-then-not-reads_piece-clause-read
@@ -25,7 +25,7 @@ returns-then-not-reads_piece-clause-read g c = λ fine.
     let n = length c.loop-step.found in
     let there : slice_get steps n ≡ Some step = rw c.len.ensures at (sym c.in-Some.ensures.step) in
     let over = front_ended (drop n steps) (drop (suc n) steps) step (next_left steps n step there) (sym c.reads_piece.ensures ∙ c.if-not-reads_piece.true) in
-    front_ends (lens_of g.world g.met.S.CharStream) g.T.IrText.reading (attr_at g.A.IrText.reading) c.args.inside over (c.loop-step.invariant.2 fine)
+    front_ends (lens_of g.world g.met.S.CharStream) g.T.IrText.reading (attr_at g.A.IrText.reading) c.args.setting over (c.loop-step.invariant.2 fine)
 
 pub returns-then-not-reads_piece-clause-count : goal.returns-then-not-reads_piece-clause-count
 returns-then-not-reads_piece-clause-count g c =
@@ -43,7 +43,7 @@ returns-in-Err-clause-read g c = λ fine.
     let n = length c.loop-step.found in
     let there : slice_get steps n ≡ Some step = rw c.len.ensures at (sym c.in-Some.ensures.step) in
     rw c.failed.ensures
-    (front_refused (lens_of g.world g.met.S.CharStream) g.T.IrText.reading (attr_at g.A.IrText.reading) c.args.inside (drop (suc n) steps) step (next_left steps n step there) (sym c.reads_piece.ensures ∙ c.if-not-reads_piece.false) (c.loop-step.invariant.2 fine) c.skip_white_space.ensures c.in-Err.ensures.read)
+    (front_refused (lens_of g.world g.met.S.CharStream) g.T.IrText.reading (attr_at g.A.IrText.reading) c.args.setting (drop (suc n) steps) step (next_left steps n step there) (sym c.reads_piece.ensures ∙ c.if-not-reads_piece.false) (c.loop-step.invariant.2 fine) c.skip_white_space.ensures c.in-Err.ensures.read)
 
 pub returns-in-Err-clause-names : goal.returns-in-Err-clause-names
 returns-in-Err-clause-names g c = names_more _ _ _ c.loop-step.invariant.0 c.in-Err.ensures.names
@@ -63,9 +63,9 @@ loop-step-preserved g c =
       names_more _ _ _ c.loop-step.invariant.0 c.in_default-piece_found.ensures.names,
       subst (λ z. Counts (length z) steps (drop (length z) steps)) (sym read.means.1) (count_more steps found read.means.0 step there flat c.loop-step.invariant.1),
       λ fine.
-          subst (λ left. Fronting l g.T.IrText.reading (attr_at g.A.IrText.reading) c.args.inside names steps left c.args.stream.now new.stream new.found)
+          subst (λ left. Fronting l g.T.IrText.reading (attr_at g.A.IrText.reading) c.args.setting names steps left c.args.stream.now new.stream new.found)
           (left_more steps found read.means.0 ∙ ap (λ z. drop (length z) steps) (sym read.means.1))
-          (front_more l g.T.IrText.reading (attr_at g.A.IrText.reading) c.args.inside (drop (suc n) steps) step names (next_left steps n step there) flat (c.loop-step.invariant.2 fine) c.skip_white_space.ensures c.in_default-piece_found.ensures.names.kept read),
+          (front_more l g.T.IrText.reading (attr_at g.A.IrText.reading) c.args.setting (drop (suc n) steps) step names (next_left steps n step there) flat (c.loop-step.invariant.2 fine) c.skip_white_space.ensures c.in_default-piece_found.ensures.names.kept read),
     )
 
 pub loop-step-smaller : goal.loop-step-smaller
@@ -82,7 +82,7 @@ returns-clause-read g c = λ fine.
     let steps = custom_steps c.args.directives.now in
     let n = length c.loop-step.found in
     let none : slice_get steps n ≡ None = rw c.len.ensures at (sym c.in_default.ensures.step) in
-    front_ends (lens_of g.world g.met.S.CharStream) g.T.IrText.reading (attr_at g.A.IrText.reading) c.args.inside (front_over (drop n steps) (none_left steps n none)) (c.loop-step.invariant.2 fine)
+    front_ends (lens_of g.world g.met.S.CharStream) g.T.IrText.reading (attr_at g.A.IrText.reading) c.args.setting (front_over (drop n steps) (none_left steps n none)) (c.loop-step.invariant.2 fine)
 
 pub returns-clause-count : goal.returns-clause-count
 returns-clause-count g c =

@@ -14,7 +14,7 @@ invariant-loop-step g l =
     let left = drop (length l.found) steps in
     NamesRead l.fn.names l.names
     × Counts (length l.found) steps left
-    × ((g.S.CharStream.view l.fn.stream).failed ≡ false → Fronting (lens_of g.world g.met.S.CharStream) g.T.IrText.reading (attr_at g.A.IrText.reading) l.inside l.names.names steps left l.fn.stream l.stream l.found)
+    × ((g.S.CharStream.view l.fn.stream).failed ≡ false → Fronting (lens_of g.world g.met.S.CharStream) g.T.IrText.reading (attr_at g.A.IrText.reading) l.setting l.names.names steps left l.fn.stream l.stream l.found)
 
 abbrev pub decreases-loop-step : goal.decreases-loop-step
 decreases-loop-step g l = length (drop (length l.found) (custom_steps l.directives))

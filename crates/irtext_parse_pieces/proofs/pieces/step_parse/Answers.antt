@@ -8,7 +8,7 @@ use Rattle.irtext_parse_pieces.proofs.pieces.step_parse.Goals as goal
 
 pub returns-in-Directive : goal.returns-in-Directive
 returns-in-Directive g c =
-    let e = step_reads g.T.IrText.reading (attr_at g.A.IrText.reading) c.args.inside (directive_of c.in-Directive.directive.now) in
+    let e = step_reads g.T.IrText.reading (attr_at g.A.IrText.reading) c.args.setting (directive_of c.in-Directive.directive.now) in
     let h = subst (λ r. MustPiece {T = g.row.T.Denot} {A = g.row.A.Denot} g.S.CharStream.view g.S.CharStream.at c.piece_parse.new.names.names r c.args.stream.now c.piece_parse.result c.piece_parse.new.stream) (sym e) c.piece_parse.ensures.read in
     record { read = rw c.in-Directive.is h; names = c.piece_parse.ensures.names }
 

@@ -3,8 +3,8 @@ use Rattle.std.specs.Fmt.{decimal}
 use Rattle.irtext_print.proofs.Texts.{seven_put}
 use Rattle.irtext_print.proofs.entries.fmt_memory.Goals as goal
 
-pub returns : goal.returns
-returns c =
+pub returns-clause-text : goal.returns-clause-text
+returns-clause-text c =
     c.in_ok-push_str.ensures.bytes
     ∙ ap (λ z. string_bytes c.args.f.now ++ z) (c.as_str.ensures.value
     ∙ seven_put (codes "!") (decimal c.args.index) (codes " = @[<in-memory>: line: ") (decimal c.args.line) (codes ", column: ") (decimal c.args.column) (codes "], [")

@@ -13,7 +13,7 @@ range-requires-clause-start_boundary c =
 pub range-requires-clause-end_boundary : goal.range-requires-clause-end_boundary
 range-requires-clause-end_boundary c = IsCharBoundary-from_ascii c.args.line.now c.args.end c.requires.ascii c.requires.ends.1
 
-pub returns : goal.returns
-returns c =
+pub returns-clause-text : goal.returns-clause-text
+returns-clause-text c =
     c.in_ok-push_str.ensures.bytes ∙ ap (λ z. string_bytes c.args.f.now ++ z)
     (c.range.ensures.value ∙ (ap (λ z. slice_range z (256 - c.args.indent) c.args.end) c.requires.line ∙ indented-slice 256 c.args.indent c.args.end (drop 256 c.args.line.now) c.requires.few c.requires.ends.0))

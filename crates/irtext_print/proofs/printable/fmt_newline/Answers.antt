@@ -18,7 +18,7 @@ pub loop-block-preserved : goal.loop-block-preserved
 loop-block-preserved c =
     newline-more (c.args.indent % 256) c.loop-block._block (string_bytes c.args.f.now) (string_bytes c.loop-block.f) (string_bytes c.push_str-in-loop-block.new.self) c.loop-block.invariant c.in_ok-push_str-2.ensures.bytes
 
-pub returns : goal.returns
-returns c =
+pub returns-clause-text : goal.returns-clause-text
+returns-clause-text c =
     let blocks : c.args.indent % 256 + 256 * c.loop-block._block ≡ c.args.indent = omega (arith, c.loop-block-test.false, c.loop-block.auto._block-end) in
     c.loop-block.invariant ∙ ap (λ n. string_bytes c.args.f.now ++ 10 ∷ replicate n 32) blocks

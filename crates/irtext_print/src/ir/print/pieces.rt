@@ -1,7 +1,8 @@
 //! What the directives of a format print of an operation's attributes. Each of these calls fails only if out of memory.
-ghost use Rattle.std.specs.Prelude.{◌≡◌, ◌++◌, ◌&&◌, [], Some, OnOk, codes, cond, not, option_copied};
+ghost use Rattle.std.specs.Prelude.{◌≡◌, ◌++◌, ◌&&◌, [], Some, OnOk, OnErr, codes, cond, not, option_copied};
 ghost use Rattle.std.specs.Map.{lookup};
 ghost use Rattle.std.specs.Str.{bytes_eq, chars};
+ghost use Rattle.irtext_base.specs.Appending.{OnlyAppends};
 ghost use Rattle.irtext_print.specs.Printers.Appended.{AppendsText};
 ghost use Rattle.irtext_base.specs.FormatViews.{directive_of, directives_of};
 ghost use Rattle.irtext_base.specs.Text.{begins};
@@ -38,7 +39,8 @@ fn word_joins_left(word: &str) -> bool
 
 /// Appends a fixed word, after a space unless it joins what is before it.
 pub fn fmt_word(word: &str, f: &mut String) -> fmt::Result
-    ensures { OnOk result (AppendsText f.old (pieces.word_text (chars word.now)) f.new) }
+    ensures text { OnOk result (AppendsText f.old (pieces.word_text (chars word.now)) f.new) }
+    ensures appended { OnErr result (OnlyAppends f.old f.new) }
 {
     if !word_joins_left(word) {
         f.push_str(" ")?;
@@ -57,8 +59,9 @@ pub fn is_outlined<A: AttrText<A>>(attr: &AttrObj<A>) -> bool
 
 /// Appends the text of an attribute, or `!outlined` if it is outlined.
 fn fmt_inline<A: AttrText<A>>(attr: &AttrObj<A>, f: &mut String) -> fmt::Result
-    ensures { OnOk result (AppendsText f.old (pieces.inline_text A.IrText.written A.outlined
+    ensures text { OnOk result (AppendsText f.old (pieces.inline_text A.IrText.written A.outlined
         (attribute_of attr.now)) f.new) }
+    ensures appended { OnErr result (OnlyAppends f.old f.new) }
 {
     if is_outlined(attr) {
         f.push_str("!outlined")?;
@@ -73,8 +76,9 @@ pub fn fmt_keyed<A: AttrText<A>>(
     key: &Identifier,
     f: &mut String,
 ) -> fmt::Result
-    ensures { OnOk result (AppendsText f.old (pieces.keyed_text A.IrText.written A.outlined key.now
+    ensures text { OnOk result (AppendsText f.old (pieces.keyed_text A.IrText.written A.outlined key.now
         (entries_of attributes.now)) f.new) }
+    ensures appended { OnErr result (OnlyAppends f.old f.new) }
 {
     let Some(attr) = attribute_under(attributes, key.as_str()) else {
         return Ok(());
@@ -121,7 +125,8 @@ pub fn symbol_of<A: AttrText<A>>(attributes: &AttributeDict<A>) -> Option<&Ident
 
 /// Appends the symbol's name after a space and `@`, if there is one.
 pub fn fmt_symbol<A: AttrText<A>>(attributes: &AttributeDict<A>, f: &mut String) -> fmt::Result
-    ensures { OnOk result (AppendsText f.old (pieces.header_text (entries_of attributes.now)) f.new) }
+    ensures text { OnOk result (AppendsText f.old (pieces.header_text (entries_of attributes.now)) f.new) }
+    ensures appended { OnErr result (OnlyAppends f.old f.new) }
 {
     let Some(symbol) = symbol_of(attributes) else {
         return Ok(());
@@ -156,11 +161,12 @@ fn fmt_entry<A: AttrText<A>>(
     attr: &AttrObj<A>,
     f: &mut String,
 ) -> fmt::Result
-    ensures { OnOk result (AppendsText f.old (pieces.next_text A.IrText.written first (
+    ensures text { OnOk result (AppendsText f.old (pieces.next_text A.IrText.written first (
       key.now,
       attribute_of
           attr.now,
     )) f.new) }
+    ensures appended { OnErr result (OnlyAppends f.old f.new) }
 {
     if !first {
         f.push_str(", ")?;
@@ -203,8 +209,9 @@ impl<'a, A: AttrText<A>> DictPrinter<'a, A> {
     /// Appends the entries that the dictionary prints, with `, ` between them.
     #[inline(always)]
     pub fn fmt_entries(self, f: &mut String) -> fmt::Result
-        ensures { OnOk result (AppendsText f.old (pieces.listed_text A.IrText.written A.outlined
+        ensures text { OnOk result (AppendsText f.old (pieces.listed_text A.IrText.written A.outlined
             (directives_of self.entry.directives.now) (entries_of self.entry.attributes.now)) f.new) }
+        ensures appended { OnErr result (OnlyAppends f.old f.new) }
     {
         let mut first = true;
         for (key, attr) in self.attributes.iter() {
@@ -218,8 +225,9 @@ impl<'a, A: AttrText<A>> DictPrinter<'a, A> {
 
     /// Appends the dictionary of the attributes that no other directive prints, after a space: ` [k: builtin.identifier x]`.
     pub fn fmt_dictionary(self, f: &mut String) -> fmt::Result
-        ensures { OnOk result (AppendsText f.old (pieces.dictionary_text A.IrText.written A.outlined
+        ensures text { OnOk result (AppendsText f.old (pieces.dictionary_text A.IrText.written A.outlined
             (directives_of self.entry.directives.now) (entries_of self.entry.attributes.now)) f.new) }
+        ensures appended { OnErr result (OnlyAppends f.old f.new) }
     {
         f.push_str(" [")?;
         self.fmt_entries(f)?;

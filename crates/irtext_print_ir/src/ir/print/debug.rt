@@ -1,5 +1,6 @@
 //! An operation's text for debugging: regions are elided, and there is no mark and no section.
-ghost use Rattle.std.specs.Prelude.{OnOk, IfErr, IsSome};
+ghost use Rattle.std.specs.Prelude.{OnOk, OnErr, IfErr, IsSome};
+ghost use Rattle.irtext_base.specs.Appending.{OnlyAppends};
 ghost use Rattle.irtext_context.specs.Context.{operation};
 ghost use Rattle.irtext_print_ir.specs.Printers.Printed as printed;
 ghost use Rattle.irtext_print_ops.specs.Heads as heads;
@@ -24,6 +25,7 @@ pub fn print_elided<T: IrText<A>, A: AttrText<A>>(
         op f.old f.new) }
     ensures refused { IfErr result (heads.RefusesUnder T.IrText.own A.IrText.own A.AttrText.own A.eq ctx.now
         op printed.debugging) }
+    ensures appended { OnErr result (OnlyAppends f.old f.new) }
 {
     let mut state = State::new(ctx.allocator(), ());
     state.set_region_print_depth_limit(RegionPrintDepthLimit::Max(0));
@@ -41,6 +43,7 @@ pub fn print_dbg<T: IrText<A>, A: AttrText<A>>(
         op f.old f.new) }
     ensures defined { OnOk result (printed.WritesElided T.IrText.own A.IrText.own A.AttrText.own A.eq ctx.now
         op f.old f.new) }
+    ensures appended { OnErr result (OnlyAppends f.old f.new) }
 {
     print_elided(ctx, op, f)?;
     Ok(())

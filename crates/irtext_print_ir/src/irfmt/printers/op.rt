@@ -1,9 +1,11 @@
 //! Printers of an operation's parts: its header, the header with a type, and its only region.
-ghost use Rattle.std.specs.Prelude.{◌≡◌, OnOk, IfErr, IsSome};
+ghost use Rattle.std.specs.Prelude.{◌≡◌, OnOk, OnErr, IfErr, IsSome};
+ghost use Rattle.irtext_base.specs.Appending.{OnlyAppends};
 ghost use Rattle.irtext_context.specs.Context.{operation};
 ghost use Rattle.irtext_print_ir.specs.Printers.OpPrinters.{PrintsPart, WritesPart};
 ghost use Rattle.irtext_print.specs.Printers.Printing.{gathered_of, with_gathered};
 ghost use Rattle.irtext_print_ir.specs.Printers.OpPrinters as parts;
+ghost use Rattle.irtext_print_ir.specs.Printers.Refused.{HasAppended};
 
 use crate::ir::print::nesting::only_region;
 use crate::ir::print::print_region as print_nested_region;
@@ -73,6 +75,7 @@ pub fn print_symb_op_header<T: IrText<A>, A: AttrText<A>>(
     requires live { IsSome (operation ctx.now op) }
     ensures prints { OnOk result (WritesPart parts.header_of ctx.now op f.old f.new) }
     ensures refused { IfErr result (parts.RefusesPart parts.header_of ctx.now op) }
+    ensures appended { OnErr result (OnlyAppends f.old f.new) }
 {
     let id = op.get_opid(ctx);
     let attributes = op.attributes(ctx);
@@ -96,6 +99,7 @@ pub fn print_typed_symb_op_header<T: IrText<A>, A: AttrText<A>>(
     ensures prints { OnOk result (WritesPart (parts.typed_header_of (T.written ty.now)) ctx.now op
         f.old f.new) }
     ensures refused { IfErr result (parts.RefusesPart (parts.typed_header_of (T.written ty.now)) ctx.now op) }
+    ensures appended { OnErr result (OnlyAppends f.old f.new) }
 {
     print_symb_op_header(ctx, op, f)?;
     f.push_str(": ")?;
@@ -118,6 +122,7 @@ pub fn print_region<T: IrText<A>, A: AttrText<A>, U>(
     ensures refused { IfErr result (parts.RefusesOne T.IrText.own A.IrText.own A.AttrText.own A.eq ctx.now op
         state.old) }
     ensures rest { state.new ≡ with_gathered state.old (gathered_of state.new) }
+    ensures appended { OnErr result (OnlyAppends f.old f.new) }
 {
     let graph = ctx.graph();
     if count_regions(graph, op) != 1 {
@@ -135,7 +140,7 @@ impl<T: IrText<A>, A: AttrText<A>, U> Printable<U, T, A> for SymbHeader {
 
     ghost prints = { λ h ctx s b t d. PrintsPart parts.header_of ctx h.op s b t d };
 
-    ghost refuses = { λ _ _ s _ t _. t ≡ s };
+    ghost refuses = { λ _ _. HasAppended };
 
     fn fmt(&self, ctx: &Context<T, A>, _state: &mut State<U>, f: &mut String) -> fmt::Result {
         print_symb_op_header(ctx, self.op, f)?;
@@ -151,7 +156,7 @@ impl<T: IrText<A>, A: AttrText<A>, U> Printable<U, T, A> for TypedSymbHeader<'_,
 
     ghost prints = { λ h ctx s b t d. PrintsPart (parts.typed_header_of (T.written h.ty.now)) ctx h.op s b t d };
 
-    ghost refuses = { λ _ _ s _ t _. t ≡ s };
+    ghost refuses = { λ _ _. HasAppended };
 
     fn fmt(&self, ctx: &Context<T, A>, _state: &mut State<U>, f: &mut String) -> fmt::Result {
         print_typed_symb_op_header(ctx, self.op, self.ty, f)?;

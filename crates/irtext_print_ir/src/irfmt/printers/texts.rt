@@ -1,7 +1,7 @@
 //! A quoted text, and a text between two others.
 ghost use Rattle.std.specs.Prelude.{◌≡◌, Some};
 ghost use Rattle.irtext_print_ir.specs.Printers.Enclosed.{around, Encloses};
-ghost use Rattle.irtext_print_ir.specs.Printers.Refused.{RefusesEnclosed};
+ghost use Rattle.irtext_print_ir.specs.Printers.Refused.{HasAppended, RefusesEnclosed};
 ghost use Rattle.irtext_tokens.specs.QuotedBytes.{quoted_bytes};
 
 use crate::printable::state::State;
@@ -19,7 +19,7 @@ pub struct Quoted<'a> {
 impl<T: IrText<A>, A: AttrText<A>, U> Printable<U, T, A> for Quoted<'_> {
     ghost gives = { λ q _ s. Some (quoted_bytes q.text.now, s) };
 
-    ghost refuses = { λ _ _ s _ t _. t ≡ s };
+    ghost refuses = { λ _ _. HasAppended };
 
     fn fmt(&self, _ctx: &Context<T, A>, _state: &mut State<U>, f: &mut String) -> fmt::Result {
         fmt_quoted(self.text, f)

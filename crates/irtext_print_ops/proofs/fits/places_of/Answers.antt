@@ -2,7 +2,7 @@ use Rattle.std.proofs.Common.{◌≡◌, ◌∙◌, ◌∷◌, ◌+◌, sym, ap,
 use Rattle.std.proofs.lemmas.List.{drop_more}
 use Rattle.irtext_base.specs.FormatViews.{directive_of, directives_of}
 use Rattle.irtext_print_ops.specs.Fits.{counted_on}
-use Rattle.irtext_print_ops.proofs.Counting.{AtMost, one_more, few}
+use Rattle.irtext_print_ops.proofs.Counting.{AtMost, one_more}
 use Rattle.irtext_print_ops.proofs.fits.places_of.Goals as goal
 
 pub loop-directive-preserved : goal.loop-directive-preserved

@@ -3,4 +3,4 @@ use Rattle.irtext_print_ops.proofs.Lines.{newline_bytes}
 use Rattle.irtext_print_ops.proofs.opening.fmt_line.Goals as goal
 
 pub returns-in-Ok-clause-text : goal.returns-in-Ok-clause-text
-returns-in-Ok-clause-text c = c.in-Ok.ensures ∙ ap (λ z. string_bytes c.args.f.now ++ z) (sym (newline_bytes c.args.indent))
+returns-in-Ok-clause-text c = c.in-Ok.ensures.text ∙ ap (λ z. string_bytes c.args.f.now ++ z) (sym (newline_bytes c.args.indent))

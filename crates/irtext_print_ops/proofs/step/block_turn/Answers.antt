@@ -1,4 +1,4 @@
-use Rattle.std.proofs.Common.{◌≡◌, ◌∙◌, ◌∷◌, [], slice_get, ◌+◌, append-nil, refl, sym, subst, string_bytes, arith, false}
+use Rattle.std.proofs.Common.{◌≡◌, ◌∙◌, ◌∷◌, [], slice_get, ◌+◌, append-nil, refl, sym, subst, string_bytes}
 use Rattle.irtext_context.specs.Context.{operation}
 use Rattle.irtext_context.proofs.Drops.{one_left}
 use Rattle.irtext_graph.specs.Graph.{children, parent}

@@ -1,4 +1,5 @@
 use Rattle.std.proofs.Common.{◌||◌, ◌∙◌, ◌∷◌, [], refl, sym, ap, subst, string_bytes}
+use Rattle.irtext_base.proofs.OnlyAppended.{appends_next, appends_this}
 use Rattle.irtext_graph.specs.Graph.{children, parent}
 use Rattle.irtext_graph.specs.Nested.{Nested}
 use Rattle.irtext_grammar.specs.Contexts.Nested.{seen_regions}
@@ -10,6 +11,7 @@ use Rattle.irtext_print_ops.specs.declared.frame.Frame.TheVariants as framed
 use Rattle.irtext_print_ops.proofs.Tests.{both_in}
 use Rattle.irtext_print_ops.proofs.Turned.{operation_ended, regions_begin, repeat_step, single_step}
 use Rattle.irtext_print_ops.proofs.Chained.{ended, all_fit}
+use Rattle.irtext_print_ops.proofs.Continued.{ended_with}
 use Rattle.irtext_print_ops.proofs.Refused.{propagated, region_turn_refused}
 use Rattle.irtext_print_ops.proofs.step.operation_turn.Goals as goal
 
@@ -49,6 +51,9 @@ returns-then-frame-clause-steps g c =
     (ended (heads.printing_of g.T.IrText g.A.IrText g.A.AttrText g.A.PartialEq.eq ctx) (heads.language_of g.T.IrText g.A.IrText g.A.AttrText g.A.PartialEq.eq ctx) ctx c.args.width (framed.Operation c.args.frame.now) c.args.items.now.items c.args.items.now.items c.region_turn.new.frame c.in_ok-begun.begun (string_bytes c.args.f.now) (string_bytes c.region_turn.new.f) (string_bytes c.entered.new.f) w s))
     c.entered.ensures.text c.entered.ensures.left
 
+pub returns-then-frame-clause-appended : goal.returns-then-frame-clause-appended
+returns-then-frame-clause-appended g c = ended_with c.entered.result c.entered.new.f _ (appends_this _ c.in_ok-begun.ensures.text) c.entered.ensures.text c.entered.ensures.appended
+
 pub returns-in_ok-end_operation-in-End-clause-steps : goal.returns-in_ok-end_operation-in-End-clause-steps
 returns-in_ok-end_operation-in-End-clause-steps g c =
     let ctx = c.args.ctx.now in
@@ -65,6 +70,11 @@ returns-in_ok-begun-in-Region-clause-steps g c =
     both_in c.entered-in-Region.result (λ t w e. subst (λ z. Steps (heads.printing_of g.T.IrText g.A.IrText g.A.AttrText g.A.PartialEq.eq ctx) (heads.language_of g.T.IrText g.A.IrText g.A.AttrText g.A.PartialEq.eq ctx) ctx c.args.width (framed.Operation c.args.frame.now) c.args.items.now.items c.args.items.now.items [] (turn_frames c.region_turn-in-Region.new.frame z) (string_bytes c.args.f.now) (string_bytes c.entered-in-Region.new.f)) (sym e)
     (ended (heads.printing_of g.T.IrText g.A.IrText g.A.AttrText g.A.PartialEq.eq ctx) (heads.language_of g.T.IrText g.A.IrText g.A.AttrText g.A.PartialEq.eq ctx) ctx c.args.width (framed.Operation c.args.frame.now) c.args.items.now.items c.args.items.now.items c.region_turn-in-Region.new.frame c.in_ok-begun-in-Region.begun (string_bytes c.args.f.now) (string_bytes c.region_turn-in-Region.new.f) (string_bytes c.entered-in-Region.new.f) w s))
     c.entered-in-Region.ensures.text c.entered-in-Region.ensures.left
+
+pub returns-in_ok-begun-in-Region-clause-appended : goal.returns-in_ok-begun-in-Region-clause-appended
+returns-in_ok-begun-in-Region-clause-appended g c =
+    ended_with c.entered-in-Region.result c.entered-in-Region.new.f _ (appends_next (appends_this {new = c.fmt_pieces.new.f} _ c.in_ok-fmt_pieces.ensures.text) _ c.in_ok-begun-in-Region.ensures.text)
+    c.entered-in-Region.ensures.text c.entered-in-Region.ensures.appended
 
 pub returns-in_ok-push_str-in-Regions-clause-steps : goal.returns-in_ok-push_str-in-Regions-clause-steps
 returns-in_ok-push_str-in-Regions-clause-steps g c =

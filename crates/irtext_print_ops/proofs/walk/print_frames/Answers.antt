@@ -1,4 +1,5 @@
-use Rattle.std.proofs.Common.{◌≡◌, ◌∙◌, ◌++◌, ◌∷◌, [], sym, ap, subst, append-nil, string_bytes}
+use Rattle.std.proofs.Common.{◌≡◌, ◌∙◌, ◌++◌, ◌∷◌, [], refl, sym, ap, subst, append-nil, string_bytes}
+use Rattle.irtext_base.proofs.OnlyAppended.{appends_nothing, appends_more}
 use Rattle.irtext_print.specs.declared.printable.refusal.Refusal.TheVariants.{Misfit}
 use Rattle.irtext_print_ops.specs.Heads as heads
 use Rattle.irtext_print_ops.specs.Steps.{listed}
@@ -13,6 +14,7 @@ loop-frame-init g c =
     let ctx = c.args.ctx.now in
     let opens = c.in_ok-open_first.ensures.ok in
     record {
+      appends = appends_nothing refl;
       text = ap (λ z. (string_bytes c.args.f.now) ++ frames_text (heads.printing_of g.T.IrText g.A.IrText g.A.AttrText g.A.PartialEq.eq ctx) (heads.language_of g.T.IrText g.A.IrText g.A.AttrText g.A.PartialEq.eq ctx) ctx c.args.width z c.args.items.now.items) opens;
       items = ap (λ z. c.args.items.now.items ++ items_left (heads.printing_of g.T.IrText g.A.IrText g.A.AttrText g.A.PartialEq.eq ctx) (heads.language_of g.T.IrText g.A.IrText g.A.AttrText g.A.PartialEq.eq ctx) ctx z) opens;
       fit = subst (AllFit (heads.printing_of g.T.IrText g.A.IrText g.A.AttrText g.A.PartialEq.eq ctx) (heads.language_of g.T.IrText g.A.IrText g.A.AttrText g.A.PartialEq.eq ctx) ctx) (sym opens) c.requires.fit;
@@ -37,6 +39,7 @@ loop-frame-preserved g c =
     let ctx = c.args.ctx.now in
     let here : c.loop-frame.frames.items ≡ c.close.new.frames.items ++ c.in-Some.frame ∷ [] = c.close.ensures.all ∙ ap (λ o. c.close.new.frames.items ++ listed o) c.in-Some.is in
     record {
+      appends = appends_more c.loop-frame.invariant.appends c.step.ensures.appended;
       text = stepped_text (heads.printing_of g.T.IrText g.A.IrText g.A.AttrText g.A.PartialEq.eq ctx) (heads.language_of g.T.IrText g.A.IrText g.A.AttrText g.A.PartialEq.eq ctx) ctx c.args.width c.in-Some.frame c.loop-frame.items.items c.step.new.items.items c.loop-frame.frames.items c.close.new.frames.items c.step.new.frames.items (string_bytes c.loop-frame.f) (string_bytes c.step.new.f) here c.in_ok-step.ensures.steps _ c.loop-frame.invariant.text;
       items = stepped_items (heads.printing_of g.T.IrText g.A.IrText g.A.AttrText g.A.PartialEq.eq ctx) (heads.language_of g.T.IrText g.A.IrText g.A.AttrText g.A.PartialEq.eq ctx) ctx c.args.width c.in-Some.frame c.loop-frame.items.items c.step.new.items.items c.loop-frame.frames.items c.close.new.frames.items c.step.new.frames.items (string_bytes c.loop-frame.f) (string_bytes c.step.new.f) here c.in_ok-step.ensures.steps _ c.loop-frame.invariant.items;
       fit = stepped_fit (heads.printing_of g.T.IrText g.A.IrText g.A.AttrText g.A.PartialEq.eq ctx) (heads.language_of g.T.IrText g.A.IrText g.A.AttrText g.A.PartialEq.eq ctx) ctx c.args.width c.in-Some.frame c.loop-frame.items.items c.step.new.items.items c.loop-frame.frames.items c.close.new.frames.items c.step.new.frames.items (string_bytes c.loop-frame.f) (string_bytes c.step.new.f) here c.in_ok-step.ensures.steps c.loop-frame.invariant.fit;

@@ -1,4 +1,5 @@
 use Rattle.std.proofs.Common.{◌≡◌, ◌++◌, string_bytes}
+use Rattle.irtext_base.specs.Appending.{OnlyAppends}
 use Rattle.irtext_print_ops.specs.Heads as heads
 use Rattle.irtext_print_ops.specs.Steps.{listed}
 use Rattle.irtext_print_ops.specs.Walk.{AllFit, items_left, turns_left}
@@ -7,9 +8,10 @@ use Rattle.irtext_print.specs.declared.printable.refusal.Refusal.TheVariants.{Mi
 use Rattle.irtext_print_ops.proofs.Walked.{frames_text, FramesFault}
 use Rattle.irtext_print_ops.proofs.walk.print_frames.Given as goal
 
--- what was written and gathered, and what is left of the frames, are all; a fault of what is left is one of what was open, and what doesn't fit in that is left
+-- the text was only appended to; what was written and gathered, and what is left of the frames, are all; a fault of what is left is one of what was open, and what doesn't fit in that is left
 abbrev pub invariant-loop-frame : goal.invariant-loop-frame
 invariant-loop-frame g l = record {
+  appends : OnlyAppends l.fn.f l.f;
   text : string_bytes l.f ++ frames_text (heads.printing_of g.T.IrText g.A.IrText g.A.AttrText g.A.PartialEq.eq l.ctx) (heads.language_of g.T.IrText g.A.IrText g.A.AttrText g.A.PartialEq.eq l.ctx) l.ctx l.width l.frames.items l.items.items
       ≡ string_bytes l.fn.f ++ frames_text (heads.printing_of g.T.IrText g.A.IrText g.A.AttrText g.A.PartialEq.eq l.ctx) (heads.language_of g.T.IrText g.A.IrText g.A.AttrText g.A.PartialEq.eq l.ctx) l.ctx l.width (l.fn.frames.items ++ listed l.fn.first) l.fn.items.items;
   items : l.items.items ++ items_left (heads.printing_of g.T.IrText g.A.IrText g.A.AttrText g.A.PartialEq.eq l.ctx) (heads.language_of g.T.IrText g.A.IrText g.A.AttrText g.A.PartialEq.eq l.ctx) l.ctx l.frames.items ≡ l.fn.items.items ++ items_left (heads.printing_of g.T.IrText g.A.IrText g.A.AttrText g.A.PartialEq.eq l.ctx) (heads.language_of g.T.IrText g.A.IrText g.A.AttrText g.A.PartialEq.eq l.ctx) l.ctx (l.fn.frames.items ++ listed l.fn.first);

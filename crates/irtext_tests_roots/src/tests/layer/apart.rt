@@ -5,10 +5,10 @@ ghost use Rattle.irtext_base.specs.Format as format;
 ghost use Rattle.irtext_base.specs.FormatViews.{directive_of, format_of};
 ghost use Rattle.irtext_context.specs.Dialects.{with_op};
 ghost use Rattle.irtext_context.specs.DialectTable.{dialect_or_new, with_dialect};
-ghost use Rattle.pliron_text.specs.Alike.{KnowAlike};
-ghost use Rattle.irtext_tests_roots.specs.Apart.{lab_dialects, lab_format, lab_id};
+ghost use Rattle.irtext_alike.specs.Alike.{KnowAlike};
+ghost use Rattle.irtext_tests_roots.specs.Apart.{lab_dialects, lab_format, lab_id, other_id, reversed_dialects, two_dialects};
 
-use crate::tests::layer::carried::carried;
+use crate::tests::layer::carried::{Carried, carried, carried_if_known};
 use crate::tests::reading::concrete;
 use crate::tests::registering::register_operation;
 use crate::tests::value::{name_of, same, value_of};
@@ -19,7 +19,7 @@ use irtext_tests_common::contexts::Ctx;
 use pliron_text::base::{AttributeDict, Context, NewBareOperation, OpId, Operation, Ptr};
 use pliron_text::dialect::DialectName;
 use pliron_text::format::{Directive, OpFormat};
-use pliron_text::ir::NotClosed;
+use pliron_text::ir::same_dialects;
 use pliron_text::laws::dialects::registered_in_any_order;
 use pliron_text::laws::two_calls::{NotBack, read_printed_and_read};
 use pliron_text::location::Location;
@@ -28,6 +28,16 @@ use pliron_text::result::Result as Answer;
 use std::alloc::Global;
 use std::process::Abort;
 use std::test::Fail;
+
+/// The id of `lab.e`.
+fn other_id(rt: &impl Abort, alloc: Global) -> OpId
+    ensures { result ≡ other_id }
+{
+    OpId {
+        dialect: name_of(rt, alloc, "lab"),
+        name: name_of(rt, alloc, "e"),
+    }
+}
 
 /// The id of `lab.d`.
 fn id(rt: &impl Abort, alloc: Global) -> OpId
@@ -80,6 +90,33 @@ fn register(rt: &impl Abort, alloc: Global, ctx: &mut Ctx)
     put(rt, alloc, ctx, id, true);
 }
 
+/// Registers `lab.d`, which is isolated, and then `lab.e`, which is not.
+fn register_two(rt: &impl Abort, alloc: Global, ctx: &mut Ctx)
+    requires { ctx.old.dialects ≡ [] }
+    ensures { ctx.new.dialects ≡ two_dialects }
+{
+    register(rt, alloc, ctx);
+    let id = other_id(rt, alloc);
+    put(rt, alloc, ctx, id, false);
+}
+
+/// Registers `lab.e`, which is not isolated, and then `lab.d`, which is.
+fn register_reversed(rt: &impl Abort, alloc: Global, ctx: &mut Ctx)
+    requires { ctx.old.dialects ≡ [] }
+    ensures { ctx.new.dialects ≡ reversed_dialects }
+{
+    let other_id = other_id(rt, alloc);
+    put(rt, alloc, ctx, other_id, false);
+    let id = id(rt, alloc);
+    put(rt, alloc, ctx, id, true);
+}
+
+/// Registers `lab.d`, which is not isolated.
+fn register_open(rt: &impl Abort, alloc: Global, ctx: &mut Ctx) {
+    let id = id(rt, alloc);
+    put(rt, alloc, ctx, id, false);
+}
+
 /// Makes `lab.d` with one region.
 fn make(rt: &impl Abort, alloc: Global, ctx: &mut Ctx) -> Ptr<Operation>
     ensures { ctx.new.dialects ≡ ctx.old.dialects }
@@ -99,12 +136,7 @@ fn make_unregistered(rt: &impl Abort, alloc: Global, ctx: &mut Ctx) -> Ptr<Opera
 
 /// The text of a result of the law of the two calls, which ends here: the concrete text of the root in the other context, or why there is
 /// none.
-fn answered(
-    rt: &impl Abort,
-    alloc: Global,
-    other: &Ctx,
-    answer: Result<Result<Ptr<Operation>, NotBack<DemoAttr>>, NotClosed>,
-) -> String {
+fn answered(rt: &impl Abort, alloc: Global, other: &Ctx, answer: Carried<DemoAttr>) -> String {
     let text = match &answer {
         Ok(Ok(root)) => value_of(rt, concrete(alloc, other, *root), "no text"),
         Ok(Err(NotBack::Unprinted(refusal))) => {
@@ -135,6 +167,39 @@ fn brought_over(
     answered(rt, alloc, other, answer)
 }
 
+/// The same, where two operations were registered in the other order.
+fn brought_over_reversed(
+    rt: &impl Abort,
+    alloc: Global,
+    ctx: &mut Ctx,
+    op: Ptr<Operation>,
+    other: &mut Ctx,
+) -> String
+    requires one { ctx.old.dialects ≡ two_dialects }
+    requires two { other.old.dialects ≡ reversed_dialects }
+{
+    registered_in_any_order();
+    assert!(rt; same_dialects(ctx, other));
+    brought_over(rt, alloc, ctx, op, other)
+}
+
+/// The same, with any other context: the text that says which operation it knows otherwise, if it does not know the root.
+fn brought_if_known(
+    rt: &impl Abort,
+    alloc: Global,
+    ctx: &mut Ctx,
+    op: Ptr<Operation>,
+    other: &mut Ctx,
+) -> String {
+    let layout = State::new(alloc, ());
+    let answer = carried_if_known(ctx, op, &layout, other);
+    drop(layout);
+    match answer {
+        Ok(answer) => answered(rt, alloc, other, answer),
+        Err(unlike) => format!(in alloc; "{unlike}").expect(rt, "out of memory"),
+    }
+}
+
 /// The same, where the dialects were registered in one order.
 fn brought_over_there(
     rt: &impl Abort,
@@ -145,7 +210,6 @@ fn brought_over_there(
 ) -> String
     requires { other.old.dialects ≡ ctx.old.dialects }
 {
-    registered_in_any_order();
     brought_over(rt, alloc, ctx, op, other)
 }
 
@@ -153,9 +217,7 @@ fn brought_over_there(
 const NESTED: &str = "lab.d here { ^a(): lab.d here {} }";
 
 /// The concrete text of both roots after that text is parsed in the one context, printed, and parsed in the other.
-fn read_again(rt: &impl Abort, alloc: Global, ctx: &mut Ctx, other: &mut Ctx) -> String
-    requires { other.old.dialects ≡ ctx.old.dialects }
-{
+fn read_again(rt: &impl Abort, alloc: Global, ctx: &mut Ctx, other: &mut Ctx) -> String {
     let layout = State::new(alloc, ());
     let answer = read_printed_and_read(NESTED, ctx, &layout, other);
     drop(layout);
@@ -173,6 +235,10 @@ enum Case {
     Text,
     /// `lab.d`, if it is.
     Registered,
+    /// `lab.d`, if `lab.d` and `lab.e` are, in the other order.
+    Reversed,
+    /// `lab.d`, if it is, but not as an isolated operation in the other context.
+    Otherwise,
     /// `lab.d`, if neither context has the dialect.
     Unregistered,
 }
@@ -182,17 +248,35 @@ fn brought(rt: &impl Abort, alloc: Global, ctx: &mut Ctx, other: &mut Ctx, case:
     requires one { ctx.old.dialects ≡ [] }
     requires two { other.old.dialects ≡ [] }
 {
-    if matches!(case, Case::Unregistered) {
-        let op = make_unregistered(rt, alloc, ctx);
-        return brought_over_there(rt, alloc, ctx, op, other);
+    match case {
+        Case::Text => {
+            register(rt, alloc, ctx);
+            register(rt, alloc, other);
+            read_again(rt, alloc, ctx, other)
+        }
+        Case::Registered => {
+            register(rt, alloc, ctx);
+            register(rt, alloc, other);
+            let op = make(rt, alloc, ctx);
+            brought_over_there(rt, alloc, ctx, op, other)
+        }
+        Case::Reversed => {
+            register_two(rt, alloc, ctx);
+            register_reversed(rt, alloc, other);
+            let op = make(rt, alloc, ctx);
+            brought_over_reversed(rt, alloc, ctx, op, other)
+        }
+        Case::Otherwise => {
+            register(rt, alloc, ctx);
+            register_open(rt, alloc, other);
+            let op = make(rt, alloc, ctx);
+            brought_if_known(rt, alloc, ctx, op, other)
+        }
+        Case::Unregistered => {
+            let op = make_unregistered(rt, alloc, ctx);
+            brought_over_there(rt, alloc, ctx, op, other)
+        }
     }
-    register(rt, alloc, ctx);
-    register(rt, alloc, other);
-    if matches!(case, Case::Text) {
-        return read_again(rt, alloc, ctx, other);
-    }
-    let op = make(rt, alloc, ctx);
-    brought_over_there(rt, alloc, ctx, op, other)
 }
 
 /// Checks the result for a case, with two contexts that had no dialects before.
@@ -224,4 +308,19 @@ fn a_root_comes_back_where_its_dialect_is_registered_apart(rt: HostRuntime) {
 #[test]
 fn what_is_not_registered_is_not_brought_over(rt: HostRuntime) {
     check(&rt, rt.alloc(), Case::Unregistered, "Misfit");
+}
+
+#[test]
+fn a_root_comes_back_where_its_dialect_is_registered_in_another_order(rt: HostRuntime) {
+    check(&rt, rt.alloc(), Case::Reversed, "lab.d here \n{\n  \n}");
+}
+
+#[test]
+fn a_root_is_not_brought_where_it_is_known_otherwise(rt: HostRuntime) {
+    check(
+        &rt,
+        rt.alloc(),
+        Case::Otherwise,
+        "An operation is isolated from above in one context alone",
+    );
 }

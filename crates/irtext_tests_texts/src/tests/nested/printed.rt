@@ -9,6 +9,7 @@ use irtext_context::base::{BasicBlock, Item, Operation, OperationAccess, Ptr, Va
 use irtext_demo::{DemoAttr, DemoType};
 use irtext_few::Few;
 use irtext_print_ir::ir::print::OpObj;
+use irtext_print_ir::ir::print::debug::{OpDbg, print_elided};
 use irtext_print_ir::irfmt::printers::op::region;
 use irtext_print_ir::printable::{Disp, Printable};
 use irtext_tests_common::building::{
@@ -136,6 +137,28 @@ fn module_text(
     }
 }
 
+/// The text of an operation with its regions elided, or why there is none.
+fn elided(rt: &impl Abort, alloc: Global, ctx: &Ctx, op: Ptr<Operation>) -> String {
+    assert!(rt; ctx.contains_operation(op));
+    let mut text = String::new(alloc);
+    let Err(refusal) = print_elided(ctx, op, &mut text) else {
+        return text;
+    };
+    drop(text);
+    format!(in alloc; "{refusal:?}").expect(rt, "out of memory")
+}
+
+/// Checks the text of a module with its regions elided, and that of a function without a type.
+fn check_elided(rt: &impl Abort, alloc: Global, ctx: &mut Ctx, op: Ptr<Operation>) {
+    let wanted = "builtin.module @bar {..}";
+    same(rt, elided(rt, alloc, ctx, op).as_str(), wanted);
+    let shown = format!(in alloc; "{:?}", OpDbg { op, ctx }).expect(rt, "out of memory");
+    same(rt, shown.as_str(), wanted);
+    let id = must(rt, id(alloc, ("builtin", "func")));
+    let untyped = must(rt, operation(ctx, id, Few::none(), &[], &[], 1));
+    same(rt, elided(rt, alloc, ctx, untyped).as_str(), "Misfit");
+}
+
 /// Checks the text of each part of a module.
 pub(crate) fn check_module(rt: &impl Abort, alloc: Global, ctx: &mut Ctx) {
     let op = must(rt, module(alloc, ctx, "bar"));
@@ -147,6 +170,7 @@ pub(crate) fn check_module(rt: &impl Abort, alloc: Global, ctx: &mut Ctx) {
             *wanted,
         );
     }
+    check_elided(rt, alloc, ctx, op);
 }
 
 /// A module with a function that returns a constant: its concrete text, and its section.

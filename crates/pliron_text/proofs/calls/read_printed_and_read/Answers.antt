@@ -1,22 +1,15 @@
-use Rattle.std.proofs.Common.{◌≡◌, ◌∙◌, sym, ap, subst}
+use Rattle.std.proofs.Common.{◌≡◌, ◌∙◌, sym, subst}
 use Rattle.irtext_base.specs.Own.{texts_of}
-use Rattle.irtext_context.specs.DialectTable.{registered}
 use Rattle.irtext_graph.proofs.Nests.{some_eq}
 use Rattle.irtext_print.specs.Printers.Appended.{fresh}
 use Rattle.pliron_text.specs.Calls.{ShowsAll}
-use Rattle.pliron_text.proofs.Again.{is_there, same_dialects}
+use Rattle.pliron_text.proofs.Again.{is_there}
 use Rattle.pliron_text.proofs.calls.read_printed_and_read.Goals as goal
 
 pub there_and_back-requires-clause-live : goal.there_and_back-requires-clause-live
 there_and_back-requires-clause-live g c =
     (is_there (texts_of g.T.IrText.reading g.T.IrText.written) g.A.IrText.reading g.A.IrText.written g.A.AttrText.outlined g.A.AttrText.print_once g.A.PartialEq.eq c.args.text.now c.args.ctx.now c.in-Ok.root c.read_text.new.ctx
     c.in-Ok.ensures.reads c.read_text.ensures.before c.keeps_parts.ensures.all).live
-
-pub there_and_back-requires-clause-known : goal.there_and_back-requires-clause-known
-there_and_back-requires-clause-known g c =
-    let same = same_dialects (texts_of g.T.IrText.reading g.T.IrText.written) g.A.IrText.reading g.A.IrText.written g.A.AttrText.outlined g.A.AttrText.print_once g.A.PartialEq.eq c.args.text.now c.args.ctx.now c.in-Ok.root c.read_text.new.ctx
-    c.in-Ok.ensures.reads c.read_text.ensures.before c.keeps_parts.ensures.all in
-    record { alike = λ q view w is. c.requires.dialects view.id ∙ sym (ap (λ d. registered d view.id) same) }
 
 pub returns-in-Err-clause-refused : goal.returns-in-Err-clause-refused
 returns-in-Err-clause-refused g c = c.in-Err.ensures.refuses

@@ -24,7 +24,7 @@ returns-in-Ok-read_text g c =
           (string_bytes c.in-Ok.text) c.in-Ok.ensures.text c.as_str-bytes.result.now c.as_str-bytes.ensures.value c.args.other.now root left reads;
       back = λ nowhere x sees shown closed. (facts nowhere x sees).back shown closed root left reads;
       whole = λ nowhere x sees shown closed. (facts nowhere x sees).whole shown closed root left reads;
-      limited = λ all nowhere x sees fits out. (facts nowhere x sees).limited fits out all root left reads;
+      limited = λ nowhere x sees fits out. (facts nowhere x sees).limited fits out root left reads;
       only = subst (λ z. OnlyNew root z left) reads.begins.context (subst (OnlyNew root reads.old.state.ctx.now) reads.ends reads.builds.only);
       refused = λ nowhere x sees shown closed. tt;
       objects = tt;

@@ -4,6 +4,7 @@ use Rattle.irtext_graph.specs.Regions.{with_child}
 use Rattle.irtext_graph.specs.Store.{Edits}
 use Rattle.irtext_graph.specs.Uses.{operations_seen}
 use Rattle.irtext_graph.proofs.Added.{Roomier, room_live, room_kept, room_seen, refused_kept, refused_seen, grown_in, added_kept, adds_seen, added-keeps}
+use Rattle.irtext_graph.proofs.Limits.{denied, made_one, lacks_memory}
 use Rattle.irtext_graph.proofs.Made.{on_err, same_keeps}
 use Rattle.irtext_graph.proofs.PartsSeen.{operation_there}
 use Rattle.irtext_graph.proofs.graph.Graph.add_region.Goals as goal
@@ -67,3 +68,15 @@ returns-clause-added g c =
 
 pub returns-clause-kept : goal.returns-clause-kept
 returns-clause-kept g c = λ m up none. added-keeps m _ _ c.args.op c.in_ok-p.p up none (returns-clause-added g c)
+
+pub returns-then-no_more_regions-clause-full : goal.returns-then-no_more_regions-clause-full
+returns-then-no_more_regions-clause-full g c = (λ _. c.no_more_regions.ensures.0 c.if-no_more_regions.true, λ _. refl)
+
+pub returns-in_err-make_region_room-clause-full : goal.returns-in_err-make_region_room-clause-full
+returns-in_err-make_region_room-clause-full g c = lacks_memory c.from_residual.result c.in_err-make_region_room.field-0.0 c.from_residual.ensures.1 (denied c.no_more_regions.ensures c.if-no_more_regions.false)
+
+pub returns-in_err-p-clause-full : goal.returns-in_err-p-clause-full
+returns-in_err-p-clause-full g c = lacks_memory c.from_residual-in_err-p.result c.in_err-p.field-0.0 c.from_residual-in_err-p.ensures.1 (denied c.no_more_regions.ensures c.if-no_more_regions.false)
+
+pub returns-clause-full : goal.returns-clause-full
+returns-clause-full g c = made_one c.in_ok-p.p (denied c.no_more_regions.ensures c.if-no_more_regions.false)

@@ -1,4 +1,5 @@
 use Rattle.std.proofs.Common.{◌∙◌, refl, arith}
+use Rattle.irtext_graph.proofs.Limits.{denied, made_one, lacks_memory}
 use Rattle.irtext_graph.proofs.Logs.{block_noted}
 use Rattle.irtext_graph.proofs.Sounds.{sound_block}
 use Rattle.irtext_graph.proofs.Made.{on_err, same_keeps, same_slots, slots_kept, slots_seen, block_made, block-keeps}
@@ -33,3 +34,15 @@ returns-clause-made g c =
 
 pub returns-clause-kept : goal.returns-clause-kept
 returns-clause-kept g c = λ m up. block-keeps m _ _ c.in_ok-p.p c.args.value c.args.types up (returns-clause-made g c)
+
+pub returns-then-no_more_blocks-clause-full : goal.returns-then-no_more_blocks-clause-full
+returns-then-no_more_blocks-clause-full g c = (λ _. (rw c.len-count.ensures at c.no_more_blocks.ensures).0 c.if-no_more_blocks.true, λ _. refl)
+
+pub returns-in_err-arguments-clause-full : goal.returns-in_err-arguments-clause-full
+returns-in_err-arguments-clause-full g c = lacks_memory c.from_residual.result c.in_err-arguments.field-0.0 c.from_residual.ensures.1 (denied (rw c.len-count.ensures at c.no_more_blocks.ensures) c.if-no_more_blocks.false)
+
+pub returns-in_err-p-clause-full : goal.returns-in_err-p-clause-full
+returns-in_err-p-clause-full g c = lacks_memory c.from_residual-in_err-p.result c.in_err-p.field-0.0 c.from_residual-in_err-p.ensures.1 (denied (rw c.len-count.ensures at c.no_more_blocks.ensures) c.if-no_more_blocks.false)
+
+pub returns-clause-full : goal.returns-clause-full
+returns-clause-full g c = made_one c.in_ok-p.p (denied (rw c.len-count.ensures at c.no_more_blocks.ensures) c.if-no_more_blocks.false)

@@ -8,6 +8,7 @@ use Rattle.irtext_graph.specs.declared.object.Defined.TheVariants.{OfValue, OfBl
 use Rattle.irtext_graph.proofs.UsesSeen.{head_there}
 use Rattle.irtext_graph.proofs.SameSeen.{same_there, same_is_defined}
 use Rattle.irtext_graph.proofs.Linkings.{linked_here, there_here, free_here, heads_named, live_here, named_by, named_in, side_apart, sound_linked}
+use Rattle.irtext_graph.proofs.Limits.{denied, made_one, lacks_memory}
 use Rattle.irtext_graph.proofs.Logs.{operation_noted}
 use Rattle.irtext_graph.proofs.LogsSeen.{logged_bare}
 use Rattle.irtext_graph.proofs.Made.{on_err, same_keeps, same_slots, slots_kept, slots_seen, operation_made, operation_made_seen, operation-keeps}
@@ -98,3 +99,15 @@ returns-clause-made g c =
 
 pub returns-clause-kept : goal.returns-clause-kept
 returns-clause-kept g c = λ m up. operation-keeps m _ _ c.in_ok-p.p _ _ _ _ up (returns-clause-made g c)
+
+pub returns-then-no_more_operations-clause-full : goal.returns-then-no_more_operations-clause-full
+returns-then-no_more_operations-clause-full g c = (λ _. (rw c.len-count.ensures at c.no_more_operations.ensures).0 c.if-no_more_operations.true, λ _. refl)
+
+pub returns-in_err-op-clause-full : goal.returns-in_err-op-clause-full
+returns-in_err-op-clause-full g c = lacks_memory c.from_residual.result c.in_err-op.field-0.0 c.from_residual.ensures.1 (denied (rw c.len-count.ensures at c.no_more_operations.ensures) c.if-no_more_operations.false)
+
+pub returns-in_err-p-clause-full : goal.returns-in_err-p-clause-full
+returns-in_err-p-clause-full g c = lacks_memory c.from_residual-in_err-p.result c.in_err-p.field-0.0 c.from_residual-in_err-p.ensures.1 (denied (rw c.len-count.ensures at c.no_more_operations.ensures) c.if-no_more_operations.false)
+
+pub returns-clause-full : goal.returns-clause-full
+returns-clause-full g c = made_one c.in_ok-p.p (denied (rw c.len-count.ensures at c.no_more_operations.ensures) c.if-no_more_operations.false)

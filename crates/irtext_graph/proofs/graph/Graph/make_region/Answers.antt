@@ -1,7 +1,8 @@
 use Rattle.std.proofs.Common.{◌∙◌, refl, arith}
+use Rattle.irtext_graph.proofs.Limits.{denied, made_one, lacks_memory}
 use Rattle.irtext_graph.proofs.Logs.{region_noted}
 use Rattle.irtext_graph.proofs.Sounds.{sound_region}
-use Rattle.irtext_graph.proofs.Made.{same_keeps, same_slots, slots_kept, slots_seen, region_made, region-keeps}
+use Rattle.irtext_graph.proofs.Made.{on_err, same_keeps, same_slots, slots_kept, slots_seen, region_made, region-keeps}
 use Rattle.irtext_graph.proofs.graph.Graph.make_region.Goals as goal
 
 pub invariant_of-self : goal.invariant_of-self
@@ -25,3 +26,15 @@ returns-clause-made g c = rw (← c.self.view_is) (region_made c.self.inside.mad
 
 pub returns-clause-kept : goal.returns-clause-kept
 returns-clause-kept g c = λ m up. region-keeps m _ _ c.in_ok-p.p up (returns-clause-made g c)
+
+pub returns-then-no_more_regions-clause-full : goal.returns-then-no_more_regions-clause-full
+returns-then-no_more_regions-clause-full g c = (λ _. c.no_more_regions.ensures.0 c.if-no_more_regions.true, λ _. refl)
+
+pub returns-in_err-p-clause-full : goal.returns-in_err-p-clause-full
+returns-in_err-p-clause-full g c = lacks_memory c.from_residual.result c.in_err-p.field-0.0 c.from_residual.ensures.1 (denied c.no_more_regions.ensures c.if-no_more_regions.false)
+
+pub returns-clause-full : goal.returns-clause-full
+returns-clause-full g c = made_one c.in_ok-p.p (denied c.no_more_regions.ensures c.if-no_more_regions.false)
+
+pub returns-in_err-p-clause-err : goal.returns-in_err-p-clause-err
+returns-in_err-p-clause-err g c = on_err _ (slots_seen c.self.inside.made c.self.inside.counters c.self.inside.objects (record c.self.inside.objects { regions = c.store.new.arena }) same_slots same_slots (record { items = c.in_err-p.ensures.err; free = c.in_err-p.ensures.err_free }) ∙ c.self.view_is)

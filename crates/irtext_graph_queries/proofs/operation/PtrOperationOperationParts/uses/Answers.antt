@@ -12,7 +12,7 @@ pub loop-i-preserved : goal.loop-i-preserved
 loop-i-preserved g c =
     let v = g.C.HasGraph.graph c.args.ctx.now in
     record {
-      listed = next_listed v c.args.self c.loop-i.i c.loop-i.all.items c.in_ok-uses.uses.items c.extend_from_slice.new.self.items (c.in_ok-extend_from_slice.ensures.items ∙ ap (λ us. c.loop-i.all.items ++ us) c.deref.ensures.value) c.loop-i.invariant.listed (rw (← c.graph-in-loop-i.ensures) c.in_ok-uses.ensures);
+      listed = next_listed v c.args.self c.loop-i.i c.loop-i.all.items c.in_ok-uses.uses.items c.extend_from_slice.new.items.items (c.in_ok-extend_from_slice.ensures.items ∙ ap (λ us. c.loop-i.all.items ++ us) c.deref.ensures.value) c.loop-i.invariant.listed (rw (← c.graph-in-loop-i.ensures) c.in_ok-uses.ensures);
     }
 
 pub returns : goal.returns

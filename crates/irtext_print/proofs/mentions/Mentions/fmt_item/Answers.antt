@@ -8,8 +8,8 @@ use Rattle.irtext_print.specs.Mentions as mentions
 use Rattle.irtext_print.proofs.Written.{all_alone, entry_alone}
 use Rattle.irtext_print.proofs.mentions.Mentions.fmt_item.Goals as goal
 
-pub returns-in-Some : goal.returns-in-Some
-returns-in-Some g c =
+pub returns-in-Some-clause-writes : goal.returns-in-Some-clause-writes
+returns-in-Some-clause-writes g c =
     let C = printing_of g.T.IrText g.A.IrText g.A.AttrText g.A.PartialEq.eq c.args.ctx.now in
     let L = language_of g.T.IrText g.A.IrText g.A.AttrText g.A.PartialEq.eq c.args.ctx.now in
     let e = entry_of C g.A.IrText.written c.args.ctx.now g.A.AttrText.outlined c.in-Some.given in
@@ -25,10 +25,10 @@ returns-in-Some g c =
           r.text more ∙ ap (λ z. old ++ encode_utf8_all z) (entry_alone L C count (known ++ more) c.args.index e)
           ∙ ap (λ o. old ++ encode_utf8_all (given_text C L count (known ++ more) c.args.index o)) c.in-Some.ensures;
     })
-    c.fmt_entry.ensures
+    c.fmt_entry.ensures.writes
 
-pub returns-in-None : goal.returns-in-None
-returns-in-None g c =
+pub returns-in-None-clause-writes : goal.returns-in-None-clause-writes
+returns-in-None-clause-writes g c =
     let C = printing_of g.T.IrText g.A.IrText g.A.AttrText g.A.PartialEq.eq c.args.ctx.now in
     let L = language_of g.T.IrText g.A.IrText g.A.AttrText g.A.PartialEq.eq c.args.ctx.now in
     let before = mentions.known_in c.args.self.now.known in

@@ -10,8 +10,8 @@ use Rattle.irtext_print.specs.Mentions as mentions
 use Rattle.irtext_print.proofs.Texts.{pair_appended}
 use Rattle.irtext_print.proofs.mentions.Mentions.fmt_pair.Goals as goal
 
-pub returns-in_ok-push_str-in-Outlined-2 : goal.returns-in_ok-push_str-in-Outlined-2
-returns-in_ok-push_str-in-Outlined-2 g c =
+pub returns-in_ok-push_str-in-Outlined-2-clause-writes : goal.returns-in_ok-push_str-in-Outlined-2-clause-writes
+returns-in_ok-push_str-in-Outlined-2-clause-writes g c =
     let C = mentions.asking g.A.AttrText.print_once g.A.PartialEq.eq in
     let W = words g.A.IrText.written in
     let items = c.args.self.now.items in
@@ -27,4 +27,4 @@ returns-in_ok-push_str-in-Outlined-2 g c =
           (string_bytes c.args.f.now) (string_bytes c.push_str.new.self) (string_bytes c.push_str-in-Outlined.new.self) (string_bytes c.fmt_attribute.new.f) named c.in_ok-push_str-in-Outlined-2.ensures.bytes (r.text more)
           ∙ ap (λ p. string_bytes c.args.f.now ++ encode_utf8_all (texts.pair_text C items once W (given_pair p))) (sym c.in-Outlined.is);
     })
-    c.fmt_attribute.ensures
+    c.fmt_attribute.ensures.writes

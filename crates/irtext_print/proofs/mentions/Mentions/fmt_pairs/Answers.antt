@@ -1,4 +1,5 @@
-use Rattle.std.proofs.Common.{◌∙◌, ap, string_bytes, refl, subst, ◌++◌, List}
+use Rattle.std.proofs.Common.{◌∙◌, ap, string_bytes, refl, subst, [], ◌++◌, List}
+use Rattle.irtext_base.proofs.OnlyAppended.{appends_nothing, appends_next}
 use Rattle.irtext_print.specs.Entries as texts
 use Rattle.irtext_print.specs.Printers.Appended.{AppendsText}
 use Rattle.irtext_print.specs.Printers.PieceText.{words}
@@ -13,6 +14,7 @@ loop-pair-init g c = (
   pairs_none (words g.A.IrText.written) (mentions.asking g.A.AttrText.print_once g.A.PartialEq.eq) c.args.self.now.items (attributes_of g.A.AttrText.outlined c.args.given.now) (mentions.known_in c.args.self.now.known)
       (attributes_left g.A.AttrText.outlined c.into_iter-pair-iterator.result) (string_bytes c.args.f.now)
       (ap (attributes_left g.A.AttrText.outlined) c.into_iter-pair-iterator.ensures.into_iter_gives ∙ c.attributes-pair-items.ensures),
+  appends_nothing refl,
 )
 
 pub loop-pair-preserved : goal.loop-pair-preserved
@@ -20,16 +22,17 @@ loop-pair-preserved g c =
     let C = mentions.asking g.A.AttrText.print_once g.A.PartialEq.eq in
     let W = words g.A.IrText.written in
     let known = mentions.known_in c.fmt_pair.new.self.known in
-    let written = subst (λ n. (more : List g.row.A.Denot) → AppendsText c.fmt_comma.new.f (texts.pair_text C n (known ++ more) W (given_pair c.in-Some.pair)) c.fmt_pair.new.f) c.loop-pair.invariant.0 c.in_ok-fmt_pair.ensures.text in (
-      c.in_ok-fmt_pair.ensures.items ∙ c.loop-pair.invariant.0,
+    let written = subst (λ n. (more : List g.row.A.Denot) → AppendsText c.fmt_comma.new.f (texts.pair_text C n (known ++ more) W (given_pair c.in-Some.pair)) c.fmt_pair.new.f) c.loop-pair.invariant.0 c.in_ok-fmt_pair.ensures.writes.text in (
+      c.in_ok-fmt_pair.ensures.writes.items ∙ c.loop-pair.invariant.0,
       pairs_more W C c.args.self.now.items (attributes_of g.A.AttrText.outlined c.args.given.now) (mentions.known_in c.args.self.now.known)
           (mentions.known_in c.loop-pair.self.known) known (given_pair c.in-Some.pair) (attributes_left g.A.AttrText.outlined c.loop-pair.pair-iterator) (attributes_left g.A.AttrText.outlined c.next.new.self)
           c.loop-pair.first (string_bytes c.args.f.now) (string_bytes c.loop-pair.f) (string_bytes c.fmt_comma.new.f) (string_bytes c.fmt_pair.new.f)
-          c.in-Some.ensures.steps c.in_ok-fmt_comma.ensures c.in_ok-fmt_pair.ensures.known written c.loop-pair.invariant.1,
+          c.in-Some.ensures.steps c.in_ok-fmt_comma.ensures.text c.in_ok-fmt_pair.ensures.writes.known written c.loop-pair.invariant.1,
+      appends_next (appends_next {new = c.fmt_comma.new.f} c.loop-pair.invariant.2 _ c.in_ok-fmt_comma.ensures.text) _ (written []),
     )
 
-pub returns : goal.returns
-returns g c =
+pub returns-clause-writes : goal.returns-clause-writes
+returns-clause-writes g c =
     let C = mentions.asking g.A.AttrText.print_once g.A.PartialEq.eq in
     let W = words g.A.IrText.written in
     let es = attributes_of g.A.AttrText.outlined c.args.given.now in

@@ -9,4 +9,5 @@ returns g c = record {
   prints = put_back c.print_nested_region-answer.result (λ z n. heads.region_text_under g.T.IrText g.A.IrText g.A.AttrText g.A.PartialEq.eq c.args.ctx.now c.args.region z n) (λ z. heads.region_items_under g.T.IrText g.A.IrText g.A.AttrText g.A.PartialEq.eq c.args.ctx.now c.args.region z) (λ z. heads.RegionFaultUnder g.T.IrText g.A.IrText g.A.AttrText g.A.PartialEq.eq c.args.ctx.now c.args.region z Misfit) c.args.state.now c.take_gathered-items.new.state c.put_gathered.new.state c.take_gathered-items.result.items c.print_nested_region-answer.new.items.items (string_bytes c.args.f.now) (string_bytes c.print_nested_region-answer.new.f) c.take_gathered-items.ensures.taken c.take_gathered-items.ensures.left c.put_gathered.ensures c.print_nested_region-answer.ensures.text c.print_nested_region-answer.ensures.items c.print_nested_region-answer.ensures.fits;
   refused = subst (λ z. IfErr c.print_nested_region-answer.result (heads.RefusesRegionUnder g.T.IrText g.A.IrText g.A.AttrText g.A.PartialEq.eq c.args.ctx.now c.args.region z)) c.take_gathered-items.ensures.left c.print_nested_region-answer.ensures.refused;
   rest = rests_put c.args.state.now c.take_gathered-items.new.state c.put_gathered.new.state c.print_nested_region-answer.new.items.items c.take_gathered-items.ensures.left c.put_gathered.ensures;
+  appended = c.print_nested_region-answer.ensures.appended;
 }

@@ -1,4 +1,5 @@
 use Rattle.std.proofs.Common.{◌≡◌, ◌∙◌, ap, sym, subst, string_bytes, Some, None, option_map}
+use Rattle.irtext_base.proofs.OnlyAppended.{appends_this, failed_after}
 use Rattle.irtext_context.proofs.Parts.{seen_is_live}
 use Rattle.irtext_graph.specs.Graph.{IsLive, children, parent}
 use Rattle.irtext_graph.specs.Nested.{Nested}
@@ -43,3 +44,7 @@ returns-in_ok-gather_operation-in-None-clause-defined g c =
 
 pub returns-in_ok-gather_operation-in-None-clause-rest : goal.returns-in_ok-gather_operation-in-None-clause-rest
 returns-in_ok-gather_operation-in-None-clause-rest g c = rests c.args.state.now c.fmt_end.new.state (gathered_of c.fmt_end.new.state) (c.fmt_end.ensures.rest ∙ ap (λ s. with_gathered s (gathered_of c.fmt_end.new.state)) c.gather_operation-in-None.ensures.rest)
+
+pub returns-in_ok-gather_operation-in-None-clause-appended : goal.returns-in_ok-gather_operation-in-None-clause-appended
+returns-in_ok-gather_operation-in-None-clause-appended g c =
+    failed_after c.fmt_end.result c.fmt_end.new.f (appends_this {new = c.gather_operation-in-None.new.f} _ c.in_ok-gather_operation-in-None.ensures.prints.text) c.fmt_end.ensures.appended

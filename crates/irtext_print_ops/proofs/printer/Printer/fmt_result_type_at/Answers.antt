@@ -31,8 +31,8 @@ loop-place-preserved g c =
           less c.loop-place.invariant.there;
     }
 
-pub returns-then-left-eq0 : goal.returns-then-left-eq0
-returns-then-left-eq0 g c =
+pub returns-then-left-eq0-clause-text : goal.returns-then-left-eq0-clause-text
+returns-then-left-eq0-clause-text g c =
     let texts = texts_of g.T.IrText.written c.args.self.ctx.now (ResultTypes c.args.op) in
     then c.write_text.result
     (λ p. spaced_written (Some (g.T.IrText.written c.in-Some.of_type.now)) (slice_get (known_types texts) c.args.index) refl
@@ -40,10 +40,10 @@ returns-then-left-eq0 g c =
     (sym (found_at (typed_text g.T.IrText.written c.args.self.ctx.now facet.Type) (results c.args.self.ctx.now.graph c.args.op) c.loop-place.place) ∙ sym c.known_type.ensures ∙ ap (option_map (λ (t : Bor _). g.T.IrText.written t.now)) c.in-Some.is)
     c.if-left-eq0.true c.loop-place.invariant.there)
     (string_bytes c.args.f.now) (string_bytes c.push_str.new.self) (string_bytes c.write_text.new.f) (c.in_ok-push_str.ensures.bytes ∙ ap (λ z. z ++ codes " ") c.loop-place.invariant.same) p)
-    c.write_text.ensures
+    c.write_text.ensures.text
 
-pub returns : goal.returns
-returns g c =
+pub returns-clause-text : goal.returns-clause-text
+returns-clause-text g c =
     let texts = texts_of g.T.IrText.written c.args.self.ctx.now (ResultTypes c.args.op) in
     let past : length (texts_of g.T.IrText.written c.args.self.ctx.now (ResultTypes c.args.op)) ≤ c.loop-place.place = omega (arith, c.count-place-end.ensures, c.loop-place-test.false) in
     c.loop-place.invariant.same ∙ nothing_written (slice_get (known_types texts) c.args.index) (string_bytes c.args.f.now) (missed texts c.loop-place.place c.loop-place.left (slice_get (known_types texts) c.args.index) past c.loop-place.invariant.there)

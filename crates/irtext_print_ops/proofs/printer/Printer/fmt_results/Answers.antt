@@ -20,7 +20,7 @@ pub returns-clause-text : goal.returns-clause-text
 returns-clause-text g c =
     let L = language_in {T = g.row.T.Denot} {A = g.row.A.Denot} g.T.IrText g.A.IrText c.args.self.ctx.now in
     let C = printing_by {T = g.row.T.Denot} g.A.AttrText g.A.PartialEq.eq c.args.self.ctx.now in
-    after_call c.memory_alone.result c.fmt_defined.result c.memory_alone.ensures.ok c.fmt_defined.ensures
+    after_call c.memory_alone.result c.fmt_defined.result c.memory_alone.ensures.ok c.fmt_defined.ensures.text
     (λ p. for_seen (operation c.args.self.ctx.now c.args.op) (seen_operation g.A.IrText.written c.args.self.ctx.now c.args.op)
     (λ o. string_bytes c.fmt_defined.new.f ≡ string_bytes c.args.f.now ++ encode_utf8_all (results L (map (λ r. value C r.0) o.results)))
     (λ view e. p ∙ ap (λ t. string_bytes c.args.f.now ++ encode_utf8_all t) (results_are L c.args.self.ctx.now (parts.results c.args.self.ctx.now.graph c.args.op))))

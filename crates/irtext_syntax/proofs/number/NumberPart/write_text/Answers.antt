@@ -1,5 +1,5 @@
 use Rattle.irtext_syntax.specs.NumberLaws.{encodes-number}
 use Rattle.irtext_syntax.proofs.number.NumberPart.write_text.Goals as goal
 
-pub returns : goal.returns
-returns g c = rw (encodes-number g.N.FromStrRadix g.N.Integer.of g.met.N.FromStrRadix.narrow g.met.N.Integer.back c.args.self.now) c.write_number.ensures
+pub returns-clause-text : goal.returns-clause-text
+returns-clause-text g c = rw (encodes-number g.N.FromStrRadix g.N.Integer.of g.met.N.FromStrRadix.narrow g.met.N.Integer.back c.args.self.now) c.write_number.ensures.text

@@ -10,8 +10,8 @@ use Rattle.irtext_print.proofs.Printers.PieceTexts.{identifier_appended, comma_a
 use Rattle.irtext_print.proofs.ir.print.pieces.fmt_entry.Goals as goal
 use Rattle.irtext_print.proofs.ir.print.pieces.fmt_entry.Goals.{then-not-first+in_ok-push_str, else-not-first}
 
-pub returns : goal.returns
-returns g c =
+pub returns-clause-text : goal.returns-clause-text
+returns-clause-text g c =
     let old = string_bytes c.args.f.now in
     let begun = string_bytes c.if-not-first.f in
     let new = string_bytes c.fmt_attr.new.f in
@@ -26,4 +26,4 @@ returns g c =
     (λ p. worded old begun new (cond c.args.first [] comma) (key ++ (codes ": " ++ value)) (comma_ascii c.args.first) before
     (more begun (string_bytes c.push_str-2.new.self) new key (codes ": " ++ value) named
     (worded (string_bytes c.push_str-2.new.self) (string_bytes c.push_str-3.new.self) new (codes ": ") value refl c.in_ok-push_str-3.ensures.bytes (p ∙ ap (λ z. string_bytes c.push_str-3.new.self ++ encode_utf8_all z) (attribute_text g.A.IrText.written c.args.attr.now)))))
-    c.fmt_attr.ensures
+    c.fmt_attr.ensures.text

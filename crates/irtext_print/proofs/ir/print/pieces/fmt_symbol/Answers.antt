@@ -5,8 +5,8 @@ use Rattle.irtext_print.proofs.Printers.Locations.{worded}
 use Rattle.irtext_print.proofs.Printers.PieceTexts.{identifier_appended}
 use Rattle.irtext_print.proofs.ir.print.pieces.fmt_symbol.Goals as goal
 
-pub returns : goal.returns
-returns g c =
+pub returns-clause-text : goal.returns-clause-text
+returns-clause-text g c =
     let old = string_bytes c.args.f.now in
     let name = c.in-Some.symbol.now in
     let written = identifier_appended name c.as_str.result.now (string_bytes c.push_str.new.self) (string_bytes c.push_str-2.new.self) c.as_str.ensures.fits c.as_str.ensures.text c.in_ok-push_str-2.ensures.bytes in

@@ -4,8 +4,8 @@ use Rattle.irtext_print.proofs.Printers.PieceTexts.{word_appended}
 use Rattle.irtext_print.proofs.ir.print.pieces.fmt_word.Goals as goal
 use Rattle.irtext_print.proofs.ir.print.pieces.fmt_word.Goals.{then-not-word_joins_left+in_ok-push_str, else-not-word_joins_left}
 
-pub returns : goal.returns
-returns c =
+pub returns-clause-text : goal.returns-clause-text
+returns-clause-text c =
     let old = string_bytes c.args.f.now in
     let before : string_bytes c.if-not-word_joins_left.f ≡ old ++ cond c.word_joins_left.result [] (codes " ") = elim c.if-not-word_joins_left.branch [
       | then-not-word_joins_left+in_ok-push_str w ↦ ap string_bytes w.f-is ∙ w.in_ok-push_str.ensures.bytes ∙ ap (λ b. old ++ cond b [] (codes " ")) (sym w.if-not-word_joins_left.true)

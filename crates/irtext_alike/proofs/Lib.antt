@@ -1,0 +1,3 @@
+mod Directives
+mod Walk
+mod Tables

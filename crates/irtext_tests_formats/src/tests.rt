@@ -1,0 +1,4 @@
+//! The tests, a file for each subject.
+mod formats;
+mod must;
+mod notation;

@@ -1,0 +1,8 @@
+//! Worked rows of types that hold types: a small dialect, its types nested in one another and in those of another author, and what is
+//! rejected, and where.
+#![tactic(auto)]
+
+pub mod brackets;
+#[cfg(test)]
+mod tests;
+pub mod types;

@@ -1,0 +1,12 @@
+pub mod Growths
+pub mod GrammarLaws
+pub mod Trees
+pub mod Words
+pub mod Marks
+pub mod HeadRows
+pub mod Pairs
+pub mod PairLaws
+pub mod Leaves
+pub mod LeafLaws
+pub mod TreeOf
+pub mod TreeLaws

@@ -1,0 +1,58 @@
+//! Attributes that hold attributes.
+ghost use Rattle.std.specs.Prelude.{◌≡◌, IfOk};
+
+use crate::grammar::AttrGrammar;
+use crate::heads::Heads;
+use crate::tree::Tree;
+use irtext_base::text::AttrText;
+use std::alloc::{AllocError, Global};
+use std::hash::Hash;
+use std::marker::PhantomData;
+
+/// Returns equal copies of the heads. Fails only if an allocation fails.
+fn heads_cloned<S: AttrGrammar<H, A>, H: Eq + Drop, A>(
+    alloc: Global,
+    heads: &[H],
+) -> Result<Vec<H>, AllocError>
+    ensures { IfOk result (λ copies. copies.items ≡ heads.now) }
+{
+    let mut copies = Vec::new(alloc);
+    for head in heads {
+        copies.push(S::clone_head(head)?)?;
+    }
+    Ok(copies)
+}
+
+/// An attribute that can hold others is outlined, and is print-once, if the head with which it begins says so.
+impl<A: Drop, S: AttrGrammar<H, A>, H: Eq + Hash + Drop> AttrText<A> for Tree<S, H> {
+    ghost use Rattle.irtext_tree.specs.Trees.{of_first};
+    ghost use Rattle.irtext_tree.specs.TreeLaws.{tree_unreserved};
+
+    ghost outlined = { λ t. of_first S.outlined t.heads };
+
+    ghost print_once = { λ t. of_first S.print_once t.heads };
+
+    ghost unreserved = { tree_unreserved S.Grows.own S.Grammar.reading S.Grammar.written S.Grammar.sound S.unreserved };
+
+    fn is_outlined(&self) -> bool {
+        match self.heads().first() {
+            Some(head) => S::is_outlined(head),
+            None => false,
+        }
+    }
+
+    fn is_print_once(&self) -> bool {
+        match self.heads().first() {
+            Some(head) => S::is_print_once(head),
+            None => false,
+        }
+    }
+
+    fn try_clone(&self) -> Result<Tree<S, H>, AllocError> {
+        let heads = heads_cloned::<S, H, A>(self.heads.allocator(), self.heads())?;
+        Ok(Tree {
+            heads: Heads::new(heads),
+            grammar: PhantomData,
+        })
+    }
+}
