@@ -1,11 +1,12 @@
 use Rattle.std.proofs.Common.{◌≡◌, [], true, false, sym, ap, subst, codes}
+use Rattle.std.specs.Str.{bytes_eq}
 use Rattle.irtext_base.specs.declared.base.identifier.OpId.{OpId}
 use Rattle.irtext_alike.specs.Alike.{KnowAlike}
 use Rattle.irtext_tests_roots.specs.Apart.{lab_format, lab_id, other_id, reversed_dialects}
 use Rattle.irtext_tests_roots.proofs.tests.layer.apart.brought_over_reversed.Goals as goal
 
 apart : other_id ≡ lab_id → ⊥
-apart e = let names : codes "e" ≡ codes "d" = ap (λ (z : OpId). z.name) e in absurd (cc)
+apart e = let differs : true ≡ false = ap (λ (z : OpId). bytes_eq (codes "e") z.name) e in absurd (cc)
 
 pub brought_over-requires : goal.brought_over-requires
 brought_over-requires g c =
