@@ -1,6 +1,6 @@
 -- Examples of composed parts, each with its law.
-use Rattle.std.proofs.Common.{◌≡◌, ℕ, codes, refl}
-use Rattle.std.specs.Prelude.{Bool, ⊤}
+use Rattle.std.proofs.Common.{ℕ, refl}
+use Rattle.std.specs.Prelude.{⊤}
 use Rattle.irtext_syntax.specs.IntegerKinds.{u32, u64}
 use Rattle.irtext_syntax.specs.Sequences.{anything_ends}
 use Rattle.irtext_syntax.specs.ShapeLaws.{Proved, angle_encloses, square_encloses, round_encloses, comma_joins, number_proved, number_missing, name_proved, then_proved, then_missing, within_proved, list_proved, maybe_proved}

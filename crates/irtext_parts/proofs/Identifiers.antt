@@ -1,5 +1,5 @@
 -- A text is an identifier exactly if its bytes are.
-use Rattle.std.proofs.Common.{◌≡◌, ◌∙◌, Bool, true, false, refl, sym, ap, subst, true≢false}
+use Rattle.std.proofs.Common.{◌≡◌, ◌∙◌, Bool, true, false, refl, sym, ap}
 use Rattle.std.proofs.lemmas.Str.{chars-encodes, chars_from_encodes, encodes-IsAscii}
 use Rattle.std.specs.Str.{IsUtf8, all_scalars, encode_utf8_all}
 use Rattle.irtext_base.specs.Text.{Text, is_identifier}

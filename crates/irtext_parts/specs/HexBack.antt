@@ -1,5 +1,5 @@
 -- For theorems: a number that was printed in hexadecimal digits is parsed back.
-use Rattle.std.proofs.Common.{◌≡◌, ℕ, ℤ, pos, negsuc, suc, ◌<◌, ◌≤◌, ◌^◌, Bool, true, false, cond, Option, Some, None, [], ◌∷◌, ◌++◌, length, refl, sym, ◌∙◌, ap, ap₂, arith, nat_lt, codes, append_assoc, inl, inr}
+use Rattle.std.proofs.Common.{◌≡◌, ℕ, pos, ◌<◌, ◌≤◌, ◌^◌, Bool, true, false, cond, Option, Some, None, [], ◌∷◌, ◌++◌, length, refl, ◌∙◌, ap, ap₂, arith, nat_lt, codes, append_assoc, inl, inr}
 use Rattle.std.proofs.lemmas.Bool.Decides.{nat_tests}
 use Rattle.std.proofs.lemmas.Fmt.{digits_is_IsNumeral}
 use Rattle.std.proofs.lemmas.Str.{IsAscii-append}

@@ -1,9 +1,9 @@
 -- Numbers in hexadecimal digits, as parts of a text.
-use Rattle.std.specs.Prelude.{◌≡◌, ℕ, ℤ, pos, Bool, true, not, ◌++◌, codes}
+use Rattle.std.specs.Prelude.{ℕ, ℤ, Bool, true, not, ◌++◌, codes}
 use Rattle.std.specs.Char.{is_ascii_hexdigit}
 use Rattle.std.specs.Fmt.{digits}
 use Rattle.irtext_base.specs.Text.{Text, begins}
-use Rattle.irtext_tokens.specs.Infix.{Reader, ◌⇒◌}
+use Rattle.irtext_tokens.specs.Infix.{Reader}
 use Rattle.irtext_tokens.specs.Integers.{hex_int_at}
 use Rattle.irtext_tokens.specs.declared.irfmt.parsers.from_str_radix.FromStrRadix as radix
 use Rattle.irtext_syntax.specs.NumberOf.{number_if}

@@ -1,6 +1,5 @@
 -- For callers: the laws of the parts of this crate, composed as the parts are.
 use Rattle.std.proofs.Common.{◌≡◌, true, ◌++◌, codes, refl}
-use Rattle.irtext_base.specs.Text.{Text}
 use Rattle.irtext_syntax.specs.IntegerKinds.{Kind}
 use Rattle.irtext_syntax.specs.NameTexts.{ends_word}
 use Rattle.irtext_syntax.specs.NameLaws.{word_last}

@@ -1,8 +1,7 @@
 -- For callers: the parts of this crate, composed as in Rust, beside those of `irtext_syntax`.
 use Rattle.std.specs.Bool.{beq}
-use Rattle.std.specs.Prelude.{Bool, codes}
+use Rattle.std.specs.Prelude.{codes}
 use Rattle.std.specs.Str.{bytes_eq, encode_utf8_all}
-use Rattle.irtext_base.specs.Text.{Text}
 use Rattle.irtext_syntax.specs.IntegerKinds.{Kind}
 use Rattle.irtext_syntax.specs.Maybes.{maybe_ends}
 use Rattle.irtext_syntax.specs.NameTexts.{ends_word}

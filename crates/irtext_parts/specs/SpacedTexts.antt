@@ -1,7 +1,6 @@
 -- The laws of fixed texts that are printed with spaces.
-use Rattle.std.proofs.Common.{◌≡◌, [], ◌∷◌, ◌++◌, refl, ap, codes}
+use Rattle.std.proofs.Common.{refl, ap, codes}
 use Rattle.std.specs.Char.{is_whitespace}
-use Rattle.irtext_base.specs.Text.{Text}
 use Rattle.irtext_base.specs.Own.{found}
 use Rattle.irtext_base.proofs.Characters.{after_twice}
 use Rattle.irtext_syntax.specs.FixedTexts.{BetweenLaw}

@@ -1,5 +1,5 @@
 -- The law of texts that are kept as they are spelled.
-use Rattle.std.proofs.Common.{◌≡◌, ◌∙◌, ℕ, ◌<◌, Bool, true, false, cond, Option, Some, None, [], ◌∷◌, ◌++◌, refl, sym, ap, ap₂, true≢false, inl, inr}
+use Rattle.std.proofs.Common.{◌≡◌, ◌∙◌, ℕ, Bool, true, false, cond, Option, Some, None, [], ◌∷◌, ◌++◌, refl, sym, ap, ap₂, true≢false, inl, inr}
 use Rattle.std.specs.Char.{is_whitespace}
 use Rattle.std.specs.List.{list_all}
 use Rattle.std.specs.Prelude.{◌↔◌, IsTrue, not}
@@ -16,12 +16,12 @@ use Rattle.irtext_base.proofs.Characters.{and_left, and_right, or_left, is_false
 use Rattle.irtext_base.proofs.Scalars.{scalars_ascii}
 use Rattle.irtext_base.proofs.Sincere.{Of, of_either, of_here, of_missing, of_read, sincere_of}
 use Rattle.irtext_syntax.specs.CloserTests.{closer_follows}
-use Rattle.irtext_syntax.specs.PartLaws.{PartLaw, MissesClosers, EndsAnywhere, is_closer}
+use Rattle.irtext_syntax.specs.PartLaws.{PartLaw, MissesClosers, EndsAnywhere}
 use Rattle.irtext_syntax.specs.PartSteps.{not_true, ascii-cons}
 use Rattle.irtext_syntax.specs.ReadHere.{read_here}
 use Rattle.irtext_syntax.specs.ScalarTexts.{ScalarText, scalar_text, scalar_text_found}
 use Rattle.irtext_syntax.specs.Words.{chosen}
-use Rattle.irtext_parts.specs.Spellings.{Rules, RulesLaw, is_spelled, ends_spelled}
+use Rattle.irtext_parts.specs.Spellings.{Rules, RulesLaw, ends_spelled}
 use Rattle.irtext_parts.specs.SpelledOf.{spelled_of, spelled_at, spelled_found, spelled_same}
 use Rattle.irtext_parts.specs.declared.spelling.Spelling as spelling
 use Rattle.irtext_parts.specs.declared.spelled.Spelled.{Spelled}

@@ -1,17 +1,17 @@
 -- The law of symbols.
-use Rattle.std.proofs.Common.{◌≡◌, ◌∙◌, ℕ, Bool, true, false, cond, [], ◌∷◌, ◌++◌, refl, sym, ap, ap₂, arith, codes, true≢false}
+use Rattle.std.proofs.Common.{◌≡◌, ◌∙◌, ℕ, Bool, true, false, cond, [], ◌∷◌, ◌++◌, refl, ap, ap₂, arith, codes}
 use Rattle.std.proofs.lemmas.Bool.Decides.{nat_tests}
 use Rattle.std.specs.Prelude.{◌↔◌, IsTrue, not}
 use Rattle.std.specs.Str.{all_scalars, bytes_eq, encode_utf8_all}
 use Rattle.irtext_base.specs.Text.{Text, begins, front, after, begins_word, in_word, is_identifier}
 use Rattle.irtext_base.specs.Answers.{Outcome, Read, Missing, prefixed, mapped}
 use Rattle.irtext_base.specs.Faults.{Unexpected, AnIdentifier}
-use Rattle.irtext_base.specs.Own.{can_follow, verdict}
+use Rattle.irtext_base.specs.Own.{can_follow}
 use Rattle.irtext_base.specs.Quoted.{quoted}
 use Rattle.irtext_base.specs.Reading.{the}
 use Rattle.irtext_base.specs.Stream.{first_of}
 use Rattle.irtext_base.proofs.Along.{front_after}
-use Rattle.irtext_base.proofs.Characters.{and_left, begins_in, front_all, after_all, identifier_begins, identifier_every}
+use Rattle.irtext_base.proofs.Characters.{and_left, front_all, after_all, identifier_begins, identifier_every}
 use Rattle.irtext_base.proofs.Scalars.{scalars_quoted}
 use Rattle.irtext_base.proofs.Sincere.{Of, of_either, of_followed, of_mapped, of_missing, of_read, sincere_of}
 use Rattle.irtext_tokens.specs.QuotedTexts.{quoted_at}

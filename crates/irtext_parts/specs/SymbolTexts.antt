@@ -4,7 +4,6 @@ use Rattle.irtext_base.specs.Text.{Text, begins, is_identifier}
 use Rattle.irtext_base.specs.Quoted.{quoted}
 use Rattle.irtext_base.specs.Reading.{the}
 use Rattle.irtext_tokens.specs.Infix.{Reader, either, ◌▷◌, ◌⇒◌}
-use Rattle.irtext_tokens.specs.QuotedTexts.{quoted_at}
 use Rattle.irtext_tokens.specs.Tokens.{word, identifier_at}
 use Rattle.irtext_syntax.specs.QuotedParts.{characters_at}
 use Rattle.irtext_syntax.specs.ScalarTexts.{ScalarText, scalar_text}

@@ -1,5 +1,5 @@
 -- The law of truth values.
-use Rattle.std.proofs.Common.{◌≡◌, ℕ, Bool, true, false, cond, Some, [], ◌∷◌, ◌++◌, refl, sym, ap, ap₂, arith, codes}
+use Rattle.std.proofs.Common.{◌≡◌, ℕ, Bool, true, false, cond, Some, ◌∷◌, ◌++◌, refl, ap, ap₂, arith, codes}
 use Rattle.std.proofs.lemmas.Bool.Decides.{nat_tests}
 use Rattle.std.specs.Bool.{beq}
 use Rattle.std.specs.Char.{is_whitespace}

@@ -1,5 +1,5 @@
 -- Truth values, as parts of a text.
-use Rattle.std.specs.Prelude.{Bool, true, false, cond, codes}
+use Rattle.std.specs.Prelude.{Bool, cond, codes}
 use Rattle.irtext_base.specs.Text.{Text}
 use Rattle.irtext_tokens.specs.Infix.{Reader, ◌⇒◌}
 use Rattle.irtext_tokens.specs.Integers.{bool_at}

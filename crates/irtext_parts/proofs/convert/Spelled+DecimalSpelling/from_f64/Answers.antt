@@ -1,5 +1,4 @@
-use Rattle.std.proofs.Common.{◌≡◌, ◌∙◌, true, sym, ap, subst}
-use Rattle.ryu.specs.Plain.{IsPlainNumber}
+use Rattle.std.proofs.Common.{◌≡◌, true, sym, subst}
 use Rattle.irtext_parts.specs.Spellings.{is_spelled}
 use Rattle.irtext_parts.specs.Literals.{decimal_rules}
 use Rattle.irtext_parts.proofs.Floats.{plain_is_spelled}
