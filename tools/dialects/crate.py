@@ -4,11 +4,13 @@ import subprocess
 import tempfile
 import textwrap
 
+from dialects.choices import Choice
 from dialects.definitions import Definitions
 from dialects.description import described
 from dialects.operations import Operations, code_span
 from dialects.parts import Wrong, shown
 from dialects.sources import Sources, fixed_source
+from dialects.values import Values, keys_of, keys_source, values_source
 from repository import text_of
 
 BELOW = "irtext_syntax irtext_tokens irtext_base irtext_stream irtext_context irtext_format_check"
@@ -16,48 +18,81 @@ BELOW = "irtext_syntax irtext_tokens irtext_base irtext_stream irtext_context ir
 
 def files_of(dialect):
     """Returns the files of the crate, by their paths in it."""
-    name, files = dialect.name, {}
-    kinds = [f"{it.noun}s" for it in dialect.families] + (["operations"] if dialect.operations else [])
-    listed = kinds[0] if len(kinds) == 1 else ", ".join(kinds[:-1]) + " and " + kinds[-1]
-    head = [f"//! The dialect `{name}`: its {listed}."]
-    if dialect.families:
-        meant = [("Number Ranged", "N is a number"), ("Flag", "`w?` the word `w` or nothing"), ("Characters", "S a string"), ("Name", "I an identifier"), ("Own", "T a type of the context")]
-        meant = [says for names, says in meant if any(it.has(name) for it in dialect.families for name in names.split())]
-        meant += ["P a part of the dialect's own"] if dialect.own else []
-        says = f"The texts of its {' and '.join(f'{it.noun}s' for it in dialect.families)}" + (f", where {', '.join(meant)}" if meant else "") + ":"
-        head += ["//!"] + [f"//! {it}" for it in textwrap.wrap(says, 136)] + ["//!"]
-        for family in dialect.families:
-            head += [f"//! - `{row.text}{' ' + shown(row.part) if row.part else ''}`" for row in family.rows]
-    if dialect.operations:
-        head += ["//!", f"//! `register_{name}` registers its operations, by these formats:", "//!"]
-        head += [f"//! - `{name}.{op.name}`: {code_span(op.format_text) or 'nothing'}{', isolated from above' if op.isolated else ''}" for op in dialect.operations]
-    modules = ["fixed"] if dialect.fixed or dialect.ranges else []
-    modules += [it.module for it in dialect.families] + (["operations"] if dialect.operations else []) + [it[0] for it in dialect.own.values()]
-    uses = [f"pub use {it.module}::{it.enum};" for it in dialect.families]
-    uses += [f"pub use operations::register_{name};"] if dialect.operations else []
-    uses += [f"pub use {file}::{part};" for part, (file, _, _, _) in dialect.own.items()]
-    head += ["#![tactic(auto)]", ""] + [f"pub mod {it};" for it in sorted(modules)] + [""] + sorted(uses)
-    files["src/lib.rt"] = "\n".join(head) + "\n"
-    specs = ["-- What callers rely on, in reading order"]
+    files, specs = {"src/lib.rt": ""}, ["-- What callers rely on, in reading order"]
+    files.update(files_of_choices(dialect))
     specs += [f"pub mod {it}" for own in dialect.own.values() for it in own[2:]]
     for family in dialect.families:
-        files[f"src/{family.module}.rt"] = Sources(family).written()
-        files[f"specs/{family.file}.antt"] = Definitions(family).texts()
-        files[f"specs/{family.laws}.antt"] = Definitions(family).law()
-        files.update(Definitions(family).printed())
+        files.update(files_of_family(family))
         specs += [f"pub mod {family.file}", f"pub mod {family.laws}"]
+        specs += [f"pub mod {Values(family).file}"] if Values(family).viewed else []
+    if any(it.held for it in dialect.families):
+        files["src/values.rt"] = values_source(dialect)
     if dialect.operations:
         operations = Operations(dialect)
         files["src/operations.rt"] = operations.source()
         files["specs/Operations.antt"] = operations.definitions()
         files.update(operations.proofs())
         specs += ["pub mod Operations"]
-    if "fixed" in modules:
+    if keys_of(dialect):
+        files["src/keys.rt"] = keys_source(dialect)
+    if dialect.fixed or dialect.ranges:
         files["src/fixed.rt"] = fixed_source(dialect)
     files["specs/Lib.antt"] = "\n".join(specs) + "\n"
-    proofs = ["-- What is needed besides the laws of texts"] + (["mod OperationFormats"] if dialect.operations else [])
-    files["proofs/Lib.antt"] = "\n".join(proofs if dialect.operations else [f"{proofs[0]}: nothing"]) + "\n"
+    proofs = "-- What is needed besides the laws of texts"
+    files["proofs/Lib.antt"] = f"{proofs}\nmod OperationFormats\n" if dialect.operations else f"{proofs}: nothing\n"
+    files["src/lib.rt"] = root_of(dialect, files)
     return files
+
+
+def files_of_choices(dialect):
+    """Returns the files of the choices, by their paths."""
+    files = {}
+    for name in dialect.choices:
+        choice = Choice(dialect, name)
+        files[f"src/{choice.file}.rt"] = choice.source()
+        files[f"specs/{choice.texts}.antt"] = choice.definitions()
+        files[f"specs/{choice.laws}.antt"] = choice.law()
+    return files
+
+
+def files_of_family(family):
+    """Returns the files of the types or of the attributes, by their paths."""
+    files = {
+        f"src/{family.module}.rt": Sources(family).written(),
+        f"specs/{family.file}.antt": Definitions(family).texts(),
+        f"specs/{family.laws}.antt": Definitions(family).law(),
+    }
+    if Values(family).viewed:
+        files[f"specs/{Values(family).file}.antt"] = Values(family).definitions()
+    return files | Definitions(family).printed()
+
+
+MEANT = {"Number Ranged": "N is a number", "Flag": "`w?` the word `w` or nothing", "Characters": "S a string", "Name": "I an identifier", "Own": "T a type of the context"}
+
+
+def root_of(dialect, files):
+    """Returns the root of the crate, with the modules that are among the files."""
+    name = dialect.name
+    kinds = [f"{it.noun}s" for it in dialect.families] + (["operations"] if dialect.operations else [])
+    says = kinds[0] if len(kinds) == 1 else ", ".join(kinds[:-1]) + " and " + kinds[-1]
+    head = [f"//! The dialect `{name}`: its {says}."]
+    if dialect.families:
+        meant = [it for parts, it in MEANT.items() if any(family.has(part) for family in dialect.families for part in parts.split())]
+        meant += ["P a part of the dialect's own"] if any(it not in dialect.choices for it in dialect.own) else []
+        says = f"The texts of its {' and '.join(f'{it.noun}s' for it in dialect.families)}" + (f", where {', '.join(meant)}" if meant else "") + ":"
+        head += ["//!"] + [f"//! {it}" for it in textwrap.wrap(says, 136)] + ["//!"]
+        for family in dialect.families:
+            head += [f"//! - `{row.text}{' ' + shown(row.part) if row.part else ''}`" for row in family.rows]
+    if any(it.held for it in dialect.families):
+        head += ["//!", "//! `values` has a constructor and a getter for each of these that has a part."]
+    if dialect.operations:
+        head += ["//!", f"//! `register_{name}` registers its operations, by these formats:", "//!"]
+        head += [f"//! - `{name}.{op.name}`: {code_span(op.format_text) or 'nothing'}{', isolated from above' if op.isolated else ''}" for op in dialect.operations]
+    modules = {os.path.basename(it)[: -len(".rt")] for it in files if it.startswith("src/")} - {"lib"} | {it[0] for it in dialect.own.values()}
+    uses = [f"pub use {it.module}::{it.enum};" for it in dialect.families]
+    uses += [f"pub use operations::register_{name};"] if dialect.operations else []
+    uses += [f"pub use {file}::{part};" for part, (file, _, _, _) in dialect.own.items()]
+    return "\n".join([*head, "#![tactic(auto)]", "", *(f"pub mod {it};" for it in sorted(modules)), "", *sorted(uses)]) + "\n"
 
 
 def laid_out(files):
@@ -88,6 +123,8 @@ def crate_line(dialect):
 def notes(dialect):
     """Yields what the dialect needs beside what is written."""
     for part, (at, _, _, _) in dialect.own.items():
+        if part in dialect.choices:
+            continue
         yield f"write the part {part} yourself: crates/{dialect.crate}/src/{at}.rt and its two files in specs/ (docs/DIALECTS.md)"
     for family in dialect.families:
         if len(family.rows) == 1 and family.held:

@@ -34,6 +34,30 @@ def one_of(rows, found):
     return text
 
 
+def type_modules(dialect):
+    """The modules of the types that parts have in definitions, with their names."""
+    declared, own = f"{SYNTAX}.declared", f"Rattle.{dialect.crate}.specs.declared"
+    return [
+        (f"{SYNTAX}.IntegerKinds", " ".join(NUMBERS)),
+        (f"{SYNTAX}.NameTexts", "WordText"),
+        (f"{SYNTAX}.ScalarTexts", "ScalarText"),
+        (f"{declared}.number.Number", "Number"),
+        (f"{declared}.own.Own", "Own"),
+        (f"{declared}.range.Ranged", "Ranged"),
+        *[(f"{declared}.ready.{it}", it) for it in [*BRACKETS, *FIXED]],
+        (f"{declared}.sequence.Then", "Then"),
+        (f"{declared}.sequence.Within", "Within"),
+        *[(f"{own}.{files[0]}.{files[1]}", files[1]) for files in dialect.own.values()],
+        *[(f"{own}.fixed.{it}", it) for it in dialect.ranges],
+    ]
+
+
+def range_imports(dialect, text):
+    """The imports of the ranges that occur in a text."""
+    base = f"Rattle.{dialect.crate}.specs.contracts.fixed"
+    return [f"use {base}.{it}Range.TheImpl as {snake(it)}" for it in dialect.ranges if f"{snake(it)}.ghosts" in text]
+
+
 class Definitions:
     """The files of a family in specs/."""
 
@@ -66,11 +90,6 @@ class Definitions:
             f"use {base}.{family.enum}.{{{family.enum}}}",
             f"use {base}.{family.enum}.TheVariants as {self.short}",
         ]
-
-    def ranges(self, text):
-        """The imports of the ranges that occur in a text."""
-        base = f"Rattle.{self.dialect.crate}.specs.contracts.fixed"
-        return [f"use {base}.{it}Range.TheImpl as {snake(it)}" for it in self.dialect.ranges if f"{snake(it)}.ghosts" in text]
 
     def words(self):
         family, n = self.family, self.name
@@ -140,22 +159,12 @@ class Definitions:
             ("Rattle.irtext_base.specs.Faults", "AType AnAttribute"),
             ("Rattle.irtext_tokens.specs.Infix", "Reader nothing ◌▷◌ ◌⇒◌"),
             ("Rattle.irtext_tokens.specs.Tokens", "space_at"),
-            (f"{SYNTAX}.IntegerKinds", " ".join(NUMBERS)),
-            (f"{SYNTAX}.NameTexts", "WordText"),
-            (f"{SYNTAX}.ScalarTexts", "ScalarText"),
             (f"{SYNTAX}.Shapes", "Shape angle round square curly colon comma arrow spaced_arrow number quoted name keyword flag ranged own then_of within list_of maybe"),
             (f"{SYNTAX}.Tables", "table_at"),
-            (f"{SYNTAX}.declared.number.Number", "Number"),
-            (f"{SYNTAX}.declared.own.Own", "Own"),
-            (f"{SYNTAX}.declared.range.Ranged", "Ranged"),
-            *[(f"{SYNTAX}.declared.ready.{it}", it) for it in [*BRACKETS, *FIXED]],
-            (f"{SYNTAX}.declared.sequence.Then", "Then"),
-            (f"{SYNTAX}.declared.sequence.Within", "Within"),
             *[(f"Rattle.{self.dialect.crate}.specs.{files[2]}", files[0]) for files in self.dialect.own.values()],
-            *[(f"Rattle.{self.dialect.crate}.specs.declared.{files[0]}.{files[1]}", files[1]) for files in self.dialect.own.values()],
-            *[(f"Rattle.{self.dialect.crate}.specs.declared.fixed.{it}", it) for it in self.dialect.ranges],
+            *type_modules(self.dialect),
         ], text)
-        lines += self.ranges(text) + self.declared()
+        lines += range_imports(self.dialect, text) + self.declared()
         return "\n".join(lines) + "\n\n" + text
 
     def rows(self):
@@ -246,7 +255,7 @@ class Definitions:
         ], text)
         if not family.generic:
             head += [f"use Rattle.{self.dialect.crate}.specs.contracts.{family.module}.{family.enum}PartialEq.TheImpl as test"]
-        return "\n".join(head + self.ranges(text) + self.declared()) + "\n\n" + text
+        return "\n".join(head + range_imports(self.dialect, text) + self.declared()) + "\n\n" + text
 
     def printed(self):
         """The proofs that the printer prints the text of each part, which is not always seen without unfolding it."""

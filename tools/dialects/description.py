@@ -2,13 +2,13 @@
 import re
 
 from dialects.formats import FormatFault, check_format, directives_of
-from dialects.parts import BRACKETS, FIXED, NUMBERS, PARTS, Wrong, check_part, part_of, snake
+from dialects.parts import BRACKETS, FIXED, NUMBERS, PARTS, Wrong, check_part, identifier, part_of, snake
 
 # names that the sources import, so that nothing of the dialect's own can have them
 IMPORTED = {*PARTS, *BRACKETS, *FIXED, *(it.capitalize() for it in NUMBERS), "AllocError", "AttrText", "AttrWord", "Choice", "Err", "Expected"}
 IMPORTED |= {"Family", "Global", "Hash", "IrText", "None", "Ok", "ParseResult", "Part", "Range", "Result", "Self", "Some", "String", "Table"}
 IMPORTED |= {"TextStream", "TryClone", "TypeWord", "Vec", "Word", "Worded", "Attr", "Op", "Test", "Type", "Keyword", "A", "B", "T"}
-MODULES = ("attributes", "fixed", "keys", "lib", "operations", "types")
+MODULES = ("attributes", "fixed", "keys", "lib", "operations", "types", "values")
 WORDS_OF_THE_FORMAT = ("builtin.given_names", "builtin.identifier")
 
 
@@ -75,13 +75,19 @@ class Dialect:
         self.camel = "".join(it.capitalize() for it in name.split("_"))
         self.crate = f"irtext_{name}"
         self.types, self.attributes = Family(self, "type"), Family(self, "attr")
-        self.operations, self.own = [], {}
+        self.operations = []
         self.fixed, self.ranges = {}, {}
+        self.choices = {}  # the words of each choice, with their variants
+        self.own = {}  # of each choice and each part written by hand its file in src/, its name, and its two files in specs/
         self.taken = {}  # the names that are given, by what they are names of, and the lines
 
     @property
     def families(self):
         return [it for it in (self.types, self.attributes) if it.rows]
+
+    def own_modules(self):
+        """The choices and the parts written by hand, with their modules."""
+        return [(f"crate::{file}", name) for name, (file, _, _, _) in self.own.items()]
 
     def take(self, line, kind, name, says):
         """Takes a name for a line; fails if another line has it, also if the two differ in case and in `_` alone."""
@@ -89,12 +95,6 @@ class Dialect:
         if same in self.taken:
             raise Wrong(f"{says} is in line {self.taken[same]} already")
         self.taken[same] = line
-
-
-def identifier(word, what):
-    if not re.fullmatch(r"[a-z_][a-z0-9_]*", word):
-        raise Wrong(f"`{word}` is no {what}: a lower-case letter or `_`, and then these and digits")
-    return word
 
 
 def own_name(name):
@@ -152,9 +152,36 @@ def part_line(dialect, _, rest, line):
         raise Wrong("`part FILE::NAME DEFINITIONS LAWS` is expected")
     file, name = match[1], match[2]
     dialect.take(line, "part", own_name(name), f"the name {name}, or one that is spelled alike,")
-    if file in MODULES:
-        raise Wrong(f"src/{file}.rt is a file that this tool writes: take another one")
+    take_file(dialect, file, line)
     dialect.own[name] = match.groups()
+
+
+def take_file(dialect, file, line):
+    """Takes the name of a file in src/ for a line."""
+    if file in MODULES:
+        raise Wrong(f"src/{file}.rt is a file that this tool writes: take another name")
+    dialect.take(line, "file", file, f"the file src/{file}.rt, or one that is spelled alike,")
+
+
+def choice_line(dialect, _, rest, line):
+    """Parses `choice NAME: WORD WORD ..`, each with `=VARIANT` after it or without."""
+    head, colon, body = rest.partition(":")
+    name, words = head.strip(), body.split()
+    if not colon or not re.fullmatch(r"[A-Z][A-Za-z0-9]*", name) or not words:
+        raise Wrong("`choice NAME: WORD WORD ..` is expected")
+    dialect.take(line, "part", own_name(name), f"the name {name}, or one that is spelled alike,")
+    take_file(dialect, snake(name), line)
+    found = []
+    for it in words:
+        word, is_given, variant = it.partition("=")
+        variant = variant if is_given else "".join(part.capitalize() for part in identifier(word, "word").split("_"))
+        if not re.fullmatch(r"[A-Z][A-Za-z0-9]*", variant) or variant == "Self":
+            raise Wrong(f"`{it}`: {variant or 'nothing'} is no name of a variant; `{word}=NAME` gives one")
+        if any(word == other or variant.lower() == named.lower() for other, named in found):
+            raise Wrong(f"`{it}`: the word or the variant {variant} is there already")
+        found.append((identifier(word, "word"), variant))
+    dialect.choices[name] = found
+    dialect.own[name] = snake(name), name, f"{name}s", f"{name}Laws"
 
 
 def op_line(dialect, _, rest, line):
@@ -174,7 +201,7 @@ def op_line(dialect, _, rest, line):
     dialect.operations.append(op)
 
 
-LINES = {"type": row_line, "attr": row_line, "word": named_line, "range": named_line, "part": part_line, "op": op_line}
+LINES = {"type": row_line, "attr": row_line, "word": named_line, "range": named_line, "choice": choice_line, "part": part_line, "op": op_line}
 
 
 def without_comment(line):

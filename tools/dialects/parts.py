@@ -14,8 +14,10 @@ class Wrong(Exception):
 class Part:
     """A part as it is written in Rust, `Then<Number<i64>, Colon, Own<T>>`: a name and its arguments."""
 
-    file = ""  # of a part of the dialect's own, its file
+    file = ""  # of a choice and of a part written by hand, its file
     text = ""  # of a keyword or a flag, its word
+    field = ""  # the name of its value, if it is given one
+    is_choice, words = False, ()  # whether it is a choice, and its words
 
     def __init__(self, name, arguments):
         self.name, self.arguments = name, arguments
@@ -122,6 +124,12 @@ class Part:
         return {"Characters": "quoted_missing", "Name": "name_missing"}.get(name, f"{self.file}_missing")
 
 
+def identifier(word, what):
+    if not re.fullmatch(r"[a-z_][a-z0-9_]*", word):
+        raise Wrong(f"`{word}` is no {what}: a lower-case letter or `_`, and then these and digits")
+    return word
+
+
 def grouped(text):
     return f"({text})" if " " in text else text
 
@@ -131,19 +139,27 @@ def snake(name):
 
 
 def part_of(text):
-    """Parses a part."""
+    """Parses a part, with a name of its value and a colon before it or without these."""
     tokens = re.findall(r"\w+|\S", text)
 
     def one():
         if not tokens or not tokens[0].isidentifier():
             raise Wrong(f"a part is expected at `{''.join(tokens) or 'the end'}`")
-        name, arguments = tokens.pop(0), []
+        name, arguments, field = tokens.pop(0), [], ""
+        if tokens and tokens[0] == ":":
+            field = identifier(name, "name of a value")
+            tokens.pop(0)
+            if not tokens or not tokens[0].isidentifier():
+                raise Wrong(f"a part is expected after `{field}:`")
+            name = tokens.pop(0)
         if tokens and tokens[0] == "<":
             while tokens.pop(0) != ">":
                 arguments.append(one())
                 if not tokens or tokens[0] not in ",>":
                     raise Wrong(f"`,` or `>` is expected in the part {text}")
-        return Part(name, arguments)
+        part = Part(name, arguments)
+        part.field = field
+        return part
 
     found = one()
     if tokens:
@@ -153,14 +169,17 @@ def part_of(text):
 
 def check_part(dialect, family, part):
     """Fails if the tool does not know the part, or if the part has other arguments."""
-    wanted = PARTS
+    wanted = PARTS | {it: 0 for it in dialect.own}
     if part.name in dialect.own:
-        wanted, part.file = {part.name: 0}, dialect.own[part.name][0]
+        part.file, part.is_choice = dialect.own[part.name][0], part.name in dialect.choices
+        part.words = [word for word, _ in dialect.choices.get(part.name, [])]
     if part.name not in wanted:
-        known = ", ".join([*wanted, *dialect.own])
-        raise Wrong(f"no part {part.name} is known: there are {known}; `part FILE::{part.name} DEFINITIONS LAWS` names one of your own")
+        known = f"there are {', '.join(wanted)}"
+        raise Wrong(f"no part {part.name} is known: {known}; `choice {part.name}: WORD ..` makes one, and `part FILE::{part.name} DEFINITIONS LAWS` names one written by hand")
     if len(part.arguments) != wanted[part.name]:
-        raise Wrong(f"{part.name} has {wanted[part.name]} arguments")
+        raise Wrong(f"{part.name} has {['no argument', 'one argument', 'two arguments', 'three arguments'][wanted[part.name]]}")
+    if part.field and part.name in ("Keyword", "Then", "Within"):
+        raise Wrong(f"{part} is not one value, so it has no name: name its parts in place of `{part.field}`")
     inner = list(part.arguments)
     if part.name == "Number":
         if str(inner.pop()) not in NUMBERS:
@@ -209,4 +228,4 @@ def shown(part):
     if name == "ListOf":
         opening, closing = BRACKETS[inner[0].name]
         return f"{opening}{shown(inner[1])}, ..{closing}"
-    return "P"
+    return "|".join(part.words) if part.is_choice else "P"

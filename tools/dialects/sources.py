@@ -5,6 +5,16 @@ import textwrap
 from dialects.definitions import SYNTAX, using
 from dialects.parts import BRACKETS, FIXED, shown
 
+def rust_uses(modules, body):
+    """Returns the imports of those of these names that occur in a source."""
+    lines = []
+    for line in using(modules, body):
+        module, names = re.fullmatch(r"use (\S+)\.\{(.*)\}", line).groups()
+        names = sorted(names.split(", "), key=lambda it: (it[0].islower(), it))
+        lines += [f"use {module}::{names[0]};" if len(names) == 1 else f"use {module}::{{{', '.join(names)}}};"]
+    return lines
+
+
 class Sources:
     """The file of a family in src/."""
 
@@ -177,8 +187,7 @@ class Sources:
         text = "\n".join(body + self.family_of()) + "\n"
         of = ", over the types of a context" if family.generic else ""
         head = [f"//! The {family.noun}s of the dialect `{self.dialect.name}`{of}."]
-        own = [(f"crate::{file}", name) for name, (file, _, _, _) in self.dialect.own.items()]
-        own += [("crate::fixed", " ".join([*self.dialect.fixed, *self.dialect.ranges]))]
+        own = [*self.dialect.own_modules(), ("crate::fixed", " ".join([*self.dialect.fixed, *self.dialect.ranges]))]
         clones = "try_clone()" in text
         syntax = [
             ("part", "TryClone"),
@@ -194,11 +203,7 @@ class Sources:
         modules += [(f"irtext_syntax::{module}", names) for module, names in syntax]
         modules += [("std::alloc", "AllocError")]
         shown_names = text + ("TryClone" if clones else "")
-        for line in using(modules, shown_names):
-            module, names = re.fullmatch(r"use (\S+)\.\{(.*)\}", line).groups()
-            names = sorted(names.split(", "), key=lambda it: (it[0].islower(), it))
-            head += [f"use {module}::{names[0]};" if len(names) == 1 else f"use {module}::{{{', '.join(names)}}};"]
-        head += ["use std::fmt;"]
+        head += rust_uses(modules, shown_names) + ["use std::fmt;"]
         if " Hash + " in text:
             head += ["use std::hash::Hash;"]
         return "\n".join(head) + "\n\n" + text
