@@ -8,8 +8,9 @@ from dialects.choices import Choice
 from dialects.definitions import Definitions
 from dialects.description import described
 from dialects.operations import Operations, code_span
-from dialects.parts import Wrong, shown
+from dialects.parts import MORE, SPACED, Wrong, shown
 from dialects.sources import Sources, fixed_source
+from dialects.trees import TreeDefinitions, TreeSources, brackets_law, brackets_of, brackets_source
 from dialects.values import Values, keys_of, keys_source, values_source
 from repository import text_of
 
@@ -21,11 +22,16 @@ def files_of(dialect):
     files, specs = {"src/lib.rt": ""}, ["-- What callers rely on, in reading order"]
     files.update(files_of_choices(dialect))
     specs += [f"pub mod {it}" for own in dialect.own.values() for it in own[2:]]
+    brackets = brackets_of(TreeSources(it).grammar for it in dialect.families if it.is_tree)
+    if brackets:
+        files["src/brackets.rt"] = brackets_source(dialect, brackets)
+        files["specs/Brackets.antt"] = brackets_law(dialect, brackets)
+        specs += ["pub mod Brackets"]
     for family in dialect.families:
         files.update(files_of_family(family))
         specs += [f"pub mod {family.file}", f"pub mod {family.laws}"]
-        specs += [f"pub mod {Values(family).file}"] if Values(family).viewed else []
-    if any(it.held for it in dialect.families):
+        specs += [f"pub mod {Values(family).file}"] if f"specs/{Values(family).file}.antt" in files else []
+    if any(it.held and not it.is_tree for it in dialect.families):
         files["src/values.rt"] = values_source(dialect)
     if dialect.operations:
         operations = Operations(dialect)
@@ -57,6 +63,12 @@ def files_of_choices(dialect):
 
 def files_of_family(family):
     """Returns the files of the types or of the attributes, by their paths."""
+    if family.is_tree:
+        return {
+            f"src/{family.module}.rt": TreeSources(family).written(),
+            f"specs/{family.file}.antt": TreeDefinitions(family).texts(),
+            f"specs/{family.laws}.antt": TreeDefinitions(family).law(),
+        }
     files = {
         f"src/{family.module}.rt": Sources(family).written(),
         f"specs/{family.file}.antt": Definitions(family).texts(),
@@ -67,7 +79,7 @@ def files_of_family(family):
     return files | Definitions(family).printed()
 
 
-MEANT = {"Number Ranged": "N is a number", "Flag": "`w?` the word `w` or nothing", "Characters": "S a string", "Name": "I an identifier", "Own": "T a type of the context"}
+MEANT = {"Number Ranged": "N is a number", "Flag": "`w?` the word `w` or nothing", "Characters": "S a string", "Name": "I an identifier", "Own whole": "T a type of the context", "attribute": "A an attribute of the context"}
 
 
 def root_of(dialect, files):
@@ -83,13 +95,14 @@ def root_of(dialect, files):
         head += ["//!"] + [f"//! {it}" for it in textwrap.wrap(says, 136)] + ["//!"]
         for family in dialect.families:
             head += [f"//! - `{row.text}{' ' + shown(row.part) if row.part else ''}`" for row in family.rows]
-    if any(it.held for it in dialect.families):
+    if "src/values.rt" in files:
         head += ["//!", "//! `values` has a constructor and a getter for each of these that has a part."]
     if dialect.operations:
         head += ["//!", f"//! `register_{name}` registers its operations, by these formats:", "//!"]
         head += [f"//! - `{name}.{op.name}`: {code_span(op.format_text) or 'nothing'}{', isolated from above' if op.isolated else ''}" for op in dialect.operations]
     modules = {os.path.basename(it)[: -len(".rt")] for it in files if it.startswith("src/")} - {"lib"} | {it[0] for it in dialect.own.values()}
-    uses = [f"pub use {it.module}::{it.enum};" for it in dialect.families]
+    uses = [f"pub use {it.module}::{it.enum};" for it in dialect.families if not it.is_tree]
+    uses += [f"pub use {it.module}::{{{it.enum}, {it.enum}Head, {it.enum}Place}};" for it in dialect.families if it.is_tree]
     uses += [f"pub use operations::register_{name};"] if dialect.operations else []
     uses += [f"pub use {file}::{part};" for part, (file, _, _, _) in dialect.own.items()]
     return "\n".join([*head, "#![tactic(auto)]", "", *(f"pub mod {it};" for it in sorted(modules)), "", *sorted(uses)]) + "\n"
@@ -117,7 +130,9 @@ def write(folder, files):
 
 
 def crate_line(dialect):
-    return f"{dialect.crate}: {BELOW}"
+    tree = "irtext_tree " if any(it.is_tree for it in dialect.families) else ""
+    more = "irtext_parts " if any(it.name in (*MORE, "Hex", *SPACED) for family in dialect.families for it in family.parts()) else ""
+    return f"{dialect.crate}: {tree}{more}{BELOW}"
 
 
 def notes(dialect):

@@ -1,9 +1,12 @@
 """What is written into specs/ for the types and the attributes."""
 import re
 
-from dialects.parts import BRACKETS, FIXED, NUMBERS, grouped, shown, snake
+from dialects.parts import BRACKETS, FIXED, MORE, NUMBERS, SPACED, grouped, shown, snake
 
 SYNTAX = "Rattle.irtext_syntax.specs"
+MORE_PARTS = "Rattle.irtext_parts.specs"
+MORE_SHAPES = "DecimalText DigitsText HexadecimalText equals times blank hex " + " ".join(it[1] for it in MORE.values())
+MORE_LAWS = "equals_joins times_joins blank_joins hex_proved hex_missing " + " ".join(it for laws in MORE.values() for it in laws[2:] if it != "anything_ends")
 SHAPE_LAWS = (
     "Proved angle_encloses round_encloses square_encloses curly_encloses colon_joins comma_joins arrow_joins spaced_arrow_joins number_proved quoted_proved "
     "name_proved keyword_proved flag_proved ranged_proved own_proved then_proved within_proved list_proved maybe_proved number_missing quoted_missing "
@@ -44,7 +47,11 @@ def type_modules(dialect):
         (f"{declared}.number.Number", "Number"),
         (f"{declared}.own.Own", "Own"),
         (f"{declared}.range.Ranged", "Ranged"),
-        *[(f"{declared}.ready.{it}", it) for it in [*BRACKETS, *FIXED]],
+        *[(f"{declared}.ready.{it}", it) for it in [*BRACKETS, *FIXED] if it not in SPACED],
+        (f"{MORE_PARTS}.Shapes", MORE_SHAPES),
+        (f"{MORE_PARTS}.declared.hex.Hex", "Hex"),
+        *[(f"{MORE_PARTS}.declared.{it.lower()}.{it}", it) for it in ("Symbol", "Truth")],
+        *[(f"{MORE_PARTS}.declared.spaced.{it}", it) for it in SPACED],
         (f"{declared}.sequence.Then", "Then"),
         (f"{declared}.sequence.Within", "Within"),
         *[(f"{own}.{files[0]}.{files[1]}", files[1]) for files in dialect.own.values()],
@@ -248,6 +255,8 @@ class Definitions:
             (f"{SYNTAX}.OwnLaws", "own_last"),
             (f"{SYNTAX}.Sequences", "anything_ends"),
             (f"{SYNTAX}.ShapeLaws", SHAPE_LAWS),
+            (f"{MORE_PARTS}.HexLaws", "hex_last"),
+            (f"{MORE_PARTS}.ShapeLaws", MORE_LAWS),
             (f"{SYNTAX}.TableLaws", "part_row word_row part_sincere word_sincere table_lawful table_led table_sincere table_unreserved"),
             (f"{SYNTAX}.Tables", "Row"),
             (f"Rattle.{self.dialect.crate}.specs.{family.file}", " ".join(named)),

@@ -2,7 +2,8 @@
 import re
 
 from dialects.formats import FormatFault, check_format, directives_of
-from dialects.parts import BRACKETS, FIXED, NUMBERS, PARTS, Wrong, check_part, identifier, part_of, snake
+from dialects.parts import BRACKETS, FIXED, HOLES, NUMBERS, PARTS, Wrong, check_part, identifier, part_of, snake
+from dialects.trees import check_tree
 
 # names that the sources import, so that nothing of the dialect's own can have them
 IMPORTED = {*PARTS, *BRACKETS, *FIXED, *(it.capitalize() for it in NUMBERS), "AllocError", "AttrText", "AttrWord", "Choice", "Err", "Expected"}
@@ -20,6 +21,11 @@ class Row:
         self.text = f"{dialect.name}.{word}"
         self.name = snake(variant)
         self.is_named = part is not None and part.name in ("Within", "Then", "ListOf")
+
+    @property
+    def has_hole(self):
+        """Whether it holds types or attributes of the context."""
+        return any(it.name in HOLES for it in self.part.all()) if self.part else False
 
     @property
     def rust(self):
@@ -54,6 +60,11 @@ class Family:
     @property
     def generic(self):
         return self.has("Own")
+
+    @property
+    def is_tree(self):
+        """Whether one of its types holds types, or one of its attributes attributes."""
+        return self.has("whole") or self.has("attribute")
 
 
 class Operation:
@@ -125,8 +136,11 @@ def row_line(dialect, kind, rest, line):
         raise Wrong(f"`{row.text}` is a word of the format")
     if row.part:
         check_part(dialect, family, row.part)
-        row.part.last(), row.part.proved()
+        if not row.has_hole:
+            row.part.last(), row.part.proved()
     family.rows.append(row)
+    if family.is_tree:
+        check_tree(family)
 
 
 def named_line(dialect, kind, rest, line):

@@ -3,8 +3,21 @@ import re
 
 NUMBERS = "u8 u16 u32 u64 usize i8 i16 i32 i64 isize".split()
 BRACKETS = {"Angle": "<>", "Round": "()", "Square": "[]", "Curly": ("{ ", " }")}
-PARTS = {"Number": 1, "Ranged": 1, "Characters": 0, "Name": 0, "Keyword": 1, "Flag": 1, "Own": 1, "Within": 2, "Then": 3, "ListOf": 2, "Option": 1}
-FIXED = {"Colon": ": ", "Comma": ", ", "Arrow": "->", "SpacedArrow": " -> "}
+# the parts of irtext_parts, with their types in definitions, their shapes and their laws, and that they can be the end of a text
+MORE = {
+    "Decimal": ("DecimalText", "decimal", "decimal_proved", "decimal_last", "decimal_missing"),
+    "Digits": ("DigitsText", "digits", "digits_proved", "digits_text_last", "digits_missing"),
+    "Hexadecimal": ("HexadecimalText", "hexadecimal", "hexadecimal_proved", "hexadecimal_last", "hexadecimal_missing"),
+    "Symbol": ("Symbol", "symbol", "symbol_proved", "symbol_last", "symbol_missing"),
+    "Truth": ("Truth", "truth", "truth_proved", "anything_ends", "truth_missing"),
+}
+SPACED = {"Equals": " = ", "Times": " x ", "Blank": " "}  # its fixed texts, which come after a part that can be the end of a text
+PARTS = {"Number": 1, "Ranged": 1, "Characters": 0, "Name": 0, "Keyword": 1, "Flag": 1, "Own": 1, "Within": 2, "Then": 3, "ListOf": 2, "Option": 1, "Hex": 1}
+PARTS |= {it: 0 for it in MORE}
+FIXED = {"Colon": ": ", "Comma": ", ", "Arrow": "->", "SpacedArrow": " -> "} | SPACED
+
+
+HOLES = {"whole": 0, "attribute": 0}  # a type or an attribute of the context, in one that holds it
 
 
 class Wrong(Exception):
@@ -33,6 +46,10 @@ class Part:
         name, inner = self.name, self.arguments
         if name == "Number":
             return f"Number {'ℕ' if inner[0].name.startswith('u') else 'ℤ'} {inner[0]}.radix"
+        if name == "Hex":
+            return f"Hex ℕ {inner[0]}.radix"
+        if name in MORE:
+            return MORE[name][0]
         if name == "Ranged":
             return f"Ranged {inner[0]} {snake(inner[0].name)}.ghosts"
         if name in ("Option", "ListOf"):
@@ -46,6 +63,10 @@ class Part:
         name, inner = self.name, self.arguments
         if name == "Number":
             return f"number {inner[0]}"
+        if name == "Hex":
+            return f"hex {inner[0]}"
+        if name in MORE:
+            return MORE[name][1]
         if name == "Ranged":
             return f"ranged {snake(inner[0].name)}.ghosts"
         if name in ("Keyword", "Flag"):
@@ -65,6 +86,10 @@ class Part:
         name, inner = self.name, self.arguments
         if name == "Number":
             return f"number_proved {inner[0]}"
+        if name == "Hex":
+            return f"hex_proved {inner[0]} refl"
+        if name in MORE:
+            return MORE[name][2]
         if name == "Ranged":
             return f"ranged_proved {snake(inner[0].name)}.ghosts"
         if name in ("Keyword", "Flag"):
@@ -87,11 +112,12 @@ class Part:
             if not self.is_closed():
                 raise Wrong(f"Arrow comes after a part in brackets or a quoted text, and not after {self}: take SpacedArrow")
             return "arrow_joins (λ rest. refl)"
-        return f"spaced_arrow_joins {grouped(self.last())}" if between == "SpacedArrow" else f"{snake(between)}_joins"
+        spaced = between == "SpacedArrow" or between in SPACED
+        return f"{snake(between)}_joins {grouped(self.last())}" if spaced else f"{snake(between)}_joins"
 
     def is_closed(self):
         """Whether any text can come after it."""
-        return self.arguments[2].is_closed() if self.name == "Then" else self.name in ("Within", "ListOf", "Characters")
+        return self.arguments[2].is_closed() if self.name == "Then" else self.name in ("Within", "ListOf", "Characters", "Truth")
 
     def last(self):
         """That it can be the end of a text."""
@@ -101,7 +127,9 @@ class Part:
             raise Wrong(f"{self} cannot be the end of a text: put it into brackets, so that a closing character comes after it")
         if self.is_closed():
             return "anything_ends"
-        ready = {"Number": "digits_last", "Ranged": "digits_last", "Name": "word_last", "Keyword": "word_last", "Own": "own_last"}
+        if self.name in MORE:
+            return MORE[self.name][3]
+        ready = {"Hex": "hex_last", "Number": "digits_last", "Ranged": "digits_last", "Name": "word_last", "Keyword": "word_last", "Own": "own_last"}
         return ready.get(self.name, f"{self.file}_last")
 
     def missing(self):
@@ -111,6 +139,10 @@ class Part:
             raise Wrong(f"{self} cannot be an item of a list, or be left out: it is never missing")
         if name == "Number":
             return f"number_missing {inner[0]}"
+        if name == "Hex":
+            return f"hex_missing {inner[0]} refl"
+        if name in MORE:
+            return MORE[name][4]
         if name == "Ranged":
             return f"ranged_missing {snake(inner[0].name)}.ghosts"
         if name == "Keyword":
@@ -169,7 +201,7 @@ def part_of(text):
 
 def check_part(dialect, family, part):
     """Fails if the tool does not know the part, or if the part has other arguments."""
-    wanted = PARTS | {it: 0 for it in dialect.own}
+    wanted = PARTS | HOLES | {it: 0 for it in dialect.own}
     if part.name in dialect.own:
         part.file, part.is_choice = dialect.own[part.name][0], part.name in dialect.choices
         part.words = [word for word, _ in dialect.choices.get(part.name, [])]
@@ -184,6 +216,9 @@ def check_part(dialect, family, part):
     if part.name == "Number":
         if str(inner.pop()) not in NUMBERS:
             raise Wrong(f"Number<N> is of one of the types {', '.join(NUMBERS)}")
+    elif part.name == "Hex":
+        if str(inner.pop()) not in NUMBERS[:5]:
+            raise Wrong(f"Hex<N> is of one of the types {', '.join(NUMBERS[:5])}")
     elif part.name == "Ranged":
         name = str(inner.pop())
         if name not in dialect.ranges:
@@ -195,7 +230,10 @@ def check_part(dialect, family, part):
         part.text = dialect.fixed[name]
     elif part.name == "Own":
         if family.is_type or str(inner.pop()) != "T":
-            raise Wrong("Own<T>, a type of the whole, is a part of attributes alone")
+            raise Wrong("Own<T>, a type of the context, is a part of attributes alone; a type holds types by `whole`")
+    elif part.name in HOLES:
+        if family.is_type != (part.name == "whole"):
+            raise Wrong("`whole` is a type in a type, and `attribute` an attribute in an attribute; an attribute holds types by Own<T>")
     elif part.name in ("Within", "ListOf"):
         if str(inner.pop(0)) not in BRACKETS:
             raise Wrong(f"{part.name} has one of the brackets {', '.join(BRACKETS)}")
@@ -205,11 +243,14 @@ def check_part(dialect, family, part):
         check_part(dialect, family, it)
 
 
+SHOWN = {"Number": "N", "Ranged": "N", "Digits": "N", "Decimal": "N.N", "Hex": "0xN", "Hexadecimal": "0xB", "Symbol": "@S", "Truth": "true|false"}
+
+
 def shown(part):
     """How the text of a part looks, in a comment."""
     name, inner = part.name, part.arguments
-    if name in ("Number", "Ranged"):
-        return "N"
+    if name in SHOWN:
+        return SHOWN[name]
     if name == "Keyword":
         return part.text
     if name == "Flag":
@@ -218,8 +259,8 @@ def shown(part):
         return '"S"'
     if name == "Name":
         return "I"
-    if name == "Own":
-        return "T"
+    if name in ("Own", *HOLES):
+        return "T" if name != "attribute" else "A"
     if name == "Within":
         opening, closing = BRACKETS[inner[0].name]
         return opening + shown(inner[1]) + closing

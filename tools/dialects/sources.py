@@ -3,7 +3,7 @@ import re
 import textwrap
 
 from dialects.definitions import SYNTAX, using
-from dialects.parts import BRACKETS, FIXED, shown
+from dialects.parts import BRACKETS, FIXED, MORE, SPACED, shown
 
 def rust_uses(modules, body):
     """Returns the imports of those of these names that occur in a source."""
@@ -13,6 +13,11 @@ def rust_uses(modules, body):
         names = sorted(names.split(", "), key=lambda it: (it[0].islower(), it))
         lines += [f"use {module}::{names[0]};" if len(names) == 1 else f"use {module}::{{{', '.join(names)}}};"]
     return lines
+
+
+def more_uses():
+    """The modules of irtext_parts."""
+    return [("irtext_parts", " ".join(["Hex", *MORE])), ("irtext_parts::spaced", " ".join(SPACED))]
 
 
 class Sources:
@@ -194,14 +199,14 @@ class Sources:
             ("keyword", "Flag Keyword"),
             ("own", "Own"),
             ("range", "Ranged"),
-            ("ready", " ".join([*BRACKETS, *FIXED])),
+            ("ready", " ".join([*BRACKETS, *(it for it in FIXED if it not in SPACED)])),
             ("sequence", "Then Within"),
         ]
         syntax += [("table", "Table after_word table_parse word_alone write_row write_word")]
         modules = own + [("irtext_base::parsable", "ParseResult TextStream"), ("irtext_base::result", "Expected")]
         modules += [("irtext_base::text", "AttrText Family IrText Worded"), ("irtext_syntax", "Characters ListOf Name Number match_text matches_text")]
         modules += [(f"irtext_syntax::{module}", names) for module, names in syntax]
-        modules += [("std::alloc", "AllocError")]
+        modules += [*more_uses(), ("std::alloc", "AllocError")]
         shown_names = text + ("TryClone" if clones else "")
         head += rust_uses(modules, shown_names) + ["use std::fmt;"]
         if " Hash + " in text:

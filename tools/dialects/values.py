@@ -4,7 +4,7 @@ import re
 from dialects.definitions import range_imports, type_modules, using
 from dialects.operations import listed
 from dialects.parts import snake
-from dialects.sources import rust_uses
+from dialects.sources import more_uses, rust_uses
 
 RUST = "as async await box break const continue crate dyn else enum extern false fn for gen if impl in let loop match mod move mut pub ref return self static "
 RUST += "struct super trait true try type union unsafe use where while yield abstract become do final macro override priv typeof unsized virtual"
@@ -25,7 +25,7 @@ class Leaf:
     def given(self):
         """The type of the argument of a constructor."""
         part = self.part
-        inner = {"Number": lambda: part.arguments[0], "Characters": lambda: "String", "Name": lambda: "Identifier", "Flag": lambda: "bool"}
+        inner = {"Number": lambda: part.arguments[0], "Hex": lambda: part.arguments[0], "Truth": lambda: "bool", "Characters": lambda: "String", "Name": lambda: "Identifier", "Flag": lambda: "bool"}
         inner |= {"Own": lambda: "T", "ListOf": lambda: f"Vec<{part.arguments[1]}>"}
         return str(inner.get(part.name, lambda: part)())
 
@@ -33,7 +33,9 @@ class Leaf:
     def made(self):
         """The part that is made of the argument."""
         by_new = f"{self.part.name}::new({self.name})"
-        return {name: by_new for name in ("Number", "Characters", "Name", "Flag", "ListOf")}.get(self.part.name, f"Own {{ value: {self.name} }}" if self.part.name == "Own" else self.name)
+        made = {name: by_new for name in ("Number", "Hex", "Characters", "Name", "Flag", "ListOf")}
+        made |= {name: f"{name} {{ value: {self.name} }}" for name in ("Own", "Truth")}
+        return made.get(self.part.name, self.name)
 
     @property
     def returned(self):
@@ -41,13 +43,16 @@ class Leaf:
         part = self.part
         if part.name == "ListOf":
             return f"&[{part.arguments[1]}]"
-        plain = {"Number": str(part.arguments[0]) if part.arguments else "", "Ranged": "u64", "Flag": "bool", "Characters": "&str", "Name": "&Identifier", "Own": "&T"}
+        plain = {name: str(part.arguments[0]) if part.arguments else "" for name in ("Number", "Hex")}
+        plain |= {"Ranged": "u64", "Truth": "bool", "Flag": "bool", "Characters": "&str", "Name": "&Identifier", "Own": "&T"}
         return plain.get(part.name, str(part) if part.is_choice else f"&{part}")
 
     @property
     def got(self):
         """What a getter returns."""
-        calls = {"Number": "get", "Ranged": "get", "Flag": "is_set", "Characters": "as_str", "Name": "as_identifier", "ListOf": "as_slice"}
+        if self.part.name == "Truth":
+            return f"{self.path}.value"
+        calls = {"Number": "get", "Hex": "get", "Ranged": "get", "Flag": "is_set", "Characters": "as_str", "Name": "as_identifier", "ListOf": "as_slice"}
         if self.part.name in calls:
             return f"{self.path}.{calls[self.part.name]}()"
         if self.part.name == "Own":
@@ -64,13 +69,13 @@ class Leaf:
         part = self.part
         if part.name == "Number":
             return "ℕ" if part.arguments[0].name.startswith("u") else "ℤ"
-        return {"Ranged": "ℕ", "Flag": "Bool", "Characters": "Text", "Name": "Text", "Own": "T"}.get(part.name, part.type())
+        return {"Hex": "ℕ", "Ranged": "ℕ", "Flag": "Bool", "Truth": "Bool", "Characters": "Text", "Name": "Text", "Own": "T"}.get(part.name, part.type())
 
     @property
     def held(self):
         """The value of the part `x`, in a definition."""
         path = re.sub("^part", "x", self.path)
-        return path + {"Number": ".value", "Ranged": ".value", "Own": ".value", "Characters": ".characters", "Name": ".characters"}.get(self.part.name, "")
+        return path + {"Hex": ".number.value", "Number": ".value", "Ranged": ".value", "Own": ".value", "Truth": ".value", "Characters": ".characters", "Name": ".characters"}.get(self.part.name, "")
 
     @property
     def given_value(self):
@@ -86,7 +91,7 @@ class Leaf:
 
 def name_of(part):
     """The name of a value, after its part."""
-    named = {"Number": "number", "Characters": "text", "Name": "name", "Own": "of_type", "ListOf": "items", "Option": "option"}
+    named = {"Number": "number", "Hex": "bits", "Truth": "is_true", "Characters": "text", "Name": "name", "Own": "of_type", "ListOf": "items", "Option": "option"}
     if part.name == "Ranged":
         return snake(part.arguments[0].name)
     return f"is_{part.text}" if part.name == "Flag" else named.get(part.name, snake(part.name))
@@ -222,7 +227,7 @@ class Values:
 
 def values_source(dialect):
     """The file of constructors and getters, if there are any."""
-    families = [it for it in dialect.families if it.held]
+    families = [it for it in dialect.families if it.held and not it.is_tree]
     body = "\n\n".join("\n".join(Values(it).methods()) for it in families) + "\n"
     head = [f"//! Constructors of the {' and the '.join(f'{it.noun}s' for it in families)} of the dialect `{dialect.name}`, and what each holds."]
     ghosts = using([("Rattle.std.specs.Prelude", "◌≡◌ Some option_copied option_map string_bytes"), ("Rattle.std.specs.Str", "chars")], body)
@@ -232,7 +237,7 @@ def values_source(dialect):
     modules += [("irtext_base::base", "Identifier"), ("irtext_syntax", "Characters ListOf Name Number")]
     modules += [("irtext_syntax::keyword", "Flag Keyword"), ("irtext_syntax::own", "Own"), ("irtext_syntax::range", "Ranged")]
     modules += [("irtext_syntax::ready", "Angle Arrow Colon Comma Curly Round SpacedArrow Square"), ("irtext_syntax::sequence", "Then Within")]
-    modules += [("std::marker", "PhantomData")]
+    modules += [*more_uses(), ("std::marker", "PhantomData")]
     return "\n".join(head + rust_uses(modules, body)) + "\n\n" + body
 
 
