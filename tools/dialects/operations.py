@@ -275,9 +275,8 @@ class Operations:
         d, row, crate, name = self.dialect, self.row, self.dialect.crate, f'(codes "{self.name}")'
         lines = ["-- The formats of the operations are accepted: registering one fails only if out of memory, or by the name of its dialect."]
         lines += [
-            "use Rattle.std.proofs.Common.{◌≡◌, ◌∙◌, ◌<◌, ℕ, refl, ap, sym, subst, Bool, false, List, Option, codes, drop, get_or, inl, length, map}",
+            "use Rattle.std.proofs.Common.{◌≡◌, ◌∙◌, ◌<◌, ℕ, refl, ap, sym, subst, Bool, List, Option, codes, drop, get_or, inl, length, map}",
             "use Rattle.std.proofs.lemmas.List.{drop_more}",
-            "use Rattle.std.specs.Str.{bytes_eq}",
             "use Rattle.irtext_base.specs.Faults as faults",
             "use Rattle.irtext_base.specs.Faults.{Demand, demand_of, id_refused}",
             "use Rattle.irtext_base.specs.Text.{Text}",
