@@ -257,17 +257,23 @@ class Operations:
 
     def notations(self):
         """That each notation denotes its format."""
+        crate, ops = self.dialect.crate, self.dialect.operations
+        base = f"Rattle.{crate}.specs.declared.operations.{self.enum}"
+        denotes = f"ap (λ op. means ({self.row} op).format [])"
         lines = [
-            "use Rattle.std.proofs.Common.{[], ap, sym}",
+            f"use Rattle.std.proofs.Common.{{[], ap, {'sym' if len(ops) > 1 else '◌≡◌, refl'}}}",
             "use Rattle.std.specs.Str.{chars}",
             "use Rattle.irtext_stream.specs.NotationPieces.{means}",
-            f"use Rattle.{self.dialect.crate}.specs.Operations.{{{self.row}}}",
-            f"use Rattle.{self.dialect.crate}.proofs.operations.notation.Goals as goal",
+            f"use Rattle.{crate}.specs.Operations.{{{self.row}}}",
+            *([f"use {base}.{{{self.enum}}}", f"use {base}.TheVariants as op"] if len(ops) == 1 else []),
+            f"use Rattle.{crate}.proofs.operations.notation.Goals as goal",
         ]
-        for op in self.dialect.operations:
+        if len(ops) == 1:
+            lines += ["", f"only : (op : {self.enum}) → op.{ops[0].variant} ≡ op", f"only op.{ops[0].variant} = refl"]
+            return "\n".join([*lines, "", "pub returns : goal.returns", "unfolding chars", f"returns c = {denotes} (only c.args.op)"]) + "\n"
+        for op in ops:
             goal = f"returns-in-{op.variant}"
-            lines += ["", f"pub {goal} : goal.{goal}", "unfolding chars"]
-            lines += [f"{goal} c = ap (λ op. means ({self.row} op).format []) (sym c.in-{op.variant}.is)"]
+            lines += ["", f"pub {goal} : goal.{goal}", "unfolding chars", f"{goal} c = {denotes} (sym c.in-{op.variant}.is)"]
         return "\n".join(lines) + "\n"
 
     def formats(self):
