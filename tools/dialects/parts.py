@@ -212,6 +212,12 @@ def check_part(dialect, family, part):
         raise Wrong(f"{part.name} has {['no argument', 'one argument', 'two arguments', 'three arguments'][wanted[part.name]]}")
     if part.field and part.name in ("Keyword", "Then", "Within"):
         raise Wrong(f"{part} is not one value, so it has no name: name its parts in place of `{part.field}`")
+    for it in check_arguments(dialect, family, part):
+        check_part(dialect, family, it)
+
+
+def check_arguments(dialect, family, part):
+    """Fails if an argument that is no part is not one that the part takes; returns those that are parts."""
     inner = list(part.arguments)
     if part.name == "Number":
         if str(inner.pop()) not in NUMBERS:
@@ -239,8 +245,7 @@ def check_part(dialect, family, part):
             raise Wrong(f"{part.name} has one of the brackets {', '.join(BRACKETS)}")
     elif part.name == "Then" and str(inner.pop(1)) not in FIXED:
         raise Wrong(f"Then has one of the fixed texts {', '.join(FIXED)}")
-    for it in inner:
-        check_part(dialect, family, it)
+    return inner
 
 
 def pieces_of(text):
