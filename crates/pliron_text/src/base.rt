@@ -12,7 +12,9 @@ pub use irtext_context::base::{
 };
 pub use irtext_few::Few;
 pub use irtext_graph::object::{Site, Value};
+pub use irtext_graph_queries::ancestors::Ancestors;
 pub use irtext_graph_queries::block::BlockParts;
+pub use irtext_graph_queries::edits::ObjectEdits;
 pub use irtext_graph_queries::nested::NestedOperations;
 pub use irtext_graph_queries::operation::OperationParts;
 pub use irtext_graph_queries::region::RegionParts;
