@@ -16,11 +16,11 @@ use crate::waits::Waits;
 use irtext_base::parsable::{CharStream, ParseResult, TextStream};
 use irtext_base::result::Cause;
 use irtext_base::text::{Family, IrText, Worded};
+use irtext_memory::OutOfMemory;
 use irtext_syntax::part::TryClone;
 use irtext_tokens::irfmt::faults::{committed, out_of_memory, refuse};
 use irtext_tokens::irfmt::parsers::skip_white_space;
 use std::alloc::{AllocError, Global};
-use std::fmt;
 use std::marker::PhantomData;
 
 /// The places that wait, the next one last.
@@ -123,7 +123,7 @@ fn heads_parse<S: Grammar<H, A>, H: Eq + Drop, A: Drop>(
 }
 
 /// Appends the texts of the heads, one after another.
-fn write_heads<S: Grammar<H, A>, H: Eq, A>(heads: &[H], f: &mut String) -> fmt::Result
+fn write_heads<S: Grammar<H, A>, H: Eq, A>(heads: &[H], f: &mut String) -> Result<(), OutOfMemory>
     ensures text { OnOk result (string_bytes f.new ≡ string_bytes f.old
         ++ encode_utf8_all (heads_text S.written heads.now)) }
     ensures appended { OnErr result (OnlyAppends f.old f.new) }
@@ -208,7 +208,7 @@ impl<A: Drop, S: Grammar<H, A>, H: Eq + Drop> IrText<A> for Tree<S, H> {
         tree_parse(stream)
     }
 
-    fn write_text(&self, f: &mut String) -> fmt::Result {
+    fn write_text(&self, f: &mut String) -> Result<(), OutOfMemory> {
         write_heads::<S, H, A>(self.heads(), f)
     }
 }
