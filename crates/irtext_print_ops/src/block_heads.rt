@@ -35,7 +35,10 @@ fn has_inline<A: AttrText<A>>(attributes: &AttributeDict<A>) -> bool
 }
 
 /// Appends the dictionary of the attributes that are not outlined, after a space, if there are such attributes.
-fn fmt_inline<A: AttrText<A>>(attributes: &AttributeDict<A>, f: &mut String) -> Result<(), OutOfMemory>
+fn fmt_inline<A: AttrText<A>>(
+    attributes: &AttributeDict<A>,
+    f: &mut String,
+) -> Result<(), OutOfMemory>
     ensures text { OnOk result (AppendsText f.old (inline_text A.outlined A.IrText.written
         (entries_of attributes.now)) f.new) }
     ensures appended { OnErr result (OnlyAppends f.old f.new) }

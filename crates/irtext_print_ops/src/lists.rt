@@ -102,7 +102,12 @@ impl<'c, T: IrText<A>, A: AttrText<A>> Printer<'c, T, A> {
 
     /// Appends the label of a block, after `, ` if it is not the first.
     #[inline(always)]
-    fn fmt_successor(self, p: Ptr<BasicBlock>, first: bool, f: &mut String) -> Result<(), OutOfMemory>
+    fn fmt_successor(
+        self,
+        p: Ptr<BasicBlock>,
+        first: bool,
+        f: &mut String,
+    ) -> Result<(), OutOfMemory>
         requires { IsSome (block self.ctx.now p) }
         ensures text { OnOk result (AppendsText f.old
             (texts.next_text first (Some (label_text self.entry.ctx.now p))) f.new) }
@@ -114,7 +119,13 @@ impl<'c, T: IrText<A>, A: AttrText<A>> Printer<'c, T, A> {
 
     /// Appends this facet of a value of this type.
     #[inline(always)]
-    fn fmt_facet(self, value: Value, of_type: &T, facet: Facet, f: &mut String) -> Result<(), OutOfMemory>
+    fn fmt_facet(
+        self,
+        value: Value,
+        of_type: &T,
+        facet: Facet,
+        f: &mut String,
+    ) -> Result<(), OutOfMemory>
         requires { IsDefinedValue self.ctx.now.graph value }
         ensures text { OnOk result (IfSome (number_of self.entry.ctx.now value) (λ n. AppendsText f.old
             (texts.facet_text T.IrText.written self.entry.ctx.now facet (n, of_type.now)) f.new)) }

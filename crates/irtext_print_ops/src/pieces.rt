@@ -74,7 +74,12 @@ impl<'c, T: IrText<A>, A: AttrText<A>> Printer<'c, T, A> {
     }
 
     /// Appends the type at an index among the known types of the results, after a space, if there is one.
-    fn fmt_result_type_at(self, op: Ptr<Operation>, index: usize, f: &mut String) -> Result<(), OutOfMemory>
+    fn fmt_result_type_at(
+        self,
+        op: Ptr<Operation>,
+        index: usize,
+        f: &mut String,
+    ) -> Result<(), OutOfMemory>
         requires { IsLive self.ctx.now.graph (TheOperation op) }
         ensures text { OnOk result (AppendsText f.old (spaced_if (slice_get
             (known_types (texts.texts_of T.IrText.written self.entry.ctx.now (listed.ResultTypes op))) index))

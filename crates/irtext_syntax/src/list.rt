@@ -149,7 +149,11 @@ fn items_parse<B: Separated, P: Part<A>, A: Drop>(stream: &mut TextStream) -> Pa
 }
 
 /// Appends the separator, a space and the item, for each item.
-fn write_tail<P: Part<A>, A>(separator: char, items: &[P], f: &mut String) -> Result<(), OutOfMemory>
+fn write_tail<P: Part<A>, A>(
+    separator: char,
+    items: &[P],
+    f: &mut String,
+) -> Result<(), OutOfMemory>
     ensures text { OnOk result (string_bytes f.new ≡ string_bytes f.old ++ encode_utf8_all
         (tail_text separator P.text.written items.now)) }
     ensures appended { OnErr result (OnlyAppends f.old f.new) }
@@ -163,7 +167,11 @@ fn write_tail<P: Part<A>, A>(separator: char, items: &[P], f: &mut String) -> Re
 }
 
 /// Appends the items, with the separator and a space between two.
-fn write_joined<P: Part<A>, A>(separator: char, items: &[P], f: &mut String) -> Result<(), OutOfMemory>
+fn write_joined<P: Part<A>, A>(
+    separator: char,
+    items: &[P],
+    f: &mut String,
+) -> Result<(), OutOfMemory>
     ensures text { OnOk result (string_bytes f.new ≡ string_bytes f.old ++ encode_utf8_all (joined_text separator
         P.text.written items.now)) }
     ensures appended { OnErr result (OnlyAppends f.old f.new) }

@@ -117,7 +117,10 @@ fn inside_parse<B: Brackets, P: Part<A>, A>(stream: &mut TextStream) -> ParseRes
 }
 
 /// Appends a part in the brackets of `B`. Fails only when out of memory.
-pub fn write_within<B: Brackets, P: Part<A>, A>(inside: &P, f: &mut String) -> Result<(), OutOfMemory>
+pub fn write_within<B: Brackets, P: Part<A>, A>(
+    inside: &P,
+    f: &mut String,
+) -> Result<(), OutOfMemory>
     ensures text { OnOk result (string_bytes f.new ≡ string_bytes f.old ++ encode_utf8_all
         (within_text B.opener_printed P.text.written B.closer_printed inside.now)) }
     ensures appended { OnErr result (OnlyAppends f.old f.new) }

@@ -89,7 +89,11 @@ pub fn opened_parse<H: Drop, A>(
 
 /// Appends a word, a space, a part and a space, as `my.array <4, `. Fails only when out of memory. The text that was there before stands
 /// then too, and what was appended up to the error remains.
-pub fn write_spaced_row<P: Part<A>, A>(word: &str, part: &P, f: &mut String) -> Result<(), OutOfMemory>
+pub fn write_spaced_row<P: Part<A>, A>(
+    word: &str,
+    part: &P,
+    f: &mut String,
+) -> Result<(), OutOfMemory>
     ensures text { OnOk result (string_bytes f.new ≡ string_bytes f.old ++ encode_utf8_all
         (characters word.now ++ (32 ∷ (P.text.written part.now ++ (32 ∷ []))))) }
     ensures appended { OnErr result (OnlyAppends f.old f.new) }

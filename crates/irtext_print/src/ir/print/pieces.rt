@@ -124,7 +124,10 @@ pub fn symbol_of<A: AttrText<A>>(attributes: &AttributeDict<A>) -> Option<&Ident
 }
 
 /// Appends the symbol's name after a space and `@`, if there is one.
-pub fn fmt_symbol<A: AttrText<A>>(attributes: &AttributeDict<A>, f: &mut String) -> Result<(), OutOfMemory>
+pub fn fmt_symbol<A: AttrText<A>>(
+    attributes: &AttributeDict<A>,
+    f: &mut String,
+) -> Result<(), OutOfMemory>
     ensures text { OnOk result (AppendsText f.old (pieces.header_text (entries_of attributes.now)) f.new) }
     ensures appended { OnErr result (OnlyAppends f.old f.new) }
 {
