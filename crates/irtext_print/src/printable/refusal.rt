@@ -30,8 +30,6 @@ pub fn memory_alone(answer: Result<(), OutOfMemory>) -> Result<(), Refusal>
 }
 
 impl From<OutOfMemory> for Refusal {
-    ghost use Rattle.irtext_print.specs.Refusals.{IsMemory};
-
     ghost from_gives = { λ _ refusal. IsMemory refusal };
 
     fn from(error: OutOfMemory) -> Refusal {
