@@ -1,1 +1,2 @@
--- What is needed besides the laws of texts: nothing
+-- What is needed besides the laws of texts
+mod OperationFormats

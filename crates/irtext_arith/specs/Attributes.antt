@@ -5,10 +5,11 @@ use Rattle.irtext_base.specs.Text.{Text}
 use Rattle.irtext_base.specs.Faults.{AnAttribute}
 use Rattle.irtext_tokens.specs.Infix.{Reader, ◌▷◌, ◌⇒◌}
 use Rattle.irtext_tokens.specs.Tokens.{space_at}
-use Rattle.irtext_syntax.specs.IntegerKinds.{i64}
-use Rattle.irtext_syntax.specs.ScalarTexts.{ScalarText}
 use Rattle.irtext_syntax.specs.Shapes.{Shape, angle, colon, comma, number, quoted, flag, ranged, own, then_of, within}
 use Rattle.irtext_syntax.specs.Tables.{table_at}
+use Rattle.irtext_arith.specs.Predicates.{predicate}
+use Rattle.irtext_syntax.specs.IntegerKinds.{i64}
+use Rattle.irtext_syntax.specs.ScalarTexts.{ScalarText}
 use Rattle.irtext_syntax.specs.declared.number.Number.{Number}
 use Rattle.irtext_syntax.specs.declared.own.Own.{Own}
 use Rattle.irtext_syntax.specs.declared.range.Ranged.{Ranged}
@@ -17,7 +18,6 @@ use Rattle.irtext_syntax.specs.declared.ready.Colon.{Colon}
 use Rattle.irtext_syntax.specs.declared.ready.Comma.{Comma}
 use Rattle.irtext_syntax.specs.declared.sequence.Then.{Then}
 use Rattle.irtext_syntax.specs.declared.sequence.Within.{Within}
-use Rattle.irtext_arith.specs.Predicates.{predicate}
 use Rattle.irtext_arith.specs.declared.predicate.Predicate.{Predicate}
 use Rattle.irtext_arith.specs.declared.fixed.Bytes.{Bytes}
 use Rattle.irtext_arith.specs.contracts.fixed.BytesRange.TheImpl as bytes
@@ -39,7 +39,7 @@ module _ {T : Type 0} (type_at : Reader T) (type_text : T → Text) (type_eq : T
   abbrev pub value_shape : Shape (Within Angle (Then (Number ℤ i64.radix) Colon (Own T)))
   value_shape = within angle (then_of (number i64) colon (own type_at type_text type_eq))
 
-  -- what comes after `arith.predicate`: P
+  -- what comes after `arith.predicate`: eq|ne|lt|le
   abbrev pub compares_shape : Shape Predicate
   compares_shape = predicate
 

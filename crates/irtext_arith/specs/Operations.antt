@@ -1,10 +1,12 @@
 -- For callers: the operations of the dialect `arith`, and what registering them does to a context's dialects.
-use Rattle.std.specs.Prelude.{Bool, true, false, List, [], ◌∷◌, codes}
+use Rattle.std.specs.Prelude.{◌≡◌, ◌⊎◌, Bool, true, false, List, [], ◌∷◌, codes}
+use Rattle.std.specs.Str.{bytes_eq}
 use Rattle.irtext_base.specs.Text.{Text}
 use Rattle.irtext_base.specs.Format.{Format, custom, word, operand, operands, attribute, result_type, region, header}
 use Rattle.irtext_context.specs.Dialects.{Table}
-use Rattle.irtext_context.specs.DialectTable.{with_operation}
+use Rattle.irtext_context.specs.DialectTable.{dialect_or_new, with_operation}
 use Rattle.irtext_context.specs.Named.{id_of_texts}
+use Rattle.irtext_base.specs.declared.result.Cause.{Cause, Memory, WrongDialect}
 use Rattle.irtext_arith.specs.declared.operations.ArithOp.{ArithOp}
 use Rattle.irtext_arith.specs.declared.operations.ArithOp.TheVariants as op
 
@@ -38,3 +40,14 @@ with_one dialects op = with_operation dialects (id_of_texts (codes "arith") op.n
 abbrev pub with_all : List (Text × Table) → List Operation → List (Text × Table)
 with_all dialects [] = dialects
 with_all dialects (op ∷ ops) = with_all (with_one dialects op) ops
+
+-- why registering the operation fails: an allocation failed, or a dialect with another name is registered under the name `arith`
+abbrev pub Refuses : {A : Type 0} → List (Text × Table) → Operation → Cause A → Type 0
+Refuses dialects op Memory = Unit {0}
+Refuses dialects op (WrongDialect id name) = (bytes_eq (codes "arith") (dialect_or_new dialects (codes "arith")).name ≡ false) × (id ≡ id_of_texts (codes "arith") op.name) × (name ≡ (dialect_or_new dialects (codes "arith")).name)
+Refuses dialects op _ = ⊥
+
+-- why registering the operations one after the other fails: the first fails, or it is registered and a later one fails
+abbrev pub RefusesOne : {A : Type 0} → List (Text × Table) → List Operation → Cause A → Type 0
+RefusesOne dialects [] cause = ⊥
+RefusesOne dialects (op ∷ ops) cause = Refuses dialects op cause ⊎ RefusesOne (with_one dialects op) ops cause

@@ -1,4 +1,4 @@
--- For callers: predicates obey the law of a part. Their texts are those of a table of words, so a row for each gives the law.
+-- For callers: the choice `Predicate` obeys the law of a part. Its texts are those of a table of words, so a row for each gives the law.
 use Rattle.std.proofs.Common.{◌≡◌, refl, codes}
 use Rattle.std.specs.Prelude.{◌↔◌, IsTrue}
 use Rattle.irtext_base.specs.Faults.{AnAttribute}
@@ -12,15 +12,15 @@ use Rattle.irtext_syntax.specs.TableLaws.{word_row, word_sincere, table_lawful, 
 use Rattle.irtext_syntax.specs.Tables.{Row}
 use Rattle.irtext_arith.specs.Predicates.{predicate_words, predicate_word, predicate_text, predicate_at, predicate}
 use Rattle.irtext_arith.specs.declared.predicate.Predicate.{Predicate}
-use Rattle.irtext_arith.specs.declared.predicate.Predicate.TheVariants.{Equal, Different, Less, LessOrEqual}
+use Rattle.irtext_arith.specs.declared.predicate.Predicate.TheVariants as word
 use Rattle.irtext_arith.specs.contracts.predicate.PredicatePartialEq.TheImpl as test
 
--- how the text of each predicate is parsed back
+-- how the text of each value is parsed back
 rows : (x : Predicate) → Row predicate_word nothing predicate_words predicate_text x
-rows Equal = word_row (codes "eq") Equal Equal refl refl refl (λ text. refl)
-rows Different = word_row (codes "ne") Different Different refl refl refl (λ text. refl)
-rows Less = word_row (codes "lt") Less Less refl refl refl (λ text. refl)
-rows LessOrEqual = word_row (codes "le") LessOrEqual LessOrEqual refl refl refl (λ text. refl)
+rows word.Equal = word_row (codes "eq") word.Equal word.Equal refl refl refl (λ text. refl)
+rows word.Different = word_row (codes "ne") word.Different word.Different refl refl refl (λ text. refl)
+rows word.Less = word_row (codes "lt") word.Less word.Less refl refl refl (λ text. refl)
+rows word.LessOrEqual = word_row (codes "le") word.LessOrEqual word.LessOrEqual refl refl refl (λ text. refl)
 
 lawful : Lawful Predicate (texts_of predicate_at predicate_text)
 lawful = table_lawful (codes "Unknown predicate ") AnAttribute rows
@@ -35,17 +35,17 @@ predicate_law = text_law predicate_at predicate_text lawful sincere
 pub predicate_misses : MissesClosers predicate_at
 predicate_misses = text_misses predicate_at predicate_text lawful
 
--- predicates are equal exactly if they are the same
+-- two values are equal exactly if they are the same
 pub predicate_decides : (x y : Predicate) → IsTrue (test.ghosts.eq x y) ↔ (x ≡ y)
-predicate_decides Equal Equal = (λ e. refl, λ e. refl)
-predicate_decides Different Different = (λ e. refl, λ e. refl)
-predicate_decides Less Less = (λ e. refl, λ e. refl)
-predicate_decides LessOrEqual LessOrEqual = (λ e. refl, λ e. refl)
+predicate_decides word.Equal word.Equal = (λ e. refl, λ e. refl)
+predicate_decides word.Different word.Different = (λ e. refl, λ e. refl)
+predicate_decides word.Less word.Less = (λ e. refl, λ e. refl)
+predicate_decides word.LessOrEqual word.LessOrEqual = (λ e. refl, λ e. refl)
 predicate_decides _ _ = (λ e. absurd (cc), λ e. absurd (cc))
 
 pub predicate_proved : Proved predicate
 predicate_proved = record { law = predicate_law; decides = predicate_decides }
 
--- whatever can come after an attribute can come after a predicate
+-- whatever can come after a type or an attribute can come after it
 pub predicate_last : EndsAnywhere predicate.ends
 predicate_last = own_last

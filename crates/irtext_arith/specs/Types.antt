@@ -5,9 +5,9 @@ use Rattle.irtext_base.specs.Text.{Text}
 use Rattle.irtext_base.specs.Faults.{AType}
 use Rattle.irtext_tokens.specs.Infix.{Reader, nothing, ◌▷◌, ◌⇒◌}
 use Rattle.irtext_tokens.specs.Tokens.{space_at}
-use Rattle.irtext_syntax.specs.IntegerKinds.{u32}
 use Rattle.irtext_syntax.specs.Shapes.{Shape, number}
 use Rattle.irtext_syntax.specs.Tables.{table_at}
+use Rattle.irtext_syntax.specs.IntegerKinds.{u32}
 use Rattle.irtext_syntax.specs.declared.number.Number.{Number}
 use Rattle.irtext_arith.specs.declared.types.TypeWord.{TypeWord}
 use Rattle.irtext_arith.specs.declared.types.TypeWord.TheVariants as word

@@ -28,7 +28,7 @@ pub type OverflowText = Within<Angle, Then<Flag<NoSignedWrap>, Comma, Flag<NoUns
 pub enum ArithAttr<T> {
     /// Printed as `arith.value <N: T>`.
     Value(ValueText<T>),
-    /// Printed as `arith.predicate P`.
+    /// Printed as `arith.predicate eq|ne|lt|le`.
     Compares(Predicate),
     /// Printed as `arith.overflow <nsw?, nuw?>`.
     Overflow(OverflowText),

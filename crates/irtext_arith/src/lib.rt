@@ -1,15 +1,16 @@
 //! The dialect `arith`: its types, attributes and operations.
 //!
-//! The texts of its types and attributes, where N is a number, `w?` the word `w` or nothing, S a string, T a type of the context, P a part
-//! of the dialect's own:
+//! The texts of its types and attributes, where N is a number, `w?` the word `w` or nothing, S a string, T a type of the context:
 //!
 //! - `arith.int N`
 //! - `arith.index`
 //! - `arith.value <N: T>`
-//! - `arith.predicate P`
+//! - `arith.predicate eq|ne|lt|le`
 //! - `arith.overflow <nsw?, nuw?>`
 //! - `arith.align N`
 //! - `arith.doc "S"`
+//!
+//! `values` has a constructor and a getter for each of these that has a part.
 //!
 //! `register_arith` registers its operations, by these formats:
 //!
@@ -22,9 +23,11 @@
 
 pub mod attributes;
 pub mod fixed;
+pub mod keys;
 pub mod operations;
 pub mod predicate;
 pub mod types;
+pub mod values;
 
 pub use attributes::ArithAttr;
 pub use operations::register_arith;

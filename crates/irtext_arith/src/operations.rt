@@ -1,11 +1,11 @@
 //! The operations of the dialect `arith`, with their formats.
-ghost use Rattle.std.specs.Prelude.{◌≡◌, [], IfOk, IfErr, OnOk};
+ghost use Rattle.std.specs.Prelude.{◌≡◌, [], IfOk, IfErr, OnOk, map};
 ghost use Rattle.std.specs.Str.{chars};
 ghost use Rattle.irtext_stream.specs.NotationPieces.{means};
 ghost use Rattle.irtext_base.specs.FormatViews.{format_of};
 ghost use Rattle.irtext_base.specs.Notation.{notation_at};
 ghost use Rattle.irtext_base.specs.declared.location.Location.{Unknown};
-ghost use Rattle.irtext_arith.specs.Operations.{arith_op, arith_operations, with_one, with_all};
+ghost use Rattle.irtext_arith.specs.Operations.{arith_op, arith_operations, with_one, with_all, Refuses, RefusesOne};
 
 use irtext_base::format::OpFormat;
 use irtext_base::result::{ErrorKind, Result as Answer};
@@ -27,6 +27,15 @@ pub enum ArithOp {
     /// `arith.return`, with the format ``operands``.
     Return,
 }
+
+/// All operations of the dialect, in the order of their registration.
+const ALL: &[ArithOp] = &[
+    ArithOp::Constant,
+    ArithOp::Add,
+    ArithOp::Compare,
+    ArithOp::Func,
+    ArithOp::Return,
+];
 
 /// Returns the operation's name, and whether it is isolated from above.
 fn row(op: ArithOp) -> (&'static str, bool)
@@ -70,26 +79,37 @@ fn add<T: IrText<A>, A: AttrText<A>>(ctx: &mut Context<T, A>, op: ArithOp) -> An
     ensures ok { OnOk result (ctx.new.dialects ≡ with_one ctx.old.dialects (arith_op op)) }
     ensures rest { ctx.new ≡ record ctx.old { dialects = ctx.new.dialects } }
     ensures kind { IfErr result (λ e. (e.kind ≡ ErrorKind.InvalidArgument) × (e.loc ≡ Unknown)) }
+    ensures refused { IfErr result (λ e. Refuses ctx.old.dialects (arith_op op) e.err) }
 {
     let (name, isolated) = row(op);
     let format = op_format(ctx.allocator(), op)?;
     ctx.register_op("arith", name, format, isolated)
 }
 
+/// Registers operations one after the other, up to the first that fails. Those before it stay registered.
+fn add_all<T: IrText<A>, A: AttrText<A>>(ctx: &mut Context<T, A>, ops: &[ArithOp]) -> Answer<(), A>
+    ensures ok { OnOk result (ctx.new.dialects ≡ with_all ctx.old.dialects (map arith_op ops.now)) }
+    ensures rest { ctx.new ≡ record ctx.old { dialects = ctx.new.dialects } }
+    ensures kind { IfErr result (λ e. (e.kind ≡ ErrorKind.InvalidArgument) × (e.loc ≡ Unknown)) }
+    ensures refused { IfErr result (λ e. RefusesOne ctx.old.dialects (map arith_op ops.now) e.err) }
+{
+    for op in ops {
+        add(ctx, *op)?;
+    }
+    Ok(())
+}
+
 /// Registers the operations of the dialect with their formats: `arith.constant`, `arith.add`, `arith.compare`, `arith.func` and
 /// `arith.return`. Registers the dialect if it is not registered yet. Replaces what was registered under one of these ids before.
 ///
 /// Fails with `Memory` if an allocation fails, or with `WrongDialect` if the context has a dialect with another name under the name
-/// `arith`. The error is of kind invalid argument and has no location. Operations before the one that fails stay registered;
-/// everything in the context but its dialects is unchanged.
+/// `arith`. No format is refused. The error is of kind invalid argument and has no location. Operations before the one that fails stay
+/// registered; everything in the context but its dialects is unchanged.
 pub fn register_arith<T: IrText<A>, A: AttrText<A>>(ctx: &mut Context<T, A>) -> Answer<(), A>
     ensures ok { OnOk result (ctx.new.dialects ≡ with_all ctx.old.dialects arith_operations) }
     ensures rest { ctx.new ≡ record ctx.old { dialects = ctx.new.dialects } }
     ensures kind { IfErr result (λ e. (e.kind ≡ ErrorKind.InvalidArgument) × (e.loc ≡ Unknown)) }
+    ensures refused { IfErr result (λ e. RefusesOne ctx.old.dialects arith_operations e.err) }
 {
-    add(ctx, ArithOp::Constant)?;
-    add(ctx, ArithOp::Add)?;
-    add(ctx, ArithOp::Compare)?;
-    add(ctx, ArithOp::Func)?;
-    add(ctx, ArithOp::Return)
+    add_all(ctx, ALL)
 }

@@ -1,4 +1,4 @@
-//! A part of the dialect's own: how two integers are compared.
+//! The choice `Predicate` of the dialect `arith`: a word, as a part of other texts.
 ghost use Rattle.irtext_syntax.specs.OwnLaws.{own_last};
 ghost use Rattle.irtext_syntax.specs.Owns.{ends_text};
 
@@ -9,7 +9,7 @@ use irtext_syntax::part::{Item, Last, Part, Plain};
 use irtext_syntax::table::{Choice, table_parse, write_word};
 use std::fmt;
 
-/// How two integers are compared. An unknown word is an error with the text `Unknown predicate ` and the word, at its beginning.
+/// One of the words `eq`, `ne`, `lt` or `le`. Another word is an error with the text `Unknown predicate ` and the word, at its beginning.
 #[derive(Clone, Copy, PartialEq, Eq, Hash, Debug)]
 pub enum Predicate {
     /// Printed as `eq`.
@@ -28,8 +28,8 @@ impl Choice for Predicate {
     ghost chosen = { predicate_word };
 
     fn choice(text: &str) -> Option<Predicate> {
-        match_text!(text; "eq" => Predicate::Equal, "ne" => Predicate::Different, "lt" => Predicate::Less,
-            "le" => Predicate::LessOrEqual)
+        match_text!(text; "eq" => Predicate::Equal, "ne" => Predicate::Different,
+            "lt" => Predicate::Less, "le" => Predicate::LessOrEqual)
     }
 }
 
