@@ -339,14 +339,14 @@ class Reader(Tokens):
         return (of, self.value(of))
 
     def metadata(self):
-        """Takes an operand that is metadata: a text, or else nothing is kept of it."""
+        """Takes an operand that is metadata, of which a text is kept."""
         if self.kind != "meta":
             self.typed()
         elif self.next() == "!" and self.kind == "string":
             return ("string", unescaped(self.next()[1:-1]))
         elif self.sees("(") or self.sees("{"):
             self.in_brackets()
-        return ("undef",)
+        return ("metadata",)
 
     def assembly(self):
         self.need("asm")
@@ -841,7 +841,7 @@ class Reader(Tokens):
             it = self.instruction()
             if it.opcode == "phi":
                 found.phis.append(it)
-            elif not is_debug(it):
+            elif it.opcode != "call" or it.words["callee"][0] != "global" or not is_note(it.words["callee"][1]):
                 found.instructions.append(it)
         return found
 
@@ -895,10 +895,9 @@ class Reader(Tokens):
         self.module.words[key] = unescaped(self.of("string")[1:-1])
 
 
-def is_debug(instruction):
-    """Whether an instruction is a call that only describes variables to a debugger."""
-    callee = instruction.words.get("callee", ("",))
-    return instruction.opcode == "call" and callee[0] == "global" and callee[1].startswith("llvm.dbg.")
+def is_note(name):
+    """Whether a call of this function only hands metadata to a debugger or to the optimizer."""
+    return name.startswith("llvm.dbg.") or name == "llvm.experimental.noalias.scope.decl"
 
 
 NODE = re.compile(r"^!(\d+) = (?:distinct )?!(DILocation|DISubprogram|DILexicalBlock|DILexicalBlockFile|DIFile)\((.*)\)$", re.M)
