@@ -1,0 +1,4 @@
+pub mod SpelledRead
+pub mod Floats
+pub mod Identifiers
+pub mod Composed
