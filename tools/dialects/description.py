@@ -2,7 +2,7 @@
 import re
 
 from dialects.formats import FormatFault, check_format, directives_of
-from dialects.parts import BRACKETS, FIXED, HOLES, NUMBERS, PARTS, Wrong, check_part, identifier, part_of, snake
+from dialects.parts import BRACKETS, FIXED, HOLES, NUMBERS, PARTS, Wrong, check_part, fields_of, identifier, part_of, snake
 from dialects.trees import check_tree
 
 # names that the sources import, so that nothing of the dialect's own can have them
@@ -116,11 +116,11 @@ def own_name(name):
 
 
 def row_line(dialect, kind, rest, line):
-    """Parses `type WORD: VARIANT(PART)` or the same of `attr`, with its flags."""
-    match = re.fullmatch(r"(\S+?)\s*:\s*(\w+)\s*(?:\((.*)\))?\s*((?:\w+\s*)*)", rest)
+    """Parses `type WORD: VARIANT(PART)`, `type WORD: VARIANT{NAME: PART, ..}` or the same of `attr`, with its flags."""
+    match = re.fullmatch(r"(\S+?)\s*:\s*(\w+)\s*(?:\((.*)\)|\{(.*)\})?\s*((?:\w+\s*)*)", rest)
     if not match:
-        raise Wrong(f"`{kind} WORD: VARIANT` or `{kind} WORD: VARIANT(PART)` is expected")
-    word, variant, part, flags = match.groups()
+        raise Wrong(f"`{kind} WORD: VARIANT`, `{kind} WORD: VARIANT(PART)` or `{kind} WORD: VARIANT{{NAME: PART, ..}}` is expected")
+    word, variant, part, fields, flags = match.groups()
     family = dialect.types if kind == "type" else dialect.attributes
     flags = flags.split()
     if any(it not in ("outlined", "once") or family.is_type for it in flags):
@@ -130,6 +130,12 @@ def row_line(dialect, kind, rest, line):
     if not re.fullmatch(r"[A-Z][A-Za-z0-9]*", variant) or variant == "Self":
         raise Wrong(f"`{variant}` is no name of a variant: a capital letter, and then letters and digits")
     row = Row(dialect, identifier(word, "word"), variant, part_of(part) if part is not None else None, flags)
+    if fields is not None:
+        row.part, words = fields_of(variant, fields)
+        row.is_named = True
+        for name, field in words.items():
+            dialect.take(line, "part", own_name(name), f"the name {name}, of the field `{field}`, or one that is spelled alike,")
+            dialect.fixed[name] = field
     dialect.take(line, f"{kind} word", word, f"the {family.noun} `{word}`")
     dialect.take(line, f"{kind} variant", variant, f"the variant {variant} of {family.noun}s, or one that is spelled alike,")
     if row.text in WORDS_OF_THE_FORMAT:

@@ -8,6 +8,23 @@ KINDS = {"literal": "word (codes \"{}\")", "key": "attribute (codes \"{}\")", "r
 WORDS = {"@name": "header", "operands": "operands", "successors": "successors", "attr_dict": "dictionary", "regions": "regions"}
 FORMAT_WORDS = "Format canonical custom word operand operands successor successors attribute dictionary result_type region regions header"
 CONDITIONS = "LiteralNotPrintable OperandIndices SuccessorIndices ResultTypeIndices RegionOrder AttributeKeys NameAfterRegion AmbiguousList"
+FORMAT_IMPORTS = [
+    "use Rattle.std.proofs.Common.{◌≡◌, ◌∙◌, ◌<◌, ℕ, refl, ap, sym, subst, Bool, List, Option, codes, drop, get_or, inl, length, map}",
+    "use Rattle.std.proofs.lemmas.List.{drop_more}",
+    "use Rattle.irtext_base.specs.Faults as faults",
+    "use Rattle.irtext_base.specs.Faults.{Demand, demand_of, id_refused}",
+    "use Rattle.irtext_base.specs.Text.{Text}",
+    "use Rattle.irtext_base.specs.Format.{Accepted, first_fault}",
+    "use Rattle.irtext_base.specs.FormatViews.{format_of}",
+    "use Rattle.irtext_base.specs.declared.format.FormatFault.{FormatFault}",
+    "use Rattle.irtext_base.specs.declared.format.FormatFault.TheVariants as condition",
+    "use Rattle.irtext_base.specs.declared.format.OpFormat.{OpFormat}",
+    "use Rattle.irtext_base.specs.declared.result.Cause.{Cause, Memory, Unexpected, FormatFault as IsFault, WrongDialect}",
+    "use Rattle.irtext_context.specs.Dialects.{Table}",
+    "use Rattle.irtext_context.specs.DialectTable.{dialect_or_new, with_operation, RefusesOp}",
+    "use Rattle.irtext_context.specs.Named.{id_of_texts}",
+    "use Rattle.irtext_format_check.specs.Directives.{condition_number}",
+]
 GENERIC = "<T: IrText<A>, A: AttrText<A>>"
 ONE_CONTEXT = "ctx: &mut Context<T, A>"
 UNCHANGED = [
@@ -48,6 +65,7 @@ class Operations:
         self.enum = f"{dialect.camel}Op"
         self.row = f"{dialect.name}_op"
         self.all = f"{dialect.name}_operations"
+        self.codes = f'(codes "{dialect.name}")'
 
     @staticmethod
     def defined(directive):
@@ -257,56 +275,56 @@ class Operations:
 
     def notations(self):
         """That each notation denotes its format."""
+        crate, ops = self.dialect.crate, self.dialect.operations
+        base = f"Rattle.{crate}.specs.declared.operations.{self.enum}"
+        denotes = f"ap (λ op. means ({self.row} op).format [])"
         lines = [
-            "use Rattle.std.proofs.Common.{[], ap, sym}",
+            f"use Rattle.std.proofs.Common.{{[], ap, {'sym' if len(ops) > 1 else '◌≡◌, refl'}}}",
             "use Rattle.std.specs.Str.{chars}",
             "use Rattle.irtext_stream.specs.NotationPieces.{means}",
-            f"use Rattle.{self.dialect.crate}.specs.Operations.{{{self.row}}}",
-            f"use Rattle.{self.dialect.crate}.proofs.operations.notation.Goals as goal",
+            f"use Rattle.{crate}.specs.Operations.{{{self.row}}}",
+            *([f"use {base}.{{{self.enum}}}", f"use {base}.TheVariants as op"] if len(ops) == 1 else []),
+            f"use Rattle.{crate}.proofs.operations.notation.Goals as goal",
         ]
-        for op in self.dialect.operations:
+        if len(ops) == 1:
+            lines += ["", f"only : (op : {self.enum}) → op.{ops[0].variant} ≡ op", f"only op.{ops[0].variant} = refl"]
+            return "\n".join([*lines, "", "pub returns : goal.returns", "unfolding chars", f"returns c = {denotes} (only c.args.op)"]) + "\n"
+        for op in ops:
             goal = f"returns-in-{op.variant}"
-            lines += ["", f"pub {goal} : goal.{goal}", "unfolding chars"]
-            lines += [f"{goal} c = ap (λ op. means ({self.row} op).format []) (sym c.in-{op.variant}.is)"]
+            lines += ["", f"pub {goal} : goal.{goal}", "unfolding chars", f"{goal} c = {denotes} (sym c.in-{op.variant}.is)"]
         return "\n".join(lines) + "\n"
 
     def formats(self):
         """That each format is accepted, so that none of them is why registering fails."""
-        d, row, crate, name = self.dialect, self.row, self.dialect.crate, f'(codes "{self.name}")'
-        lines = ["-- The formats of the operations are accepted: registering one fails only if out of memory, or by the name of its dialect."]
-        lines += [
-            "use Rattle.std.proofs.Common.{◌≡◌, ◌∙◌, ◌<◌, ℕ, refl, ap, sym, subst, Bool, false, List, Option, codes, drop, get_or, inl, length, map}",
-            "use Rattle.std.proofs.lemmas.List.{drop_more}",
-            "use Rattle.std.specs.Str.{bytes_eq}",
-            "use Rattle.irtext_base.specs.Faults as faults",
-            "use Rattle.irtext_base.specs.Faults.{Demand, demand_of, id_refused}",
-            "use Rattle.irtext_base.specs.Text.{Text}",
-            "use Rattle.irtext_base.specs.Format.{Accepted, first_fault}",
-            "use Rattle.irtext_base.specs.FormatViews.{format_of}",
-            "use Rattle.irtext_base.specs.declared.format.FormatFault.{FormatFault}",
-            "use Rattle.irtext_base.specs.declared.format.FormatFault.TheVariants as condition",
-            "use Rattle.irtext_base.specs.declared.format.OpFormat.{OpFormat}",
-            "use Rattle.irtext_base.specs.declared.result.Cause.{Cause, Memory, Unexpected, FormatFault as IsFault, WrongDialect}",
-            "use Rattle.irtext_context.specs.Dialects.{Table}",
-            "use Rattle.irtext_context.specs.DialectTable.{dialect_or_new, with_operation, RefusesOp}",
-            "use Rattle.irtext_context.specs.Named.{id_of_texts}",
-            "use Rattle.irtext_format_check.specs.Directives.{condition_number}",
+        crate, row = self.dialect.crate, self.row
+        lines = [
+            "-- The formats of the operations are accepted: registering one fails only if out of memory, or by the name of its dialect.",
+            *FORMAT_IMPORTS,
             f"use Rattle.{crate}.specs.Operations.{{{row}, with_one, Refuses, RefusesOne}}",
             f"use Rattle.{crate}.specs.declared.operations.{self.enum}.{{{self.enum}}}",
             f"use Rattle.{crate}.specs.declared.operations.{self.enum}.TheVariants as op",
-            "",
+        ]
+        return "\n".join([*lines, "", *self.accepted(), "", *self.refused(), "", *self.registered_so()]) + "\n"
+
+    def accepted(self):
+        ops, row = self.dialect.operations, self.row
+        return [
             "-- each format meets all conditions",
             f"pub accepted : (op : {self.enum}) → Accepted ({row} op).format",
-            *[f"accepted op.{op.variant} = refl" for op in d.operations],
+            *[f"accepted op.{op.variant} = refl" for op in ops],
             "",
             "-- a format that meets all conditions fails none",
             "no_fault : (f : FormatFault) → condition_number f ≡ 0 → ⊥",
             *[f"no_fault condition.{it} e = absurd (cc)" for it in CONDITIONS.split()],
             "",
             "-- what is expected of a text that is no identifier is not that memory is out",
-            f"no_name : (op : {self.enum}) (found : Option ℕ) (demand : Demand) → faults.Unexpected found demand ≡ id_refused {name} ({row} op).name → ⊥",
-            *[f"no_name op.{op.variant} found demand e = absurd (cc)" for op in d.operations],
-            "",
+            f"no_name : (op : {self.enum}) (found : Option ℕ) (demand : Demand) → faults.Unexpected found demand ≡ id_refused {self.codes} ({row} op).name → ⊥",
+            *[f"no_name op.{op.variant} found demand e = absurd (cc)" for op in ops],
+        ]
+
+    def refused(self):
+        row, name = self.row, self.codes
+        return [
             "-- why registering an operation with this operation's name and format fails is why registering this one does",
             f"pub refused : {{A : Type 0}} (dialects : List (Text × Table)) (op : {self.enum}) (name : Text) (format : OpFormat) (cause : Cause A)",
             f"    → name ≡ ({row} op).name → format_of format ≡ ({row} op).format",
@@ -324,14 +342,17 @@ class Operations:
             f"    → Refuses dialects ({row} (get_or ops i op)) cause → RefusesOne dialects (map {row} (drop i ops)) cause",
             "refused_there dialects ops i op cause below h ="
             f" subst (λ left. RefusesOne dialects (map {row} left) cause) (sym (drop_more ops i op below)) (inl h)",
-            "",
+        ]
+
+    def registered_so(self):
+        row, name = self.row, self.codes
+        return [
             "-- the dialects with an operation of this operation's name, format and isolation are those with this one",
             f"pub registered_so : (dialects : List (Text × Table)) (op : {self.enum}) (name : Text) (format : OpFormat) (isolated : Bool)",
             f"    → name ≡ ({row} op).name → format_of format ≡ ({row} op).format → isolated ≡ ({row} op).isolated",
             f"    → with_operation dialects (id_of_texts {name} name) (format_of format) isolated ≡ with_one dialects ({row} op)",
             f"registered_so dialects op name format isolated f k s = λ i. with_operation dialects (id_of_texts {name} (f i)) (k i) (s i)",
         ]
-        return "\n".join(lines) + "\n"
 
     def added(self):
         """That an operation is registered as its row has it, and that it is refused for no other reason."""

@@ -212,6 +212,12 @@ def check_part(dialect, family, part):
         raise Wrong(f"{part.name} has {['no argument', 'one argument', 'two arguments', 'three arguments'][wanted[part.name]]}")
     if part.field and part.name in ("Keyword", "Then", "Within"):
         raise Wrong(f"{part} is not one value, so it has no name: name its parts in place of `{part.field}`")
+    for it in check_arguments(dialect, family, part):
+        check_part(dialect, family, it)
+
+
+def check_arguments(dialect, family, part):
+    """Fails if an argument that is no part is not one that the part takes; returns those that are parts."""
     inner = list(part.arguments)
     if part.name == "Number":
         if str(inner.pop()) not in NUMBERS:
@@ -239,8 +245,37 @@ def check_part(dialect, family, part):
             raise Wrong(f"{part.name} has one of the brackets {', '.join(BRACKETS)}")
     elif part.name == "Then" and str(inner.pop(1)) not in FIXED:
         raise Wrong(f"Then has one of the fixed texts {', '.join(FIXED)}")
-    for it in inner:
-        check_part(dialect, family, it)
+    return inner
+
+
+def pieces_of(text):
+    """Splits a text at the commas that are in no brackets."""
+    found, depth = [""], 0
+    for c in text:
+        depth += (c == "<") - (c == ">")
+        if c == "," and not depth:
+            found.append("")
+        else:
+            found[-1] += c
+    return [it.strip() for it in found]
+
+
+def fields_of(variant, text):
+    """Parses `NAME: PART, NAME: PART`: returns the part of the fields in braces, and the word of each field's name.
+
+    Its text is `{ NAME: PART, NAME: PART }`."""
+    found, words = None, {}
+    for piece in reversed(pieces_of(text)):
+        part = part_of(piece)
+        if not part.field:
+            raise Wrong(f"`NAME: PART` is expected in the braces, and not `{piece}`")
+        word = variant + "".join(it.capitalize() for it in part.field.split("_"))
+        if word in words:
+            raise Wrong(f"the field `{part.field}`, or one that is spelled alike, is there already")
+        words[word] = part.field
+        field = Part("Then", [Part("Keyword", [Part(word, [])]), Part("Colon", []), part])
+        found = Part("Then", [field, Part("Comma", []), found]) if found else field
+    return Part("Within", [Part("Curly", []), found]), words
 
 
 SHOWN = {"Number": "N", "Ranged": "N", "Digits": "N", "Decimal": "N.N", "Hex": "0xN", "Hexadecimal": "0xB", "Symbol": "@S", "Truth": "true|false"}

@@ -1,7 +1,6 @@
 -- The formats of the operations are accepted: registering one fails only if out of memory, or by the name of its dialect.
-use Rattle.std.proofs.Common.{◌≡◌, ◌∙◌, ◌<◌, ℕ, refl, ap, sym, subst, Bool, false, List, Option, codes, drop, get_or, inl, length, map}
+use Rattle.std.proofs.Common.{◌≡◌, ◌∙◌, ◌<◌, ℕ, refl, ap, sym, subst, Bool, List, Option, codes, drop, get_or, inl, length, map}
 use Rattle.std.proofs.lemmas.List.{drop_more}
-use Rattle.std.specs.Str.{bytes_eq}
 use Rattle.irtext_base.specs.Faults as faults
 use Rattle.irtext_base.specs.Faults.{Demand, demand_of, id_refused}
 use Rattle.irtext_base.specs.Text.{Text}

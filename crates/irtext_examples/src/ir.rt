@@ -1,13 +1,10 @@
 //! What the front end and the pass share: the types and attributes of their context, its operations, and the values of constants.
+pub use irtext_arith::keys::VALUE_KEY;
 use irtext_arith::register_arith;
 pub use irtext_arith::{ArithAttr, ArithType};
 use irtext_demo::dialects::register_demo;
-use irtext_syntax::Number;
-use irtext_syntax::own::Own;
-use irtext_syntax::sequence::{Then, Within};
 use pliron_text::base::{AttrObj, Context};
 use pliron_text::result;
-use std::marker::PhantomData;
 
 /// An attribute of the dialect `arith`.
 pub type Attr = ArithAttr<ArithType>;
@@ -18,9 +15,6 @@ pub type Ir = Context<ArithType, Attr>;
 /// The result of a call that can fail.
 pub type Answer<X> = result::Result<X, Attr>;
 
-/// The key under which an `arith.constant` holds its value.
-pub const VALUE_KEY: &'static str = "arith_value";
-
 /// Registers the operations of `arith`, and `builtin.module` with the other operations of the demo dialects.
 pub fn register(ctx: &mut Ir) -> Answer<()> {
     register_demo(ctx)?;
@@ -29,17 +23,10 @@ pub fn register(ctx: &mut Ir) -> Answer<()> {
 
 /// Returns the type of all numbers, `arith.int 32`.
 pub fn int() -> ArithType {
-    ArithType::Int(Number::new(32))
+    ArithType::int(32)
 }
 
 /// Returns the attribute `arith.value <N: T>` of a number and its type.
 pub fn value_attr(number: i64, of_type: ArithType) -> AttrObj<Attr> {
-    AttrObj::Own(ArithAttr::Value(Within {
-        inside: Then {
-            first: Number::new(number),
-            second: Own { value: of_type },
-            between: PhantomData,
-        },
-        brackets: PhantomData,
-    }))
+    AttrObj::Own(ArithAttr::value(number, of_type))
 }
