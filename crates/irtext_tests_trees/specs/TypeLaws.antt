@@ -12,8 +12,8 @@ use Rattle.irtext_syntax.specs.NumberLaws.{digits_last}
 use Rattle.irtext_syntax.specs.PartLaws.{IsRead}
 use Rattle.irtext_syntax.specs.ShapeLaws.{Proved, number_proved}
 use Rattle.irtext_syntax.specs.TableLaws.{part_row, word_row, part_sincere, word_sincere, table_sincere}
-use Rattle.irtext_tree.specs.GrammarLaws.{GrammarLaw, Follows, IfMore, SecondIs}
-use Rattle.irtext_tree.specs.HeadRows.{HeadRow, closed_row, spaced_open_row, mark_row, opened_row, head_starts, head_back, head_scalars, head_led, head_given_names, head_identifier, heads_missing, advances_if, table_advances, mark_advances, mark_sincere, more_advances, more_sincere, opening_sincere, opened_sincere}
+use Rattle.irtext_tree.specs.GrammarLaws.{GrammarLaw, Follows, IfMore, Occurs, Placed, SecondIs}
+use Rattle.irtext_tree.specs.HeadRows.{HeadRow, closed_row, spaced_open_row, mark_row, opened_row, head_starts, head_back, head_scalars, head_led, head_given_names, head_identifier, heads_missing, advances_if, table_advances, mark_advances, mark_sincere, more_advances, more_sincere, opening_sincere, opened_sincere, table_placed, part_placed, word_placed, mark_placed, more_placed, opening_placed, opened_placed}
 use Rattle.irtext_tree.specs.Words.{HeadsLed, HeadsUnreserved}
 use Rattle.irtext_base.specs.Families.{is_one_of}
 use Rattle.irtext_tests_trees.specs.Brackets.{angle_comma_law}
@@ -77,6 +77,18 @@ sincere : (s : LlvmPlace) → Sincere (llvm_at s)
 sincere place.Type = table_sincere type_word (codes "Unregistered type ") AType after_sincere
 sincere place.Close = mark_sincere (codes ">") head.Close
 sincere place.More = more_sincere 44 head.More (codes ">") head.End
+
+after_placed : (w : TypeWord) → Placed llvm_growth place.Type (type_after w)
+after_placed word.Int = part_placed llvm_growth place.Type int_shape.reading head.Int (λ x. refl)
+after_placed word.Ptr = word_placed llvm_growth place.Type head.Ptr refl
+after_placed word.Array = part_placed llvm_growth place.Type array_shape.reading head.Array (λ x. refl)
+after_placed word.Func = opening_placed llvm_growth place.Type (codes "<") head.Func refl
+after_placed word.Struct = opened_placed llvm_growth place.Type (codes "<") head.Struct 62 head.NoFields refl refl
+
+placed : (s : LlvmPlace) → Occurs llvm_growth s → Placed llvm_growth s (llvm_at s)
+placed place.Type o = table_placed llvm_growth place.Type type_word type_after (codes "Unregistered type ") AType after_placed
+placed place.Close o = mark_placed llvm_growth place.Close (codes ">") head.Close refl
+placed place.More o = more_placed llvm_growth place.More 44 head.More (codes ">") head.End refl refl
 
 advances : (s : LlvmPlace) (text : Text) (h : LlvmHead) (taken left : Text) → llvm_at s text ≡ Read h taken left → IfMore (waits_of h) (length left < length text)
 advances place.Type = advances_if llvm_growth (table_advances type_word type_after (codes "Unregistered type ") AType after_sincere)
@@ -147,6 +159,7 @@ llvm_law = record {
   back = back;
   scalars = scalars;
   sincere = sincere;
+  placed = placed;
   advances = advances;
   starts = starts;
   misses = λ text e. heads_missing type_word (codes "Unregistered type ") AType type_after text e;

@@ -3,6 +3,7 @@
 #![tactic(auto)]
 
 pub mod brackets;
+pub mod build;
 #[cfg(test)]
 mod tests;
 pub mod types;

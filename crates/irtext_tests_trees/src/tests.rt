@@ -1,2 +1,3 @@
 //! The tests.
+mod built;
 mod nested;

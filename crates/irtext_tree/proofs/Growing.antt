@@ -16,7 +16,7 @@ use Rattle.irtext_tree.specs.TreeLaws.{left_less, fewer_after_space}
 use Rattle.irtext_tree.specs.Trees.{grown, grown_after}
 
 -- a head that is read after white space is read where that ends
-spaced_read : {H : Type 0} (before : Text) (o : Outcome H) (h : H) (taken left : Text) → prefixed before o ≡ Read h taken left → (t : Text) × (o ≡ Read h t left)
+pub spaced_read : {H : Type 0} (before : Text) (o : Outcome H) (h : H) (taken left : Text) → prefixed before o ≡ Read h taken left → (t : Text) × (o ≡ Read h t left)
 spaced_read before (Read y u r) h taken left e =
     let p : (y ≡ h) × (r ≡ left) = (cc, cc) in
     (u, rw (p.0, p.1) refl)

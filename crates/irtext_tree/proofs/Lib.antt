@@ -1,2 +1,5 @@
 pub mod Growing
 pub mod Written
+pub mod Whole
+pub mod Opened
+pub mod Fronts

@@ -1,5 +1,5 @@
 -- The law of heads whose texts begin with dotted words, from one row for each head; and of heads that are fixed texts.
-use Rattle.std.proofs.Common.{◌≡◌, ℕ, ◌<◌, ◌≤◌, Bool, true, false, cond, Option, Some, None, List, [], ◌∷◌, ◌++◌, length, length-append, refl, sym, ◌∙◌, ap, ap₂, append_assoc, arith, true≢false}
+use Rattle.std.proofs.Common.{◌≡◌, ℕ, ◌<◌, ◌≤◌, Bool, true, false, cond, Option, Some, None, List, [], ◌∷◌, ◌++◌, length, length-append, refl, sym, ◌∙◌, ap, ap₂, subst, append_assoc, arith, true≢false}
 use Rattle.std.proofs.lemmas.Bool.Decides.{nat_tests}
 use Rattle.std.specs.Prelude.{◌&&◌, ◌||◌, ◌==◌, codes}
 use Rattle.std.specs.Cmp.Lexicographic.{bytes_decides}
@@ -17,14 +17,14 @@ use Rattle.irtext_base.proofs.Characters.{and_left, and_right, front_all, after_
 use Rattle.irtext_base.proofs.Scalars.{scalars_more}
 use Rattle.irtext_base.proofs.Sincere.{of_either, of_followed, of_mapped, of_read, of_sincere, sincere_of}
 use Rattle.irtext_tokens.proofs.SincereTokens.{of_space, of_text}
-use Rattle.irtext_tokens.specs.Infix.{Reader, nothing, either, ◌▷◌}
+use Rattle.irtext_tokens.specs.Infix.{Reader, nothing, either, ◌▷◌, ◌⇒◌}
 use Rattle.irtext_tokens.specs.Tokens.{space_at, text_at}
 use Rattle.irtext_syntax.specs.PartLaws.{IsRead, PartLaw}
 use Rattle.irtext_syntax.specs.PartSteps.{then_found, mapped_found, then_missing, spaced_found, ascii_scalars}
 use Rattle.irtext_syntax.specs.TableLaws.{differ, is_free}
 use Rattle.irtext_syntax.specs.Tables.{table_at, is_word_of, Row, IsRest}
 use Rattle.irtext_syntax.specs.Words.{chosen, dotted_at}
-use Rattle.irtext_tree.specs.GrammarLaws.{IfMore}
+use Rattle.irtext_tree.specs.GrammarLaws.{IfMore, Placed}
 use Rattle.irtext_tree.specs.Growths.{Growth}
 use Rattle.irtext_tree.specs.Marks.{mark_at, closed_at, opened_at, more_at}
 use Rattle.irtext_tree.specs.declared.waits.Waits.{Waits}
@@ -268,6 +268,59 @@ closed_sincere filled c empty = sincere_of (closed_at filled c empty) (λ t. of_
 
 pub opened_sincere : {H : Type 0} (opener : Text) (filled : H) (closer : ℕ) (empty : H) → Sincere (opened_at opener filled closer empty)
 opened_sincere opener filled c empty = sincere_of (opened_at opener filled c empty) (λ t. of_followed t _ _ (of_space t) (λ _ u. of_followed u _ _ (of_text opener u) (λ _ v. of_sincere (closed_at filled c empty) (closed_sincere filled c empty) v)))
+
+-- ---- each head that is parsed at a place is one of it
+module _ {S H : Type 0} (growth : Growth S H) (s : S) where
+  placed_by : {X : Type 0} (o : Outcome X) (make : X → H) (h : H) (taken left : Text) → ((x : X) → growth.same s (growth.place (make x)) ≡ true) → mapped make o ≡ Read h taken left → growth.same s (growth.place h) ≡ true
+  placed_by (Read x t r) make h taken left k e =
+      let p : make x ≡ h = cc in
+      subst (λ z. growth.same s (growth.place z) ≡ true) p (k x)
+  placed_by (Missing cause) make h taken left k e = absurd (cc)
+  placed_by (Bad cause upto) make h taken left k e = absurd (cc)
+
+  then_placed : {X : Type 0} (o : Outcome X) (next : X → Reader H) → ((x : X) → Placed growth s (next x)) → (h : H) (taken left : Text) → followed o next ≡ Read h taken left → growth.same s (growth.place h) ≡ true
+  then_placed (Read x t r) next k h taken left e = let q = prefixed_read t (next x r) h taken left e in k x r h q.0 left q.1
+  then_placed (Missing cause) next k h taken left e = absurd (cc)
+  then_placed (Bad cause upto) next k h taken left e = absurd (cc)
+
+  -- a word, and what comes after it
+  pub table_placed : {W : Type 0} (choose : Text → Option W) (following : W → Reader H) (refusal : Text) (demand : Demand) → ((w : W) → Placed growth s (following w)) → Placed growth s (table_at choose following refusal demand)
+  table_placed choose following refusal demand k text h taken left e = then_placed (dotted_at choose refusal demand text) following k h taken left e
+
+  -- a part after a word
+  pub part_placed : {X : Type 0} (reading : Reader X) (make : X → H) → ((x : X) → growth.same s (growth.place (make x)) ≡ true) → Placed growth s ((space_at ▷ reading) ⇒ make)
+  part_placed reading make k text h taken left e = placed_by ((space_at ▷ reading) text) make h taken left k e
+
+  -- nothing after a word
+  pub word_placed : (x : H) → growth.same s (growth.place x) ≡ true → Placed growth s (nothing x)
+  word_placed x k text h taken left e =
+      let p : x ≡ h = cc in
+      subst (λ z. growth.same s (growth.place z) ≡ true) p k
+
+  -- a fixed text
+  pub mark_placed : (mark : Text) (x : H) → growth.same s (growth.place x) ≡ true → Placed growth s (mark_at mark x)
+  mark_placed mark x k text h taken left e = placed_by (text_at mark text) (λ _. x) h taken left (λ _. k) e
+
+  -- a fixed text after a word
+  pub opening_placed : (mark : Text) (x : H) → growth.same s (growth.place x) ≡ true → Placed growth s (space_at ▷ mark_at mark x)
+  opening_placed mark x k text h taken left e = then_placed (space_at text) (λ _ t. mark_at mark x t) (λ _. mark_placed mark x k) h taken left e
+
+  either_placed : (b : Bool) (o p : Outcome H) (h : H) (taken left : Text) → (o ≡ Read h taken left → growth.same s (growth.place h) ≡ true) → (p ≡ Read h taken left → growth.same s (growth.place h) ≡ true) → cond b o p ≡ Read h taken left → growth.same s (growth.place h) ≡ true
+  either_placed true o p h taken left f g e = f e
+  either_placed false o p h taken left f g e = g e
+
+  -- what comes after an item of a list
+  pub more_placed : (separator : ℕ) (more : H) (closer : Text) (end : H) → growth.same s (growth.place more) ≡ true → growth.same s (growth.place end) ≡ true → Placed growth s (more_at separator more closer end)
+  more_placed c more closer end f g text h taken left e = either_placed (begins (the c) text) (mark_at (c ∷ []) more text) (mark_at closer end text) h taken left (mark_placed (c ∷ []) more f text h taken left) (mark_placed closer end g text h taken left) e
+
+  closed_placed : (filled : H) (c : ℕ) (empty : H) → growth.same s (growth.place filled) ≡ true → growth.same s (growth.place empty) ≡ true → Placed growth s (closed_at filled c empty)
+  closed_placed filled c empty f g text h taken left e =
+      then_placed (space_at text) (λ _. either (begins (the c)) (mark_at (c ∷ []) empty) (nothing filled)) (λ _ t h taken left e. either_placed (begins (the c) t) (mark_at (c ∷ []) empty t) (nothing filled t) h taken left (mark_placed (c ∷ []) empty g t h taken left) (word_placed filled f t h taken left) e) h taken left e
+
+  -- the opening text of a list that may be empty
+  pub opened_placed : (opener : Text) (filled : H) (closer : ℕ) (empty : H) → growth.same s (growth.place filled) ≡ true → growth.same s (growth.place empty) ≡ true → Placed growth s (opened_at opener filled closer empty)
+  opened_placed opener filled c empty f g text h taken left e =
+      then_placed (space_at text) (λ _. text_at opener ▷ closed_at filled c empty) (λ _ t h taken left e. then_placed (text_at opener t) (λ _. closed_at filled c empty) (λ _. closed_placed filled c empty f g) h taken left e) h taken left e
 
 -- ---- words that are reserved
 heads_of : (c d : ℕ) (s t : Text) → ◌≡◌ {A = Text} (c ∷ s) (d ∷ t) → (c ≡ d) × (s ≡ t)

@@ -22,6 +22,7 @@ module _ {H : Type 0} (reading : Reader H) (written : H → Text) where
         (k.0, ap (λ z. verdict (reading z)) (word_tight (written h ++ rest) (l.starts h rest)) ∙ k.1, k.2);
     scalars = l.scalars;
     sincere = λ p. s;
+    placed = λ p o text h taken left e. refl;
     advances = λ p text h taken left e. tt;
     starts = λ h rest e. l.starts h rest;
     misses = l.misses;

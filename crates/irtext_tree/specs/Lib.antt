@@ -1,6 +1,9 @@
+pub mod Fed
 pub mod Growths
 pub mod GrammarLaws
 pub mod Trees
+pub mod Rows
+pub mod Views
 pub mod Words
 pub mod Marks
 pub mod HeadRows

@@ -1,5 +1,5 @@
 -- Two grammars obey the law of a grammar as one.
-use Rattle.std.proofs.Common.{◌≡◌, ◌<◌, Bool, true, false, cond, List, ◌++◌, length, refl, sym, ◌∙◌, ap, subst, true≢false, codes}
+use Rattle.std.proofs.Common.{◌≡◌, ◌<◌, Bool, true, false, cond, List, ◌++◌, length, refl, sym, ◌∙◌, ap, subst, true≢false, codes, inl, inr}
 use Rattle.std.specs.Prelude.{◌↔◌, IsTrue}
 use Rattle.std.specs.Str.{all_scalars}
 use Rattle.irtext_base.specs.Answers.{Outcome, Read, Missing, Bad, mapped}
@@ -17,7 +17,7 @@ use Rattle.irtext_tokens.specs.Eithers.{right, either_at, either_of}
 use Rattle.irtext_tokens.specs.Infix.{Reader}
 use Rattle.irtext_tokens.specs.declared.either.Either.{Either}
 use Rattle.irtext_tokens.specs.declared.either.Either.TheVariants.{Left, Right}
-use Rattle.irtext_tree.specs.GrammarLaws.{GrammarLaw, Follows, IfMore, SecondIs}
+use Rattle.irtext_tree.specs.GrammarLaws.{GrammarLaw, Occurs, begins_tree, waits_after, WaitsFor, Placed, Follows, IfMore, SecondIs}
 use Rattle.irtext_tree.specs.Growths.{Growth}
 use Rattle.irtext_tree.specs.Pairs.{waits_by, left_place, right_place, same_places, pair_growth, pair_at}
 use Rattle.irtext_tree.specs.Words.{HeadsLed, HeadsUnreserved}
@@ -116,6 +116,61 @@ module _ {S R L M : Type 0} (gl : Growth S L) (gr : Growth R M) (left_at : S →
   right_follows W (waits.One s) rest e = right_leads (gr.same gr.start s) s rest e
   right_follows W (waits.Two s t) rest e = right_leads (gr.same gr.start s) s rest e
 
+  left_whole : (s : S) → gl.same gl.start s ≡ true → same_places gl gr place.Whole (left_place gl gr s) ≡ true
+  left_whole s e = ap (λ b. same_places gl gr place.Whole (cond b place.Whole (place.Left s))) e
+
+  right_whole : (s : R) → gr.same gr.start s ≡ true → same_places gl gr place.Whole (right_place gl gr s) ≡ true
+  right_whole s e = ap (λ b. same_places gl gr place.Whole (cond b place.Whole (place.Right s))) e
+
+  -- a place of one grammar is one at which no tree begins, and occurs there
+  left_was : (b : Bool) (s t : S) → gl.same gl.start t ≡ b → ◌≡◌ {A = Places S R} (place.Left s) (cond b place.Whole (place.Left t)) → (gl.same gl.start s ≡ false) × (s ≡ t)
+  left_was true s t q e = absurd (cc)
+  left_was false s t q e = let p : s ≡ t = cc in (ap (gl.same gl.start) p ∙ q, p)
+
+  left_waits : (s : S) (w : Waits S) → ((t : S) → WaitsFor t w → Occurs gl t) → WaitsFor (place.Left s) (waits_by (left_place gl gr) w) → (gl.same gl.start s ≡ false) × Occurs gl s
+  left_waits s waits.Nothing o e = absurd e
+  left_waits s (waits.One t) o e = let k = left_was (gl.same gl.start t) s t refl e in (k.0, o s k.1)
+  left_waits s (waits.Two t u) o (inl e) = let k = left_was (gl.same gl.start t) s t refl e in (k.0, o s (inl k.1))
+  left_waits s (waits.Two t u) o (inr e) = let k = left_was (gl.same gl.start u) s u refl e in (k.0, o s (inr k.1))
+
+  never_right : (b : Bool) (s : S) (t : R) → ◌≡◌ {A = Places S R} (place.Left s) (cond b place.Whole (place.Right t)) → ⊥
+  never_right true s t e = absurd (cc)
+  never_right false s t e = absurd (cc)
+
+  no_right : (s : S) (w : Waits R) → WaitsFor (place.Left s) (waits_by (right_place gl gr) w) → ⊥
+  no_right s waits.Nothing e = e
+  no_right s (waits.One t) e = never_right (gr.same gr.start t) s t e
+  no_right s (waits.Two t u) (inl e) = never_right (gr.same gr.start t) s t e
+  no_right s (waits.Two t u) (inr e) = never_right (gr.same gr.start u) s u e
+
+  right_was : (b : Bool) (s t : R) → gr.same gr.start t ≡ b → ◌≡◌ {A = Places S R} (place.Right s) (cond b place.Whole (place.Right t)) → (gr.same gr.start s ≡ false) × (s ≡ t)
+  right_was true s t q e = absurd (cc)
+  right_was false s t q e = let p : s ≡ t = cc in (ap (gr.same gr.start) p ∙ q, p)
+
+  right_waits : (s : R) (w : Waits R) → ((t : R) → WaitsFor t w → Occurs gr t) → WaitsFor (place.Right s) (waits_by (right_place gl gr) w) → (gr.same gr.start s ≡ false) × Occurs gr s
+  right_waits s waits.Nothing o e = absurd e
+  right_waits s (waits.One t) o e = let k = right_was (gr.same gr.start t) s t refl e in (k.0, o s k.1)
+  right_waits s (waits.Two t u) o (inl e) = let k = right_was (gr.same gr.start t) s t refl e in (k.0, o s (inl k.1))
+  right_waits s (waits.Two t u) o (inr e) = let k = right_was (gr.same gr.start u) s u refl e in (k.0, o s (inr k.1))
+
+  never_left : (b : Bool) (s : R) (t : S) → ◌≡◌ {A = Places S R} (place.Right s) (cond b place.Whole (place.Left t)) → ⊥
+  never_left true s t e = absurd (cc)
+  never_left false s t e = absurd (cc)
+
+  no_left : (s : R) (w : Waits S) → WaitsFor (place.Right s) (waits_by (left_place gl gr) w) → ⊥
+  no_left s waits.Nothing e = e
+  no_left s (waits.One t) e = never_left (gl.same gl.start t) s t e
+  no_left s (waits.Two t u) (inl e) = never_left (gl.same gl.start t) s t e
+  no_left s (waits.Two t u) (inr e) = never_left (gl.same gl.start u) s u e
+
+  left_same : (s t : S) (b : Bool) → gl.same gl.start t ≡ b → gl.same gl.start s ≡ false → gl.same s t ≡ true → same_places gl gr (place.Left s) (cond b place.Whole (place.Left t)) ≡ true
+  left_same s t false q n e = e
+  left_same s t true q n e = absurd (true≢false (sym q ∙ (ap (gl.same gl.start) (sym ((ll.decides s t).0 e)) ∙ n)))
+
+  right_same : (s t : R) (b : Bool) → gr.same gr.start t ≡ b → gr.same gr.start s ≡ false → gr.same s t ≡ true → same_places gl gr (place.Right s) (cond b place.Whole (place.Right t)) ≡ true
+  right_same s t false q n e = e
+  right_same s t true q n e = absurd (true≢false (sym q ∙ (ap (gr.same gr.start) (sym ((rl.decides s t).0 e)) ∙ n)))
+
   module _ {W : Type 0} where
     abbrev growth : Growth (Places S R) (Either L M W)
     growth = pair_growth gl gr
@@ -192,6 +247,35 @@ module _ {S R L M : Type 0} (gl : Growth S L) (gr : Growth R M) (left_at : S →
     advances (place.Left s) text h taken left e = left_advances s text h taken left e
     advances (place.Right s) text h taken left e = right_advances s text h taken left e
 
+    whole_placed : (b : Bool) (text : Text) (h : Either L M W) (taken left : Text) → cond b (mapped Left (left_at gl.start text)) (mapped right (right_at gr.start text)) ≡ Read h taken left → growth.same place.Whole (growth.place h) ≡ true
+    whole_placed true text h taken left e =
+        let k = mapped_read Left (left_at gl.start text) h taken left e in
+        subst (λ z. growth.same place.Whole (growth.place z) ≡ true) k.2 (left_whole (gl.place k.0) (ll.placed gl.start (begins_tree refl) text k.0 taken left k.1))
+    whole_placed false text h taken left e =
+        let k = mapped_read right (right_at gr.start text) h taken left e in
+        subst (λ z. growth.same place.Whole (growth.place z) ≡ true) k.2 (right_whole (gr.place k.0) (rl.placed gr.start (begins_tree refl) text k.0 taken left k.1))
+
+    left_occurs : (s : S) → Occurs growth (place.Left s) → (gl.same gl.start s ≡ false) × Occurs gl s
+    left_occurs s (begins_tree e) = absurd (cc)
+    left_occurs s (waits_after (Left h) e) = left_waits s (gl.waits h) (λ t k. waits_after h k) e
+    left_occurs s (waits_after (Right h p) e) = absurd (no_right s (gr.waits h) e)
+
+    right_occurs : (s : R) → Occurs growth (place.Right s) → (gr.same gr.start s ≡ false) × Occurs gr s
+    right_occurs s (begins_tree e) = absurd (cc)
+    right_occurs s (waits_after (Left h) e) = absurd (no_left s (gl.waits h) e)
+    right_occurs s (waits_after (Right h p) e) = right_waits s (gr.waits h) (λ t k. waits_after h k) e
+
+    placed : (s : Places S R) → Occurs growth s → Placed growth s (at s)
+    placed place.Whole o text h taken left e = whole_placed (is_one_of words (front in_dotted text)) text h taken left e
+    placed (place.Left s) o text h taken left e =
+        let k = mapped_read Left (left_at s text) h taken left e in
+        let w = left_occurs s o in
+        subst (λ z. growth.same (place.Left s) (growth.place z) ≡ true) k.2 (left_same s (gl.place k.0) (gl.same gl.start (gl.place k.0)) refl w.0 (ll.placed s w.1 text k.0 taken left k.1))
+    placed (place.Right s) o text h taken left e =
+        let k = mapped_read right (right_at s text) h taken left e in
+        let w = right_occurs s o in
+        subst (λ z. growth.same (place.Right s) (growth.place z) ≡ true) k.2 (right_same s (gr.place k.0) (gr.same gr.start (gr.place k.0)) refl w.0 (rl.placed s w.1 text k.0 taken left k.1))
+
     starts : (h : Either L M W) (rest : Text) → growth.place h ≡ place.Whole → begins begins_word (text_of h ++ rest) ≡ true
     starts (Left h) rest e = ll.starts h rest (left_start (gl.place h) (gl.same gl.start (gl.place h)) refl (ap is_whole e))
     starts (Right h p) rest e = rl.starts h rest (right_start (gr.place h) (gr.same gr.start (gr.place h)) refl (ap is_whole e))
@@ -206,6 +290,7 @@ module _ {S R L M : Type 0} (gl : Growth S L) (gr : Growth R M) (left_at : S →
       back = back;
       scalars = scalars;
       sincere = sincere;
+      placed = placed;
       advances = advances;
       starts = starts;
       misses = λ text e. missed_by (is_one_of words (front in_dotted text)) _ _ (mapped_missing Left (left_at gl.start text) (ll.misses text e)) (mapped_missing right (right_at gr.start text) (rl.misses text e));

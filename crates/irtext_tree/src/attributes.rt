@@ -35,23 +35,18 @@ impl<A: Drop, S: AttrGrammar<H, A>, H: Eq + Hash + Drop> AttrText<A> for Tree<S,
     ghost unreserved = { tree_unreserved S.Grows.own S.Grammar.reading S.Grammar.written S.Grammar.sound S.unreserved };
 
     fn is_outlined(&self) -> bool {
-        match self.heads().first() {
-            Some(head) => S::is_outlined(head),
-            None => false,
-        }
+        S::is_outlined(self.head())
     }
 
     fn is_print_once(&self) -> bool {
-        match self.heads().first() {
-            Some(head) => S::is_print_once(head),
-            None => false,
-        }
+        S::is_print_once(self.head())
     }
 
     fn try_clone(&self) -> Result<Tree<S, H>, AllocError> {
-        let heads = heads_cloned::<S, H, A>(self.heads.allocator(), self.heads())?;
+        let first = S::clone_head(self.head())?;
+        let rest = heads_cloned::<S, H, A>(self.heads.allocator(), self.rest())?;
         Ok(Tree {
-            heads: Heads::new(heads),
+            heads: Heads::new(first, rest),
             grammar: PhantomData,
         })
     }

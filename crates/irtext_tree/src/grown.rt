@@ -6,7 +6,7 @@ ghost use Rattle.irtext_tokens.specs.Infix.{◌▷◌};
 ghost use Rattle.irtext_tokens.specs.MustRead.{MayRead, MustRead};
 ghost use Rattle.irtext_tokens.specs.Tokens.{space_at};
 ghost use Rattle.irtext_tree.specs.Growths.{is_tree, waiting};
-ghost use Rattle.irtext_tree.specs.TreeOf.{tree_of, whole_at, tree_at, tree_text};
+ghost use Rattle.irtext_tree.specs.TreeOf.{tree_of, tree_at, tree_text};
 ghost use Rattle.irtext_tree.specs.Trees.{grown_after, heads_at, heads_text};
 
 use crate::grammar::{Grammar, Grows, LedGrammar};
@@ -16,6 +16,7 @@ use crate::waits::Waits;
 use irtext_base::parsable::{CharStream, ParseResult, TextStream};
 use irtext_base::result::Cause;
 use irtext_base::text::{Family, IrText, Worded};
+use irtext_memory::{OutOfMemory, vec};
 use irtext_syntax::part::TryClone;
 use irtext_tokens::irfmt::faults::{committed, out_of_memory, refuse};
 use irtext_tokens::irfmt::parsers::skip_white_space;
@@ -23,28 +24,31 @@ use std::alloc::{AllocError, Global};
 use std::fmt;
 use std::marker::PhantomData;
 
-/// The places that wait, the next one last.
-fn push_waits<S: Copy + Drop>(waits: Waits<S>, left: &mut Vec<S>) -> Result<(), AllocError>
+/// The places that wait, the next one last. Fails only if an allocation fails.
+fn push_waits<S: Copy + Drop>(waits: Waits<S>, left: &mut Vec<S>) -> Result<(), OutOfMemory>
     ensures { OnOk result (reverse left.new.items ≡ waiting waits (reverse left.old.items)) }
 {
     match waits {
         Waits::Nothing => {}
-        Waits::One(place) => left.push(place)?,
+        Waits::One(place) => vec::push(left, place)?,
         Waits::Two(place, second) => {
-            left.push(second)?;
-            left.push(place)?;
+            vec::push(left, second)?;
+            vec::push(left, place)?;
         }
     }
     Ok(())
 }
 
-/// Whether the heads are those of one tree.
-fn is_whole<S: Grows<H>, H>(alloc: Global, heads: &[H]) -> Result<bool, AllocError>
-    ensures { IfOk result (λ b. b ≡ is_tree S.growth heads.now) }
+/// Whether the heads are those of one tree. Fails only if an allocation fails.
+fn is_whole<S: Grows<H>, H>(alloc: Global, first: &H, rest: &[H]) -> Result<bool, OutOfMemory>
+    ensures { IfOk result (λ b. b ≡ is_tree S.growth (first.now ∷ rest.now)) }
 {
+    if !S::start().takes(first) {
+        return Ok(false);
+    }
     let mut left = Vec::new(alloc);
-    left.push(S::start())?;
-    for head in heads {
+    push_waits(S::waits(first), &mut left)?;
+    for head in rest {
         let Some(place) = left.pop() else {
             return Ok(false);
         };
@@ -68,18 +72,18 @@ fn head_demanded<S: Grammar<H, A>, H: Eq, A>(stream: &mut TextStream, place: S) 
     committed(stream, answer)
 }
 
-/// Appends a head to those found, and what comes after it to the places that wait.
+/// Appends a head to those found, and what comes after it to the places that wait. Fails only if an allocation fails.
 fn take_head<S: Grows<H>, H: Drop>(
     head: H,
     left: &mut Vec<S>,
     found: &mut Vec<H>,
-) -> Result<(), AllocError>
+) -> Result<(), OutOfMemory>
     ensures waits { OnOk result (reverse left.new.items
         ≡ waiting (S.growth.waits head) (reverse left.old.items)) }
     ensures found { OnOk result (found.new.items ≡ found.old.items ++ head ∷ []) }
 {
     push_waits(S::waits(&head), left)?;
-    found.push(head)?;
+    vec::push(found, head)?;
     Ok(())
 }
 
@@ -87,8 +91,8 @@ fn take_head<S: Grows<H>, H: Drop>(
 fn heads_after<S: Grammar<H, A>, H: Eq + Drop, A: Drop>(
     stream: &mut TextStream,
     first: H,
-) -> ParseResult<Vec<H>, A>
-    ensures { MustRead (λ s. s) (λ s v. v) (λ v. v.items) (grown_after S.growth S.reading first) stream.old
+) -> ParseResult<Heads<H>, A>
+    ensures { MustRead (λ s. s) (λ s v. v) (λ x. x) (grown_after S.growth S.reading first) stream.old
         result stream.new }
 {
     if stream.has_failed() {
@@ -97,7 +101,7 @@ fn heads_after<S: Grammar<H, A>, H: Eq + Drop, A: Drop>(
     let alloc = stream.allocator();
     let mut left: Vec<S> = Vec::new(alloc);
     let mut found = Vec::new(alloc);
-    let Ok(()) = take_head(first, &mut left, &mut found) else {
+    let Ok(()) = push_waits(S::waits(&first), &mut left) else {
         return Err(out_of_memory(stream));
     };
     while let Some(place) = left.pop() {
@@ -106,14 +110,14 @@ fn heads_after<S: Grammar<H, A>, H: Eq + Drop, A: Drop>(
             return Err(out_of_memory(stream));
         };
     }
-    Ok(found)
+    Ok(Heads::new(first, found))
 }
 
 /// Parses the heads of a tree. If none begins, the error is not committed.
 fn heads_parse<S: Grammar<H, A>, H: Eq + Drop, A: Drop>(
     stream: &mut TextStream,
-) -> ParseResult<Vec<H>, A>
-    ensures { MayRead (λ s. s) (λ s v. v) (λ v. v.items) (heads_at S.growth S.reading) stream.old
+) -> ParseResult<Heads<H>, A>
+    ensures { MayRead (λ s. s) (λ s v. v) (λ x. x) (heads_at S.growth S.reading) stream.old
         result stream.new }
 {
     match S::start().read(stream) {
@@ -134,48 +138,35 @@ fn write_heads<S: Grammar<H, A>, H: Eq, A>(heads: &[H], f: &mut String) -> fmt::
     Ok(())
 }
 
+/// Appends the text of a head, and those of the heads after it.
+fn write_tree<S: Grammar<H, A>, H: Eq, A>(head: &H, rest: &[H], f: &mut String) -> fmt::Result
+    ensures text { OnOk result (string_bytes f.new ≡ string_bytes f.old
+        ++ encode_utf8_all (heads_text S.written (head.now ∷ rest.now))) }
+    ensures appended { OnErr result (OnlyAppends f.old f.new) }
+{
+    S::write_head(head, f)?;
+    write_heads::<S, H, A>(rest, f)?;
+    Ok(())
+}
+
 impl<S: Grows<H>, H: Drop> Tree<S, H> {
     /// Returns the tree of these heads, or `None` if they are not those of one: a head is at another place, one is missing, or one is left
     /// over. Fails only if an allocation fails.
-    pub fn try_new(heads: Vec<H>) -> Result<Option<Tree<S, H>>, AllocError>
-        ensures { IfOk result (λ tree. tree ≡ tree_of S.Grows.own heads.items) }
+    pub fn try_new(first: H, rest: Vec<H>) -> Result<Option<Tree<S, H>>, OutOfMemory>
+        ensures { IfOk result (λ tree. tree ≡ tree_of S.Grows.own (first ∷ rest.items)) }
     {
-        if !is_whole::<S, H>(*heads.allocator(), heads.as_slice())? {
+        if !is_whole::<S, H>(*rest.allocator(), &first, rest.as_slice())? {
             return Ok(None);
         }
         Ok(Some(Tree {
-            heads: Heads::new(heads),
+            heads: Heads::new(first, rest),
             grammar: PhantomData,
         }))
     }
-
-    /// Returns the heads, in the order of the text.
-    pub fn heads(&self) -> &[H]
-        ensures { result.now ≡ self.now.heads }
-    {
-        self.heads.as_slice()
-    }
 }
 
-/// Makes a tree of the heads that were parsed. Fails only if an allocation fails, or if the stream had failed.
-fn whole_tree<S: Grows<H>, H: Drop, A: Drop>(
-    stream: &mut TextStream,
-    heads: Vec<H>,
-) -> ParseResult<Tree<S, H>, A>
-    ensures { MustRead (λ s. s) (λ s v. v) (λ x. x) (whole_at S.Grows.own (tree_of S.Grows.own heads.items))
-        stream.old result stream.new }
-{
-    if stream.has_failed() {
-        return Err(refuse(stream, Cause::StreamFailed));
-    }
-    match Tree::try_new(heads) {
-        Ok(Some(tree)) => Ok(tree),
-        Ok(None) => Err(refuse(stream, Cause::EmptyItem)),
-        Err(_) => Err(out_of_memory(stream)),
-    }
-}
-
-/// Parses a tree: its first head, and then, after optional white space, a head for each place that waits.
+/// Parses a tree: its first head, and then, after optional white space, a head for each place that waits. The heads are those of a tree, as
+/// each is one of the place at which it was parsed.
 fn tree_parse<S: Grammar<H, A>, H: Eq + Drop, A: Drop>(
     stream: &mut TextStream,
 ) -> ParseResult<Tree<S, H>, A>
@@ -183,7 +174,10 @@ fn tree_parse<S: Grammar<H, A>, H: Eq + Drop, A: Drop>(
         result stream.new }
 {
     match heads_parse::<S, H, A>(stream) {
-        Ok(heads) => whole_tree(stream, heads),
+        Ok(heads) => Ok(Tree {
+            heads,
+            grammar: PhantomData,
+        }),
         Err(fault) => Err(fault),
     }
 }
@@ -209,7 +203,7 @@ impl<A: Drop, S: Grammar<H, A>, H: Eq + Drop> IrText<A> for Tree<S, H> {
     }
 
     fn write_text(&self, f: &mut String) -> fmt::Result {
-        write_heads::<S, H, A>(self.heads(), f)
+        write_tree::<S, H, A>(self.head(), self.rest(), f)
     }
 }
 

@@ -1,9 +1,10 @@
-//! The heads of a tree, compared as a list.
-ghost use Rattle.std.specs.Prelude.{◌≡◌, IfOk};
+//! The heads of a tree, compared as a list. The first is stored in place, so that a tree of one head allocates nothing.
+ghost use Rattle.std.specs.Prelude.{◌≡◌, ◌∷◌, ◌++◌, [], IfOk, drop};
 ghost use Rattle.std.specs.Cmp.{on_equiv, on_per};
 ghost use Rattle.std.specs.Cmp.Lexicographic.{pointwise, lists_equiv, lists_per};
-ghost use Rattle.std.specs.Hash as fed;
+ghost use Rattle.irtext_tree.specs.Fed.{heads_fed, heads_alike};
 
+use irtext_memory::{OutOfMemory, vec};
 use irtext_syntax::part::TryClone;
 use std::alloc::{AllocError, Global};
 use std::fmt;
@@ -13,40 +14,83 @@ use std::marker::Model;
 /// The heads of a tree, in the order of its text.
 #[derive(Drop)]
 pub struct Heads<H> {
-    items: Vec<H>,
+    first: H,
+    rest: Vec<H>,
 }
 
 impl<H> Model for Heads<H> {
-    ghost use Rattle.std.specs.Prelude.{List};
+    ghost use Rattle.std.specs.Prelude.{List, ◌∷◌};
 
     ghost Value = { List H };
 
-    ghost view = { λ l. l.items.items };
+    ghost view = { λ l. l.first ∷ l.rest.items };
 }
 
 impl<H> Heads<H> {
     /// Takes these heads.
-    pub(crate) fn new(items: Vec<H>) -> Heads<H>
-        ensures { result ≡ items.items }
+    pub(crate) fn new(first: H, rest: Vec<H>) -> Heads<H>
+        ensures { result ≡ first ∷ rest.items }
     {
-        Heads { items }
+        Heads { first, rest }
     }
 
-    /// Returns the heads.
-    pub(crate) fn as_slice(&self) -> &[H]
-        ensures { result.now ≡ self.now }
+    /// Returns the first head.
+    pub(crate) fn first(&self) -> &H
+        ensures { result.now ∷ drop 1 self.now ≡ self.now }
     {
-        self.items.as_slice()
+        &self.first
+    }
+
+    /// Returns the heads after the first.
+    pub(crate) fn rest(&self) -> &[H]
+        ensures { result.now ≡ drop 1 self.now }
+    {
+        self.rest.as_slice()
     }
 
     /// Returns the allocator of the heads.
     pub(crate) fn allocator(&self) -> Global {
-        *self.items.allocator()
+        *self.rest.allocator()
     }
 }
 
+impl<H: Drop> Heads<H> {
+    /// Returns the heads with one more at the end. If an allocation fails, all are dropped.
+    pub(crate) fn with(self, head: H) -> Result<Heads<H>, OutOfMemory>
+        ensures { IfOk result (λ heads. heads ≡ self ++ head ∷ []) }
+    {
+        let Heads { first, mut rest } = self;
+        vec::push(&mut rest, head)?;
+        Ok(Heads { first, rest })
+    }
+
+    /// Returns the heads with others after them. If an allocation fails, all are dropped.
+    pub(crate) fn joined(self, more: Heads<H>) -> Result<Heads<H>, OutOfMemory>
+        ensures { IfOk result (λ heads. heads ≡ self ++ more) }
+    {
+        let Heads { first, rest } = self;
+        let Heads {
+            first: second,
+            rest: others,
+        } = more;
+        let rest = appended(rest, second, others)?;
+        Ok(Heads { first, rest })
+    }
+}
+
+/// Returns the heads with one and others after them. If an allocation fails, all are dropped.
+fn appended<H: Drop>(mut heads: Vec<H>, next: H, more: Vec<H>) -> Result<Vec<H>, OutOfMemory>
+    ensures { IfOk result (λ all. all.items ≡ heads.items ++ next ∷ more.items) }
+{
+    vec::push(&mut heads, next)?;
+    for head in more {
+        vec::push(&mut heads, head)?;
+    }
+    Ok(heads)
+}
+
 /// Returns equal copies of the heads. Fails only if an allocation fails.
-fn copies<H: TryClone + Drop>(alloc: Global, heads: &[H]) -> Result<Vec<H>, AllocError>
+pub(crate) fn copies<H: TryClone + Drop>(alloc: Global, heads: &[H]) -> Result<Vec<H>, AllocError>
     ensures { IfOk result (λ copies. copies.items ≡ heads.now) }
 {
     let mut copies = Vec::new(alloc);
@@ -58,14 +102,16 @@ fn copies<H: TryClone + Drop>(alloc: Global, heads: &[H]) -> Result<Vec<H>, Allo
 
 impl<H: TryClone + Drop> TryClone for Heads<H> {
     fn try_clone(&self) -> Result<Heads<H>, AllocError> {
-        let items = copies(self.allocator(), self.as_slice())?;
-        Ok(Heads::new(items))
+        let first = self.first.try_clone()?;
+        let rest = copies(self.allocator(), self.rest())?;
+        Ok(Heads::new(first, rest))
     }
 }
 
 impl<H: fmt::Debug> fmt::Debug for Heads<H> {
     fn fmt<W: fmt::Write>(&self, f: &mut fmt::Formatter<W>) -> fmt::Result {
-        self.items.fmt(f)
+        self.first.fmt(f)?;
+        self.rest.fmt(f)
     }
 }
 
@@ -75,7 +121,7 @@ impl<H: PartialEq> PartialEq for Heads<H> {
     ghost laws = { on_per (λ l. l) (lists_per H.PartialEq.laws) };
 
     fn eq(&self, other: &Self) -> bool {
-        self.as_slice() == other.as_slice()
+        self.first == other.first && self.rest.as_slice() == other.rest.as_slice()
     }
 }
 
@@ -84,11 +130,12 @@ impl<H: Eq> Eq for Heads<H> {
 }
 
 impl<H: Hash + Eq> Hash for Heads<H> {
-    ghost hash_input = { λ l. fed.slice H.hash_input l };
+    ghost hash_input = { λ l. heads_fed H.hash_input l };
 
-    ghost respects_eq = { (fed.items_Alike (record { fed = H.respects_eq })).fed };
+    ghost respects_eq = { (heads_alike (record { fed = H.respects_eq })).fed };
 
     fn hash<S: Hasher>(&self, state: &mut S) {
-        self.as_slice().hash(state);
+        self.first.hash(state);
+        self.rest.as_slice().hash(state);
     }
 }

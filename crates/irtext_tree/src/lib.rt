@@ -7,6 +7,8 @@
 //!   (`LedGrammar`, `AttrGrammar`).
 //! - `marks`: heads that are fixed texts, such as `>`, and how lists begin and go on.
 //! - `tree`, `heads`: the trees of a grammar (`Tree`).
+//! - `build`: trees that are built of heads and of other trees (`TreeBuilder`).
+//! - `views`: the trees that a tree holds, without a copy (`SubTree`, `Children`).
 //! - `grown`: how trees are parsed and printed.
 //! - `attributes`: trees as attributes.
 //! - `places`, `pair`: two grammars as one, whose trees hold those of both.
@@ -14,6 +16,7 @@
 #![tactic(auto)]
 
 pub mod attributes;
+pub mod build;
 pub mod grammar;
 pub mod grown;
 pub mod heads;
@@ -22,9 +25,12 @@ pub mod marks;
 pub mod pair;
 pub mod places;
 pub mod tree;
+pub mod views;
 pub mod waits;
 
+pub use build::TreeBuilder;
 pub use grammar::{AttrGrammar, Grammar, Grows, LedGrammar};
 pub use places::{Leaf, Places};
 pub use tree::Tree;
+pub use views::{Children, SubTree};
 pub use waits::Waits;

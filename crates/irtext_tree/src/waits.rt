@@ -11,3 +11,19 @@ pub enum Waits<S> {
     /// A place, and after it another.
     Two(S, S),
 }
+
+impl<S> Waits<S> {
+    ghost use Rattle.std.specs.Prelude.{◌≡◌};
+    ghost use Rattle.irtext_tree.specs.Rows.{count};
+
+    /// Returns how many places wait.
+    pub(crate) fn count(&self) -> usize
+        ensures { result ≡ count self.now }
+    {
+        match self {
+            Waits::Nothing => 0,
+            Waits::One(_) => 1,
+            Waits::Two(_, _) => 2,
+        }
+    }
+}

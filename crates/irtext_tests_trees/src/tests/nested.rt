@@ -12,7 +12,7 @@ use std::process::Abort;
 use std::test::Fail;
 
 /// Says that no word is of both dialects.
-struct Differ;
+pub struct Differ;
 
 impl Apart<DemoType, LlvmHead> for Differ {
     ghost apart = { refl };
@@ -23,7 +23,7 @@ impl Apart<DemoAttr, LlvmHead> for Differ {
 }
 
 /// A type of the demo dialects or of `llvm`, whose types hold those of both.
-type AnyType = Tree<Places<Leaf, LlvmPlace>, Either<DemoType, LlvmHead, Differ>>;
+pub type AnyType = Tree<Places<Leaf, LlvmPlace>, Either<DemoType, LlvmHead, Differ>>;
 
 /// An attribute of the demo dialects, or one that holds attributes.
 type AnyAttr = Tree<Places<Leaf, LlvmPlace>, Either<DemoAttr, LlvmHead, Differ>>;
