@@ -1,0 +1,2 @@
+-- What is needed besides the laws of texts
+mod OperationFormats
