@@ -5,7 +5,7 @@ import tempfile
 import textwrap
 
 from dialects.choices import Choice
-from dialects.definitions import Definitions
+from dialects.definitions import PARSED, Definitions, parsed_by_hand
 from dialects.description import described
 from dialects.operations import Operations, code_span
 from dialects.parts import MORE, SPACED, Wrong, shown
@@ -41,11 +41,14 @@ def files_of(dialect):
         specs += ["pub mod Operations"]
     if keys_of(dialect):
         files["src/keys.rt"] = keys_source(dialect)
+    if any(it.by_hand for it in dialect.families):
+        files["proofs/Parsed.antt"] = PARSED
     if dialect.fixed or dialect.ranges:
         files["src/fixed.rt"] = fixed_source(dialect)
     files["specs/Lib.antt"] = "\n".join(specs) + "\n"
-    proofs = "-- What is needed besides the laws of texts"
-    files["proofs/Lib.antt"] = f"{proofs}\nmod OperationFormats\n" if dialect.operations else f"{proofs}: nothing\n"
+    proofs = (["mod OperationFormats"] if dialect.operations else []) + (["mod Parsed"] if "proofs/Parsed.antt" in files else [])
+    says = "-- What is needed besides the laws of texts"
+    files["proofs/Lib.antt"] = "\n".join([says, *proofs] if proofs else [f"{says}: nothing"]) + "\n"
     files["src/lib.rt"] = root_of(dialect, files)
     return files
 
@@ -76,7 +79,7 @@ def files_of_family(family):
     }
     if Values(family).viewed:
         files[f"specs/{Values(family).file}.antt"] = Values(family).definitions()
-    return files | Definitions(family).printed()
+    return files | Definitions(family).printed() | parsed_by_hand(family)
 
 
 MEANT = {"Number Ranged": "N is a number", "Flag": "`w?` the word `w` or nothing", "Characters": "S a string", "Name": "I an identifier", "Own whole": "T a type of the context", "attribute": "A an attribute of the context"}

@@ -280,5 +280,46 @@ class Definitions:
         return {f"proofs/{where.replace('.', '/')}/Answers.antt": "\n".join(lines) + "\n"}
 
 
+PARSED = """-- What comes after a word is parsed as the value of the word's variant.
+use Rattle.std.proofs.Common.{Ok, Err, refl}
+use Rattle.irtext_base.specs.Answers.{Outcome, mapped}
+use Rattle.irtext_base.specs.Stream.{StreamView}
+use Rattle.irtext_base.specs.Text.{Text}
+use Rattle.irtext_base.specs.declared.parsable.fault.ParseFault.{ParseFault}
+use Rattle.irtext_base.proofs.Compose.{refuses_mapped_demanded}
+use Rattle.irtext_tokens.specs.MustRead.{MustRead}
+use Rattle.irtext_tokens.proofs.Steps.{alone, seen_alone}
+
+pub parsed : {V W A : Type 0} {f : Text → Outcome V} {old new : StreamView} {v : V} (k : V → W) → MustRead {A = A} (λ s. s) (λ s v. v) (λ x. x) f old (Ok v) new → MustRead {A = A} (λ s. s) (λ s v. v) (λ x. x) (λ t. mapped k (f t)) old (Ok (k v)) new
+parsed k h = seen_alone alone (λ x. x) k _ refl h
+
+pub failed : {V W A : Type 0} {f : Text → Outcome V} {old new : StreamView} {fault : ParseFault A} (k : V → W) → MustRead {Y = V} (λ s. s) (λ s v. v) (λ x. x) f old (Err fault) new → MustRead {Y = W} (λ s. s) (λ s v. v) (λ x. x) (λ t. mapped k (f t)) old (Err fault) new
+failed {f = f} {old = old} {new = new} {fault = fault} k h = record { answers = refuses_mapped_demanded (λ s. s) (λ s v. v) (λ s v. refl) (λ s v w. refl) k old.failed (f old.rest) old new fault h.answers }
+"""
+
+
+def parsed_by_hand(family):
+    """The proofs that the rows with a part written by hand inside of another part are parsed as the table says, which is not always seen
+    without unfolding it."""
+    if not family.by_hand:
+        return {}
+    short, crate = ("ty" if family.is_type else "attr"), family.dialect.crate
+    where = f"{family.module}.{family.words}Table{family.enum}.parse"
+    lines = [
+        "use Rattle.irtext_tokens.proofs.Exits.{propagated}",
+        f"use Rattle.{crate}.proofs.Parsed.{{parsed, failed}}",
+        f"use Rattle.{crate}.specs.declared.{family.module}.{family.enum}.TheVariants as {short}",
+        f"use Rattle.{crate}.proofs.{where}.Goals as goal",
+    ]
+    for row in family.by_hand:
+        at = f"after_word-in-{row.variant}"
+        exit_ = "from_residual" if row is family.held[0] else f"from_residual-in_err-{at}"
+        lines += ["", f"pub returns-in_err-{at} : goal.returns-in_err-{at}"]
+        lines += [f"returns-in_err-{at} g c = rw (propagated c.{exit_}.result c.{exit_}.ensures.1) (rw c.in-{row.variant}.is (failed {short}.{row.variant} c.in_err-{at}.ensures))"]
+        lines += ["", f"pub returns-in_ok-{at} : goal.returns-in_ok-{at}"]
+        lines += [f"returns-in_ok-{at} g c = rw c.in-{row.variant}.is (parsed {short}.{row.variant} c.in_ok-{at}.ensures)"]
+    return {f"proofs/{where.replace('.', '/')}/Answers.antt": "\n".join(lines) + "\n"}
+
+
 def indented(lines, depth):
     return [depth + line if line else line for line in lines]

@@ -62,6 +62,12 @@ class Family:
         return self.has("Own")
 
     @property
+    def by_hand(self):
+        """The rows that have a part written by hand inside of another part."""
+        hand = [it for it in self.dialect.own if it not in self.dialect.choices]
+        return [row for row in self.held if any(it.name in hand for it in row.part.all()[1:])]
+
+    @property
     def is_tree(self):
         """Whether one of its types holds types, or one of its attributes attributes."""
         return self.has("whole") or self.has("attribute")
@@ -129,6 +135,8 @@ def row_line(dialect, kind, rest, line):
         raise Wrong("an attribute that is printed once is outlined")
     if not re.fullmatch(r"[A-Z][A-Za-z0-9]*", variant) or variant == "Self":
         raise Wrong(f"`{variant}` is no name of a variant: a capital letter, and then letters and digits")
+    if variant in ("B", "T") and not family.is_type:
+        raise Wrong(f"{variant} is the name of a type parameter of attributes: take another one")
     row = Row(dialect, identifier(word, "word"), variant, part_of(part) if part is not None else None, flags)
     if fields is not None:
         row.part, words = fields_of(variant, fields)

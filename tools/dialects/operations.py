@@ -287,7 +287,7 @@ class Operations:
             f"use Rattle.{crate}.proofs.operations.notation.Goals as goal",
         ]
         if len(ops) == 1:
-            lines += ["", f"only : (op : {self.enum}) → op.{ops[0].variant} ≡ op", f"only op.{ops[0].variant} = refl"]
+            lines += ["", f"only : (x : {self.enum}) → op.{ops[0].variant} ≡ x", f"only op.{ops[0].variant} = refl"]
             return "\n".join([*lines, "", "pub returns : goal.returns", "unfolding chars", f"returns c = {denotes} (only c.args.op)"]) + "\n"
         for op in ops:
             goal = f"returns-in-{op.variant}"

@@ -6,7 +6,7 @@ BRACKETS = {"Angle": "<>", "Round": "()", "Square": "[]", "Curly": ("{ ", " }")}
 # the parts of irtext_parts, with their types in definitions, their shapes and their laws, and that they can be the end of a text
 MORE = {
     "Decimal": ("DecimalText", "decimal", "decimal_proved", "decimal_last", "decimal_missing"),
-    "Digits": ("DigitsText", "digits", "digits_proved", "digits_text_last", "digits_missing"),
+    "Digits": ("DigitsText", "digits", "digits_proved", "digits_spelled_last", "digits_missing"),
     "Hexadecimal": ("HexadecimalText", "hexadecimal", "hexadecimal_proved", "hexadecimal_last", "hexadecimal_missing"),
     "Symbol": ("Symbol", "symbol", "symbol_proved", "symbol_last", "symbol_missing"),
     "Truth": ("Truth", "truth", "truth_proved", "anything_ends", "truth_missing"),
@@ -223,8 +223,8 @@ def check_arguments(dialect, family, part):
         if str(inner.pop()) not in NUMBERS:
             raise Wrong(f"Number<N> is of one of the types {', '.join(NUMBERS)}")
     elif part.name == "Hex":
-        if str(inner.pop()) not in NUMBERS[:5]:
-            raise Wrong(f"Hex<N> is of one of the types {', '.join(NUMBERS[:5])}")
+        if str(inner.pop()) not in ("u32", "u64"):
+            raise Wrong("Hex<N> is of u32 or u64")
     elif part.name == "Ranged":
         name = str(inner.pop())
         if name not in dialect.ranges:
