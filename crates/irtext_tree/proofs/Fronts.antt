@@ -78,8 +78,8 @@ module _ {S H : Type 0} (g : Growth S H) where
       record {
         room = ap (λ z. enough g z (drop last hs)) f ∙ room;
         front = ap₂ (λ s z. take s hs ++ front_of g z (drop last hs)) q f
-        ∙ (ap (λ z. z ++ front_of g (m + count (g.waits h)) (drop last hs)) (take_one k hs (drop last hs) h d)
-        ∙ (append_assoc (take k hs) (h ∷ []) (front_of g (m + count (g.waits h)) (drop last hs)) ∙ front));
+            ∙ (ap (λ z. z ++ front_of g (m + count (g.waits h)) (drop last hs)) (take_one k hs (drop last hs) h d)
+            ∙ (append_assoc (take k hs) (h ∷ []) (front_of g (m + count (g.waits h)) (drop last hs)) ∙ front));
         after = ap (λ z. after_front g z (drop last hs)) f ∙ after;
       }
 
@@ -92,7 +92,7 @@ module _ {S H : Type 0} (g : Growth S H) where
 
   -- no head is left, so no place waits
   pub cut_end : {n : ℕ} {hs : List H} {wait k : ℕ} → length hs ≤ k → Cut n hs wait k → wait ≡ 0
-  cut_end {hs = hs} {k = k} l c = let f = cut_fits c in let d = length-drop hs k in omega (arith, f, d, l)
+  cut_end {hs = hs} {k = k} l c = let f = cut_fits c in let d = length-drop k hs in omega (arith, f, d, l)
 
   -- the front of a row that fills places fills the first of these, and what comes after it the others
   front_fills : (left more : List S) (hs : List H) (n : ℕ) → n ≡ length left → fills g (left ++ more) hs ≡ true → (fills g left (front_of g n hs) ≡ true) × (fills g more (after_front g n hs) ≡ true) × (enough g n hs ≡ true)

@@ -76,7 +76,3 @@ module _ {S H : Type 0} (g : Growth S H) where
   -- a head at the place that waits next
   pub open_head : (hs : List H) (h : H) (all : List H) → all ≡ hs ++ (h ∷ []) → can_come g h (open_places g hs) ≡ true → open_places g all ≡ after_head g h (open_places g hs)
   open_head hs h all q e = ap (open_places g) q ∙ (opens_more (g.start ∷ []) hs (h ∷ []) ∙ next_head (open_places g hs) h e)
-
-  -- the first head
-  pub open_first : (h : H) (all : List H) → all ≡ h ∷ [] → g.same g.start (g.place h) ≡ true → open_places g all ≡ Some (waiting (g.waits h) [])
-  open_first h all q e = ap (open_places g) q ∙ ap (λ b. cond b (Some (waiting (g.waits h) [])) None) e

@@ -58,16 +58,16 @@ module _ {S H : Type 0} (growth : Growth S H) (reading : S → Reader H) (placed
   grown_fills zero (s ∷ left) before text a = tt
   grown_fills (suc n) (s ∷ left) before text a =
       if_then (λ h. Filling (waiting (growth.waits h) left) (before ++ (h ∷ []))) (Filling (s ∷ left) before) ((space_at ▷ reading s) text) (λ h u. grown growth reading n (waiting (growth.waits h) left) (before ++ (h ∷ [])) u)
-          (λ h taken rest e hs f.
-              let r = spaced_read (front is_whitespace text) (reading s (after_space text)) h taken rest e in
-              (h ∷ f.0, f.1 ∙ append_assoc before (h ∷ []) f.0, both (growth.same s (growth.place h)) (fills growth (waiting (growth.waits h) left) f.0) (placed s a.0 (after_space text) h r.0 rest r.1) f.2))
-          (λ h u. grown_fills n (waiting (growth.waits h) left) (before ++ (h ∷ [])) u (waits_occur h (growth.waits h) left refl a.1))
+      (λ h taken rest e hs f.
+      let r = spaced_read (front is_whitespace text) (reading s (after_space text)) h taken rest e in
+      (h ∷ f.0, f.1 ∙ append_assoc before (h ∷ []) f.0, both (growth.same s (growth.place h)) (fills growth (waiting (growth.waits h) left) f.0) (placed s a.0 (after_space text) h r.0 rest r.1) f.2))
+      (λ h u. grown_fills n (waiting (growth.waits h) left) (before ++ (h ∷ [])) u (waits_occur h (growth.waits h) left refl a.1))
 
   heads_fill : (text : Text) → IfRead (λ hs. is_tree growth hs ≡ true) (heads_at growth reading text)
   heads_fill text =
       if_then (λ h. Filling (waiting (growth.waits h) []) (h ∷ [])) (λ hs. is_tree growth hs ≡ true) (reading growth.start text) (grown_after growth reading)
-          (λ h taken rest e hs f. subst (λ z. is_tree growth z ≡ true) (sym f.1) (both (growth.same growth.start (growth.place h)) (fills growth (waiting (growth.waits h) []) f.0) (placed growth.start (begins_tree refl) text h taken rest e) f.2))
-          (λ h u. grown_fills (suc _) (waiting (growth.waits h) []) (h ∷ []) u (waits_occur h (growth.waits h) [] refl tt))
+      (λ h taken rest e hs f. subst (λ z. is_tree growth z ≡ true) (sym f.1) (both (growth.same growth.start (growth.place h)) (fills growth (waiting (growth.waits h) []) f.0) (placed growth.start (begins_tree refl) text h taken rest e) f.2))
+      (λ h u. grown_fills (suc _) (waiting (growth.waits h) []) (h ∷ []) u (waits_occur h (growth.waits h) [] refl tt))
 
   given : (b : Bool) (o : Outcome (List H)) (old new : StreamView) (hs : List H) → IfRead (λ z. is_tree growth z ≡ true) o → Gives (λ s. s) (λ s v. v) (unless_failed b o) old hs new → is_tree growth hs ≡ true
   given true o old new hs p g = absurd g

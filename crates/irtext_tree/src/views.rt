@@ -50,6 +50,13 @@ fn from_tree<S: Grows<H>, H>(heads: &[H]) -> &[H]
     left
 }
 
+/// Returns the number of heads.
+fn number_of<H>(heads: &[H]) -> usize
+    ensures { result ≡ length heads.now }
+{
+    heads.len()
+}
+
 /// Returns how many of the heads belong to a tree that begins with the head before them.
 fn tree_len<S: Grows<H>, H>(first: &H, heads: &[H]) -> usize
     requires { enough S.growth (count (S.growth.waits first.now)) heads.now ≡ true }
@@ -57,7 +64,7 @@ fn tree_len<S: Grows<H>, H>(first: &H, heads: &[H]) -> usize
     ensures front { take result heads.now ≡ front_of S.growth (count (S.growth.waits first.now)) heads.now }
     ensures after { drop result heads.now ≡ after_front S.growth (count (S.growth.waits first.now)) heads.now }
 {
-    let len = heads.len();
+    let len = number_of(heads);
     let mut waiting = S::waits(first).count();
     for taken in 0..len {
         if waiting == 0 {

@@ -80,9 +80,15 @@ fn said<X>(rt: &impl Abort, said: Result<X, Fail>) -> X {
 fn made_types(rt: HostRuntime) {
     let ty = said(&rt, made(rt.alloc()));
     let text = said(&rt, llvm_text(rt.alloc(), &ty));
-    assert_eq!(&rt; text.as_str(), "llvm.array <4, llvm.func <llvm.ptr, llvm.int 8>>");
+    assert_eq!(&rt;
+        text.as_str(),
+        "llvm.array <4, llvm.func <llvm.ptr, llvm.int 8>>"
+    );
     let parts = said(&rt, array_said(rt.alloc(), ty.view()));
-    assert_eq!(&rt; parts.as_str(), "4 of llvm.func <llvm.ptr, llvm.int 8>: llvm.ptr;llvm.int 8;");
+    assert_eq!(&rt;
+        parts.as_str(),
+        "4 of llvm.func <llvm.ptr, llvm.int 8>: llvm.ptr;llvm.int 8;"
+    );
 }
 
 #[test]
