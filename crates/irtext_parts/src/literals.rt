@@ -15,8 +15,8 @@ use irtext_base::result::{Expected, Token};
 /// An integer of any size, as `-170141183460469231731687303715884105729`: an optional `-` and one decimal digit or more.
 pub type Digits = Spelled<DigitsSpelling>;
 
-/// A decimal number with a fraction or an exponent or both, as `-1.50e10` or `1e-7`: an optional `-`, one digit or more, then `.` and one
-/// digit or more, then `e` or `E`, an optional sign and one digit or more. What is not finite has no such text.
+/// A decimal number, as `-1.50e10` or `1e-7`: an optional `-`, one digit or more, and then a fraction (`.` and one digit or more), an
+/// exponent (`e` or `E`, an optional sign and one digit or more), or both. What is not finite has no such text.
 pub type Decimal = Spelled<DecimalSpelling>;
 
 /// Bytes, as `0xDEADbeef`: `0x` and an even number of hexadecimal digits, or none.

@@ -5,7 +5,7 @@ use std::alloc::Global;
 use std::process::Abort;
 use std::test::Fail;
 
-/// Floats, how they are spelled, and whether that is read back to the same bits; `none` for one that is not finite.
+/// Floats, how they are spelled, and whether that is read back to the same float; `none` for one that is not finite.
 const FLOATS: &[(f64, &str)] = &[
     (1.5, "1.5 true"),
     (-0.0, "-0.0 true"),
@@ -31,11 +31,11 @@ fn same(rt: &impl Abort, said: &str, wanted: &str) {
     assert_eq!(rt; said, wanted);
 }
 
-/// What is spelled for a float, and whether it is read back to the same bits.
+/// What is spelled for a float, and whether it is read back to the same float.
 fn spelled(alloc: Global, x: f64) -> Result<String, Fail> {
     match Decimal::from_f64(alloc, x)? {
         Some(number) => {
-            let back = number.to_f64().to_bits() == x.to_bits();
+            let back = number.to_f64() == x;
             Ok(format!(in alloc; "{} {back}", number.as_str())?)
         }
         None => Ok(String::from_str(alloc, "none")?),
