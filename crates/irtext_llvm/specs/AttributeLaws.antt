@@ -12,7 +12,7 @@ use Rattle.irtext_syntax.specs.NumberLaws.{digits_last}
 use Rattle.irtext_syntax.specs.OwnLaws.{own_last}
 use Rattle.irtext_syntax.specs.Sequences.{anything_ends}
 use Rattle.irtext_syntax.specs.ShapeLaws.{Proved, angle_encloses, square_encloses, comma_joins, number_proved, quoted_proved, name_proved, ranged_proved, own_proved, then_proved, within_proved, list_proved, number_missing}
-use Rattle.irtext_parts.specs.ShapeLaws.{decimal_proved, decimal_last, decimal_missing, digits_proved, digits_text_last, digits_missing, hexadecimal_proved, hexadecimal_last, symbol_proved, symbol_last, symbol_missing, truth_proved}
+use Rattle.irtext_parts.specs.ShapeLaws.{decimal_proved, decimal_last, decimal_missing, digits_proved, digits_spelled_last, digits_missing, hexadecimal_proved, hexadecimal_last, symbol_proved, symbol_last, symbol_missing, truth_proved}
 use Rattle.irtext_syntax.specs.TableLaws.{part_row, word_row, part_sincere, word_sincere, table_lawful, table_led, table_sincere, table_unreserved}
 use Rattle.irtext_syntax.specs.Tables.{Row}
 use Rattle.irtext_llvm.specs.Attributes.{integer_shape, bool_shape, floating_shape, float_bits_shape, text_shape, bytes_shape, symbol_ref_shape, block_ref_shape, integers_shape, floats_shape, symbols_shape, type_of_shape, in_bounds_shape, int_condition_shape, float_condition_shape, overflow_shape, indices_shape, mask_shape, cases_shape, ordering_shape, read_modify_write_shape, clauses_shape, assembly_shape, linkage_shape, align_shape, word_shape, other_shape, signature_shape, fast_shape, attr_words, attr_word, attr_text, attr_after, attr_at, attr_eq}
@@ -121,7 +121,7 @@ module _ {T : Type 0} {type_at : Reader T} {type_text : T → Text} {type_eq : T
 
   -- how the text of each attribute is parsed back
   rows : (x : LlvmAttr T) → Row attr_word (attr_after type_at type_text type_eq) attr_words (attr_text type_at type_text type_eq) x
-  rows (attr.Integer x) = part_row (codes "llvm.int") word.Integer attr.Integer x integer_shape_proved.law digits_text_last refl refl refl (λ text. refl)
+  rows (attr.Integer x) = part_row (codes "llvm.int") word.Integer attr.Integer x integer_shape_proved.law digits_spelled_last refl refl refl (λ text. refl)
   rows (attr.Bool x) = part_row (codes "llvm.bool") word.Bool attr.Bool x bool_shape_proved.law anything_ends refl refl refl (λ text. refl)
   rows (attr.Floating x) = part_row (codes "llvm.float") word.Floating attr.Floating x floating_shape_proved.law decimal_last refl refl refl (λ text. refl)
   rows (attr.FloatBits x) = part_row (codes "llvm.bits") word.FloatBits attr.FloatBits x float_bits_shape_proved.law hexadecimal_last refl refl refl (λ text. refl)
