@@ -1,12 +1,12 @@
 -- The trees in a row of heads.
-use Rattle.std.proofs.Common.{◌≡◌, ℕ, zero, suc, ◌+◌, ◌≤◌, ◌<◌, Bool, true, false, cond, List, [], ◌∷◌, ◌++◌, length, take, drop, Some, refl, sym, ◌∙◌, ap, ap₂, subst, append_assoc, append-nil, length-drop, arith, true≢false}
+use Rattle.std.proofs.Common.{◌≡◌, ℕ, zero, suc, ◌+◌, ◌≤◌, ◌<◌, true, false, cond, List, [], ◌∷◌, ◌++◌, length, take, drop, Some, refl, sym, ◌∙◌, ap, ap₂, subst, append_assoc, arith, true≢false}
 use Rattle.std.specs.Prelude.{◌&&◌, ◌-◌}
 use Rattle.std.specs.Iterator.{MakesProgress, item_count}
 use Rattle.std.proofs.Math.Bool.{Bool-set}
 use Rattle.std.proofs.Math.Logic.{∥∥₁_elim, ∥∥₁_map}
 use Rattle.irtext_base.proofs.Characters.{and_left, and_right}
 use Rattle.irtext_tree.specs.Growths.{Growth, waiting, fills, is_tree}
-use Rattle.irtext_tree.specs.Rows.{count, front_of, after_front, trees_in, children_in, enough, Filled, at_tree}
+use Rattle.irtext_tree.specs.Rows.{count, front_of, after_front, trees_in, children_in, enough, Filled}
 use Rattle.irtext_tree.specs.declared.waits.Waits.{Waits}
 use Rattle.irtext_tree.specs.declared.waits.Waits.TheVariants as waits
 
@@ -45,13 +45,6 @@ module _ {S H : Type 0} (g : Growth S H) where
     pub front : take k hs ++ front_of g wait (drop k hs) ≡ front_of g n hs
     pub after : after_front g wait (drop k hs) ≡ after_front g n hs
 
-  pub cut_starts : (n wait : ℕ) (hs : List H) → wait ≡ n → enough g n hs ≡ true → Cut n hs wait 0
-  cut_starts n wait hs q e = record {
-    room = ap (λ z. enough g z hs) q ∙ e;
-    front = ap (λ z. front_of g z hs) q;
-    after = ap (λ z. after_front g z hs) q;
-  }
-
   enough_fits : (n : ℕ) (hs : List H) → enough g n hs ≡ true → n ≤ length hs
   enough_fits zero hs e = omega arith
   enough_fits (suc n) [] e = absurd (true≢false (sym e))
@@ -82,17 +75,6 @@ module _ {S H : Type 0} (g : Growth S H) where
             ∙ (append_assoc (take k hs) (h ∷ []) (front_of g (m + count (g.waits h)) (drop last hs)) ∙ front));
         after = ap (λ z. after_front g z (drop last hs)) f ∙ after;
       }
-
-  -- no place waits any more
-  pub cut_front : {n : ℕ} {hs : List H} {wait k : ℕ} → wait ≡ 0 → Cut n hs wait k → take k hs ≡ front_of g n hs
-  cut_front {hs = hs} {k = k} q c = sym (append-nil (take k hs)) ∙ (ap (λ z. take k hs ++ front_of g z (drop k hs)) (sym q) ∙ c.front)
-
-  pub cut_after : {n : ℕ} {hs : List H} {wait k : ℕ} → wait ≡ 0 → Cut n hs wait k → drop k hs ≡ after_front g n hs
-  cut_after {hs = hs} {k = k} q c = ap (λ z. after_front g z (drop k hs)) (sym q) ∙ c.after
-
-  -- no head is left, so no place waits
-  pub cut_end : {n : ℕ} {hs : List H} {wait k : ℕ} → length hs ≤ k → Cut n hs wait k → wait ≡ 0
-  cut_end {hs = hs} {k = k} l c = let f = cut_fits c in let d = length-drop k hs in omega (arith, f, d, l)
 
   -- the front of a row that fills places fills the first of these, and what comes after it the others
   front_fills : (left more : List S) (hs : List H) (n : ℕ) → n ≡ length left → fills g (left ++ more) hs ≡ true → (fills g left (front_of g n hs) ≡ true) × (fills g more (after_front g n hs) ≡ true) × (enough g n hs ≡ true)

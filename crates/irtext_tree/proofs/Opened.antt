@@ -1,5 +1,5 @@
 -- The places that wait after a row of heads to which more are added.
-use Rattle.std.proofs.Common.{◌≡◌, Bool, true, false, cond, Option, Some, None, List, [], ◌∷◌, ◌++◌, refl, sym, ◌∙◌, ap, subst, true≢false}
+use Rattle.std.proofs.Common.{◌≡◌, Bool, true, false, cond, Option, Some, None, List, [], ◌∷◌, ◌++◌, refl, sym, ◌∙◌, ap, true≢false}
 use Rattle.std.specs.Prelude.{◌&&◌}
 use Rattle.irtext_base.proofs.Characters.{and_left, and_right}
 use Rattle.irtext_tree.specs.Growths.{Growth, waiting, fills, is_tree}
