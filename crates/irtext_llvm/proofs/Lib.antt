@@ -1,2 +1,3 @@
 -- What is needed besides the laws of texts
 mod OperationFormats
+mod Parsed
