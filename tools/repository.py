@@ -10,7 +10,7 @@ from dataclasses import dataclass, field
 
 TOP = os.path.dirname(os.path.dirname(os.path.realpath(__file__)))
 # crates to copy from
-EXAMPLES = ("irtext_arith", "irtext_examples")
+EXAMPLES = ("irtext_arith", "irtext_llvm", "irtext_examples")
 
 
 def text_of(path):

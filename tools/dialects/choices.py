@@ -1,9 +1,10 @@
 """What is written for a choice of words: an enum with a variant for each word, as a part of other texts."""
 import textwrap
 
-from dialects.definitions import SYNTAX, one_of
+from dialects.definitions import SYNTAX
 from dialects.operations import listed
 from dialects.parts import snake
+from dialects.words import matched, one_of
 
 
 def either(words):
@@ -61,8 +62,6 @@ class Choice:
 
     def impl_choice(self):
         name, file = self.name, self.file
-        rows = ", ".join(f'"{word}"~=>~{name}::{variant}' for word, variant in self.rows)
-        filled = textwrap.wrap(f"match_text!(text; {rows})", 100, initial_indent=" " * 8, subsequent_indent=" " * 12)
         return [
             f"impl Choice for {name} {{",
             f"    ghost use Rattle.{self.dialect.crate}.specs.{self.texts}.{{{file}_word}};",
@@ -70,7 +69,7 @@ class Choice:
             f"    ghost chosen = {{ {file}_word }};",
             "",
             f"    fn choice(text: &str) -> Option<{name}> {{",
-            *[line.replace("~", " ") for line in filled],
+            *matched([Word(*it) for it in self.rows], name, 8),
             "    }",
             "}",
         ]
@@ -157,7 +156,7 @@ class Choice:
             "",
             "-- the value of which a text is the word, if there is one",
             f"abbrev pub {file}_word : Text → Option {name}",
-            f"{file}_word text = {one_of([Word(*it) for it in self.rows], file)}",
+            f"{file}_word text = {one_of([Word(*it) for it in self.rows])}",
             "",
             "-- the text that is printed for a value",
             f"abbrev pub {file}_text : {name} → Text",

@@ -5,13 +5,14 @@ import tempfile
 import textwrap
 
 from dialects.choices import Choice
-from dialects.definitions import PARSED, Definitions, parsed_by_hand
+from dialects.definitions import Definitions, parsed_by_hand
 from dialects.description import described
 from dialects.operations import Operations, code_span
 from dialects.parts import MORE, SPACED, Wrong, shown
 from dialects.sources import Sources, fixed_source
 from dialects.trees import TreeDefinitions, TreeSources, brackets_law, brackets_of, brackets_source
 from dialects.values import Values, keys_of, keys_source, values_source
+from dialects.words import Words
 from repository import text_of
 
 BELOW = "irtext_syntax irtext_tokens irtext_base irtext_stream irtext_context irtext_format_check"
@@ -41,12 +42,11 @@ def files_of(dialect):
         specs += ["pub mod Operations"]
     if keys_of(dialect):
         files["src/keys.rt"] = keys_source(dialect)
-    if any(it.by_hand for it in dialect.families):
-        files["proofs/Parsed.antt"] = PARSED
     if dialect.fixed or dialect.ranges:
         files["src/fixed.rt"] = fixed_source(dialect)
     files["specs/Lib.antt"] = "\n".join(specs) + "\n"
-    proofs = (["mod OperationFormats"] if dialect.operations else []) + (["mod Parsed"] if "proofs/Parsed.antt" in files else [])
+    proofs = ["mod OperationFormats"] if dialect.operations else []
+    proofs += [f"mod {it}" for it in ("Parsed", "Words") if f"proofs/{it}.antt" in files]
     says = "-- What is needed besides the laws of texts"
     files["proofs/Lib.antt"] = "\n".join([says, *proofs] if proofs else [f"{says}: nothing"]) + "\n"
     files["src/lib.rt"] = root_of(dialect, files)
@@ -67,11 +67,13 @@ def files_of_choices(dialect):
 def files_of_family(family):
     """Returns the files of the types or of the attributes, by their paths."""
     if family.is_tree:
-        return {
+        tree = TreeDefinitions(family)
+        files = {
             f"src/{family.module}.rt": TreeSources(family).written(),
-            f"specs/{family.file}.antt": TreeDefinitions(family).texts(),
-            f"specs/{family.laws}.antt": TreeDefinitions(family).law(),
+            f"specs/{family.file}.antt": tree.texts(),
+            f"specs/{family.laws}.antt": tree.law(),
         }
+        return files | tree.printed() | parsed_by_hand(family, [it.row for it in tree.held]) | Words(family).proofs()
     files = {
         f"src/{family.module}.rt": Sources(family).written(),
         f"specs/{family.file}.antt": Definitions(family).texts(),
@@ -79,7 +81,7 @@ def files_of_family(family):
     }
     if Values(family).viewed:
         files[f"specs/{Values(family).file}.antt"] = Values(family).definitions()
-    return files | Definitions(family).printed() | parsed_by_hand(family)
+    return files | Definitions(family).printed() | parsed_by_hand(family, family.held) | Words(family).proofs()
 
 
 MEANT = {"Number Ranged": "N is a number", "Flag": "`w?` the word `w` or nothing", "Characters": "S a string", "Name": "I an identifier", "Own whole": "T a type of the context", "attribute": "A an attribute of the context"}

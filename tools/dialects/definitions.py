@@ -2,6 +2,7 @@
 import re
 
 from dialects.parts import BRACKETS, FIXED, MORE, NUMBERS, SPACED, grouped, shown, snake
+from dialects.words import Words
 
 SYNTAX = "Rattle.irtext_syntax.specs"
 MORE_PARTS = "Rattle.irtext_parts.specs"
@@ -26,15 +27,6 @@ def using(modules, body):
 
 def arrows(*types):
     return " → ".join(types)
-
-
-def one_of(rows, found):
-    """The chain of tests that finds the word of a text."""
-    text = "None"
-    for row in reversed(rows):
-        tail = text if text == "None" else f"({text})"
-        text = f'cond (bytes_eq text (codes "{row.text}")) (Some word.{row.variant}) {tail}'
-    return text
 
 
 def type_modules(dialect):
@@ -98,19 +90,6 @@ class Definitions:
             f"use {base}.{family.enum}.TheVariants as {self.short}",
         ]
 
-    def words(self):
-        family, n = self.family, self.name
-        listed = " ∷ ".join([f'codes "{row.text}"' for row in family.rows] + ["[]"])
-        return [
-            f"-- the words that {family.noun}s begin with",
-            f"abbrev pub {n}_words : List Text",
-            f"{n}_words = {listed}",
-            "",
-            f"-- the word of {self.article} {family.noun} that a text is, if it is one",
-            f"abbrev pub {n}_word : Text → Option {family.words}",
-            f"{n}_word text = {one_of(family.rows, n)}",
-        ]
-
     def tables(self):
         """The definitions that are about values, one line for each variant."""
         family, n = self.family, self.name
@@ -150,7 +129,7 @@ class Definitions:
 
     def texts(self):
         family = self.family
-        body = self.words() + [""]
+        body = Words(family).definitions() + [""]
         if family.generic:
             body += ["module _ {T : Type 0} (type_at : Reader T) (type_text : T → Text) (type_eq : T → T → Bool) where"]
         body += indented(self.tables(), self.depth)
@@ -161,6 +140,7 @@ class Definitions:
         lines = [f"-- For callers: the texts of the {family.noun}s of the dialect `{self.dialect.name}`{of}."]
         lines += using([
             ("Rattle.std.specs.Prelude", "ℕ ℤ Bool true false cond Option Some None List [] ◌∷◌ ◌++◌ codes"),
+            ("Rattle.std.specs.Option", "option_or"),
             ("Rattle.std.specs.Str", "bytes_eq"),
             ("Rattle.irtext_base.specs.Text", "Text"),
             ("Rattle.irtext_base.specs.Faults", "AType AnAttribute"),
@@ -298,27 +278,32 @@ failed {f = f} {old = old} {new = new} {fault = fault} k h = record { answers = 
 """
 
 
-def parsed_by_hand(family):
-    """The proofs that the rows with a part written by hand inside of another part are parsed as the table says, which is not always seen
-    without unfolding it."""
-    if not family.by_hand:
+def parsed_by_hand(family, rows):
+    """The proofs that rows are parsed as the table says, where that is not always seen without unfolding it: of those with a part written by
+    hand inside of another part, of all if there are many, and beside types with `whole` of those with a choice as their part. What is parsed
+    after the words of `rows` is a part."""
+    both = rows if Words(family).are_many else family.by_hand
+    if not both and not family.by_choice:
         return {}
-    short, crate = ("ty" if family.is_type else "attr"), family.dialect.crate
-    where = f"{family.module}.{family.words}Table{family.enum}.parse"
-    lines = [
-        "use Rattle.irtext_tokens.proofs.Exits.{propagated}",
-        f"use Rattle.{crate}.proofs.Parsed.{{parsed, failed}}",
-        f"use Rattle.{crate}.specs.declared.{family.module}.{family.enum}.TheVariants as {short}",
+    short, made = ("head", f"{family.enum}Head") if family.is_tree else ("ty" if family.is_type else "attr", family.enum)
+    crate, where = family.dialect.crate, f"{family.module}.{family.words}Table{made}.parse"
+    lines = ["use Rattle.irtext_tokens.proofs.Exits.{propagated}"] if both else []
+    lines += [
+        f"use Rattle.{crate}.proofs.Parsed.{{{'parsed, failed' if both else 'parsed'}}}",
+        f"use Rattle.{crate}.specs.declared.{family.module}.{made}.TheVariants as {short}",
         f"use Rattle.{crate}.proofs.{where}.Goals as goal",
     ]
-    for row in family.by_hand:
+    for row in rows:
         at = f"after_word-in-{row.variant}"
-        exit_ = "from_residual" if row is family.held[0] else f"from_residual-in_err-{at}"
-        lines += ["", f"pub returns-in_err-{at} : goal.returns-in_err-{at}"]
-        lines += [f"returns-in_err-{at} g c = rw (propagated c.{exit_}.result c.{exit_}.ensures.1) (rw c.in-{row.variant}.is (failed {short}.{row.variant} c.in_err-{at}.ensures))"]
-        lines += ["", f"pub returns-in_ok-{at} : goal.returns-in_ok-{at}"]
-        lines += [f"returns-in_ok-{at} g c = rw c.in-{row.variant}.is (parsed {short}.{row.variant} c.in_ok-{at}.ensures)"]
-    return {f"proofs/{where.replace('.', '/')}/Answers.antt": "\n".join(lines) + "\n"}
+        if row in both:
+            exit_ = "from_residual" if row is rows[0] else f"from_residual-in_err-{at}"
+            lines += ["", f"pub returns-in_err-{at} : goal.returns-in_err-{at}"]
+            lines += [f"returns-in_err-{at} g c =", f"    rw (propagated c.{exit_}.result c.{exit_}.ensures.1) ("]
+            lines += [f"    rw c.in-{row.variant}.is (failed {short}.{row.variant} c.in_err-{at}.ensures))"]
+        if row in both or row in family.by_choice:
+            lines += ["", f"pub returns-in_ok-{at} : goal.returns-in_ok-{at}"]
+            lines += [f"returns-in_ok-{at} g c = rw c.in-{row.variant}.is (parsed {short}.{row.variant} c.in_ok-{at}.ensures)"]
+    return {f"proofs/{where.replace('.', '/')}/Answers.antt": "\n".join(lines) + "\n", "proofs/Parsed.antt": PARSED}
 
 
 def indented(lines, depth):

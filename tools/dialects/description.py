@@ -68,6 +68,11 @@ class Family:
         return [row for row in self.held if any(it.name in hand for it in row.part.all()[1:])]
 
     @property
+    def by_choice(self):
+        """The rows whose whole part is a choice, if a row beside them has holes."""
+        return [row for row in self.held if row.part.is_choice] if self.is_tree else []
+
+    @property
     def is_tree(self):
         """Whether one of its types holds types, or one of its attributes attributes."""
         return self.has("whole") or self.has("attribute")

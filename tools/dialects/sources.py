@@ -1,9 +1,10 @@
 """What is written into src/ for the types and the attributes, and for words and ranges."""
 import re
-import textwrap
 
 from dialects.definitions import SYNTAX, using
 from dialects.parts import BRACKETS, FIXED, MORE, SPACED, shown
+from dialects.words import Words
+
 
 def rust_uses(modules, body):
     """Returns the imports of those of these names that occur in a source."""
@@ -83,9 +84,7 @@ class Sources:
             "",
             f"    fn of(text: &str) -> Option<{family.words}> {{",
         ]
-        rows = ", ".join(f'"{row.text}"~=>~{family.words}::{row.variant}' for row in family.rows)
-        filled = textwrap.wrap(f"match_text!(text; {rows})", 100, initial_indent=" " * 8, subsequent_indent=" " * 12)
-        lines += [line.replace("~", " ") for line in filled]
+        lines += Words(family).of()
         lines += ["    }", ""]
         lines += [f"    fn parse(self, stream: &mut TextStream) -> ParseResult<{self.enum}, {self.errors}> {{", "        match self {"]
         for row in family.rows:
@@ -174,7 +173,7 @@ class Sources:
         ]
         lines += [
             "    fn has_word(word: &str) -> bool {",
-            "        matches_text!(word, " + " | ".join(f'"{row.text}"' for row in family.rows) + ")",
+            *Words(family).has_word(),
             "    }",
             "}",
             "",
@@ -184,7 +183,7 @@ class Sources:
 
     def written(self):
         family = self.family
-        body = self.enums() + self.table() + self.texts()
+        body = self.enums() + Words(family).methods() + self.table() + self.texts()
         if family.is_type:
             body += ["", f"impl TryClone for {self.enum} {{", f"    fn try_clone(&self) -> Result<{self.enum}, AllocError> {{"] + self.copies() + ["    }", "}"]
         else:

@@ -2,15 +2,15 @@
 
 A part is cut at its holes. What comes before the first hole is the text of a head, and so is what comes between two holes and after the last:
 `array: Array(Within<Angle, Then<Number<u64>, Comma, whole>>)` has the heads `llvm.array <N, ` and `>`."""
-import textwrap
-
-from dialects.definitions import MORE_LAWS, MORE_PARTS, SHAPE_LAWS, SYNTAX, indented, one_of, range_imports, type_modules, using
+from dialects.definitions import MORE_LAWS, MORE_PARTS, SHAPE_LAWS, SYNTAX, indented, range_imports, type_modules, using
 from dialects.parts import BRACKETS, HOLES, Part, Wrong, grouped, shown
 from dialects.sources import more_uses, rust_uses
+from dialects.words import Words
 
 TREE = "Rattle.irtext_tree.specs"
 ONE_CHARACTER = {"Comma": ",", "Colon": ":"}  # the fixed texts that can come before and between holes
 AROUND = ("Angle", "Round", "Square")  # the brackets that can be around holes
+PRINTED = {"part": "write_row", "open_part": "write_spaced_row"}  # the calls that print heads with a part; `write_word` prints the others
 
 
 class Head:
@@ -169,11 +169,12 @@ class TreeDefinitions:
         return f"within {snake_of(head.part.arguments[0].name)} {grouped(head.part.arguments[1].shape())}"
 
     def texts(self):
-        body = [*self.words(), "", *self.parts(), *self.written(), "", *self.after(), "", *self.at(), "", *self.growth(), *self.in_section()]
+        body = [*Words(self.family).definitions(), "", *self.parts(), *self.written(), "", *self.after(), "", *self.at(), "", *self.growth(), *self.in_section()]
         text = "\n".join(body) + "\n"
         lines = [f"-- For callers: the texts of the heads of the {self.family.noun}s of the dialect `{self.dialect.name}`."]
         lines += using([
             ("Rattle.std.specs.Prelude", "ℕ ℤ Bool true false cond Option Some None List [] ◌∷◌ ◌++◌ codes"),
+            ("Rattle.std.specs.Option", "option_or"),
             ("Rattle.std.specs.Str", "bytes_eq"),
             ("Rattle.irtext_base.specs.Text", "Text"),
             ("Rattle.irtext_base.specs.Faults", "AType AnAttribute"),
@@ -189,19 +190,6 @@ class TreeDefinitions:
         ], text)
         lines += [f"use {TREE}.declared.waits.Waits.TheVariants as waits"]
         return "\n".join(lines + range_imports(self.dialect, text) + self.declared()) + "\n\n" + text
-
-    def words(self):
-        family, n = self.family, self.name
-        listed = " ∷ ".join([f'codes "{row.text}"' for row in family.rows] + ["[]"])
-        return [
-            f"-- the words that {family.noun}s begin with",
-            f"abbrev pub {n}_words : List Text",
-            f"{n}_words = {listed}",
-            "",
-            "-- the word that a text is, if it is one",
-            f"abbrev pub {n}_word : Text → Option {family.words}",
-            f"{n}_word text = {one_of(family.rows, n)}",
-        ]
 
     def parts(self):
         """The brackets before holes, and the shapes of the heads' parts."""
@@ -487,6 +475,21 @@ class TreeDefinitions:
         return lines + [f"{n}_same x y = (same x y, λ e. subst (λ z. test.ghosts.eq x z ≡ true) e (own x))"]
 
 
+    def printed(self):
+        """The proofs that the text of each head is printed, which is not always seen without unfolding it."""
+        crate, g = self.dialect.crate, self.grammar
+        where = f"{self.family.module}.{g.place}Grammar{g.head}.write_head"
+        lines = [f"use Rattle.{crate}.proofs.{where}.Goals as goal"]
+        seen = set()
+        for it in g.heads:
+            call = PRINTED.get(it.kind, "write_word")
+            called = f"{call}-in-{it.variant}" if call in seen else call
+            seen.add(call)
+            goal = f"returns-in-{it.variant}-clause-text"
+            lines += ["", f"pub {goal} : goal.{goal}", f"{goal} g c = rw c.in-{it.variant}.is c.{called}.ensures.text"]
+        return {f"proofs/{where.replace('.', '/')}/Answers.antt": "\n".join(lines) + "\n"}
+
+
 def snake_of(name):
     """The definition of brackets before a hole, as `angle_comma` of `AngleComma`."""
     return "".join(f"_{c.lower()}" if c.isupper() and at else c.lower() for at, c in enumerate(name))
@@ -578,8 +581,6 @@ class TreeSources:
 
     def table(self):
         family, g, n = self.family, self.grammar, self.name
-        rows = ", ".join(f'"{row.text}"~=>~{family.words}::{row.variant}' for row in family.rows)
-        filled = textwrap.wrap(f"match_text!(text; {rows})", 100, initial_indent=" " * 8, subsequent_indent=" " * 12)
         return [
             "",
             f"impl<{self.errors}> Table<{g.head}, A> for {family.words} {{",
@@ -590,7 +591,7 @@ class TreeSources:
             f"    ghost following = {{ {n}_after }};",
             "",
             f"    fn of(text: &str) -> Option<{family.words}> {{",
-            *[line.replace("~", " ") for line in filled],
+            *Words(family).of(),
             "    }",
             "",
             f"    fn parse(self, stream: &mut TextStream) -> ParseResult<{g.head}, A> {{",
@@ -630,9 +631,8 @@ class TreeSources:
 
     def write(self, head):
         made = f"{self.grammar.head}::{head.variant}"
-        calls = {"part": "write_row", "open_part": "write_spaced_row"}
-        if head.kind in calls:
-            return f'{made}(part) => {calls[head.kind]}::<{self.rust(head)}, A>("{head.text}", part, f)'
+        if head.kind in PRINTED:
+            return f'{made}(part) => {PRINTED[head.kind]}::<{self.rust(head)}, A>("{head.text}", part, f)'
         return f'{made} => write_word("{head.text}", f)'
 
     def grammar_of(self):
@@ -650,9 +650,8 @@ class TreeSources:
 
     def worded(self):
         family, g, n = self.family, self.grammar, self.name
-        words = " | ".join(f'"{row.text}"' for row in family.rows)
         lines = ["", f"impl Worded for {g.head} {{", self.ghosts(family.file, [f"{n}_words"]), "", f"    ghost words = {{ {n}_words }};", ""]
-        lines += ["    fn has_word(word: &str) -> bool {", f"        matches_text!(word, {words})", "    }", "}"]
+        lines += ["    fn has_word(word: &str) -> bool {", *Words(family).has_word(), "    }", "}"]
         lines += ["", f"impl<{self.errors}> LedGrammar<{g.head}, A> for {g.place} {{", self.ghosts(family.laws, [f"{n}_led"]), ""]
         lines += [f"    ghost led = {{ {n}_led }};", "}", "", f"impl TryClone for {g.head} {{"]
         lines += [f"    fn try_clone(&self) -> Result<{g.head}, AllocError> {{", "        match self {"]
@@ -673,7 +672,7 @@ class TreeSources:
         return lines + ["", f"    fn clone_head(head: &{g.head}) -> Result<{g.head}, AllocError> {{", "        head.try_clone()", "    }", "}"]
 
     def written(self):
-        body = [*self.enums(), *self.table(), *self.grows(), *self.grammar_of(), *self.worded()] + ([] if self.family.is_type else self.in_section())
+        body = [*self.enums(), *Words(self.family).methods(), *self.table(), *self.grows(), *self.grammar_of(), *self.worded()] + ([] if self.family.is_type else self.in_section())
         text = "\n".join(body) + "\n"
         own = [*self.dialect.own_modules(), ("crate::fixed", " ".join([*self.dialect.fixed, *self.dialect.ranges])), ("crate::brackets", " ".join(self.grammar.brackets))]
         modules = own + [("irtext_base::parsable", "ParseResult TextStream"), ("irtext_base::result", "Expected"), ("irtext_base::text", "Worded")]

@@ -165,7 +165,7 @@ class Values:
             ("Rattle.std.specs.Prelude", "ℕ ℤ Bool Option Some None List"),
             ("Rattle.irtext_base.specs.Text", "Text"),
             *type_modules(self.dialect),
-        ], text)
+        ], "\n".join(it for it in body if not it.startswith("--")))
         base = f"Rattle.{crate}.specs.declared.{family.module}.{family.enum}"
         lines += range_imports(self.dialect, text)
         lines += [f"use {base}.{{{family.enum}}}", f"use {base}.TheVariants as {self.short}"]

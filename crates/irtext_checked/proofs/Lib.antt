@@ -1,2 +1,3 @@
 pub mod MadeLive
 mod TypesListed
+mod Unmets

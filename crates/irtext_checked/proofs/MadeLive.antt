@@ -18,7 +18,7 @@ module _ {T A : Type 0} where
   with_more r (Some op) h = h
 
   -- an operation that is live is live after regions were appended to it
-  live_after : (n : ℕ) (old new : ContextView T A) (op : Ptr Operation) → IsSome (operation old op) → AddsRegions n old new op → IsSome (operation new op)
+  pub live_after : (n : ℕ) (old new : ContextView T A) (op : Ptr Operation) → IsSome (operation old op) → AddsRegions n old new op → IsSome (operation new op)
   live_after zero old new op h e = subst (λ (c : ContextView T A). IsSome (operation c op)) (sym e) h
   live_after (suc n) old new op h (mid, r, adds, last) =
       subst (λ (o : Option (OperationView T A)). IsSome o) (sym (grown_seen mid new op r last)) (with_more r (operation mid op) (live_after n old mid op h adds))

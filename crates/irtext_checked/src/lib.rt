@@ -12,8 +12,12 @@ pub mod contains;
 pub mod context;
 pub mod insert;
 pub mod make;
+pub mod moves;
 mod parts;
+mod placing;
 pub mod types;
+pub mod unmet;
+pub mod uses;
 
 use irtext_base::result::{Cause, Error, ErrorKind};
 use irtext_context::dialect::invalid;

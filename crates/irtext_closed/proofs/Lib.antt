@@ -5,3 +5,4 @@ mod Depth
 mod Indices
 mod Reasons
 pub mod Walk
+pub mod StaysClosed

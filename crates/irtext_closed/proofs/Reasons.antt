@@ -1,5 +1,5 @@
 -- What the first reason of a walk over the objects of a root says of the root.
-use Rattle.std.proofs.Common.{◌≡◌, ◌≢◌, ◌∙◌, ◌<◌, ◌⊎◌, ℕ, inl, inr, refl, sym, ap, subst, arith, List, [], ◌∷◌, length, map, slice_get, Option, Some, None, IsSome, option_map, Result, Ok, Err}
+use Rattle.std.proofs.Common.{◌≡◌, ◌≢◌, ◌∙◌, ℕ, inl, inr, refl, sym, ap, subst, List, [], ◌∷◌, map, slice_get, Option, Some, None, IsSome, option_map, Result, Ok, Err}
 use Rattle.std.specs.Prelude.{◌↔◌, IsOk, IfErr}
 use Rattle.std.specs.Result.{IsErrAnd}
 use Rattle.irtext_context.specs.Context.{ContextView, operation}
@@ -17,8 +17,7 @@ use Rattle.irtext_graph.specs.declared.object.Value.TheVariants as value
 use Rattle.irtext_graph.specs.Erasing.{owner, user}
 use Rattle.irtext_graph.specs.Graph.{IsInside, parent, children}
 use Rattle.irtext_graph.specs.Nested.{Nested}
-use Rattle.irtext_graph.specs.Parts.{regions, results, operands, successors}
-use Rattle.irtext_graph.specs.Throughout.{all_from}
+use Rattle.irtext_graph.specs.Parts.{regions, operands, successors}
 use Rattle.irtext_graph.specs.Used.{used_at}
 use Rattle.irtext_graph.proofs.Inside.{within_self}
 use Rattle.irtext_closed.proofs.Walk.{ComesOr}

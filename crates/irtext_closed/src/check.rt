@@ -14,6 +14,7 @@ use irtext_base::text::{AttrText, IrText};
 use irtext_context::base::{BasicBlock, BlockAccess, Context, Operation, Ptr, Value};
 use irtext_graph::held::HasGraph;
 use irtext_graph::object::Object;
+use irtext_graph_queries::operation::OperationParts;
 
 /// The key under which a text has the label of a block.
 const BLOCK_LABEL_KEY: &str = "builtin_block_label";

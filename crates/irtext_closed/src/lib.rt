@@ -2,6 +2,7 @@
 #![tactic(auto)]
 
 pub mod check;
+pub mod laws;
 pub mod located;
 pub mod not_closed;
 mod scope;

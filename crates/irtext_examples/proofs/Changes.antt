@@ -1,21 +1,16 @@
 -- Setting attributes changes nothing else, and what is live stays live.
 use Rattle.std.proofs.Common.{◌≡◌, ◌≢◌, ◌∙◌, ◌⊎◌, inl, inr, refl, sym, ap, Option, None, Some, IsSome}
 use Rattle.std.specs.Option.{option_map}
-use Rattle.std.specs.Prelude.{ℕ, is_some, option_and_then}
+use Rattle.std.specs.Prelude.{option_and_then}
 use Rattle.irtext_base.specs.Text.{Text}
 use Rattle.irtext_base.specs.declared.base.attributes.AttrObj.{AttrObj}
-use Rattle.irtext_graph.specs.Content.{Content, Content.{AnOperation, ABlock, ARegion}, OperationContent}
 use Rattle.irtext_graph.specs.Data.{with_data}
-use Rattle.irtext_graph.specs.Graph.{Appends, content_of}
 use Rattle.irtext_graph.specs.Parts.{operands_of, successors_of}
 use Rattle.irtext_graph.specs.Store.{get, object_of}
 use Rattle.irtext_graph.specs.declared.arena.Ptr.{Ptr}
-use Rattle.irtext_graph.specs.declared.object.Object.{Object}
-use Rattle.irtext_graph.specs.declared.object.Object.TheVariants.{TheOperation}
 use Rattle.irtext_graph.specs.declared.object.Operation.{Operation}
 use Rattle.irtext_graph.proofs.Pointers.{ptr_or}
 use Rattle.irtext_context.specs.Context.{ContextView, OperationView, operation, operation_of, view_of, with_attribute, EditsOperation}
-use Rattle.irtext_context.specs.declared.base.block.BlockData.{BlockData}
 use Rattle.irtext_context.specs.declared.base.operation.OperationData.{OperationData}
 use Rattle.irtext_context.proofs.Contexts.{OperationEntry}
 use Rattle.irtext_examples.specs.Pass.{without_attributes, ChangesAttributes}
@@ -32,43 +27,6 @@ module _ {T A : Type 0} where
         go (inl f) = ap (λ r. part (get new.graph.operations r)) f ∙ ap part e.graph.operations.updates.changed
             ∙ same (get old.graph.operations p) ∙ sym (ap (λ r. part (get old.graph.operations r)) f)
         go (inr n) = ap part (e.graph.operations.updates.others q n)
-
-    -- an operation is live after an edit of one
-    pub edited_live : (q : Ptr Operation) → IsSome (operation old q) → IsSome (operation new q)
-    edited_live q h = kept_part (λ o. is_some (option_and_then operation_of o)) same q ∙ h
-      where
-        inner : (f : OperationData A → OperationView T A) (d : Option (OperationData A)) → is_some (option_map f (option_map change d)) ≡ is_some (option_map f d)
-        inner f None = refl
-        inner f (Some d) = refl
-
-        same : (o : Option (OperationEntry T A)) → is_some (option_and_then operation_of (option_map (object_of (with_data (option_map change))) o)) ≡ is_some (option_and_then operation_of o)
-        same None = refl
-        same (Some x) = inner (view_of x.content.content.results x.content.children) x.content.content.data_of
-
-  -- an operation, as what an object is
-  abbrev an_operation : ℕ × OperationContent (Option (OperationData A)) (Option T) → Content (Option (OperationData A)) (BlockData A) (Option T)
-  an_operation d = AnOperation d.0 d.1
-
-  -- an operation is live after something was inserted
-  pub appended_live : (old new : ContextView T A) (k c : Object) → Appends old.graph new.graph k c → (q : Ptr Operation) → IsSome (operation old q) → IsSome (operation new q)
-  appended_live old new k c a q = go (get old.graph.operations q) (get new.graph.operations q) (a.objects.contents (TheOperation q))
-    where
-      held : Option (Content (Option (OperationData A)) (BlockData A) (Option T)) → Option (Option (OperationData A))
-      held None = None
-      held (Some (AnOperation b c)) = Some c.data_of
-      held (Some (ABlock b c)) = None
-      held (Some (ARegion b c)) = None
-
-      inner : (f g : OperationData A → OperationView T A) (d h : Option (OperationData A)) → Some h ≡ Some d → IsSome (option_map f d) → IsSome (option_map g h)
-      inner f g None h e s = absurd (cc)
-      inner f g (Some d) None e s = absurd (cc)
-      inner f g (Some d) (Some h) e s = refl
-
-      go : (v w : Option (OperationEntry T A)) → option_map an_operation (content_of w) ≡ option_map an_operation (content_of v)
-          → IsSome (option_and_then operation_of v) → IsSome (option_and_then operation_of w)
-      go None w e s = absurd (cc)
-      go (Some v) None e s = absurd (cc)
-      go (Some v) (Some w) e s = inner (view_of v.content.content.results v.content.children) (view_of w.content.content.results w.content.children) v.content.content.data_of w.content.content.data_of (ap held e) s
 
   -- nothing differs
   pub unchanged : (old new : ContextView T A) → new ≡ old → ChangesAttributes old new

@@ -3,14 +3,10 @@
 ghost use Rattle.std.specs.Prelude.{IfOk, IsSome};
 ghost use Rattle.irtext_context.specs.Context.{operation};
 
-use crate::ir::{Answer, Attr, Ir, VALUE_KEY, int, value_attr};
-use pliron_text::base::{
-    AttrObj, BasicBlock, Few, GIVEN_NAMES_KEY, Identifier, NewBlock, OpId, Operation,
-    OperationAccess, Ptr, SYM_NAME_KEY, TryAccess, TryBlockAccess, TryInsert, TryNewOperation,
-    Value,
-};
-use pliron_text::input_err;
+use crate::ir::{Answer, ArithType, Attr, Ir, VALUE_KEY, int, value_attr};
 use pliron_text::location::{Location, Source, SourcePosition};
+use pliron_text::prelude::*;
+use pliron_text::{input_err, verify_err};
 use std::alloc::Global;
 
 /// A number of the source text, and where it is.
@@ -74,69 +70,32 @@ fn parse_terms(alloc: Global, text: &str, terms: &mut Vec<Term>) -> Answer<()> {
     Ok(())
 }
 
-/// Returns the attribute that gives one name, for an operation of one result or a block of one argument.
-fn given_name(alloc: Global, name: &str) -> Answer<AttrObj<Attr>> {
-    let name = Identifier::try_new(alloc, name)?;
-    let mut names = Vec::new(alloc);
-    names.push(Some(name))?;
-    Ok(AttrObj::GivenNames(names))
-}
-
-/// Makes an operation with this name as its symbol, at the beginning of the source text. Its only region has the block. It is in the
-/// context afterwards.
-fn symbol(ctx: &mut Ir, id: OpId, name: &str, block: Ptr<BasicBlock>) -> Answer<Ptr<Operation>>
-    ensures { IfOk result (λ op. IsSome (operation ctx.new op)) }
-{
-    let alloc = ctx.allocator();
-    let op = Operation::try_new(ctx, id, Few::none(), &[], &[], 1)?;
-    op.set_loc(ctx, place(SourcePosition::default()));
-    let key = Identifier::try_new(alloc, SYM_NAME_KEY)?;
-    let name = Identifier::try_new(alloc, name)?;
-    op.try_set_attribute(ctx, key, AttrObj::Ident(name))?;
-    let region = op.try_get_region(ctx, 0)?;
-    block.try_insert_at_back(region, ctx)?;
-    Ok(op)
-}
-
-/// Makes an operation with one result of this name at the end of a block, and returns it.
-fn append(
+/// Makes an operation of `arith` with one result of this name, at the end of a block.
+fn append<'a>(
     ctx: &mut Ir,
     block: Ptr<BasicBlock>,
-    id: OpId,
-    operands: &[Value],
+    draft: OpDraft<'a, ArithType, Attr>,
     name: &str,
     at: SourcePosition,
-) -> Answer<Ptr<Operation>> {
-    let alloc = ctx.allocator();
-    let op = Operation::try_new(ctx, id, Few::one(int()), operands, &[], 0)?;
-    op.set_loc(ctx, place(at));
-    let key = Identifier::try_new(alloc, GIVEN_NAMES_KEY)?;
-    op.try_set_attribute(ctx, key, given_name(alloc, name)?)?;
-    op.try_insert_at_back(block, ctx)?;
-    Ok(op)
+) -> Answer<Value> {
+    let op = draft
+        .results(Few::one(int()))
+        .name(name)?
+        .at(place(at))
+        .build_in(ctx, block)?;
+    Ok(Value::Result(op, 0))
 }
 
 /// Adds the number to the sum at the end of a block, and returns the new sum.
 fn add_term(ctx: &mut Ir, block: Ptr<BasicBlock>, sum: Value, term: Term) -> Answer<Value> {
-    let alloc = ctx.allocator();
-    let id = OpId::try_new(alloc, "arith", "constant")?;
-    let constant = append(ctx, block, id, &[], "term", term.at)?;
-    let key = Identifier::try_new(alloc, VALUE_KEY)?;
-    constant.try_set_attribute(ctx, key, value_attr(term.value, int()))?;
-    let id = OpId::try_new(alloc, "arith", "add")?;
-    let operands = [sum, Value::Result(constant, 0)];
-    let add = append(ctx, block, id, &operands, "sum", term.at)?;
-    Ok(Value::Result(add, 0))
-}
-
-/// Makes a block with one argument.
-fn body(ctx: &mut Ir) -> Answer<Ptr<BasicBlock>> {
-    let alloc = ctx.allocator();
-    let label = Identifier::try_new(alloc, "body")?;
-    let block = BasicBlock::new(ctx, Some(label), Few::one(int()))?;
-    let key = Identifier::try_new(alloc, GIVEN_NAMES_KEY)?;
-    block.try_set_attribute(ctx, key, given_name(alloc, "start")?)?;
-    Ok(block)
+    let constant = OpDraft::new(ctx, "arith", "constant")?.attribute(
+        VALUE_KEY,
+        value_attr(term.value, int()),
+    )?;
+    let number = append(ctx, block, constant, "term", term.at)?;
+    let operands = [sum, number];
+    let add = OpDraft::new(ctx, "arith", "add")?.operands(&operands);
+    append(ctx, block, add, "sum", term.at)
 }
 
 /// Adds the numbers to the argument of a block, and returns the sum.
@@ -148,34 +107,30 @@ fn add_terms(ctx: &mut Ir, block: Ptr<BasicBlock>, terms: &[Term]) -> Answer<Val
     Ok(sum)
 }
 
-/// Returns a value at the end of a block.
-fn end(ctx: &mut Ir, block: Ptr<BasicBlock>, value: Value) -> Answer<()> {
-    let id = OpId::try_new(ctx.allocator(), "arith", "return")?;
-    let end = Operation::try_new(ctx, id, Few::none(), &[value], &[], 0)?;
-    end.try_insert_at_back(block, ctx)
+/// Makes an operation with a region and this name as its symbol, at the beginning of the source text.
+fn symbol(ctx: &mut Ir, dialect: &str, op: &str, name: &str) -> Answer<Ptr<Operation>> {
+    OpDraft::new(ctx, dialect, op)?
+        .regions(1)
+        .symbol(name)?
+        .at(place(SourcePosition::default()))
+        .build(ctx)
 }
 
-/// Makes the function `@sum`, which returns the sum of its argument and the numbers.
-fn function(ctx: &mut Ir, terms: &[Term]) -> Answer<Ptr<Operation>> {
-    let block = body(ctx)?;
-    let sum = add_terms(ctx, block, terms)?;
-    end(ctx, block, sum)?;
-    let id = OpId::try_new(ctx.allocator(), "arith", "func")?;
-    symbol(ctx, id, "sum", block)
-}
-
-/// Makes the function of the sum in a text.
-fn function_of(ctx: &mut Ir, text: &str) -> Answer<Ptr<Operation>> {
-    let alloc = ctx.allocator();
-    let mut terms = Vec::new(alloc);
-    parse_terms(alloc, text, &mut terms)?;
-    function(ctx, &terms)
-}
-
-/// Makes a block with a label and no arguments.
-fn entry(ctx: &mut Ir) -> Answer<Ptr<BasicBlock>> {
-    let label = Identifier::try_new(ctx.allocator(), "entry")?;
-    Ok(BasicBlock::new(ctx, Some(label), Few::none())?)
+/// Makes the function `@sum`, which returns the sum of its argument and the numbers, at the end of a block.
+fn function(ctx: &mut Ir, entry: Ptr<BasicBlock>, terms: &[Term]) -> Answer<()> {
+    let function = symbol(ctx, "arith", "func", "sum")?;
+    function.try_insert_at_back(entry, ctx)?;
+    let region = function.try_get_region(ctx, 0)?;
+    let body = BlockDraft::new(ctx)
+        .label("body")?
+        .arguments(Few::one(int()))
+        .name("start")?
+        .build_in(ctx, region)?;
+    let sum = [add_terms(ctx, body, terms)?];
+    OpDraft::new(ctx, "arith", "return")?
+        .operands(&sum)
+        .build_in(ctx, body)?;
+    Ok(())
 }
 
 /// Parses a sum such as `1 + 2 + 3`, and builds the module `@program` with the function `@sum`, which returns the sum of its argument and
@@ -184,9 +139,15 @@ fn entry(ctx: &mut Ir) -> Answer<Ptr<BasicBlock>> {
 pub fn compile(ctx: &mut Ir, text: &str) -> Answer<Ptr<Operation>>
     ensures { IfOk result (λ op. IsSome (operation ctx.new op)) }
 {
-    let function = function_of(ctx, text)?;
-    let entry = entry(ctx)?;
-    function.try_insert_at_back(entry, ctx)?;
-    let id = OpId::try_new(ctx.allocator(), "builtin", "module")?;
-    symbol(ctx, id, "program", entry)
+    let alloc = ctx.allocator();
+    let mut terms = Vec::new(alloc);
+    parse_terms(alloc, text, &mut terms)?;
+    let module = symbol(ctx, "builtin", "module", "program")?;
+    let region = module.try_get_region(ctx, 0)?;
+    let entry = BlockDraft::new(ctx).label("entry")?.build_in(ctx, region)?;
+    function(ctx, entry, &terms)?;
+    if !ctx.contains_operation(module) {
+        return verify_err!(place(SourcePosition::default()), in alloc; "the module is gone");
+    }
+    Ok(module)
 }

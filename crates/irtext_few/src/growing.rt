@@ -1,7 +1,7 @@
 //! A list to which elements are added and from which they are removed. One element is stored in place, and more in a vector in a box, so
 //! that one element needs no allocation and the list takes few bytes.
-ghost use Rattle.std.specs.Prelude.{◌≡◌, ◌<◌, ◌++◌, ◌∷◌, [], Some, OnOk, OnErr, length, slice_get};
-ghost use Rattle.std.specs.List.{remove};
+ghost use Rattle.std.specs.Prelude.{◌≡◌, ◌<◌, ◌≤◌, ◌++◌, ◌∷◌, [], Some, OnOk, OnErr, length, slice_get};
+ghost use Rattle.std.specs.List.{insert, remove};
 ghost use Rattle.irtext_few.specs.Growing.{listed, HasPlace};
 
 use irtext_memory::{OutOfMemory, boxed, vec};
@@ -89,10 +89,32 @@ impl<X: Copy> Growing<X> {
         Ok(())
     }
 
-    /// Removes the element at an index, which must be below the number of elements. The order of the others is unchanged.
+    /// Inserts an element at an index, which must not be above the number of elements; those from there on come after it. There must be
+    /// room for it.
+    pub fn insert_reserved(&mut self, index: usize, x: X)
+        requires room { HasPlace self.old }
+        requires within { index ≤ length (listed self.old) }
+        ensures { listed self.new ≡ insert (listed self.old) index x }
+    {
+        match self {
+            Growing::Nothing(alloc) => {
+                *self = Growing::One(*alloc, x);
+            }
+            Growing::One(_, _) => unreachable!(),
+            Growing::Many(more) => {
+                let Ok(()) = more.insert(index, x) else {
+                    unreachable!();
+                };
+            }
+        }
+    }
+
+    /// Removes the element at an index, which must be below the number of elements. The order of the others is unchanged. If there was room
+    /// for one more element, there still is.
     pub fn remove(&mut self, index: usize)
         requires { index < length (listed self.old) }
-        ensures { listed self.new ≡ remove (listed self.old) index }
+        ensures removed { listed self.new ≡ remove (listed self.old) index }
+        ensures room { HasPlace self.old → HasPlace self.new }
     {
         match self {
             Growing::Nothing(_) => unreachable!(),

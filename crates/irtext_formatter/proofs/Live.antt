@@ -4,14 +4,13 @@ use Rattle.std.specs.Option.{option_map}
 use Rattle.std.specs.Prelude.{option_and_then}
 use Rattle.irtext_base.specs.declared.location.Location.{Unknown}
 use Rattle.irtext_graph.specs.Content.{Content, Content.{AnOperation, ABlock, ARegion}, OperationContent}
-use Rattle.irtext_graph.specs.Data.{with_data}
 use Rattle.irtext_graph.specs.Graph.{content_of}
-use Rattle.irtext_graph.specs.Store.{get, object_of}
+use Rattle.irtext_graph.specs.Store.{get}
 use Rattle.irtext_graph.specs.Throughout.{changed}
 use Rattle.irtext_graph.specs.declared.arena.Ptr.{Ptr}
 use Rattle.irtext_graph.specs.declared.object.Object.TheVariants.{TheOperation}
 use Rattle.irtext_graph.specs.declared.object.Operation.{Operation}
-use Rattle.irtext_context.specs.Context.{ContextView, OperationView, operation, operation_of, view_of, with_loc, with_block_loc, EditsOperation}
+use Rattle.irtext_context.specs.Context.{ContextView, OperationView, operation, operation_of, view_of, with_loc, with_block_loc}
 use Rattle.irtext_context.specs.Locations.{ErasesLocations}
 use Rattle.irtext_context.specs.declared.base.block.BlockData.{BlockData}
 use Rattle.irtext_context.specs.declared.base.operation.OperationData.{OperationData}
@@ -21,14 +20,6 @@ module _ {T A : Type 0} where
   some_still : (change : OperationData A → OperationData A) (f h : OperationData A → OperationView T A) (d : Option (OperationData A)) → IsSome (option_map f d) → IsSome (option_map h (option_map change d))
   some_still change f h None e = absurd (cc e)
   some_still change f h (Some d) e = refl
-
-  -- the operation whose location was set
-  pub edited_live : (old new : ContextView T A) (p : Ptr Operation) (change : OperationData A → OperationData A) → EditsOperation old new p change → IsSome (operation old p) → IsSome (operation new p)
-  edited_live old new p change e h = subst (λ o. IsSome (option_and_then operation_of o)) (sym e.graph.operations.updates.changed) (go (get old.graph.operations p) h)
-    where
-      go : (o : Option (OperationEntry T A)) → IsSome (option_and_then operation_of o) → IsSome (option_and_then operation_of (option_map (object_of (with_data (option_map change))) o))
-      go None h = absurd (cc h)
-      go (Some x) h = some_still change (view_of x.content.content.results x.content.children) (view_of x.content.content.results x.content.children) x.content.content.data_of h
 
   -- an operation, as what an object is
   abbrev an_operation : ℕ × OperationContent (Option (OperationData A)) (Option T) → Content (Option (OperationData A)) (BlockData A) (Option T)

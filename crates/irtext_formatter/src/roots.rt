@@ -30,6 +30,7 @@ use irtext_context::base::context::making::Making;
 use irtext_context::base::{Context, Operation, OperationAccess, Ptr};
 use irtext_context::location::erase_locations;
 use irtext_graph::held::HasGraph;
+use irtext_graph_queries::operation::OperationParts;
 use irtext_parse_root::outermost::outermost_parse;
 use irtext_parse_state::parsable::{State, StateStream};
 

@@ -21,10 +21,10 @@ use Rattle.irtext_graph.specs.declared.objects.RegionData.{RegionData}
 use Rattle.irtext_graph.specs.Store.{Edits, before}
 use Rattle.irtext_graph.specs.Content.{Content.{AnOperation}, operation_content, region_content}
 use Rattle.irtext_graph.specs.Graph.{GraphView, graph_of, KeepsOlder}
-use Rattle.irtext_graph.specs.Nest.{kids as children_at, parent_in, children_in, OnlyLists}
+use Rattle.irtext_graph.specs.Nest.{kids as children_at, parent_in, children_in, HasRoom, OnlyLists}
 use Rattle.irtext_graph.specs.Nested.{Within, climb}
 use Rattle.irtext_graph.specs.Objects.{up, kids, what, eq_object, SameData, IsForest}
-use Rattle.irtext_graph.specs.Regions.{with_child, AddsRegion, HasRoom}
+use Rattle.irtext_graph.specs.Regions.{with_child, AddsRegion}
 use Rattle.irtext_graph.specs.Sound.{IsSound, IsKept}
 use Rattle.irtext_graph.specs.Uses.{operations_seen}
 use Rattle.irtext_graph.proofs.Arenas.{older_later, older_inserted, new_view, was_none}

@@ -43,7 +43,7 @@ itself d e x same = go (eq_defined x d) refl
     go false s = refl
 
 module _ {O B T : Type 0} where
-  parent_bare : (g : GraphView O B T) (q : Object) → parent (without_uses g) q ≡ parent g q
+  pub parent_bare : (g : GraphView O B T) (q : Object) → parent (without_uses g) q ≡ parent g q
   parent_bare g (TheOperation p) = ap (λ s. option_map TheBlock (parent_of s)) (get_mapped without_uses_in g.operations p) ∙ seen_mapped (object_of without_uses_in) (λ s. option_map TheBlock (parent_of s)) (λ s. option_map TheBlock (parent_of s)) refl (λ e. refl) (get g.operations p)
   parent_bare g (TheBlock p) = refl
   parent_bare g (TheRegion p) = refl
@@ -127,24 +127,25 @@ module _ {O B T : Type 0} where
       go None = refl
       go (Some e) = refl
 
-  -- what is older and does not use d is unchanged
-  pub replaces_keeps : (m : ℕ) (g h : GraphView O B T) (d e : Defined) → Replaces g h d e → IsUnusedBelow m g d → KeepsOlder m g h
-  replaces_keeps m g h d e r unused = record {
+  -- what is older and uses what it used is unchanged
+  pub bare_keeps : (m : ℕ) (g h : GraphView O B T) → without_uses h ≡ without_uses g → ((u : Site) → is_older m (content g (TheOperation (user u))) ≡ true → used_at h u ≡ used_at g u) → KeepsOlder m g h
+  bare_keeps m g h rest kept = record {
     operations = λ p. cases p (is_older m (content g (TheOperation p))) refl;
-    blocks = λ p. ap (λ (k : GraphView O B T). before m k.blocks p) r.rest;
-    regions = λ p. ap (λ (k : GraphView O B T). before m k.regions p) r.rest;
-    made = let k = ap (λ (k : GraphView O B T). k.made) r.rest in omega (arith, k);
-    values = let k = ap (λ (k : GraphView O B T). k.values) r.rest in omega (arith, k);
-    first_place = ap (λ (k : GraphView O B T). k.first_place) r.rest;
-    pointers = gives_replaced g h r.rest;
+    blocks = λ p. ap (λ (k : GraphView O B T). before m k.blocks p) rest;
+    regions = λ p. ap (λ (k : GraphView O B T). before m k.regions p) rest;
+    made = let k = ap (λ (k : GraphView O B T). k.made) rest in omega (arith, k);
+    values = let k = ap (λ (k : GraphView O B T). k.values) rest in omega (arith, k);
+    first_place = ap (λ (k : GraphView O B T). k.first_place) rest;
+    pointers = gives_replaced g h rest;
   }
     where
-      kept : (u : Site) → is_older m (content g (TheOperation (user u))) ≡ true → used_at h u ≡ used_at g u
-      kept u old = r.uses u ∙ replaced_kept d e (used_at g u) (λ is. let n = unused u is in absurd (cc))
-
       cases : (p : Ptr Operation) (t : Bool) → is_older m (content g (TheOperation p)) ≡ t → before m h.operations p ≡ before m g.operations p
-      cases p false n = new_operation m h p (sym (age_bare m h p) ∙ ap (λ k. is_older m (content k (TheOperation p))) r.rest ∙ age_bare m g p ∙ n) ∙ sym (new_operation m g p n)
+      cases p false n = new_operation m h p (sym (age_bare m h p) ∙ ap (λ k. is_older m (content k (TheOperation p))) rest ∙ age_bare m g p ∙ n) ∙ sym (new_operation m g p n)
       cases p true old = ap (arena.older m) (entry_alike (get g.operations p) (get h.operations p)
-          (sym (get_mapped without_uses_in h.operations p) ∙ ap (λ (k : GraphView O B T). get k.operations p) r.rest ∙ get_mapped without_uses_in g.operations p)
+          (sym (get_mapped without_uses_in h.operations p) ∙ ap (λ (k : GraphView O B T). get k.operations p) rest ∙ get_mapped without_uses_in g.operations p)
           (same_items (operands h p) (operands g p) (λ i. option_same OfValue (λ a b e. cc) (slice_get (operands h p) i) (slice_get (operands g p) i) (kept (AtOperand p i) old)))
           (same_items (successors h p) (successors g p) (λ i. option_same OfBlock (λ a b e. cc) (slice_get (successors h p) i) (slice_get (successors g p) i) (kept (AtSuccessor p i) old))))
+
+  -- what is older and does not use d is unchanged
+  pub replaces_keeps : (m : ℕ) (g h : GraphView O B T) (d e : Defined) → Replaces g h d e → IsUnusedBelow m g d → KeepsOlder m g h
+  replaces_keeps m g h d e r unused = bare_keeps m g h r.rest (λ u old. r.uses u ∙ replaced_kept d e (used_at g u) (λ is. let n = unused u is in absurd (cc)))

@@ -8,7 +8,7 @@ use Rattle.irtext_graph.specs.declared.objects.Objects.{Objects}
 use Rattle.irtext_graph.specs.Nested.{climb, Within}
 use Rattle.irtext_graph.proofs.Nests.{same_or_other, seen, some_eq, renested, climb-none}
 use Rattle.irtext_graph.proofs.Inside.{within_self, within_on, alone, carried, fewer_ways}
-use Rattle.irtext_graph.specs.Objects.{up, kids, what, Lives, SameAt, IsGone, IsForest, Drops, Appends, KeepsOlder, stays, is_older, eq_object, SameDatum, Sheds}
+use Rattle.irtext_graph.specs.Objects.{up, kids, what, Lives, SameAt, IsGone, IsForest, Drops, eq_object, SameDatum, Sheds}
 use Rattle.irtext_graph.specs.Content.{Content, Content.{AnOperation, ABlock, ARegion}, operation_content, block_content, region_content}
 use Rattle.irtext_graph.proofs.Same.{object_tells}
 use Rattle.irtext_graph.proofs.Places.{parent_lives}
@@ -175,22 +175,3 @@ module _ {O B T : Type 0} where
 
     pub end_kept : (q : Object) → (Within (up x0) o q → ⊥) → SameAt x0 x4 q
     end_kept q out = same_on (v.kept q out) (others q (λ e. out (rw e (within_self (up x0) o))))
-
-  -- an insertion among newer objects keeps what is older
-  pub appends_keeps : (x y : Objects O B T) (k c : Object) (m : ℕ) → Appends x y k c → stays m x k ≡ false → stays m x c ≡ false → KeepsOlder m x y
-  appends_keeps x y k c m a fk fc = record {
-    same = λ o old.
-        let nk : o ≢ k = λ e. let f = ap (stays m x) e in cc in
-        let nc : o ≢ c = λ e. let f = ap (stays m x) e in cc in
-        record { same_up = a.ups o nc; same_kids = a.others o nk; same_what = a.whats o };
-    age = λ o. ap (is_older m) (a.whats o);
-  }
-
-  pub keeps_self : (m : ℕ) (x : Objects O B T) → KeepsOlder m x x
-  keeps_self m x = record { same = λ o _. record { same_up = refl; same_kids = refl; same_what = refl }; age = λ o. refl }
-
-  pub keeps_on : (m : ℕ) (x y z : Objects O B T) → KeepsOlder m x y → KeepsOlder m y z → KeepsOlder m x z
-  keeps_on m x y z a b = record {
-    same = λ o old. same_on (a.same o old) (b.same o (a.age o ∙ old));
-    age = λ o. b.age o ∙ a.age o;
-  }

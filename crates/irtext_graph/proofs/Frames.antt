@@ -145,23 +145,6 @@ module _ {O B T : Type 0} where
   pub framed_keeps : (m : ℕ) (g h : GraphView O B T) → Framed m g h → g.made ≤ h.made → g.values ≤ h.values → h.first_place ≡ g.first_place → GivesOnce g h → KeepsOlder m g h
   framed_keeps m g h f made values first pointers = older_or_kept m g h (λ q. elim (f.same q) [ inl n ↦ inl (n, still_new m g h q (f.contents q) n) | inr s ↦ inr (s.0, s.1, f.contents q) ]) made values first pointers
 
-  pub appended-keeps : (m : ℕ) (g h : GraphView O B T) (k c : Object) → IsNew m g k → IsNew m g c → Appends g h k c → KeepsOlder m g h
-  appended-keeps m g h k c nk nc a = framed_keeps m g h (record {
-    contents = a.objects.contents;
-    same = λ q. elim (same_or_other object_tells q k) [
-      | inl e ↦ inl (ap (λ q. is_older m (content g q)) e ∙ nk)
-      | inr away ↦ elim (same_or_other object_tells q c) [
-        | inl e ↦ inl (ap (λ q. is_older m (content g q)) e ∙ nc)
-        | inr apart ↦ inr (a.parents q apart, a.others q away)
-      ]
-    ];
-  }) (let e = a.objects.rest.made in omega (arith, e)) (let e = a.objects.rest.values in omega (arith, e)) a.objects.rest.first_place (gives_rest g h a.objects.rest (λ q e. a.objects.contents q ∙ e))
-
-  -- an insertion, or its error
-  pub inserted-keeps : (m : ℕ) (g h : GraphView O B T) (k c : Object) → IsNew m g k → IsNew m g c → {E : Type 0} (r : Result (Unit {0}) E) → OnOk r (Appends g h k c) → OnErr r (h ≡ g) → KeepsOlder m g h
-  inserted-keeps m g h k c nk nc (Ok u) a e = appended-keeps m g h k c nk nc a
-  inserted-keeps m g h k c nk nc (Err x) a e = same_keeps m g h e
-
   pub unlinked-keeps : (m : ℕ) (g h : GraphView O B T) (c : Object) → IsNew m g c → ((k : Object) → parent g c ≡ Some k → IsNew m g k) → Unlinks g h c → KeepsOlder m g h
   unlinked-keeps m g h c nc nk a = framed_keeps m g h (record { contents = a.objects.contents; same = same }) (let e = a.objects.rest.made in omega (arith, e)) (let e = a.objects.rest.values in omega (arith, e)) a.objects.rest.first_place (gives_rest g h a.objects.rest (λ q e. a.objects.contents q ∙ e))
     where

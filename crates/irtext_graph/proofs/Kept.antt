@@ -6,9 +6,10 @@ use Rattle.irtext_graph.specs.declared.arena.Arena.{Arena}
 use Rattle.irtext_graph.specs.declared.arena.Entry.{Entry}
 use Rattle.irtext_graph.specs.declared.nest.Nest.{Nest}
 use Rattle.irtext_graph.specs.declared.objects.Objects.{Objects}
-use Rattle.irtext_graph.specs.Nest.{datum_in}
-use Rattle.irtext_graph.specs.Objects.{SamePlaces, SameData, SameDatum, Sheds, Renumbers, Appends, IsForest, eq_object}
+use Rattle.irtext_graph.specs.Nest.{datum_in, HasRoom}
+use Rattle.irtext_graph.specs.Objects.{SamePlaces, SameData, SameDatum, Sheds, Renumbers, IsForest, Lives, HasRoomFor, KeepsRoom, what, eq_object}
 use Rattle.irtext_graph.specs.declared.object.Object.{Object}
+use Rattle.irtext_graph.specs.declared.object.Object.TheVariants.{TheOperation, TheBlock, TheRegion}
 use Rattle.irtext_graph.specs.declared.arena.Ptr.{Ptr}
 use Rattle.irtext_graph.proofs.Pointers.{ptr_or}
 use Rattle.irtext_graph.proofs.Nests.{renested}
@@ -102,14 +103,31 @@ module _ {O B T : Type 0} where
   pub forest_then : {x y : Objects O B T} → IsForest x → Renumbers x y → IsForest y
   forest_then s h = renested eq_object object_tells s (λ q. (h.at q).same_kids) (λ q. (h.at q).same_up)
 
-  pub appends_then : {x y z : Objects O B T} {k c : Object} → Appends x y k c → Renumbers y z → Appends x z k c
-  appends_then {k = k} {c = c} a h = record {
-    here = (h.at k).same_kids ∙ a.here;
-    others = λ q n. (h.at q).same_kids ∙ a.others q n;
-    up_here = (h.at c).same_up ∙ a.up_here;
-    ups = λ q n. (h.at q).same_up ∙ a.ups q n;
-    whats = λ q. (h.at q).same_what ∙ a.whats q;
+  pub room_on : {x y z : Objects O B T} → KeepsRoom x y → KeepsRoom y z → KeepsRoom x z
+  room_on h k = record {
+    operations = λ p r. k.operations p (h.operations p r);
+    blocks = λ p r. k.blocks p (h.blocks p r);
+    regions = λ p r. k.regions p (h.regions p r);
   }
+
+  pub room_self : (x : Objects O B T) → KeepsRoom x x
+  room_self x = record { operations = λ p r. r; blocks = λ p r. r; regions = λ p r. r }
+
+  pub room_for : (x y : Objects O B T) (k : Object) → KeepsRoom x y → HasRoomFor x k → HasRoomFor y k
+  room_for x y (TheOperation p) h r = h.operations p r
+  room_for x y (TheBlock p) h r = h.blocks p r
+  room_for x y (TheRegion p) h r = h.regions p r
+
+-- what has room is there
+room_there : {P C D V : Type 0} (f : ℕ × D → V) (e : Option (Entry (Nest P C D))) → HasRoom e → IsSome (option_map f (datum_in e))
+room_there f None r = absurd r
+room_there f (Some e) r = refl
+
+module _ {O B T : Type 0} where
+  pub room_lives : (x : Objects O B T) (k : Object) → HasRoomFor x k → Lives x k
+  room_lives x (TheOperation p) r = room_there _ (get x.operations p) r
+  room_lives x (TheBlock p) r = room_there _ (get x.blocks p) r
+  room_lives x (TheRegion p) r = room_there _ (get x.regions p) r
 
 -- an object that has data is there, and conversely
 pub datum_there : {P C D V : Type 0} (f : ℕ × D → V) (e : Option (Entry (Nest P C D))) → IsSome e → IsSome (option_map f (datum_in e))

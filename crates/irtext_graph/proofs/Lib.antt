@@ -31,7 +31,6 @@ pub mod Fewer
 pub mod Fields
 pub mod Puts
 pub mod Slots
-pub mod Appending
 pub mod Redirected
 pub mod Bare
 pub mod SameSeen
@@ -59,3 +58,7 @@ pub mod Going
 pub mod Alone
 pub mod Numbers
 pub mod Indexed
+pub mod Redirects
+pub mod Inserting
+pub mod Moving
+pub mod Rooms

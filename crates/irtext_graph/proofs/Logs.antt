@@ -20,7 +20,7 @@ use Rattle.irtext_graph.specs.declared.objects.RegionData.{RegionData}
 use Rattle.irtext_graph.specs.Content.{Content.{AnOperation, ABlock, ARegion}, operation_content, block_content, region_content}
 use Rattle.irtext_graph.specs.Log.{Made, age, IsByAge, IsBelow, IsListed, IsLogged}
 use Rattle.irtext_graph.specs.Nest.{datum_in}
-use Rattle.irtext_graph.specs.Objects.{what, born_of, Appends, SameAt}
+use Rattle.irtext_graph.specs.Objects.{what, born_of}
 use Rattle.irtext_graph.proofs.Moves.{lower}
 use Rattle.irtext_graph.proofs.Nests.{get-last, get-before, get-either, some_eq}
 use Rattle.irtext_graph.proofs.Pointers.{ptr_or}
@@ -76,11 +76,6 @@ module _ {O B T : Type 0} where
   -- objects that are what they were
   pub logged_same : (made : ℕ) (log : List Object) (x y : Objects O B T) → IsLogged made log x → ((o : Object) → what y o ≡ what x o) → IsLogged made log y
   logged_same made log x y i same = logged_kept made log x y i (λ o b e. sym (same_age x y o (same o)) ∙ e)
-
-  -- an insertion, or its error
-  pub moved_what : (x y : Objects O B T) (k c : Object) {E : Type 0} (r : Result (Unit {0}) E) → OnOk r (Appends x y k c) → OnErr r ((q : Object) → SameAt x y q) → (q : Object) → what y q ≡ what x q
-  moved_what x y k c (Ok u) a s q = a.whats q
-  moved_what x y k c (Err e) a s q = (s q).same_what
 
   pub logged_empty : (x : Objects O B T) → x.operations.slots.items ≡ [] → x.blocks.slots.items ≡ [] → x.regions.slots.items ≡ [] → (log : List Object) → log ≡ [] → IsLogged 0 log x
   logged_empty x eo eb er log e = record {

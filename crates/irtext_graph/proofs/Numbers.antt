@@ -166,15 +166,18 @@ module _ {O B T : Type 0} where
       at (Result p i) = moved _ _ _ (ap (result_of i) (r.operations.at p)) (older_or_gone mark (result_of i) refl (get old.operations p))
       at (Argument p i) = moved _ _ _ (ap (argument_of i) (r.blocks.at p)) (older_or_gone mark (argument_of i) refl (get old.blocks p))
 
-  pub replaced_numbers : (old new : GraphView O B T) (d e : Defined) → Replaces old new d e → KeepsNumbers old new
-  replaced_numbers old new d e r = record {
-    values = let k = ap (λ (g : GraphView O B T). g.values) r.rest in omega (arith, k);
-    at = λ v. inl (sym (bare new v) ∙ ap (λ g. value_at g v) r.rest ∙ bare old v);
+  pub bare_numbers : (old new : GraphView O B T) → used.without_uses new ≡ used.without_uses old → KeepsNumbers old new
+  bare_numbers old new rest = record {
+    values = let k = ap (λ (g : GraphView O B T). g.values) rest in omega (arith, k);
+    at = λ v. inl (sym (bare new v) ∙ ap (λ g. value_at g v) rest ∙ bare old v);
   }
     where
       bare : (g : GraphView O B T) (v : Value) → value_at (used.without_uses g) v ≡ value_at g v
       bare g (Result p i) = ap (result_of i) (get_mapped without_uses_in g.operations p) ∙ seen_mapped (object_of without_uses_in) (result_of i) (result_of i) refl (λ o. refl) (get g.operations p)
       bare g (Argument p i) = refl
+
+  pub replaced_numbers : (old new : GraphView O B T) (d e : Defined) → Replaces old new d e → KeepsNumbers old new
+  replaced_numbers old new d e r = bare_numbers old new r.rest
 
   pub edited_numbers : (old new : GraphView O B T) (p : Ptr Operation) (change : O → O) → EditsOperation old new p change → KeepsNumbers old new
   edited_numbers old new p change e = record { values = let k = e.values in omega (arith, k); at = λ v. inl (at v) }

@@ -97,15 +97,6 @@ module _ {O B T : Type 0} where
     rest = rest_seen m v x y p;
   }
 
-  pub appends_seen : (m : ℕ) (v : Counters) (x y : Objects O B T) (k c : Object) → objects.SamePlaces x y → objects.Appends x y k c → Appends (graph_of m v x) (graph_of m v y) k c
-  appends_seen m v x y k c p a = record {
-    here = kids_seen m v y k ∙ a.here ∙ ap (λ xs. xs ++ c ∷ []) (sym (kids_seen m v x k));
-    others = λ o ne. kids_seen m v y o ∙ a.others o ne ∙ sym (kids_seen m v x o);
-    parent_here = up_seen m v y c ∙ a.up_here;
-    parents = λ o ne. up_seen m v y o ∙ a.ups o ne ∙ sym (up_seen m v x o);
-    objects = keeps_seen m v x y a.whats p;
-  }
-
   -- an object that was removed from its parent
   pub unlinks_seen : (m : ℕ) (v : Counters) (x y : Objects O B T) (c : Object) → up y c ≡ None → ((q : Object) → q ≢ c → up y q ≡ up x q)
       → ((k : Object) (i : ℕ) → up x c ≡ Some k → slice_get (kids x k) i ≡ Some c → kids y k ≡ remove (kids x k) i) → ((q : Object) → up x c ≢ Some q → kids y q ≡ kids x q)
@@ -117,10 +108,6 @@ module _ {O B T : Type 0} where
     others = λ q ne. kids_seen m v y q ∙ others q (λ e. ne (up_seen m v x c ∙ e)) ∙ sym (kids_seen m v x q);
     objects = keeps_seen m v x y whats places;
   }
-
-  pub moved_seen : (m : ℕ) (v : Counters) (x y : Objects O B T) (k c : Object) {E : Type 0} (r : Result (Unit {0}) E) → objects.SamePlaces x y → OnOk r (objects.Appends x y k c) → OnOk r (Appends (graph_of m v x) (graph_of m v y) k c)
-  moved_seen m v x y k c (Ok u) p a = appends_seen m v x y k c p a
-  moved_seen m v x y k c (Err e) p a = a
 
   pub same_seen : (m : ℕ) (v : Counters) (x y : Objects O B T) → SameNodes x y → graph_of m v y ≡ graph_of m v x
   same_seen m v x y s = rw (store_is operation_content x.operations y.operations s.same_operations, store_is block_content x.blocks y.blocks s.same_blocks, store_is region_content x.regions y.regions s.same_regions) refl

@@ -18,10 +18,10 @@ pub mod Regions
 pub mod DataLends
 pub mod Parts
 pub mod Used
-pub mod Held
 pub mod Linking
 pub mod Limits
 pub mod Near
 pub mod Back
 pub mod Throughout
 pub mod Places
+pub mod Edits

@@ -1,6 +1,6 @@
 -- The parents, children and data of the objects in an arena, by their pointers.
 use Rattle.std.specs.Prelude.{◌≡◌, ◌≢◌, ℕ, List, [], length, Option, Some, None, sum_by}
-use Rattle.irtext_few.specs.Growing.{listed}
+use Rattle.irtext_few.specs.Growing.{listed, HasPlace}
 use Rattle.irtext_graph.specs.declared.arena.Slot.{Slot}
 use Rattle.irtext_graph.specs.declared.arena.Slot.TheVariants.{Vacant, Full}
 use Rattle.irtext_graph.specs.declared.arena.Entry.{Entry}
@@ -24,6 +24,11 @@ module _ {P C D : Type 0} where
   abbrev pub datum_in : Option (Entry (Nest P C D)) → Option (ℕ × D)
   datum_in None = None
   datum_in (Some x) = Some (x.born, x.content.data)
+
+  -- the object is live, and has room for one more child
+  abbrev pub HasRoom : Option (Entry (Nest P C D)) → Type 0
+  HasRoom None = ⊥
+  HasRoom (Some x) = HasPlace x.content.children
 
   -- the parent of the object that a pointer refers to
   abbrev pub up : {K : Type 0} → Arena (Nest P C D) → Ptr K → Option (Ptr P)

@@ -7,10 +7,11 @@ use Rattle.irtext_graph.specs.declared.object.Object.TheVariants.{TheOperation, 
 use Rattle.irtext_graph.specs.declared.objects.Objects.{Objects}
 use Rattle.irtext_graph.specs.Content.{Content, Content.{AnOperation, ABlock, ARegion}, operation_content, block_content, region_content, nodes}
 use Rattle.irtext_graph.specs.Nested.{Nested, Within}
-use Rattle.irtext_graph.specs.Nest.{up as parent_at, kids as children_at, links as links_of, datum}
-use Rattle.irtext_graph.specs.Arena.{KeepsPlaces, ShedsPlaces}
+use Rattle.irtext_graph.specs.Nest.{up as parent_at, kids as children_at, links as links_of, datum, HasRoom}
+use Rattle.irtext_graph.specs.Arena.{get, KeepsPlaces, ShedsPlaces}
 use Rattle.irtext_graph.specs.declared.object.Operation.{Operation}
 use Rattle.irtext_graph.specs.declared.object.BasicBlock.{BasicBlock}
+use Rattle.irtext_graph.specs.declared.object.Region.{Region}
 
 -- whether two pointers are the same
 abbrev pub eq_ptr : {K : Type 0} → Ptr K → Ptr K → Bool
@@ -29,6 +30,24 @@ Fits (TheOperation _) (TheRegion _) = Unit {0}
 Fits (TheRegion _) (TheBlock _) = Unit {0}
 Fits (TheBlock _) (TheOperation _) = Unit {0}
 Fits _ _ = ⊥
+
+-- what can have one operation as a child can have another
+pub operation_alike : (p q : Ptr Operation) (k : Object) → Fits k (TheOperation p) → Fits k (TheOperation q)
+operation_alike p q (TheOperation _) f = f
+operation_alike p q (TheBlock _) f = f
+operation_alike p q (TheRegion _) f = f
+
+-- the same of blocks
+pub block_alike : (p q : Ptr BasicBlock) (k : Object) → Fits k (TheBlock p) → Fits k (TheBlock q)
+block_alike p q (TheOperation _) f = f
+block_alike p q (TheBlock _) f = f
+block_alike p q (TheRegion _) f = f
+
+-- the same of regions
+pub region_alike : (p q : Ptr Region) (k : Object) → Fits k (TheRegion p) → Fits k (TheRegion q)
+region_alike p q (TheOperation _) f = f
+region_alike p q (TheBlock _) f = f
+region_alike p q (TheRegion _) f = f
 
 module _ {O B T : Type 0} where
   -- the parent of an object
@@ -73,13 +92,17 @@ module _ {O B T : Type 0} where
   abbrev pub IsForest : Objects O B T → Type 0
   IsForest x = Nested (kids x) (up x)
 
-  -- c became the last child of k
-  pub record Appends (old new : Objects O B T) (k c : Object) : Type 0 where
-    pub here : kids new k ≡ kids old k ++ c ∷ []
-    pub others : (x : Object) → x ≢ k → kids new x ≡ kids old x
-    pub up_here : up new c ≡ Some k
-    pub ups : (x : Object) → x ≢ c → up new x ≡ up old x
-    pub whats : (x : Object) → what new x ≡ what old x
+  -- the object is live, and has room for one more child
+  abbrev pub HasRoomFor : Objects O B T → Object → Type 0
+  HasRoomFor x (TheOperation p) = HasRoom (get x.operations p)
+  HasRoomFor x (TheBlock p) = HasRoom (get x.blocks p)
+  HasRoomFor x (TheRegion p) = HasRoom (get x.regions p)
+
+  -- what had room for one more child still has
+  pub record KeepsRoom (old new : Objects O B T) : Type 0 where
+    pub operations : (p : Ptr Operation) → HasRoom (get old.operations p) → HasRoom (get new.operations p)
+    pub blocks : (p : Ptr BasicBlock) → HasRoom (get old.blocks p) → HasRoom (get new.blocks p)
+    pub regions : (p : Ptr Region) → HasRoom (get old.regions p) → HasRoom (get new.regions p)
 
   -- c has no parent, and k is neither c nor nested in it
   pub record CanInsert (x : Objects O B T) (k c : Object) : Type 0 where
@@ -124,15 +147,6 @@ module _ {O B T : Type 0} where
   abbrev pub is_older : ℕ → Option (Content O B T) → Bool
   is_older m None = false
   is_older m (Some k) = nat_lt (born_of k) m
-
-  -- whether the object was made before m
-  abbrev pub stays : ℕ → Objects O B T → Object → Bool
-  stays m x o = is_older m (what x o)
-
-  -- what was made before m is unchanged
-  pub record KeepsOlder (m : ℕ) (old new : Objects O B T) : Type 0 where
-    pub same : (o : Object) → stays m old o ≡ true → SameAt old new o
-    pub age : (o : Object) → stays m new o ≡ stays m old o
 
   -- the object c, which had no children and was a child of k, is gone
   pub record Drops (old new : Objects O B T) (k c : Object) : Type 0 where

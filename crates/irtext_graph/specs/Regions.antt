@@ -1,19 +1,11 @@
 -- Making a region as the last of an operation.
-use Rattle.std.specs.Prelude.{◌≡◌, ◌+◌, ◌++◌, ◌∷◌, [], Option, Some, None}
-use Rattle.irtext_graph.specs.declared.arena.Entry.{Entry}
+use Rattle.std.specs.Prelude.{◌≡◌, ◌+◌, ◌++◌, ◌∷◌, [], Some}
 use Rattle.irtext_graph.specs.declared.arena.Ptr.{Ptr}
-use Rattle.irtext_graph.specs.declared.nest.Nest.{Nest}
 use Rattle.irtext_graph.specs.declared.object.Operation.{Operation}
 use Rattle.irtext_graph.specs.declared.object.Region.{Region}
-use Rattle.irtext_few.specs.Growing.{HasPlace}
 use Rattle.irtext_graph.specs.Store.{Inserts, Edits}
 use Rattle.irtext_graph.specs.Content.{Node}
 use Rattle.irtext_graph.specs.Graph.{GraphView}
-
--- an object is live, and has room for one more child
-abbrev pub HasRoom : {P C D : Type 0} → Option (Entry (Nest P C D)) → Type 0
-HasRoom None = ⊥
-HasRoom (Some e) = HasPlace e.content.children
 
 -- an object's node with another child, which is the last
 abbrev pub with_child : {P C E : Type 0} → Ptr C → Node P C E → Node P C E

@@ -1,6 +1,7 @@
 //! The graph and the calls of its users.
 ghost use Rattle.std.specs.Prelude.{◌≡◌, ◌≤◌, ◌+◌, ◌∷◌, ◌↔◌, Some, IsSome, IfSome, IsTrue, OnOk, OnErr, length, slice_get, ◌<◌, ℕ};
 ghost use Rattle.irtext_graph.specs.Graph.{empty, begun, parent, children, ancestor, IsLive, IsInside, CanInsert, Appends, Unlinks, IsNew, KeepsOlder, num_live};
+ghost use Rattle.irtext_graph.specs.Edits.{without, InsertsAt, Moves};
 ghost use Rattle.irtext_graph.specs.Nested.{Nested};
 ghost use Rattle.irtext_graph.specs.Chained.{Among};
 ghost use Rattle.irtext_graph.specs.Throughout.{all_from};
@@ -219,7 +220,41 @@ impl<O: Drop, B: Drop, T: Drop> Graph<O, B, T> {
         ensures err { OnErr result (self.new ≡ self.old) }
         ensures kept { (m : ℕ) → IsNew m self.old k → IsNew m self.old c → KeepsOlder m self.old self.new }
     {
-        self.objects.insert_last(k, c)
+        let count = self.objects.child_count(k);
+        self.objects.insert_at(k, count, c)
+    }
+
+    /// Makes c the child of k with an index, at most the number of children; the children from there on come after it. If an allocation
+    /// fails, the graph is unchanged. Its time grows with the children after c.
+    pub fn insert_at(&mut self, k: Object, i: usize, c: Object) -> Result<(), OutOfMemory>
+        requires holder { IsLive self.old k }
+        requires alive { IsLive self.old c }
+        requires fits { Fits k c }
+        requires can { CanInsert self.old k c }
+        requires within { i ≤ length (children self.old k) }
+        ensures ok { OnOk result (InsertsAt self.old self.new k i c) }
+        ensures err { OnErr result (self.new ≡ self.old) }
+        ensures kept { (m : ℕ) → IsNew m self.old k → IsNew m self.old c → KeepsOlder m self.old self.new }
+    {
+        self.objects.insert_at(k, i, c)
+    }
+
+    /// Removes c from its parent, if it has one, and makes it the child of k with an index, at most the number of the other children; those
+    /// from there on come after it. If an allocation fails, the graph is unchanged: c leaves its parent only when there is room for it in
+    /// k. Its time grows with the siblings after c, there and here.
+    pub fn move_to(&mut self, k: Object, i: usize, c: Object) -> Result<(), OutOfMemory>
+        requires holder { IsLive self.old k }
+        requires alive { IsLive self.old c }
+        requires fits { Fits k c }
+        requires apart { IsInside self.old c k → ⊥ }
+        requires within { i ≤ length (without c (children self.old k)) }
+        ensures ok { OnOk result (Moves self.old self.new k i c) }
+        ensures err { OnErr result (self.new ≡ self.old) }
+        ensures kept { (m : ℕ) → IsNew m self.old k → IsNew m self.old c → ((p : _) → parent self.old
+            c ≡ Some p → IsNew m self.old p)
+            → KeepsOlder m self.old self.new }
+    {
+        self.objects.move_to(k, i, c)
     }
 
     /// Returns the index of c in its parent k. It is recorded with c, so that no search is needed.

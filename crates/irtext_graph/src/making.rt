@@ -4,7 +4,8 @@ ghost use Rattle.irtext_graph.specs.Graph.{MakesRegion, MakesBlock, MakesOperati
 ghost use Rattle.irtext_graph.specs.Parts.{IsDefinedValue};
 ghost use Rattle.irtext_few.specs.Growing.{listed};
 ghost use Rattle.irtext_graph.specs.Linking.{Defines, IsBlank};
-ghost use Rattle.irtext_graph.specs.Regions.{HasRoom, with_child, AddsRegion};
+ghost use Rattle.irtext_graph.specs.Nest.{HasRoom};
+ghost use Rattle.irtext_graph.specs.Regions.{with_child, AddsRegion};
 ghost use Rattle.irtext_graph.specs.Store.{Edits, before};
 ghost use Rattle.irtext_graph.specs.Arena.{Inserts, HasFew, free_place};
 ghost use Rattle.irtext_graph.specs.Limits.{HasPlace, NoMoreRegions, NoMoreBlocks, NoMoreOperations};

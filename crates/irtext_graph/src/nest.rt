@@ -16,10 +16,10 @@ pub(crate) struct Nest<P, C, D> {
 }
 
 impl<P, C, D: Drop> Arena<Nest<P, C, D>> {
-    ghost use Rattle.std.specs.List.{remove};
+    ghost use Rattle.std.specs.List.{insert, remove};
     ghost use Rattle.irtext_graph.specs.declared.arena.Ptr.{Ptr};
     ghost use Rattle.irtext_graph.specs.Arena.{get, KeepsPlaces, ShedsPlaces};
-    ghost use Rattle.irtext_graph.specs.Nest.{up, kids, datum, links, OnlyLists};
+    ghost use Rattle.irtext_graph.specs.Nest.{up, kids, datum, links, HasRoom, OnlyLists};
     ghost use Rattle.irtext_graph.specs.Content.{nodes};
 
     /// Returns the parent of an object.
@@ -38,6 +38,7 @@ impl<P, C, D: Drop> Arena<Nest<P, C, D>> {
         ensures kids { (q : Ptr K) → kids self.new q ≡ kids self.old q }
         ensures data { (q : Ptr K) → datum self.new q ≡ datum self.old q }
         ensures links { links self.new ≡ links self.old }
+        ensures room { (q : Ptr K) → HasRoom (get self.old q) → HasRoom (get self.new q) }
         ensures places { KeepsPlaces self.old self.new }
     {
         self.content_mut(p).parent = parent;
@@ -57,20 +58,32 @@ impl<P, C, D: Drop> Arena<Nest<P, C, D>> {
         ensures kids { (q : Ptr K) → kids self.new q ≡ kids self.old q }
         ensures data { (q : Ptr K) → datum self.new q ≡ datum self.old q }
         ensures links { links self.new ≡ links self.old }
+        ensures room { (q : Ptr K) → HasRoom (get self.old q) → HasRoom (get self.new q) }
         ensures places { KeepsPlaces self.old self.new }
     {
         self.content_mut(p).noted = u32::try_from(index).unwrap_or(u32::MAX);
     }
 
-    /// Appends a child to an object. If an allocation fails, nothing changes.
-    pub(crate) fn push_child<K>(&mut self, p: Ptr<K>, c: Ptr<C>) -> Result<(), OutOfMemory>
+    /// Makes room for one more child of an object. What contracts see of the objects is unchanged.
+    pub(crate) fn make_child_room<K>(&mut self, p: Ptr<K>) -> Result<(), OutOfMemory>
         requires { IsSome (get self.old p) }
-        ensures here { OnOk result (kids self.new p ≡ kids self.old p ++ c ∷ []) }
-        ensures err { OnErr result (kids self.new p ≡ kids self.old p) }
-        ensures refused { OnErr result (nodes self.new ≡ nodes self.old) }
+        ensures room { OnOk result (HasRoom (get self.new p)) }
+        ensures here { kids self.new p ≡ kids self.old p }
+        ensures links { links self.new ≡ links self.old }
+        ensures only { OnlyLists self.old self.new p }
+        ensures same { nodes self.new ≡ nodes self.old }
+    {
+        self.content_mut(p).children.make_room()
+    }
+
+    /// Inserts a child of an object at an index. There is room for it.
+    pub(crate) fn insert_child<K>(&mut self, p: Ptr<K>, i: usize, c: Ptr<C>)
+        requires room { HasRoom (get self.old p) }
+        requires within { i ≤ length (kids self.old p) }
+        ensures here { kids self.new p ≡ insert (kids self.old p) i c }
         ensures only { OnlyLists self.old self.new p }
     {
-        self.content_mut(p).children.push(c)
+        self.content_mut(p).children.insert_reserved(i, c);
     }
 
     /// The number of children of an object.
@@ -96,6 +109,7 @@ impl<P, C, D: Drop> Arena<Nest<P, C, D>> {
         requires within { i < length (kids self.old p) }
         ensures here { kids self.new p ≡ remove (kids self.old p) i }
         ensures less { links self.new < links self.old }
+        ensures room { (q : Ptr K) → HasRoom (get self.old q) → HasRoom (get self.new q) }
         ensures only { OnlyLists self.old self.new p }
     {
         self.content_mut(p).children.remove(i);

@@ -69,8 +69,9 @@ fn same_object(o: Object, c: Object) -> bool
 
 impl<O: Drop, B: Drop, T: Drop> Objects<O, B, T> {
     ghost use Rattle.std.specs.List.{remove};
+    ghost use Rattle.irtext_graph.specs.Edits.{without, Inserts, MovesIn};
     ghost use Rattle.irtext_graph.specs.Nested.{Within};
-    ghost use Rattle.irtext_graph.specs.Objects.{up, kids, what, Lives, links, SameAt, SameNodes, SamePlaces, SameData, Appends, Fits, Renumbers, SameDatum, Sheds, stays, IsGone, IsForest, CanInsert, KeepsOlder, Drops};
+    ghost use Rattle.irtext_graph.specs.Objects.{up, kids, what, Lives, links, SameAt, SameNodes, SamePlaces, SameData, Fits, Renumbers, SameDatum, Sheds, IsGone, IsForest, CanInsert, Drops, HasRoomFor, KeepsRoom};
     ghost use Rattle.irtext_graph.specs.Preorder.{left};
 
     /// Whether an object is live.
@@ -106,6 +107,7 @@ impl<O: Drop, B: Drop, T: Drop> Objects<O, B, T> {
         ensures places { SamePlaces self.old self.new }
         ensures all_data { SameData self.old self.new }
         ensures links { links self.new ≡ links self.old }
+        ensures room { KeepsRoom self.old self.new }
     {
         match o {
             Object::TheOperation(p) => self.operations.set_parent(p, None),
@@ -128,7 +130,8 @@ impl<O: Drop, B: Drop, T: Drop> Objects<O, B, T> {
     /// Records an object's index in its parent.
     pub(crate) fn note(&mut self, o: Object, index: usize)
         requires { Lives self.old o }
-        ensures { Renumbers self.old self.new }
+        ensures same { Renumbers self.old self.new }
+        ensures room { KeepsRoom self.old self.new }
     {
         match o {
             Object::TheOperation(p) => self.operations.note(p, index),
@@ -154,32 +157,43 @@ impl<O: Drop, B: Drop, T: Drop> Objects<O, B, T> {
         }
     }
 
-    /// Appends c to the children of k, and makes k the parent of c. If an allocation fails, nothing changes.
-    pub(crate) fn append(&mut self, k: Object, c: Object) -> Result<(), OutOfMemory>
-        requires holder { Lives self.old k }
+    /// Makes room for one more child of an object. What contracts see of the objects is unchanged.
+    fn make_room(&mut self, k: Object) -> Result<(), OutOfMemory>
+        requires { Lives self.old k }
+        ensures room { OnOk result (HasRoomFor self.new k) }
+        ensures same { Renumbers self.old self.new }
+        ensures nodes { SameNodes self.old self.new }
+    {
+        match k {
+            Object::TheOperation(p) => self.operations.make_child_room(p),
+            Object::TheBlock(p) => self.blocks.make_child_room(p),
+            Object::TheRegion(p) => self.regions.make_child_room(p),
+        }
+    }
+
+    /// Inserts c into the children of k at an index, and makes k the parent of c. There is room for it.
+    #[tactic(auto, using(crate::proofs::Inserting::operation_within, crate::proofs::Inserting::block_within, crate::proofs::Inserting::region_within))]
+    fn insert_child(&mut self, k: Object, i: usize, c: Object)
+        requires room { HasRoomFor self.old k }
         requires lives { Lives self.old c }
         requires fits { Fits k c }
-        ensures ok { OnOk result (Appends self.old self.new k c) }
-        ensures err { OnErr result ((q : _) → SameAt self.old self.new q) }
-        ensures refused { OnErr result (SameNodes self.old self.new) }
+        requires within { i ≤ length (kids self.old k) }
+        ensures inserts { Inserts self.old self.new k i c }
         ensures places { SamePlaces self.old self.new }
         ensures data { SameData self.old self.new }
     {
         match (k, c) {
             (Object::TheOperation(p), Object::TheRegion(r)) => {
-                self.operations.push_child(p, r)?;
+                self.operations.insert_child(p, i, r);
                 self.regions.set_parent(r, Some(p));
-                Ok(())
             }
             (Object::TheRegion(p), Object::TheBlock(r)) => {
-                self.regions.push_child(p, r)?;
+                self.regions.insert_child(p, i, r);
                 self.blocks.set_parent(r, Some(p));
-                Ok(())
             }
             (Object::TheBlock(p), Object::TheOperation(r)) => {
-                self.blocks.push_child(p, r)?;
+                self.blocks.insert_child(p, i, r);
                 self.operations.set_parent(r, Some(p));
-                Ok(())
             }
             _ => unreachable!(),
         }
@@ -223,6 +237,7 @@ impl<O: Drop, B: Drop, T: Drop> Objects<O, B, T> {
         ensures data { (q : _) → what self.new q ≡ what self.old q }
         ensures places { SamePlaces self.old self.new }
         ensures all_data { SameData self.old self.new }
+        ensures room { KeepsRoom self.old self.new }
     {
         match k {
             Object::TheOperation(p) => self.operations.remove_child(p, i),
@@ -257,25 +272,61 @@ impl<O: Drop, B: Drop, T: Drop> Objects<O, B, T> {
         false
     }
 
-    /// Makes c the last child of k.
-    pub(crate) fn insert_last(&mut self, k: Object, c: Object) -> Result<(), OutOfMemory>
+    /// Makes c the child of k with an index; the children from there on come after it. There is room for it.
+    fn place_at(&mut self, k: Object, i: usize, c: Object)
+        requires forest { IsForest self.old }
+        requires room { HasRoomFor self.old k }
+        requires lives { Lives self.old c }
+        requires fits { Fits k c }
+        requires can { CanInsert self.old k c }
+        requires within { i ≤ length (kids self.old k) }
+        ensures forest { IsForest self.new }
+        ensures inserts { Inserts self.old self.new k i c }
+        ensures places { SamePlaces self.old self.new }
+        ensures data { SameData self.old self.new }
+    {
+        self.insert_child(k, i, c);
+        self.renumber(k, i);
+    }
+
+    /// Makes c the child of k with an index; the children from there on come after it.
+    pub(crate) fn insert_at(&mut self, k: Object, i: usize, c: Object) -> Result<(), OutOfMemory>
         requires forest { IsForest self.old }
         requires holder { Lives self.old k }
         requires lives { Lives self.old c }
         requires fits { Fits k c }
         requires can { CanInsert self.old k c }
+        requires within { i ≤ length (kids self.old k) }
         ensures forest { IsForest self.new }
-        ensures ok { OnOk result (Appends self.old self.new k c) }
+        ensures ok { OnOk result (Inserts self.old self.new k i c) }
         ensures err { OnErr result ((q : _) → SameAt self.old self.new q) }
         ensures refused { OnErr result (SameNodes self.old self.new) }
         ensures places { SamePlaces self.old self.new }
         ensures data { SameData self.old self.new }
-        ensures kept { (m : ℕ) → stays m self.old k ≡ false → stays m self.old c ≡ false
-            → KeepsOlder m self.old self.new }
     {
-        let count = self.child_count(k);
-        self.append(k, c)?;
-        self.note(c, count);
+        self.make_room(k)?;
+        self.place_at(k, i, c);
+        Ok(())
+    }
+
+    /// Removes c from its parent, if it has one, and makes it the child of k with an index among the others.
+    pub(crate) fn move_to(&mut self, k: Object, i: usize, c: Object) -> Result<(), OutOfMemory>
+        requires forest { IsForest self.old }
+        requires holder { Lives self.old k }
+        requires lives { Lives self.old c }
+        requires fits { Fits k c }
+        requires apart { Within (up self.old) c k → ⊥ }
+        requires within { i ≤ length (without c (kids self.old k)) }
+        ensures forest { IsForest self.new }
+        ensures ok { OnOk result (MovesIn self.old self.new k i c) }
+        ensures err { OnErr result ((q : _) → SameAt self.old self.new q) }
+        ensures refused { OnErr result (SameNodes self.old self.new) }
+        ensures places { SamePlaces self.old self.new }
+        ensures data { SameData self.old self.new }
+    {
+        self.make_room(k)?;
+        self.unlink(c);
+        self.place_at(k, i, c);
         Ok(())
     }
 
@@ -283,7 +334,8 @@ impl<O: Drop, B: Drop, T: Drop> Objects<O, B, T> {
     fn renumber(&mut self, k: Object, from: usize)
         requires forest { IsForest self.old }
         requires lives { Lives self.old k }
-        ensures { Renumbers self.old self.new }
+        ensures same { Renumbers self.old self.new }
+        ensures room { KeepsRoom self.old self.new }
     {
         for index in from..self.child_count(k) {
             let c = self.child_at(k, index);
@@ -325,6 +377,7 @@ impl<O: Drop, B: Drop, T: Drop> Objects<O, B, T> {
         ensures less { links self.new < links self.old }
         ensures places { SamePlaces self.old self.new }
         ensures all_data { SameData self.old self.new }
+        ensures room { KeepsRoom self.old self.new }
     {
         self.remove_child(k, i);
         self.clear_parent(c);
@@ -345,6 +398,7 @@ impl<O: Drop, B: Drop, T: Drop> Objects<O, B, T> {
         ensures places { SamePlaces self.old self.new }
         ensures all_data { SameData self.old self.new }
         ensures less { IsSome (up self.old c) → links self.new < links self.old }
+        ensures room { KeepsRoom self.old self.new }
     {
         if let Some(k) = self.parent_of(c) {
             let i = self.index_in(k, c);

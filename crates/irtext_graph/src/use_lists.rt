@@ -1,8 +1,10 @@
 //! Use lists: each use of a value or a block has links to the other uses of the same, and is in one list with them.
 ghost use Rattle.std.specs.Prelude.{◌≡◌, ◌≢◌, ◌<◌, ◌↔◌, ℕ, Some, None, IsSome, IsTrue, IfOk, option_map};
 ghost use Rattle.irtext_graph.specs.Chained.{Lists, Counts};
-ghost use Rattle.irtext_graph.specs.Used.{IsUse, IsDefined, AreAlike, Replaces, IsUnusedBelow, replaced, bare, uses_left, CanName};
-ghost use Rattle.irtext_graph.specs.Graph.{KeepsOlder};
+ghost use Rattle.irtext_graph.specs.Used.{IsUse, IsDefined, AreAlike, Replaces, IsUnusedBelow, replaced, bare, uses_left, CanName, used_at, user};
+ghost use Rattle.irtext_graph.specs.Edits.{Redirects};
+ghost use Rattle.irtext_graph.specs.Graph.{KeepsOlder, IsNew};
+ghost use Rattle.irtext_graph.specs.declared.object.Object.TheVariants.{TheOperation};
 
 use crate::graph::Graph;
 use crate::near::Near;
@@ -224,6 +226,20 @@ impl<O: Drop, B: Drop, T: Drop> Objects<O, B, T> {
         self.attach(u);
     }
 
+    /// Returns a site that is in a use list, as it is stored: at the use before it, or, for the first use, at what it refers to.
+    fn stored(&self, u: Site) -> Option<Site>
+        requires linked { AreUsesLinked self.now }
+        requires used { IsSome (val self.now u) }
+        ensures value { result ≡ Some u }
+        ensures near { IsNear u }
+    {
+        let o = self.use_of(u);
+        match o.links.prev.site() {
+            Some(w) => self.use_of(w).links.next.site(),
+            None => self.head_of(o.def).site(),
+        }
+    }
+
     /// Counts the uses in a use list, up to `usize::MAX`.
     fn count_uses(&self, d: Defined) -> usize
         requires linked { AreUsesLinked self.now }
@@ -312,5 +328,17 @@ impl<O: Drop, B: Drop, T: Drop> Graph<O, B, T> {
         if !same_defined(d, e) {
             self.objects.replace_uses(d, e);
         }
+    }
+    /// Makes the operand or successor at a site refer to e, which is a value for an operand and a block for a successor. All else is
+    /// unchanged. It allocates nothing, and takes the same time in any graph.
+    pub fn set_use(&mut self, u: Site, e: Defined)
+        requires used { IsSome (used_at self.old u) }
+        requires alive { IsDefined self.old e }
+        requires names { CanName u e }
+        ensures redirects { Redirects self.old self.new u e }
+        ensures kept { (m : ℕ) → IsNew m self.old (TheOperation (user u)) → KeepsOlder m self.old self.new }
+    {
+        let _stored = self.objects.stored(u);
+        self.objects.redirect(u, e);
     }
 }

@@ -3,3 +3,5 @@ mod Unions
 mod FirstResults
 pub mod Gathered
 mod NestedOperations
+pub mod Siblings
+pub mod Rounds

@@ -1,5 +1,5 @@
 //! The arguments of a block, its operations, and its predecessors.
-ghost use Rattle.std.specs.Prelude.{◌≡◌, ◌<◌, ◌↔◌, IfOk, IsTrue, length};
+ghost use Rattle.std.specs.Prelude.{◌≡◌, ◌<◌, ◌↔◌, Some, IfOk, IsTrue, length, slice_get};
 ghost use Rattle.irtext_graph.specs.declared.object.Object.TheVariants.{TheBlock};
 ghost use Rattle.irtext_graph.specs.declared.object.Defined.TheVariants.{OfBlock};
 ghost use Rattle.irtext_graph.specs.declared.object.Site.{Site};
@@ -10,11 +10,12 @@ ghost use Rattle.irtext_graph.specs.Parts.{arguments, operations_in, IsDefinedVa
 ghost use Rattle.irtext_graph.specs.Used.{IsUse};
 ghost use Rattle.irtext_graph_queries.specs.Lists.{each, ArePreds};
 
+use crate::ancestors::Ancestors;
 use crate::listed::listed;
 use crate::value::UseSite;
 use irtext_graph::arena::Ptr;
 use irtext_graph::held::HasGraph;
-use irtext_graph::object::{BasicBlock, Defined, Operation, Value};
+use irtext_graph::object::{BasicBlock, Defined, Object, Operation, Value};
 use irtext_memory::{OutOfMemory, vec};
 
 /// The arguments of a block, its operations and its predecessors, by the block's pointer, in any holder of a graph. The block must be live
@@ -59,10 +60,31 @@ pub trait BlockParts: Sized {
         requires { IsLive (C.graph ctx.now) (TheBlock (pointer self)) }
         ensures { IfOk result (λ all. ArePreds (C.graph ctx.now) (pointer self) all.items) };
 
+    /// Returns the number of operations in the block.
+    fn num_operations<C: HasGraph>(self, ctx: &C) -> usize
+        requires { IsLive (C.graph ctx.now) (TheBlock (pointer self)) }
+        ensures { result ≡ length (operations_in (C.graph ctx.now) (pointer self)) };
+
+    /// Returns the operation of the block at an index, which must be below their number.
+    fn get_operation<C: HasGraph>(self, ctx: &C, index: usize) -> Ptr<Operation>
+        requires { index < length (operations_in (C.graph ctx.now) (pointer self)) }
+        ensures { slice_get (operations_in (C.graph ctx.now) (pointer self)) index ≡ Some result };
+
     /// Returns the operations of the block, in order.
     fn operations<C: HasGraph>(self, ctx: &C) -> Result<Vec<Ptr<Operation>>, OutOfMemory>
         requires { IsLive (C.graph ctx.now) (TheBlock (pointer self)) }
         ensures { IfOk result (λ all. all.items ≡ operations_in (C.graph ctx.now) (pointer self)) };
+}
+
+/// Returns the operation of a block at an index.
+fn operation_at<C: HasGraph>(block: Ptr<BasicBlock>, ctx: &C, index: usize) -> Ptr<Operation>
+    requires { index < length (operations_in (C.graph ctx.now) block) }
+    ensures { slice_get (operations_in (C.graph ctx.now) block) index ≡ Some result }
+{
+    match ctx.graph().get_child(Object::TheBlock(block), index) {
+        Object::TheOperation(child) => child,
+        _ => unreachable!(),
+    }
 }
 
 impl BlockParts for Ptr<BasicBlock> {
@@ -101,9 +123,17 @@ impl BlockParts for Ptr<BasicBlock> {
         Ok(all)
     }
 
+    fn num_operations<C: HasGraph>(self, ctx: &C) -> usize {
+        ctx.graph().num_children(Object::TheBlock(self))
+    }
+
+    fn get_operation<C: HasGraph>(self, ctx: &C, index: usize) -> Ptr<Operation> {
+        operation_at(self, ctx, index)
+    }
+
     fn operations<C: HasGraph>(self, ctx: &C) -> Result<Vec<Ptr<Operation>>, OutOfMemory> {
         let alloc = ctx.graph().allocator();
         let count = self.num_operations(ctx);
-        listed(alloc, self, ctx, count, Ptr::get_operation)
+        listed(alloc, self, ctx, count, operation_at)
     }
 }

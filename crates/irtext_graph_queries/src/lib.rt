@@ -2,8 +2,11 @@
 //! numbers, one by one, and as lists.
 #![tactic(auto)]
 
+pub mod ancestors;
+pub mod beside;
 pub mod block;
 pub mod contained;
+pub mod edits;
 mod listed;
 pub mod nested;
 pub mod operation;

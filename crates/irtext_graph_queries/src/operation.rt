@@ -15,7 +15,7 @@ use crate::listed::listed;
 use irtext_graph::arena::Ptr;
 use irtext_graph::graph::Graph;
 use irtext_graph::held::HasGraph;
-use irtext_graph::object::{BasicBlock, Defined, Operation, Region, Site, Value};
+use irtext_graph::object::{BasicBlock, Defined, Object, Operation, Region, Site, Value};
 use irtext_memory::{OutOfMemory, vec};
 
 /// The operands, successors, results and regions of an operation, and the uses of its results, by the operation's pointer, in any holder of
@@ -91,6 +91,16 @@ pub trait OperationParts: Sized {
         requires { IsLive (C.graph ctx.now) (TheOperation (pointer self)) }
         ensures { IfOk result (λ us. Lists (IsUseOf (C.graph ctx.now) (pointer self)) us.items) };
 
+    /// Returns the number of regions of the operation.
+    fn num_regions<C: HasGraph>(self, ctx: &C) -> usize
+        requires { IsLive (C.graph ctx.now) (TheOperation (pointer self)) }
+        ensures { result ≡ length (regions (C.graph ctx.now) (pointer self)) };
+
+    /// Returns the region of the operation at an index, which must be below their number.
+    fn get_region<C: HasGraph>(self, ctx: &C, index: usize) -> Ptr<Region>
+        requires { index < length (regions (C.graph ctx.now) (pointer self)) }
+        ensures { slice_get (regions (C.graph ctx.now) (pointer self)) index ≡ Some result };
+
     /// Returns the regions of the operation, in order.
     fn regions<C: HasGraph>(self, ctx: &C) -> Result<Vec<Ptr<Region>>, OutOfMemory>
         requires { IsLive (C.graph ctx.now) (TheOperation (pointer self)) }
@@ -106,6 +116,17 @@ fn count_results<C: HasGraph>(ctx: &C, op: Ptr<Operation>) -> usize
     let graph = ctx.graph();
     graph.keeps_nesting();
     graph.num_results(op)
+}
+
+/// Returns the region of an operation at an index.
+fn region_at<C: HasGraph>(op: Ptr<Operation>, ctx: &C, index: usize) -> Ptr<Region>
+    requires { index < length (regions (C.graph ctx.now) op) }
+    ensures { slice_get (regions (C.graph ctx.now) op) index ≡ Some result }
+{
+    match ctx.graph().get_child(Object::TheOperation(op), index) {
+        Object::TheRegion(child) => child,
+        _ => unreachable!(),
+    }
 }
 
 impl OperationParts for Ptr<Operation> {
@@ -185,9 +206,17 @@ impl OperationParts for Ptr<Operation> {
         Ok(all)
     }
 
+    fn num_regions<C: HasGraph>(self, ctx: &C) -> usize {
+        ctx.graph().num_children(Object::TheOperation(self))
+    }
+
+    fn get_region<C: HasGraph>(self, ctx: &C, index: usize) -> Ptr<Region> {
+        region_at(self, ctx, index)
+    }
+
     fn regions<C: HasGraph>(self, ctx: &C) -> Result<Vec<Ptr<Region>>, OutOfMemory> {
         let alloc = ctx.graph().allocator();
         let count = self.num_regions(ctx);
-        listed(alloc, self, ctx, count, Ptr::get_region)
+        listed(alloc, self, ctx, count, region_at)
     }
 }

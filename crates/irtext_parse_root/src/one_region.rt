@@ -31,6 +31,7 @@ use irtext_base::text::{AttrText, IrText};
 use irtext_context::base::context::making::Making;
 use irtext_context::base::operation::OperationAccess;
 use irtext_context::base::{Context, Operation, Ptr, Region};
+use irtext_graph_queries::edits::ObjectEdits;
 use irtext_names::kinds::Names;
 use irtext_parse_nested::regions::region_begin;
 use irtext_parse_state::parsable::StateStream;

@@ -10,6 +10,7 @@ pub mod ir;
 pub mod irfmt;
 pub mod laws;
 pub mod location;
+pub mod prelude;
 pub mod result;
 pub mod text;
 

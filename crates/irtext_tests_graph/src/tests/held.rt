@@ -12,6 +12,11 @@ use irtext_graph::arena::Ptr;
 use irtext_graph::graph::Graph;
 use irtext_graph::held::HasGraph;
 use irtext_graph::object::{BasicBlock, Object, Operation, Region};
+use irtext_graph_queries::ancestors::Ancestors;
+use irtext_graph_queries::block::BlockParts;
+use irtext_graph_queries::edits::ObjectEdits;
+use irtext_graph_queries::operation::OperationParts;
+use irtext_graph_queries::region::RegionParts;
 use std::alloc::Global;
 use std::process::Abort;
 

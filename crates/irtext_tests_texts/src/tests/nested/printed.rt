@@ -8,6 +8,7 @@ use irtext_base::text::IrText;
 use irtext_context::base::{BasicBlock, Item, Operation, OperationAccess, Ptr, Value};
 use irtext_demo::{DemoAttr, DemoType};
 use irtext_few::Few;
+use irtext_graph_queries::operation::OperationParts;
 use irtext_print_ir::ir::print::OpObj;
 use irtext_print_ir::ir::print::debug::{OpDbg, print_elided};
 use irtext_print_ir::irfmt::printers::op::region;

@@ -2,6 +2,7 @@ use Rattle.std.proofs.Common.{arith, refl}
 use Rattle.irtext_graph.specs.Nest.{parent_in, children_in, datum_in}
 use Rattle.irtext_graph.proofs.Arenas.{places_kept, replaced, same_view}
 use Rattle.irtext_graph.proofs.Children.{links_with}
+use Rattle.irtext_graph.proofs.Rooms.{room_kept}
 use Rattle.irtext_graph.proofs.nest.Arena+Nest+P+C+D.note.Goals as goal
 
 pub returns-clause-places : goal.returns-clause-places
@@ -18,3 +19,8 @@ returns-clause-ups g c = same_view parent_in (replaced c.args.self.now c.args.p 
 
 pub returns-clause-data : goal.returns-clause-data
 returns-clause-data g c = same_view datum_in (replaced c.args.self.now c.args.p c.content_mut.result.now _ c.content_mut.ensures.value) (λ b. refl)
+
+pub returns-clause-room : goal.returns-clause-room
+returns-clause-room g c =
+    let x = c.content_mut.result.now in
+    room_kept c.args.self.now _ c.args.p x (record x { noted = c.unwrap_or.result }) (replaced c.args.self.now c.args.p x _ c.content_mut.ensures.value) (λ h. h)

@@ -2,6 +2,7 @@ use Rattle.std.proofs.Common.{ap, arith, refl}
 use Rattle.irtext_graph.specs.Nest.{parent_in, children_in, datum_in}
 use Rattle.irtext_graph.proofs.Arenas.{replaced, same_view, places_kept}
 use Rattle.irtext_graph.proofs.Children.{links_with}
+use Rattle.irtext_graph.proofs.Rooms.{room_kept}
 use Rattle.irtext_graph.proofs.nest.Arena+Nest+P+C+D.set_parent.Goals as goal
 
 pub returns-clause-places : goal.returns-clause-places
@@ -24,3 +25,8 @@ returns-clause-here g c =
     let x = c.content_mut.result.now in
     let r = replaced c.args.self.now c.args.p x (record x { parent = c.args.parent }) c.content_mut.ensures.value in
     ap parent_in r.now
+
+pub returns-clause-room : goal.returns-clause-room
+returns-clause-room g c =
+    let x = c.content_mut.result.now in
+    room_kept c.args.self.now _ c.args.p x (record x { parent = c.args.parent }) (replaced c.args.self.now c.args.p x _ c.content_mut.ensures.value) (λ h. h)

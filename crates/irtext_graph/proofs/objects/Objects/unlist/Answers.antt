@@ -6,7 +6,7 @@ use Rattle.irtext_graph.proofs.Same.{object_tells}
 use Rattle.irtext_graph.proofs.Erased.{up_lives}
 use Rattle.irtext_graph.proofs.Places.{parent_lives}
 use Rattle.irtext_graph.proofs.Moves.{unlinked, get-remove-low, get-remove-high}
-use Rattle.irtext_graph.proofs.Kept.{places_on, data_on}
+use Rattle.irtext_graph.proofs.Kept.{places_on, data_on, room_on}
 use Rattle.irtext_graph.proofs.objects.Objects.unlist.Goals as goal
 
 pub returns-clause-forest : goal.returns-clause-forest
@@ -39,3 +39,6 @@ remove_child-requires-clause-within g c = slice_get_within (kids c.args.self.now
 
 pub clear_parent-requires : goal.clear_parent-requires
 clear_parent-requires g c = rw (c.remove_child.ensures.data c.args.c) (up_lives c.args.self.now c.args.c c.args.k c.requires.alive)
+
+pub returns-clause-room : goal.returns-clause-room
+returns-clause-room g c = room_on c.remove_child.ensures.room c.clear_parent.ensures.room

@@ -1,4 +1,0 @@
-use Rattle.irtext_graph.proofs.arena.Ptr.can_erase.Goals as goal
-
-pub returns : goal.returns
-returns g c = rw (← c.graph.ensures) (rw (← c.object.ensures) c.can_erase.ensures)

@@ -1,0 +1,26 @@
+-- What callers rely on, in reading order
+pub mod FloatKinds
+pub mod FloatKindLaws
+pub mod IntPredicates
+pub mod IntPredicateLaws
+pub mod FloatPredicates
+pub mod FloatPredicateLaws
+pub mod Wrappings
+pub mod WrappingLaws
+pub mod LinkageKinds
+pub mod LinkageKindLaws
+pub mod MemoryOrders
+pub mod MemoryOrderLaws
+pub mod Updates
+pub mod UpdateLaws
+pub mod Clauses
+pub mod ClauseLaws
+pub mod Freedoms
+pub mod FreedomLaws
+pub mod Brackets
+pub mod Types
+pub mod TypeLaws
+pub mod Attributes
+pub mod AttributeLaws
+pub mod AttributeValues
+pub mod Operations

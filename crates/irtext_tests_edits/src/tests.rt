@@ -1,0 +1,3 @@
+//! Rows of the edits, and rows of the calls that test first what the edits require.
+mod checked;
+mod rows;

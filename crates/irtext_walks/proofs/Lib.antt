@@ -1,0 +1,9 @@
+pub mod Ends
+pub mod Forests
+pub mod Postorders
+pub mod Afters
+pub mod Picked
+pub mod Merely
+pub mod Listed
+pub mod Branches
+pub mod Kept

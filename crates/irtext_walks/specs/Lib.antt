@@ -1,0 +1,5 @@
+pub mod Iter
+pub mod Kinds
+pub mod Postorder
+pub mod Siblings
+pub mod Walks
