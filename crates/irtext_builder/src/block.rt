@@ -5,7 +5,7 @@ ghost use Rattle.irtext_base.specs.Format.{given_names_key};
 ghost use Rattle.irtext_base.specs.Text.{is_identifier};
 ghost use Rattle.irtext_base.specs.declared.location.Location.{Unknown};
 ghost use Rattle.irtext_builder.specs.Drafts.{outlined, bare_outline, outlined_key, Gives, names_refused, texts, MakesOutline, AppendsOutline, RefusesKey, RefusesOutlineIn};
-ghost use Rattle.irtext_context.specs.Context.{block, region, KeepsOlder};
+ghost use Rattle.irtext_context.specs.Context.{block, region as region_at, KeepsOlder};
 ghost use Rattle.irtext_context.specs.Dictionary.{is_reserved_for};
 ghost use Rattle.irtext_context.specs.Made.{SameObjects};
 ghost use Rattle.irtext_graph.specs.Graph.{IsNew};
@@ -142,7 +142,7 @@ impl<T: IrText<A>, A: AttrText<A>> BlockDraft<T, A> {
     ) -> Answer<Ptr<BasicBlock>, A>
         ensures made { IfOk result (λ b. AppendsOutline (outlined self) ctx.old ctx.new region b) }
         ensures live { IfOk result (λ b. IsSome (block ctx.new b)) }
-        ensures stood { OnOk result (IsSome (region ctx.old region)) }
+        ensures stood { OnOk result (IsSome (region_at ctx.old region)) }
         ensures kept { (mark : ℕ) → mark ≤ ctx.old.graph.made → IsNew mark ctx.old.graph (TheRegion region)
             → KeepsOlder mark ctx.old ctx.new }
         ensures objects { OnErr result (SameObjects ctx.old ctx.new) }

@@ -11,7 +11,7 @@ ghost use Rattle.irtext_graph.specs.declared.object.Object.TheVariants.{TheBlock
 ghost use Rattle.irtext_base.specs.declared.location.Location.{Unknown};
 ghost use Rattle.irtext_checked.specs.Checked.{RefusesRegistered};
 ghost use Rattle.irtext_checked.specs.Types.{AreContainedValues};
-ghost use Rattle.irtext_context.specs.Context.{operation, block, KeepsOlder};
+ghost use Rattle.irtext_context.specs.Context.{operation, block as block_at, KeepsOlder};
 ghost use Rattle.irtext_context.specs.Dictionary.{is_reserved_for};
 ghost use Rattle.irtext_context.specs.Made.{AreLiveBlocks, AreDefinedValues, MakesRegistered, SameObjects};
 ghost use Rattle.irtext_context.specs.Named.{id_of_texts};
@@ -188,7 +188,7 @@ impl<'a, T: IrText<A>, A: AttrText<A>> OpDraft<'a, T, A> {
     ) -> Answer<Ptr<Operation>, A>
         ensures made { IfOk result (λ op. AppendsDraft (said self.entry) ctx.old ctx.new block op) }
         ensures live { IfOk result (λ op. IsSome (operation ctx.new op)) }
-        ensures stood { OnOk result (IsSome (block ctx.old block)) }
+        ensures stood { OnOk result (IsSome (block_at ctx.old block)) }
         ensures used { OnOk result (AreContainedValues ctx.old self.entry.operands.now
             × AreLiveBlocks ctx.old self.entry.successors.now) }
         ensures kept { (mark : ℕ) → mark ≤ ctx.old.graph.made → IsNew mark ctx.old.graph (TheBlock block)
