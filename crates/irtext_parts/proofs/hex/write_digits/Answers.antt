@@ -10,7 +10,7 @@ loop-place-preserved c =
     let kept = c.loop-place.invariant in
     let more : 1 < c.loop-place.place = omega (arith, c.loop-place-test.true) in
     let led = kept.2 more in
-    let appended = c.in_ok-push_str-2.ensures.bytes ∙ ap (λ z. string_bytes c.loop-place.f ++ z) c.digit-2.ensures in (
+    let appended = c.in_ok-push_str-2.ensures.bytes ∙ ap (λ z. string_bytes c.loop-place.f ++ z) c.digit-in-loop-place.ensures in (
       some_down c.loop-place.place kept.1 more,
       power_down c.loop-place.place kept.1 more,
       (λ _. led_down c.args.bits c.loop-place.place kept.1 more led),
