@@ -18,3 +18,6 @@ loop-place-preserved c =
         ∙ ap (λ z. string_bytes c.args.f.now ++ z) (digits_to c.args.bits c.loop-place.place kept.1 more led (omega (arith, c.ranges.bits.fits))),
       appends_next kept.4 _ appended,
     )
+
+pub nonzero_div-bits-in-loop-place : goal.nonzero_div-bits-in-loop-place
+nonzero_div-bits-in-loop-place c = some_down c.loop-place.place c.loop-place.invariant.1 (omega (arith, c.loop-place-test.true))
