@@ -15,7 +15,7 @@ loop-place-preserved c =
       power_down c.loop-place.place kept.1 more,
       (λ _. led_down c.args.bits c.loop-place.place kept.1 more led),
       appended ∙ ap (λ z. z ++ digits 16 true (c.args.bits / (c.loop-place.place / 16) % 16)) kept.3 ∙ append_assoc (string_bytes c.args.f.now) _ _
-        ∙ ap (λ z. string_bytes c.args.f.now ++ z) (digits_to c.args.bits c.loop-place.place kept.1 more led (omega (arith, c.ranges.bits.fits))),
+          ∙ ap (λ z. string_bytes c.args.f.now ++ z) (digits_to c.args.bits c.loop-place.place kept.1 more led (omega (arith, c.ranges.bits.fits))),
       appends_next kept.4 _ appended,
     )
 
