@@ -68,10 +68,10 @@ digit_slice n l =
 
 -- a place after the last one is a sixteenth of it
 next_place : (place : ℕ) → IsPower16 place → 1 < place → IsPower16 (place / 16) × (place / 16 * 16 ≡ place)
-next_place place (zero , is) more = absurd (omega (arith, is, more))
-next_place place (suc k , is) more =
+next_place place (zero, is) more = absurd (omega (arith, is, more))
+next_place place (suc k, is) more =
     let power : place ≡ 16 ^ k * 16 = is ∙ pow-suc 16 k in
-    ((k , omega (arith, power)), omega (arith, power))
+    ((k, omega (arith, power)), omega (arith, power))
 
 pub power_down : (place : ℕ) → IsPower16 place → 1 < place → IsPower16 (place / 16)
 power_down place power more = (next_place place power more).0
