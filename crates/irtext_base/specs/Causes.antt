@@ -1,5 +1,5 @@
 -- The messages of causes and errors, in bytes.
-use Rattle.std.specs.Prelude.{ℕ, Bool, true, false, Option, Some, None, List, ◌++◌, codes, string_bytes}
+use Rattle.std.specs.Prelude.{◌≡◌, ℕ, Bool, true, false, Option, Some, None, IfSome, List, ◌++◌, codes, string_bytes}
 use Rattle.std.specs.Fmt.{decimal}
 use Rattle.std.specs.Char.{encode_utf8}
 use Rattle.irtext_base.specs.declared.base.identifier.OpId.{OpId}
@@ -7,6 +7,7 @@ use Rattle.irtext_base.specs.declared.result.ErrorKind.{ErrorKind}
 use Rattle.irtext_base.specs.declared.result.ErrorKind.TheVariants.{InvalidInput, VerificationFailed, InvalidArgument}
 use Rattle.irtext_base.specs.declared.result.Expected.{Expected}
 use Rattle.irtext_base.specs.declared.result.Expected.TheVariants as expected
+use Rattle.irtext_memory.specs.Rooms.{exhausted}
 use Rattle.irtext_base.specs.declared.result.Cause.{Cause, Memory, StreamFailed, Unexpected, NumberRange, BadEscape, BadUnicodeEscape, EmptyItem, BadSeparator, UnregisteredDialect, UnregisteredOp, ResultCount, NoActiveScope, UnresolvedReference, ParserNameTrackerError, DuplicateIndex, UnknownIndex, UnknownPrintOnce, ReservedKey, OwnText, FormatFault, Text, Fmt, Nested', Parse', WrongDialect}
 use Rattle.irtext_base.specs.declared.base.attributes.Refusal.{Refusal}
 use Rattle.irtext_base.specs.declared.base.attributes.Refusal.TheVariants as refusal
@@ -16,12 +17,27 @@ use Rattle.irtext_base.specs.declared.parsable.names.UnresolvedReference as refe
 use Rattle.irtext_base.specs.declared.parsable.names.ParserNameTrackerError as tracker
 use Rattle.irtext_base.specs.declared.parsable.names.ParserNameTrackerError.TheVariants as tracked
 use Rattle.irtext_base.specs.declared.result.Error.{Error}
+use Rattle.irtext_base.specs.declared.result.StringError.{StringError}
 pub use Rattle.irtext_stream.specs.Places.{position_text}
+
+-- an allocation was refused, or a counter is full, as a cause
+abbrev pub no_memory : {A : Type 0} → Cause A
+no_memory = Memory exhausted
+
+-- what comes of a message with this text, if its text is known: the text, or no memory for it, or an error of its printing
+abbrev pub IsMessage : {A : Type 0} → Option (List ℕ) → Cause A → Type 0
+IsMessage {A} said cause = ((s : StringError) → cause ≡ Text s → IfSome said (λ bytes. string_bytes s.0 ≡ bytes)) × IsMade cause
+  where
+    IsMade : Cause A → Type 0
+    IsMade (Text s) = ⊤
+    IsMade (Memory e) = ⊤
+    IsMade Fmt = ⊤
+    IsMade _ = ⊥
 
 -- why a dictionary rejects an entry, as a cause
 abbrev pub cause_of : {A : Type 0} → Refusal → Cause A
 cause_of (refusal.ReservedKey key) = ReservedKey key
-cause_of refusal.Memory = Memory
+cause_of (refusal.Memory e) = Memory e
 
 -- the text of an operation's id
 abbrev pub id_text : OpId → List ℕ
@@ -93,7 +109,7 @@ name_tracker_text tracked.TopLevelOpRegionNotIsolatedFromAbove = codes "Regions 
 
 -- the message of a cause
 abbrev pub cause_text : {A : Type 0} → Cause A → List ℕ
-cause_text Memory = codes "Out of memory"
+cause_text (Memory e) = codes "Out of memory"
 cause_text StreamFailed = codes "The stream has failed"
 cause_text (Unexpected found expected) = codes "Unexpected " ++ (found_text found ++ (codes ", expected " ++ expected_text expected))
 cause_text (NumberRange text) = codes "Number out of range: " ++ string_bytes text

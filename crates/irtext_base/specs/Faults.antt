@@ -78,7 +78,7 @@ id_of id = record { dialect = id.dialect; name = id.name }
 
 -- a cause, as the definitions see it; `NoReader` if no parser returns it
 abbrev pub fault_of : {A : Type 0} → Cause A → Fault
-fault_of cause.Memory = Memory
+fault_of (cause.Memory e) = Memory
 fault_of cause.StreamFailed = Failed
 fault_of (cause.Unexpected found expected) = Unexpected found (demand_of expected)
 fault_of (cause.NumberRange text) = NumberRange (string_bytes text)

@@ -10,12 +10,13 @@ use Rattle.irtext_base.specs.declared.location.Location.{Location, fold-Location
 use Rattle.irtext_base.specs.declared.location.Location.TheOpen.{Location-F}
 use Rattle.irtext_stream.specs.declared.position.SourcePosition.{SourcePosition}
 use Rattle.irtext_base.specs.declared.result.Cause.{Memory}
+use Rattle.irtext_memory.specs.Rooms.{exhausted}
 use Rattle.irtext_base.specs.declared.result.Error.{Error}
 use Rattle.irtext_base.specs.declared.result.ErrorKind.TheVariants.{InvalidArgument}
 
 -- the error of a call that is out of memory
 abbrev pub out_of_memory : {A : Type 0} → Error A
-out_of_memory = record { kind = InvalidArgument; err = Memory; loc = Unknown }
+out_of_memory = record { kind = InvalidArgument; err = Memory exhausted; loc = Unknown }
 
 -- an attribute: given names, an identifier, or one of the caller's
 pub data AttrView (A : Type 0) : Type 0 where

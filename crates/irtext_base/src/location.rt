@@ -22,6 +22,7 @@ use crate::base::AttrObj;
 use crate::parsable::SourcePosition;
 use crate::result::{Cause, Error, invalid};
 pub use into_context::CloneIntoContext;
+use irtext_memory::Exhausted;
 use std::hash::{Hash, Hasher};
 
 /// The key of a file path that a context keeps.
@@ -105,10 +106,10 @@ impl<A: Drop> Drop for Location<A> {
 }
 
 /// Returns the error of a call that is out of memory: cause `Memory`, kind `InvalidArgument`, no location.
-pub(crate) fn out_of_memory<A>() -> Error<A>
+pub(crate) fn out_of_memory<A>(error: Exhausted) -> Error<A>
     ensures { result ≡ out_of_memory }
 {
-    invalid(Cause::Memory)
+    invalid(Cause::Memory(error))
 }
 
 impl<A> Location<A> {

@@ -1,9 +1,9 @@
 //! Errors: their kinds and causes, with the messages of these.
-ghost use Rattle.std.specs.Prelude.{◌≡◌, IsTrue, Some, MatchResult, string_bytes};
+ghost use Rattle.std.specs.Prelude.{◌≡◌, ◌⊎◌, ◌++◌, IsTrue, Some, string_bytes};
 ghost use Rattle.std.specs.Fmt.{◌++?◌, DisplaysOnOk, WritesOnOk};
-ghost use Rattle.irtext_base.specs.Causes.{kind_text, expected_text, mismatch_text, is_flat, heading, cause_text, error_text, cause_of};
+ghost use Rattle.irtext_base.specs.Causes.{no_memory, IsMessage, kind_text, expected_text, mismatch_text, is_flat, heading, cause_text, error_text, cause_of};
 ghost use Rattle.irtext_base.specs.Locations.{out_of_memory};
-ghost use Rattle.irtext_base.specs.declared.result.Cause.{Memory, Fmt};
+ghost use Rattle.irtext_base.specs.declared.result.Cause.{Fmt};
 ghost use Rattle.irtext_base.specs.declared.result.ErrorKind.TheVariants.{InvalidArgument};
 ghost use Rattle.irtext_base.specs.declared.location.Location.{Unknown};
 
@@ -12,8 +12,8 @@ use crate::format::FormatFault;
 use crate::location::{Location, out_of_memory};
 use crate::parsable::{ParserNameTrackerError, SourcePosition, UnresolvedReference};
 use arrayvec::ArrayString;
-use irtext_memory::{NoRoom, OutOfMemory};
-use std::alloc::{AllocError, AllocFailed};
+use irtext_memory::{Exhausted, Full, NoRoom, OutOfMemory, Refused, string};
+use std::alloc::Global;
 use std::fmt::{self, Display, Formatter, Write};
 
 /// The kind of an error.
@@ -60,8 +60,8 @@ pub struct StringError(pub String);
 #[derive(Drop)]
 #[cycle(cause)]
 pub enum Cause<A> {
-    /// An allocation failed, or a counter is full.
-    Memory,
+    /// An allocation was refused, or a counter is full.
+    Memory(Exhausted),
     /// An earlier call marked the stream as failed.
     StreamFailed,
     /// A character, or the end, was found where something else is expected.
@@ -160,14 +160,51 @@ impl<A: Drop> Drop for Error<A> {
 pub type Result<X, A> = std::result::Result<X, Error<A>>;
 
 impl<A> Cause<A> {
-    /// Returns a message of the caller as a cause. If the message could not be made, the cause is `Memory`.
-    pub fn of_text<E: Drop>(text: std::result::Result<String, E>) -> Cause<A>
-        ensures { MatchResult text (λ s. result ≡ Cause.Text (record { 0 = s }))
-            (λ _. result ≡ Cause.Memory) }
+    /// Returns the text of a message as a cause. If there is no memory for it, the cause is `Memory`, and if the message can't be printed
+    /// for another reason, it is `Fmt`.
+    pub fn of_text<M: Display + Drop>(alloc: Global, message: M) -> Cause<A>
+        ensures { IsMessage (M.output message) result }
     {
-        match text {
-            Ok(text) => Cause::Text(StringError(text)),
-            Err(_) => Cause::Memory,
+        let mut message_text = MessageText {
+            text: String::new(alloc),
+            refused: None,
+        };
+        match message_text.write(message) {
+            Ok(()) => Cause::Text(StringError(message_text.text)),
+            Err(_) => message_text.cause(),
+        }
+    }
+}
+
+/// The text of a message, and the error of the allocation that was refused for it.
+#[derive(Drop)]
+struct MessageText {
+    text: String,
+    refused: Option<OutOfMemory>,
+}
+
+impl MessageText {
+    /// Returns why the message could not be printed.
+    fn cause<A>(self) -> Cause<A>
+        ensures { (result ≡ no_memory) ⊎ (result ≡ Cause.Fmt) }
+    {
+        match self.refused {
+            Some(error) => Cause::from(error),
+            None => Cause::Fmt,
+        }
+    }
+}
+
+impl Write for MessageText {
+    ghost write_str_gives = { λ old bytes new. string_bytes new.text ≡ string_bytes old.text ++ bytes };
+
+    fn write_str(&mut self, s: &str) -> fmt::Result {
+        match string::push_str(&mut self.text, s) {
+            Ok(()) => Ok(()),
+            Err(error) => {
+                self.refused = Some(error);
+                Err(fmt::Error)
+            }
         }
     }
 }
@@ -268,7 +305,7 @@ fn message<A, W: Write>(cause: &Cause<A>, f: &mut Formatter<W>) -> fmt::Result
     ensures { WritesOnOk W.write_str_gives f.old result (cause_text cause.now) f.new }
 {
     match cause {
-        Cause::Memory => f.write_str("Out of memory"),
+        Cause::Memory(_) => f.write_str("Out of memory"),
         Cause::StreamFailed => f.write_str("The stream has failed"),
         Cause::Unexpected { found, expected } => mismatch(*found, expected, f),
         Cause::NumberRange(text) => labelled("Number out of range: ", text, f),
@@ -342,11 +379,43 @@ impl<A> fmt::Debug for Error<A> {
     }
 }
 
-impl<A> From<AllocError> for Cause<A> {
-    ghost from_gives = { λ _ cause. cause ≡ Memory };
+impl<A> From<Exhausted> for Cause<A> {
+    ghost from_gives = { λ _ cause. cause ≡ no_memory };
 
-    fn from(_: AllocError) -> Cause<A> {
-        Cause::Memory
+    fn from(error: Exhausted) -> Cause<A> {
+        Cause::Memory(error)
+    }
+}
+
+impl<A> From<OutOfMemory> for Cause<A> {
+    ghost from_gives = { λ _ cause. cause ≡ no_memory };
+
+    fn from(error: OutOfMemory) -> Cause<A> {
+        Cause::Memory(Exhausted::from(error))
+    }
+}
+
+impl<A> From<Full> for Cause<A> {
+    ghost from_gives = { λ _ cause. cause ≡ no_memory };
+
+    fn from(error: Full) -> Cause<A> {
+        Cause::Memory(Exhausted::from(error))
+    }
+}
+
+impl<A> From<NoRoom> for Cause<A> {
+    ghost from_gives = { λ _ cause. cause ≡ no_memory };
+
+    fn from(error: NoRoom) -> Cause<A> {
+        Cause::Memory(Exhausted::from(error))
+    }
+}
+
+impl<X: Drop, A> From<Refused<X>> for Cause<A> {
+    ghost from_gives = { λ _ cause. cause ≡ no_memory };
+
+    fn from(error: Refused<X>) -> Cause<A> {
+        Cause::Memory(Exhausted::from(error))
     }
 }
 
@@ -356,17 +425,17 @@ impl<A> From<Refusal> for Cause<A> {
     fn from(refusal: Refusal) -> Cause<A> {
         match refusal {
             Refusal::ReservedKey(key) => Cause::ReservedKey(key),
-            Refusal::Memory => Cause::Memory,
+            Refusal::Memory(error) => Cause::Memory(error),
         }
     }
 }
 
 /// Out of memory, as an error of kind `InvalidArgument` without a location.
-impl<A> From<AllocError> for Error<A> {
+impl<A> From<Exhausted> for Error<A> {
     ghost from_gives = { λ _ error. error ≡ out_of_memory };
 
-    fn from(_: AllocError) -> Error<A> {
-        out_of_memory()
+    fn from(error: Exhausted) -> Error<A> {
+        out_of_memory(error)
     }
 }
 
@@ -374,8 +443,17 @@ impl<A> From<AllocError> for Error<A> {
 impl<A> From<OutOfMemory> for Error<A> {
     ghost from_gives = { λ _ error. error ≡ out_of_memory };
 
-    fn from(_: OutOfMemory) -> Error<A> {
-        out_of_memory()
+    fn from(error: OutOfMemory) -> Error<A> {
+        out_of_memory(Exhausted::from(error))
+    }
+}
+
+/// The same for a counter that is full. So `name.share()?` works in a function that returns `Error`.
+impl<A> From<Full> for Error<A> {
+    ghost from_gives = { λ _ error. error ≡ out_of_memory };
+
+    fn from(error: Full) -> Error<A> {
+        out_of_memory(Exhausted::from(error))
     }
 }
 
@@ -383,8 +461,18 @@ impl<A> From<OutOfMemory> for Error<A> {
 impl<A> From<NoRoom> for Error<A> {
     ghost from_gives = { λ _ error. error ≡ out_of_memory };
 
-    fn from(_: NoRoom) -> Error<A> {
-        out_of_memory()
+    fn from(error: NoRoom) -> Error<A> {
+        out_of_memory(Exhausted::from(error))
+    }
+}
+
+/// Out of memory, as an error of kind `InvalidArgument` without a location. So `vec::push(&mut v, x)?` works in a function that returns
+/// `Error`.
+impl<X: Drop, A> From<Refused<X>> for Error<A> {
+    ghost from_gives = { λ _ error. error ≡ out_of_memory };
+
+    fn from(error: Refused<X>) -> Error<A> {
+        out_of_memory(Exhausted::from(error))
     }
 }
 
@@ -397,27 +485,10 @@ impl<A> From<Refusal> for Error<A> {
     }
 }
 
-/// Out of memory, as an error of kind `InvalidArgument` without a location. So `v.push(x)?` works in a function that returns `Error`.
-impl<X: Drop, A> From<AllocFailed<X>> for Error<A> {
-    ghost from_gives = { λ _ error. error ≡ out_of_memory };
-
-    fn from(_: AllocFailed<X>) -> Error<A> {
-        out_of_memory()
-    }
-}
-
 impl<A> From<fmt::Error> for Error<A> {
     ghost from_gives = { λ _ error. error ≡ record { kind = InvalidArgument; err = Fmt; loc = Unknown } };
 
     fn from(_: fmt::Error) -> Error<A> {
         invalid(Cause::Fmt)
-    }
-}
-
-impl<X: Drop, A> From<AllocFailed<X>> for Cause<A> {
-    ghost from_gives = { λ _ cause. cause ≡ Memory };
-
-    fn from(_: AllocFailed<X>) -> Cause<A> {
-        Cause::Memory
     }
 }

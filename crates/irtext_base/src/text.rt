@@ -7,8 +7,7 @@ ghost use Rattle.irtext_base.specs.Own.{Lawful, Sincere, Unreserved, texts_of};
 ghost use Rattle.irtext_base.specs.Families.{BeginsWithWord, AreApart, is_one_of};
 
 use crate::parsable::{ParseResult, TextStream};
-use irtext_memory::OutOfMemory;
-use std::alloc::AllocError;
+use irtext_memory::{Exhausted, OutOfMemory};
 use std::hash::Hash;
 
 /// A type or an attribute of the caller, with its texts. Each impl proves the laws of these: how a text begins, and that a printed text is
@@ -56,8 +55,8 @@ pub trait AttrText<B>: IrText<B> + Hash {
     fn is_print_once(&self) -> bool
         ensures { result ≡ print_once self.now };
 
-    /// Returns a copy that equals the attribute.
-    fn try_clone(&self) -> Result<Self, AllocError>
+    /// Returns a copy that equals the attribute. Fails only when out of memory, or if a counter of those that share a text is full.
+    fn try_clone(&self) -> Result<Self, Exhausted>
         ensures { IfOk result (λ copy. copy ≡ self.now) };
 
     ghost unreserved: { Unreserved Self (texts_of Self.reading Self.written) };

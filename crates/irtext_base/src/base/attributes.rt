@@ -3,6 +3,7 @@
 mod copy;
 
 use crate::base::Identifier;
+use irtext_memory::Exhausted;
 
 /// The key of the attribute that holds a symbol's name.
 pub const SYM_NAME_KEY: &'static str = "builtin_sym_name";
@@ -16,7 +17,7 @@ pub enum Refusal {
     /// This key, `builtin_given_names`, takes only an `AttrObj::GivenNames`.
     ReservedKey(Identifier),
     /// Out of memory.
-    Memory,
+    Memory(Exhausted),
 }
 
 /// An attribute: names of results or arguments, an identifier, or one of the caller's own.

@@ -16,7 +16,7 @@ ghost use Rattle.irtext_base.specs.declared.location.Location.{Unknown};
 use crate::result::{Cause, Error, ErrorKind, Expected, invalid};
 use arrayvec::ArrayString;
 use indexmap::Equivalent;
-use irtext_memory::{OutOfMemory, rc, string};
+use irtext_memory::{Full, OutOfMemory, rc, string};
 use std::alloc::{AllocError, Global};
 use std::cmp::Ordering;
 use std::fmt;
@@ -175,7 +175,7 @@ impl Identifier {
         }
         match Identifier::from_word(alloc, text) {
             Ok(name) => Ok(name),
-            Err(_) => Err(invalid(Cause::Memory)),
+            Err(refused) => Err(invalid(Cause::from(refused))),
         }
     }
 
@@ -211,6 +211,15 @@ impl Identifier {
     /// finds at the index.
     pub fn hint(&self) -> usize {
         self.text.hint
+    }
+
+    /// Returns the same identifier, which shares the text and allocates nothing. Fails only if the counter of those that share the text is
+    /// full.
+    pub fn share(&self) -> Result<Identifier, Full>
+        ensures { IfOk result (λ i. i ≡ self.now) }
+    {
+        let text = rc::share(&self.text)?;
+        Ok(Identifier { text })
     }
 
     /// Returns the text of the identifier.

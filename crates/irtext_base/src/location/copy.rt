@@ -5,7 +5,8 @@ ghost use Rattle.irtext_base.specs.Locations.{location_view, is_plain, out_of_me
 use crate::location::walk::{NewSources, Walk};
 use crate::location::{Location, Source, out_of_memory};
 use crate::text::AttrText;
-use std::alloc::{AllocError, Global};
+use irtext_memory::Exhausted;
+use std::alloc::Global;
 
 /// The sources of a copy are those of the location, unchanged.
 struct SameSources;
@@ -17,7 +18,7 @@ impl NewSources for SameSources {
 
     ghost rule = { λ _. same_sources };
 
-    fn new_source(&self, source: Source, _state: &mut ()) -> Result<Source, AllocError> {
+    fn new_source(&self, source: Source, _state: &mut ()) -> Result<Source, Exhausted> {
         Ok(source)
     }
 }
@@ -26,7 +27,7 @@ impl NewSources for SameSources {
 fn copy_nested<A: AttrText<A>>(
     alloc: Global,
     location: &Location<A>,
-) -> Result<Location<A>, AllocError>
+) -> Result<Location<A>, Exhausted>
     ensures { IfOk result (λ copy. location_view copy ≡ location_view location.now) }
 {
     let walk = Walk {
@@ -40,7 +41,7 @@ fn copy_nested<A: AttrText<A>>(
 fn copy_location<A: AttrText<A>>(
     alloc: Global,
     location: &Location<A>,
-) -> Result<Location<A>, AllocError>
+) -> Result<Location<A>, Exhausted>
     ensures ok { IfOk result (λ copy. location_view copy ≡ location_view location.now) }
     ensures err { OnErr result (is_plain (location_view location.now) ≡ false) }
 {
@@ -66,7 +67,7 @@ impl<A: AttrText<A>> Location<A> {
     {
         match copy_location(alloc, self) {
             Ok(copy) => Ok(copy),
-            Err(_) => Err(out_of_memory()),
+            Err(error) => Err(out_of_memory(error)),
         }
     }
 }

@@ -24,7 +24,7 @@ impl Source {
     {
         match ctx.paths_mut().keep(path) {
             Ok(key) => Ok(Source::File(key)),
-            Err(_) => Err(out_of_memory()),
+            Err(error) => Err(out_of_memory(error)),
         }
     }
 

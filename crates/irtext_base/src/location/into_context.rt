@@ -9,9 +9,9 @@ use crate::location::walk::{NewSources, Walk};
 use crate::location::{Location, Source, out_of_memory};
 use crate::parsable::SourcePosition;
 use crate::text::AttrText;
-use std::alloc::AllocError;
+use irtext_memory::Exhausted;
 
-fn move_source(source: Source, from: &Paths, to: &mut Paths) -> Result<Source, AllocError>
+fn move_source(source: Source, from: &Paths, to: &mut Paths) -> Result<Source, Exhausted>
     requires { IsTrue (is_known (length from.now) source) }
     ensures ok { IfOk result (λ s. s ≡ source_under to.old (path_of from.now source)) }
     ensures kept { OnOk result (to.new ≡ path_kept to.old (path_of from.now source)) }
@@ -31,7 +31,7 @@ impl NewSources for Paths {
 
     ghost rule = { moving };
 
-    fn new_source(&self, source: Source, to: &mut Paths) -> Result<Source, AllocError> {
+    fn new_source(&self, source: Source, to: &mut Paths) -> Result<Source, Exhausted> {
         move_source(source, self, to)
     }
 }
@@ -41,7 +41,7 @@ fn move_nested<A: AttrText<A>>(
     location: &Location<A>,
     from: &Paths,
     to: &mut Paths,
-) -> Result<Location<A>, AllocError>
+) -> Result<Location<A>, Exhausted>
     requires { IsTrue (are_known (length from.now) (location_view location.now)) }
     ensures ok { IfOk result (λ l. location_view l ≡ all_under to.old
         (written_with from.now (location_view location.now))) }
@@ -61,7 +61,7 @@ fn move_location<A: AttrText<A>>(
     location: &Location<A>,
     from: &Paths,
     to: &mut Paths,
-) -> Result<Location<A>, AllocError>
+) -> Result<Location<A>, Exhausted>
     requires { IsTrue (are_known (length from.now) (location_view location.now)) }
     ensures ok { IfOk result (λ l. location_view l ≡ all_under to.old
         (written_with from.now (location_view location.now))) }
@@ -87,7 +87,7 @@ fn moved<A: AttrText<A>>(
     location: &Location<A>,
     from: &Paths,
     to: &mut Paths,
-) -> Result<Location<A>, AllocError>
+) -> Result<Location<A>, Exhausted>
     requires { IsTrue (are_known (length from.now) (location_view location.now)) }
     ensures ok { IfOk result (λ l. location_view l ≡ all_under to.old
         (written_with from.now (location_view location.now))) }
@@ -130,7 +130,7 @@ impl Source {
     {
         match move_source(*self, src_ctx.paths(), dst_ctx.paths_mut()) {
             Ok(source) => Ok(source),
-            Err(_) => Err(out_of_memory()),
+            Err(error) => Err(out_of_memory(error)),
         }
     }
 }
@@ -183,7 +183,7 @@ impl<A: AttrText<A>> Location<A> {
     {
         match moved(self, src_ctx.paths(), dst_ctx.paths_mut()) {
             Ok(location) => Ok(location),
-            Err(_) => Err(out_of_memory()),
+            Err(error) => Err(out_of_memory(error)),
         }
     }
 }

@@ -6,7 +6,8 @@ ghost use Rattle.irtext_base.specs.Paths.{path_index, with_path, MayBeRefused};
 use crate::location::PathKey;
 use irtext_interner::Interner;
 use irtext_interner::seed::Seed;
-use std::alloc::{AllocError, Global};
+use irtext_memory::{Exhausted, Full, at_limit};
+use std::alloc::Global;
 use std::marker::Model;
 
 /// A set of file paths. Each is kept once, with its index as its key.
@@ -52,12 +53,12 @@ pub trait HasPaths<A> {
 }
 
 /// Returns the index as one of 32 bits. Fails if it needs more.
-fn as_index(index: usize) -> Result<u32, AllocError>
+fn as_index(index: usize) -> Result<u32, Full>
     ensures ok { IfOk result (λ i. i ≡ index) }
     ensures err { OnErr result (2 ^ 32 ≤ index) }
 {
     if index > u32::MAX as usize {
-        return Err(AllocError);
+        return Err(at_limit(index as u64));
     }
     Ok(index as u32)
 }
@@ -79,7 +80,7 @@ impl Paths {
 
     /// Returns the key of a path, which is kept from then on. A path that is kept already has the key that it had, and needs no allocation.
     /// When out of memory, or if the index of the path needs more than 32 bits, it fails and the paths are unchanged.
-    pub fn keep(&mut self, path: &str) -> Result<PathKey, AllocError>
+    pub fn keep(&mut self, path: &str) -> Result<PathKey, Exhausted>
         ensures key { IfOk result (λ key. key.index ≡ path_index self.old path.now) }
         ensures kept { OnOk result (self.new ≡ with_path self.old path.now) }
         ensures err { OnErr result (self.new ≡ self.old) }
@@ -91,7 +92,7 @@ impl Paths {
             Ok(index) => Ok(PathKey { index }),
             Err(refused) => {
                 self.texts.truncate(count);
-                Err(refused)
+                Err(Exhausted::from(refused))
             }
         }
     }

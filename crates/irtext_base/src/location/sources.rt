@@ -11,7 +11,8 @@ use crate::base::AttrObj;
 use crate::location::visit::{Visitor, visit};
 use crate::location::{Location, Source, out_of_memory};
 use crate::parsable::SourcePosition;
-use std::alloc::{AllocError, Global};
+use irtext_memory::{Exhausted, vec};
+use std::alloc::Global;
 
 pub(super) fn is_same_source(a: Source, b: Source) -> bool
     ensures { result ≡ same_source a b }
@@ -25,14 +26,14 @@ fn is_found(found: &[Source], source: Source) -> bool
     found.iter().any(|other| is_same_source(source, *other))
 }
 
-fn note_source(found: &mut Vec<Source>, source: Source) -> Result<(), AllocError>
+fn note_source(found: &mut Vec<Source>, source: Source) -> Result<(), Exhausted>
     ensures ok { OnOk result (found.new.items ≡ noted found.old.items source) }
     ensures err { OnErr result (0 < length (noted found.old.items source)) }
 {
     if is_found(found, source) {
         return Ok(());
     }
-    found.push(source)?;
+    vec::push(found, source)?;
     Ok(())
 }
 
@@ -44,10 +45,10 @@ enum Waits<'a, A> {
 }
 
 /// Pushes locations that are left to search.
-fn wait<'a, A>(waits: &mut Vec<Waits<'a, A>>, next: Waits<'a, A>) -> Result<(), AllocError>
+fn wait<'a, A>(waits: &mut Vec<Waits<'a, A>>, next: Waits<'a, A>) -> Result<(), Exhausted>
     ensures { OnOk result (waits.new.items ≡ waits.old.items ++ next.entry ∷ []) }
 {
-    waits.push(next)?;
+    vec::push(waits, next)?;
     Ok(())
 }
 
@@ -56,7 +57,7 @@ fn note_one<'a, A>(
     location: &'a Location<A>,
     waits: &mut Vec<Waits<'a, A>>,
     found: &mut Vec<Source>,
-) -> Result<(), AllocError>
+) -> Result<(), Exhausted>
     ensures noted { OnOk result (left_noted found.new.items waits.new.items ≡
         left_noted (all_noted found.old.items (location_view location.now)) waits.old.items) }
     ensures less { OnOk result (left_weight waits.new.items ≡ left_weight waits.old.items
@@ -78,7 +79,7 @@ fn note_next<'a, A>(
     next: Waits<'a, A>,
     waits: &mut Vec<Waits<'a, A>>,
     found: &mut Vec<Source>,
-) -> Result<(), AllocError>
+) -> Result<(), Exhausted>
     ensures noted { OnOk result (left_noted found.new.items waits.new.items ≡
         left_noted (wait_noted found.old.items next.entry) waits.old.items) }
     ensures less { OnOk result (left_weight waits.new.items < left_weight waits.old.items
@@ -99,7 +100,7 @@ fn note_sources<A>(
     alloc: Global,
     location: &Location<A>,
     found: &mut Vec<Source>,
-) -> Result<(), AllocError>
+) -> Result<(), Exhausted>
     ensures { OnOk result (found.new.items ≡ all_noted found.old.items (location_view location.now)) }
 {
     let mut waits = Vec::new(alloc);
@@ -221,7 +222,7 @@ impl<A> Location<A> {
         match note_sources(alloc, self, &mut found) {
             Ok(()) => Ok(found),
             Err(_) if self.mentions_none() => Ok(Vec::new(alloc)),
-            Err(_) => Err(out_of_memory()),
+            Err(error) => Err(out_of_memory(error)),
         }
     }
 }

@@ -8,7 +8,8 @@ use crate::base::AttrObj;
 use crate::location::made::{call_site, fused, named};
 use crate::location::{Location, Source};
 use crate::text::AttrText;
-use std::alloc::{AllocError, Global};
+use irtext_memory::{Exhausted, vec};
+use std::alloc::Global;
 
 /// How the sources of a location are replaced in a copy.
 pub(super) trait NewSources {
@@ -21,7 +22,7 @@ pub(super) trait NewSources {
     ghost rule: { Self → Rule Self.State };
 
     /// Returns the source for the copy. If it fails, the state is unchanged.
-    fn new_source(&self, source: Source, state: &mut Self::State) -> Result<Source, AllocError>
+    fn new_source(&self, source: Source, state: &mut Self::State) -> Result<Source, Exhausted>
         requires { IsTrue ((rule self.now).known source) }
         ensures ok { IfOk result (λ s. s ≡ (rule self.now).image state.old source) }
         ensures kept { OnOk result (state.new ≡ (rule self.now).after state.old source) }
@@ -69,7 +70,7 @@ pub(super) struct Walk<'m, M> {
 
 impl<'m, M: NewSources> Walk<'m, M> {
     /// Continues with the next location of a row, or builds the row's copy if none is left.
-    fn go_on<'a, A: AttrText<A>>(&self, row: Row<'a, A>) -> Result<Turn<'a, A>, AllocError>
+    fn go_on<'a, A: AttrText<A>>(&self, row: Row<'a, A>) -> Result<Turn<'a, A>, Exhausted>
         ensures on { IfOk result (λ t. Begins (M.rule self.now.sources.now) t (row_rest row.entry)) }
         ensures less { IfOk result (λ t. turn_turns t ≤ suc (row_turns row.entry)) }
     {
@@ -88,7 +89,7 @@ impl<'m, M: NewSources> Walk<'m, M> {
         &self,
         location: &'a Location<A>,
         state: &mut M::State,
-    ) -> Result<Turn<'a, A>, AllocError>
+    ) -> Result<Turn<'a, A>, Exhausted>
         requires { IsTrue (taken (M.rule self.now.sources.now) state.old (location_view location.now)).known }
         ensures on { IfOk result (λ t. Opens (M.rule self.now.sources.now)
             (location_view location.now) state.old t state.new) }
@@ -105,7 +106,7 @@ impl<'m, M: NewSources> Walk<'m, M> {
                 locations,
             } => self.go_on(Row {
                 metadata,
-                copies: Vec::with_capacity(self.alloc, locations.len())?,
+                copies: vec::with_capacity_of(self.alloc, locations.len(), locations)?,
                 left: locations.as_slice(),
             }),
             Location::Named { name, child_loc } => Ok(Turn::Inside(Frame::Named(name), child_loc)),
@@ -121,7 +122,7 @@ impl<'m, M: NewSources> Walk<'m, M> {
         &self,
         frame: Frame<'a, A>,
         copy: Location<A>,
-    ) -> Result<Turn<'a, A>, AllocError>
+    ) -> Result<Turn<'a, A>, Exhausted>
         ensures on { IfOk result (λ t. Begins (M.rule self.now.sources.now) t (closing frame.entry copy)) }
         ensures less { IfOk result (λ t. turn_turns t ≤ frame_turns frame.entry) }
     {
@@ -130,7 +131,7 @@ impl<'m, M: NewSources> Walk<'m, M> {
             Frame::Callee(caller) => Ok(Turn::Inside(Frame::Caller(copy), caller)),
             Frame::Caller(callee) => Ok(Turn::Done(call_site(self.alloc, callee, copy)?)),
             Frame::Fused(mut row) => {
-                row.copies.push(copy)?;
+                vec::push(&mut row.copies, copy)?;
                 self.go_on(row)
             }
         }
@@ -142,7 +143,7 @@ impl<'m, M: NewSources> Walk<'m, M> {
         turn: Turn<'a, A>,
         state: &mut M::State,
         frames: &mut Vec<Frame<'a, A>>,
-    ) -> Result<Turn<'a, A>, AllocError>
+    ) -> Result<Turn<'a, A>, Exhausted>
         requires known { IsTrue (whole (M.rule self.now.sources.now) frames.old.items turn state.old).known }
         requires open { IsTrue (is_open turn) }
         ensures on { IfOk result (λ t. whole (M.rule self.now.sources.now) frames.new.items t state.new ≡
@@ -152,7 +153,7 @@ impl<'m, M: NewSources> Walk<'m, M> {
     {
         match turn {
             Turn::Inside(frame, location) => {
-                frames.push(frame)?;
+                vec::push(frames, frame)?;
                 self.open(location, state)
             }
             Turn::Done(copy) => match frames.pop() {
@@ -168,7 +169,7 @@ impl<'m, M: NewSources> Walk<'m, M> {
         &self,
         location: &Location<A>,
         state: &mut M::State,
-    ) -> Result<Location<A>, AllocError>
+    ) -> Result<Location<A>, Exhausted>
         requires { IsTrue (taken (M.rule self.now.sources.now) state.old (location_view location.now)).known }
         ensures ok { IfOk result (λ l. Copies (M.rule self.now.sources.now) location.now
             state.old l state.new) }

@@ -4,13 +4,14 @@ ghost use Rattle.irtext_base.specs.Locations.{attr_view};
 
 use crate::base::{AttrObj, Identifier};
 use crate::text::AttrText;
-use std::alloc::{AllocError, Global};
+use irtext_memory::{Exhausted, vec};
+use std::alloc::Global;
 
-fn copy_name(name: &Option<Identifier>) -> Result<Option<Identifier>, AllocError>
+fn copy_name(name: &Option<Identifier>) -> Result<Option<Identifier>, Exhausted>
     ensures { IfOk result (λ copy. copy ≡ name.now) }
 {
     match name {
-        Some(name) => Ok(Some(name.clone()?)),
+        Some(name) => Ok(Some(name.share()?)),
         None => Ok(None),
     }
 }
@@ -18,24 +19,24 @@ fn copy_name(name: &Option<Identifier>) -> Result<Option<Identifier>, AllocError
 fn copy_names(
     alloc: Global,
     names: &Vec<Option<Identifier>>,
-) -> Result<Vec<Option<Identifier>>, AllocError>
+) -> Result<Vec<Option<Identifier>>, Exhausted>
     ensures { IfOk result (λ copies. copies.items ≡ names.now.items) }
 {
-    let mut copies = Vec::with_capacity(alloc, names.len())?;
+    let mut copies = vec::with_capacity_of(alloc, names.len(), names)?;
     for name in names {
-        copies.push(copy_name(name)?)?;
+        vec::push(&mut copies, copy_name(name)?)?;
     }
     Ok(copies)
 }
 
 impl<A: AttrText<A>> AttrObj<A> {
     /// Returns a copy that equals the attribute. Fails only when out of memory.
-    pub fn try_clone(&self, alloc: Global) -> Result<AttrObj<A>, AllocError>
+    pub fn try_clone(&self, alloc: Global) -> Result<AttrObj<A>, Exhausted>
         ensures { IfOk result (λ copy. attr_view copy ≡ attr_view self.now) }
     {
         match self {
             AttrObj::GivenNames(names) => Ok(AttrObj::GivenNames(copy_names(alloc, names)?)),
-            AttrObj::Ident(name) => Ok(AttrObj::Ident(name.clone()?)),
+            AttrObj::Ident(name) => Ok(AttrObj::Ident(name.share()?)),
             AttrObj::Own(attr) => Ok(AttrObj::Own(attr.try_clone()?)),
         }
     }
