@@ -34,7 +34,7 @@ both_names false b x y d e = absurd (cc)
 
 -- a rejected name, whose fault is one of a name
 refusal : {A : Type 0} (own dialect name : Text) (format : Format) (cause : Cause A) → Accepted format → fault_of cause ≡ id_refused dialect name → is_of_name (fault_of cause) ≡ true → RefusesOp own dialect name format cause
-refusal own dialect name format Memory accepted e h =
+refusal own dialect name format (Memory m) accepted e h =
     let names = both_names (is_identifier dialect) (is_identifier name) _ _ _ e in
     (names.0, names.1, accepted)
 refusal own dialect name format (Unexpected found expected) accepted e h = (accepted, e)
@@ -50,7 +50,7 @@ refused_name own dialect name format cause accepted e =
 -- an operation that its dialect rejects, by the dialect's own name
 refused_own : {A : Type 0} (own dialect name : Text) (id : OpId) (format : OpFormat) (cause : Cause A) → CanRegister dialect name (format_of format) → id ≡ id_of_texts dialect name
     → IsRefusedBy own id format cause → RefusesOp own dialect name (format_of format) cause
-refused_own own dialect name id format Memory can is e = can
+refused_own own dialect name id format (Memory m) can is e = can
 refused_own own dialect name id format (WrongDialect i d) can is (other, same, named) = (can, subst (λ (i : OpId). bytes_eq i.dialect own ≡ false) is other, same ∙ is, named)
 refused_own own dialect name id format (IsFault f) can is (belongs, fails) = fails
 refused_own own dialect name id format _ can is e = absurd e

@@ -43,7 +43,7 @@ abbrev pub RefusesOp : {A : Type 0} → Text → Text → Text → Format → Ca
 RefusesOp own dialect name format (FormatFault fault) = first_fault format ≡ condition_number fault
 RefusesOp {A = A} own dialect name format (Unexpected found expected) = Accepted format × (fault_of {A = A} (Unexpected found expected) ≡ id_refused dialect name)
 RefusesOp own dialect name format (WrongDialect id named) = CanRegister dialect name format × (bytes_eq dialect own ≡ false) × (id ≡ id_of_texts dialect name) × (named ≡ own)
-RefusesOp own dialect name format Memory = CanRegister dialect name format
+RefusesOp own dialect name format (Memory e) = CanRegister dialect name format
 RefusesOp own dialect name format _ = ⊥
 
 -- the new table has the dialect with this name at index i, without operations if the old one had none; replacing the value at i gives the

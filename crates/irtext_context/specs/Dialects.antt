@@ -66,5 +66,5 @@ with_op table id format isolated = record { name = table.name; entries = insert_
 abbrev pub IsRefusedBy : {A : Type 0} → Text → OpId → OpFormat → Cause A → Type 0
 IsRefusedBy name id format (WrongDialect i d) = (bytes_eq id.dialect name ≡ false) × (i ≡ id) × (d ≡ name)
 IsRefusedBy name id format (FormatFault fault) = (id.dialect ≡ name) × (first_fault (format_of format) ≡ condition_number fault)
-IsRefusedBy name id format Memory = id.dialect ≡ name → Accepted (format_of format)
+IsRefusedBy name id format (Memory e) = id.dialect ≡ name → Accepted (format_of format)
 IsRefusedBy name id format _ = ⊥

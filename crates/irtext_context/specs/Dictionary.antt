@@ -47,7 +47,7 @@ module _ {A : Type 0} where
   -- another one and an allocation failed
   abbrev pub RefusesEntry : Text → AttrObj A → Refusal → Type 0
   RefusesEntry key attr (ReservedKey refused) = (refused ≡ key) × IsTrue (is_reserved_for key attr)
-  RefusesEntry key attr Memory = bytes_eq given_names_key key ≡ false
+  RefusesEntry key attr (Memory e) = bytes_eq given_names_key key ≡ false
 
   -- all entries, with the given names at their index among the others
   abbrev pub whole : Option (Given A) → List (Text × AttrObj A) → List (Text × AttrObj A)

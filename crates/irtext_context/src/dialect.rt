@@ -10,6 +10,7 @@ ghost use Rattle.indexmap.specs.IndexMap.{insert_entry};
 ghost use Rattle.std.proofs.Common.{rules, ap};
 ghost use Rattle.irtext_context.specs.Dialects.{same_id, known_of, known_entries, with_op, IsRefusedBy, AreAccepted, IsKeyed, AreKeyed};
 ghost use Rattle.irtext_base.specs.FormatViews.{format_of};
+ghost use Rattle.irtext_base.specs.Causes.{no_memory};
 ghost use Rattle.irtext_base.specs.Faults.{fault_of, name_refused};
 ghost use Rattle.irtext_base.specs.Format.{Accepted};
 ghost use Rattle.irtext_base.specs.Text.{is_identifier};
@@ -30,7 +31,8 @@ use irtext_base::location::Location;
 use irtext_base::result;
 use irtext_base::result::{Cause, Error, ErrorKind};
 use irtext_format_check::format;
-use std::alloc::{AllocError, Global};
+use irtext_memory::{Exhausted, map};
+use std::alloc::Global;
 use std::convert::AsStr;
 use std::fmt;
 use std::hash::{Hash, Hasher};
@@ -71,12 +73,12 @@ impl DialectName {
     /// the text is at its limit. The error is of kind invalid argument and has no location.
     pub fn try_clone<A>(&self) -> result::Result<DialectName, A>
         ensures ok { IfOk result (λ n. n ≡ self.now) }
-        ensures refused { IfErr result (λ e. e.err ≡ Cause.Memory) }
+        ensures refused { IfErr result (λ e. e.err ≡ no_memory) }
         ensures kind { IfErr result (λ e. (e.kind ≡ ErrorKind.InvalidArgument) × (e.loc ≡ Unknown)) }
     {
-        match self.name.clone() {
+        match self.name.share() {
             Ok(name) => Ok(DialectName { name }),
-            Err(_) => Err(invalid(Cause::Memory)),
+            Err(error) => Err(invalid(Cause::from(error))),
         }
     }
 
@@ -207,18 +209,18 @@ fn wrong_dialect<A>(id: OpId, name: &DialectName) -> Cause<A>
     requires { bytes_eq id.dialect name.now ≡ false }
     ensures { (format : OpFormat) → IsRefusedBy name.now id format result }
 {
-    match name.name.clone() {
+    match name.name.share() {
         Ok(dialect) => Cause::WrongDialect { id, dialect },
-        Err(_) => Cause::Memory,
+        Err(error) => Cause::from(error),
     }
 }
 
 /// The id as a dialect stores it. It shares the text of the dialect's name; its own name carries this index as a hint for lookups.
-fn kept(name: &DialectName, alloc: Global, id: &OpId, index: usize) -> Result<OpId, AllocError>
+fn kept(name: &DialectName, alloc: Global, id: &OpId, index: usize) -> Result<OpId, Exhausted>
     requires { id.now.dialect ≡ name.now }
     ensures { IfOk result (λ i. i ≡ id.now) }
 {
-    let dialect = name.name.clone()?;
+    let dialect = name.name.share()?;
     let name = id.name.hinted(alloc, index)?;
     Ok(OpId { dialect, name })
 }
@@ -229,7 +231,7 @@ fn put(
     name: &DialectName,
     id: &OpId,
     info: OpInfo,
-) -> Result<(), AllocError>
+) -> Result<(), Exhausted>
     requires { id.now.dialect ≡ name.now }
     ensures ok { OnOk result (ops.new.entries ≡ insert_entry same_id ops.old.entries id.now info) }
     ensures err { OnErr result (ops.new.entries ≡ ops.old.entries) }
@@ -237,7 +239,7 @@ fn put(
     let alloc = *ops.allocator();
     match kept(name, alloc, id, ops.len()) {
         Ok(key) => {
-            ops.insert(key, info)?;
+            map::insert(ops, key, info)?;
             Ok(())
         }
         Err(error) => failed(info, error),
@@ -262,7 +264,7 @@ fn info_of<A>(alloc: Global, format: OpFormat, isolated: bool) -> Result<OpInfo,
             isolated,
             sym_name_key,
         }),
-        Err(_) => Err(Cause::Memory),
+        Err(error) => Err(Cause::from(error)),
     }
 }
 
@@ -285,7 +287,7 @@ fn put_accepted<A>(
     match info_of(*ops.allocator(), format, isolated) {
         Ok(info) => match put(ops, name, id, info) {
             Ok(()) => Ok(()),
-            Err(_) => Err(Cause::Memory),
+            Err(error) => Err(Cause::Memory(error)),
         },
         Err(cause) => Err(cause),
     }

@@ -3,7 +3,7 @@ ghost use Rattle.std.specs.Prelude.{◌≡◌, ◌≢◌, ◌<◌, ◌≤◌, �
 ghost use Rattle.std.specs.Borrow.{Lends, sem};
 
 use crate::graph::Counters;
-use irtext_memory::{OutOfMemory, vec};
+use irtext_memory::{Full, OutOfMemory, at_limit, vec};
 use std::alloc::Global;
 use std::marker::PhantomData;
 use std::mem;
@@ -111,6 +111,18 @@ impl<X: Drop> Arena<X> {
             return false;
         }
         self.reusable().is_none()
+    }
+
+    /// Returns the error of an arena that `is_full`.
+    #[cold]
+    pub(crate) fn full(&self, made: u64, counters: Counters) -> Full
+        requires { IsFull made counters.first_place (free_place self.now) (length self.now.slots.items) }
+    {
+        if made == u64::MAX {
+            return at_limit(made);
+        }
+        let slots = self.slots.len() + (counters.first_place as usize);
+        at_limit(slots as u64)
     }
 
     /// Stores an object in the slot that was freed last, or else in a new one, under the slot's next generation. If an allocation fails,

@@ -9,7 +9,7 @@ ghost use Rattle.irtext_graph.specs.Regions.{with_child, AddsRegion};
 ghost use Rattle.irtext_graph.specs.Store.{Edits, before};
 ghost use Rattle.irtext_graph.specs.Arena.{Inserts, HasFew, free_place};
 ghost use Rattle.irtext_graph.specs.Limits.{HasPlace, NoMoreRegions, NoMoreBlocks, NoMoreOperations};
-ghost use Rattle.irtext_memory.specs.declared.NoRoom.{NoRoom};
+ghost use Rattle.irtext_memory.specs.Rooms.{full};
 
 use crate::arena::{Arena, Ptr};
 use crate::graph::Graph;
@@ -20,7 +20,7 @@ use crate::new_uses::{Side, lone_uses, rare_uses};
 use crate::object::{BasicBlock, Object, Operation, Region, Value};
 use crate::objects::{BlockData, Definition, OperationData, RegionData, Use};
 use irtext_few::{Few, Growing, Items, Lone, Rare};
-use irtext_memory::{NoRoom, OutOfMemory, vec};
+use irtext_memory::{Full, NoRoom, OutOfMemory, at_limit, vec};
 use std::alloc::Global;
 
 /// Makes a value with this type and this number, without uses.
@@ -224,17 +224,53 @@ impl<O: Drop, B: Drop, T: Drop> Graph<O, B, T> {
         self.objects.operations.is_full(self.made, self.counters)
     }
 
+    /// Returns the error of a graph in which `no_more_regions` can be made.
+    #[cold]
+    pub fn full_of_regions(&self) -> Full
+        requires { NoMoreRegions self.now }
+    {
+        self.objects.regions.full(self.made, self.counters)
+    }
+
+    /// Returns the error of a graph in which `no_more_blocks` with so many arguments can be made.
+    #[cold]
+    pub fn full_of_blocks(&self, arguments: usize) -> Full
+        requires { NoMoreBlocks arguments self.now }
+    {
+        if arguments as u64 > u64::MAX - self.counters.values {
+            return at_limit(self.counters.values.saturating_add(arguments as u64));
+        }
+        self.objects.blocks.full(self.made, self.counters)
+    }
+
+    /// Returns the error of a graph in which `no_more_operations` with so many results, operands and successors can be made.
+    #[cold]
+    pub fn full_of_operations(&self, results: usize, operands: usize, successors: usize) -> Full
+        requires { NoMoreOperations results operands successors self.now }
+    {
+        if operands > i32::MAX as usize {
+            return at_limit(operands as u64);
+        }
+        if successors > i32::MAX as usize {
+            return at_limit(successors as u64);
+        }
+        if results as u64 > u64::MAX - self.counters.values {
+            return at_limit(self.counters.values.saturating_add(results as u64));
+        }
+        self.objects.operations.full(self.made, self.counters)
+    }
+
     /// Makes a region without a parent and blocks. Fails with `Full` exactly if `no_more_regions`, and else only when out of memory. On an
     /// error the graph is unchanged.
     pub fn make_region(&mut self) -> Result<Ptr<Region>, NoRoom>
         ensures made { IfOk result (λ p. MakesRegion self.old self.new p) }
-        ensures full { (result ≡ Err NoRoom.Full) ↔ NoMoreRegions self.old }
+        ensures full { (result ≡ Err full) ↔ NoMoreRegions self.old }
         ensures err { OnErr result (self.new ≡ self.old) }
         ensures kept { (m : ℕ) → m ≤ self.old.made → KeepsOlder m self.old self.new }
     {
         let made = self.made;
         if self.no_more_regions() {
-            return Err(NoRoom::Full);
+            return Err(NoRoom::Full(self.full_of_regions()));
         }
         let blank = Nest {
             parent: None,
@@ -251,14 +287,14 @@ impl<O: Drop, B: Drop, T: Drop> Graph<O, B, T> {
     pub fn add_region(&mut self, op: Ptr<Operation>) -> Result<Ptr<Region>, NoRoom>
         requires { IsLive self.old (TheOperation op) }
         ensures added { IfOk result (λ r. AddsRegion self.old self.new op r) }
-        ensures full { (result ≡ Err NoRoom.Full) ↔ NoMoreRegions self.old }
+        ensures full { (result ≡ Err full) ↔ NoMoreRegions self.old }
         ensures err { OnErr result (self.new ≡ self.old) }
         ensures kept { (m : ℕ) → m ≤ self.old.made → before m self.old.operations op ≡ None
             → KeepsOlder m self.old self.new }
     {
         let made = self.made;
         if self.no_more_regions() {
-            return Err(NoRoom::Full);
+            return Err(NoRoom::Full(self.full_of_regions()));
         }
         self.objects.operations.make_region_room(op)?;
         let blank = Nest {
@@ -278,14 +314,14 @@ impl<O: Drop, B: Drop, T: Drop> Graph<O, B, T> {
     #[tactic(auto, using(crate::proofs::Made::same_keeps))]
     pub fn make_block(&mut self, value: B, types: Few<T>) -> Result<Ptr<BasicBlock>, NoRoom>
         ensures made { IfOk result (λ p. MakesBlock self.old self.new p value types) }
-        ensures full { (result ≡ Err NoRoom.Full) ↔ NoMoreBlocks (length types) self.old }
+        ensures full { (result ≡ Err full) ↔ NoMoreBlocks (length types) self.old }
         ensures err { OnErr result (self.new ≡ self.old) }
         ensures kept { (m : ℕ) → m ≤ self.old.made → KeepsOlder m self.old self.new }
     {
         let made = self.made;
         let count = types.len();
         if self.no_more_blocks(count) {
-            return Err(NoRoom::Full);
+            return Err(NoRoom::Full(self.full_of_blocks(count)));
         }
         let arguments = definitions(self.alloc, types, self.counters.values)?;
         let block = Nest {
@@ -319,7 +355,7 @@ impl<O: Drop, B: Drop, T: Drop> Graph<O, B, T> {
             → IsLive self.old (TheBlock b) }
         ensures made { IfOk result (λ p. MakesOperation self.old self.new p value types operands.now
             successors.now) }
-        ensures full { (result ≡ Err NoRoom.Full) ↔ NoMoreOperations (length types) (length operands.now)
+        ensures full { (result ≡ Err full) ↔ NoMoreOperations (length types) (length operands.now)
             (length successors.now) self.old }
         ensures err { OnErr result (self.new ≡ self.old) }
         ensures kept { (m : ℕ) → m ≤ self.old.made → KeepsOlder m self.old self.new }
@@ -328,7 +364,8 @@ impl<O: Drop, B: Drop, T: Drop> Graph<O, B, T> {
         let from = self.counters.values;
         let count = types.len();
         if self.no_more_operations(count, operands.len(), successors.len()) {
-            return Err(NoRoom::Full);
+            let full = self.full_of_operations(count, operands.len(), successors.len());
+            return Err(NoRoom::Full(full));
         }
         let op = new_operation(self.alloc, value, types, from, operands, successors)?;
         let p = store(&mut self.objects.operations, &mut self.log, made, op)?;

@@ -5,6 +5,7 @@
 #![tactic(auto)]
 
 pub mod boxed;
+pub mod map;
 pub mod rc;
 pub mod set;
 pub mod string;

@@ -6,7 +6,7 @@ ghost use Rattle.irtext_base.specs.Stream.{IsAt};
 ghost use Rattle.irtext_context.specs.Context.{operation, KeepsOlder};
 ghost use Rattle.irtext_graph.specs.Graph.{IsNew};
 ghost use Rattle.irtext_graph.specs.Limits.{NoMoreRegions};
-ghost use Rattle.irtext_memory.specs.declared.NoRoom.{NoRoom};
+ghost use Rattle.irtext_memory.specs.Rooms.{full};
 ghost use Rattle.irtext_graph.specs.declared.object.Object.TheVariants.{TheOperation};
 ghost use Rattle.irtext_tokens.specs.Infix.{◌▷◌};
 ghost use Rattle.irtext_tokens.specs.MustRead.{MustRead};
@@ -116,7 +116,7 @@ pub fn create<T: IrText<A>, A: AttrText<A>, U>(
     ensures marks { marks_of s.new.state ≡ marks_of s.old.state }
     ensures stream { s.new.stream ≡ s.old.stream }
     ensures creates { IfOk result (CreatesIn op s.old.state.ctx.now s.new.state.ctx.now) }
-    ensures full { (result ≡ Err NoRoom.Full) ↔ NoMoreRegions s.old.state.ctx.now.graph }
+    ensures full { (result ≡ Err full) ↔ NoMoreRegions s.old.state.ctx.now.graph }
     ensures kept { (m : ℕ) → m ≤ s.old.state.ctx.now.graph.made
         → IfSome op (λ o. IsNew m s.old.state.ctx.now.graph (TheOperation o))
         → KeepsOlder m s.old.state.ctx.now s.new.state.ctx.now }

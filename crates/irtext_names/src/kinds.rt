@@ -16,7 +16,7 @@ pub type Names = NameTracker<Value, Ptr<BasicBlock>>;
 pub trait Referent<B: Drop>: Copy {
     ghost use Rattle.std.specs.Prelude.{◌≡◌, ◌<◌, ◌≤◌, ◌↔◌, ℕ, length, true, None, Err, IfOk, OnOk, OnErr, IfNone, option_map};
     ghost use Rattle.irtext_graph.specs.Graph.{KeepsOlder};
-    ghost use Rattle.irtext_memory.specs.declared.NoRoom.{NoRoom};
+    ghost use Rattle.irtext_memory.specs.Rooms.{full};
     ghost use Rattle.irtext_scopes.specs.declared.scopes.DefineFault.{DefineFault};
     ghost use Rattle.irtext_scopes.specs.declared.scopes.Entry.TheVariants.{Pending};
     ghost use Rattle.irtext_scopes.specs.Scopes.{LacksRoom, innermost, in_innermost, is_open, find, mentioned, defined, is_defined, placeholder_of, value_of};
@@ -78,7 +78,7 @@ pub trait Referent<B: Drop>: Copy {
         with: Self::Blank,
     ) -> Result<Self, NoRoom>
         ensures made { IfOk result (Makes kind (blank with) graph.old graph.new) }
-        ensures full { (result ≡ Err NoRoom.Full) ↔ NoMore kind graph.old }
+        ensures full { (result ≡ Err full) ↔ NoMore kind graph.old }
         ensures err { OnErr result (graph.new ≡ graph.old) }
         ensures kept { (m : ℕ) → m ≤ graph.old.made → KeepsOlder m graph.old graph.new };
 }

@@ -3,7 +3,7 @@ ghost use Rattle.std.specs.Prelude.{◌≡◌, ◌≤◌, ◌↔◌, ℕ, [], No
 ghost use Rattle.irtext_context.specs.Context.{KeepsOlder};
 ghost use Rattle.irtext_graph.specs.Graph.{IsNew, IsLive, parent, children};
 ghost use Rattle.irtext_graph.specs.Limits.{NoMoreBlocks};
-ghost use Rattle.irtext_memory.specs.declared.NoRoom.{NoRoom};
+ghost use Rattle.irtext_memory.specs.Rooms.{full};
 ghost use Rattle.irtext_graph.specs.declared.object.Object.TheVariants.{TheBlock, TheOperation, TheRegion};
 ghost use Rattle.irtext_names.specs.Placing.{PlacedIn, PlacesBlock};
 
@@ -30,7 +30,7 @@ pub fn place_block<T: IrText<A>, A: AttrText<A>>(
     requires region { IsLive ctx.old.graph (TheRegion region) }
     ensures places { IfOk result (λ b. PlacesBlock ctx.old ctx.new region b
         (record { label = label; attributes = attributes; loc = loc }) types) }
-    ensures full { (result ≡ Err NoRoom.Full) ↔ NoMoreBlocks (length types) ctx.old.graph }
+    ensures full { (result ≡ Err full) ↔ NoMoreBlocks (length types) ctx.old.graph }
     ensures kept { (m : ℕ) → m ≤ ctx.old.graph.made → IsNew m ctx.old.graph (TheRegion region)
         → KeepsOlder m ctx.old ctx.new }
 {

@@ -6,6 +6,7 @@ use Rattle.irtext_scopes.specs.declared.scopes.Entry.TheVariants.{Defined}
 use Rattle.irtext_scopes.specs.Scopes.{Scope, find, innermost, in_innermost, mentioned, resolved, defined, defined_from, is_open, names_held, IsFull}
 use Rattle.irtext_memory.specs.declared.NoRoom.{NoRoom}
 use Rattle.irtext_memory.specs.declared.NoRoom.TheVariants.{Memory, Full}
+use Rattle.irtext_memory.specs.Rooms.{full}
 use Rattle.irtext_memory.specs.Rooms.{LacksMemory}
 use Rattle.std.specs.Prelude.{◌↔◌}
 use Rattle.std.specs.Result.{IsErrAnd}
@@ -153,7 +154,7 @@ module _ {V : Type 0} where
 
   -- an allocation was refused, so there was room in 32 bits
   pub no_memory : {A : Type 0} (name : ℕ) (ss : List (Scope V)) (r : Result A NoRoom) → IsErrAnd r LacksMemory → name ≤ 4294967295 → names_held ss < 4294967295
-      → (r ≡ Err Full) ↔ IsFull name ss
+      → (r ≡ Err full) ↔ IsFull name ss
   no_memory name ss (Ok a) lacks few fewer = absurd lacks
   no_memory name ss (Err (Memory e)) lacks few fewer = (λ p. cc, ⊎_elim (λ k. absurd (omega arith)) (λ k. absurd (omega arith)))
-  no_memory name ss (Err Full) lacks few fewer = absurd lacks
+  no_memory name ss (Err (Full e)) lacks few fewer = absurd lacks

@@ -1,8 +1,8 @@
 //! Places in a vector, in 32 bits.
 ghost use Rattle.std.specs.Prelude.{◌≡◌, ◌<◌, ◌≤◌, None, Some, IfOk, IfErr, OnOk};
-ghost use Rattle.irtext_memory.specs.declared.NoRoom.{NoRoom};
+ghost use Rattle.irtext_memory.specs.Rooms.{full};
 
-use irtext_memory::NoRoom;
+use irtext_memory::{NoRoom, at_limit};
 use std::marker::Model;
 
 /// The index of a binding, or that there is none.
@@ -39,10 +39,10 @@ impl Place {
     pub(crate) fn new(index: usize) -> Result<Place, NoRoom>
         ensures ok { IfOk result (λ p. p ≡ Some index) }
         ensures below { OnOk result (index < 4294967295) }
-        ensures full { IfErr result (λ e. (e ≡ NoRoom.Full) × (4294967295 ≤ index)) }
+        ensures full { IfErr result (λ e. (e ≡ full) × (4294967295 ≤ index)) }
     {
         if index >= u32::MAX as usize {
-            return Err(NoRoom::Full);
+            return Err(NoRoom::Full(at_limit(index as u64)));
         }
         Ok(Place {
             next: index as u32 + 1,

@@ -1,14 +1,14 @@
 //! The open scopes of one kind of names, as one vector of bindings. Leaving a scope truncates the vector to where the scope began.
 ghost use Rattle.std.specs.Prelude.{◌≡◌, ℕ, ◌<◌, ◌≤◌, [], ◌∷◌, length, None, Some, true, OnOk, OnErr, IfOk, cond, nat_eq, slice_get, drop, take, set, Err, ◌↔◌};
 ghost use Rattle.irtext_scopes.specs.declared.scopes.DefineFault.{DefineFault};
-ghost use Rattle.irtext_memory.specs.declared.NoRoom.{NoRoom};
+ghost use Rattle.irtext_memory.specs.Rooms.{full};
 ghost use Rattle.irtext_scopes.specs.declared.scopes.Binding.{Binding};
 ghost use Rattle.irtext_scopes.specs.Bindings.{Chained, entries_of, rebound, head_at, place_in};
 ghost use Rattle.irtext_scopes.specs.Scopes.{LacksRoom, IsFull, innermost, outer, in_innermost, is_open, find, mentioned, resolved, defined, is_defined, placeholder_of, first_pending};
 
 use crate::marks::Marks;
 use crate::place::Place;
-use irtext_memory::{NoRoom, OutOfMemory, vec};
+use irtext_memory::{NoRoom, OutOfMemory, at_limit, vec};
 use std::alloc::Global;
 use std::marker::Model;
 
@@ -204,12 +204,12 @@ impl<V: Copy> Scopes<V> {
         requires unknown { find name (innermost self.old) ≡ None }
         ensures ok { OnOk result (self.new ≡ in_innermost (mentioned name entry) self.old) }
         ensures err { OnErr result (self.new ≡ self.old) }
-        ensures full { (result ≡ Err NoRoom.Full) ↔ IsFull name self.old }
+        ensures full { (result ≡ Err full) ↔ IsFull name self.old }
     {
         let place = self.bindings.len();
         let head = Place::new(place)?;
         if name > u32::MAX as usize {
-            return Err(NoRoom::Full);
+            return Err(NoRoom::Full(at_limit(name as u64)));
         }
         let hidden = head_of(&self.heads, name);
         grow(&mut self.heads, name)?;
@@ -241,7 +241,7 @@ impl<V: Copy> Scopes<V> {
         ensures twice { (result ≡ Err DefineFault.MultipleDefinitions) ↔
             (is_defined (find name (innermost self.old)) ≡ true) }
         ensures room { LacksRoom result → find name (innermost self.old) ≡ None }
-        ensures full { (result ≡ Err (DefineFault.NoRoom NoRoom.Full)) ↔
+        ensures full { (result ≡ Err (DefineFault.NoRoom full)) ↔
             ((find name (innermost self.old) ≡ None) × IsFull name self.old) }
         ensures placeholder { IfOk result (λ h. h ≡ placeholder_of (find name (innermost self.old))) }
         ensures ok { OnOk result (self.new ≡ in_innermost (defined name value) self.old) }

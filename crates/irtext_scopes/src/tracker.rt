@@ -5,7 +5,7 @@ ghost use Rattle.std.specs.Str.{bytes_eq};
 ghost use Rattle.irtext_scopes.specs.declared.scopes.Entry.{Entry};
 ghost use Rattle.irtext_scopes.specs.declared.scopes.Entry.TheVariants.{Defined, Pending};
 ghost use Rattle.irtext_scopes.specs.declared.scopes.DefineFault.{DefineFault};
-ghost use Rattle.irtext_memory.specs.declared.NoRoom.{NoRoom};
+ghost use Rattle.irtext_memory.specs.Rooms.{full};
 ghost use Rattle.irtext_scopes.specs.declared.tracker.EnterFault.{EnterFault};
 ghost use Rattle.irtext_scopes.specs.Names.{number_of, with_name, KeepsNames, AreDistinct};
 ghost use Rattle.irtext_scopes.specs.Scopes.{LacksRoom, IsFull, innermost, outer, in_innermost, is_open, find, mentioned, defined, is_defined, placeholder_of, value_of};
@@ -215,7 +215,7 @@ impl<V: Copy, B: Copy> NameTracker<V, B> {
         requires unknown { find name (innermost self.old.values) ≡ None }
         ensures ok { OnOk result (self.new.values ≡
             in_innermost (mentioned name (Pending placeholder)) self.old.values) }
-        ensures full { (result ≡ Err NoRoom.Full) ↔ IsFull name self.old.values }
+        ensures full { (result ≡ Err full) ↔ IsFull name self.old.values }
         ensures err { OnErr result (self.new.values ≡ self.old.values) }
         ensures rest { (self.new.names ≡ self.old.names) × (self.new.labels ≡ self.old.labels) }
     {
@@ -231,7 +231,7 @@ impl<V: Copy, B: Copy> NameTracker<V, B> {
         ensures twice { (result ≡ Err DefineFault.MultipleDefinitions) ↔
             (is_defined (find name (innermost self.old.values)) ≡ true) }
         ensures room { LacksRoom result → find name (innermost self.old.values) ≡ None }
-        ensures full { (result ≡ Err (DefineFault.NoRoom NoRoom.Full)) ↔
+        ensures full { (result ≡ Err (DefineFault.NoRoom full)) ↔
             ((find name (innermost self.old.values) ≡ None) × IsFull name self.old.values) }
         ensures placeholder { IfOk result (λ h. h ≡ placeholder_of (find name (innermost self.old.values))) }
         ensures ok { OnOk result (self.new.values ≡ in_innermost (defined name def) self.old.values) }
@@ -258,7 +258,7 @@ impl<V: Copy, B: Copy> NameTracker<V, B> {
         requires unknown { find name (innermost self.old.labels) ≡ None }
         ensures ok { OnOk result (self.new.labels ≡
             in_innermost (mentioned name (Pending placeholder)) self.old.labels) }
-        ensures full { (result ≡ Err NoRoom.Full) ↔ IsFull name self.old.labels }
+        ensures full { (result ≡ Err full) ↔ IsFull name self.old.labels }
         ensures err { OnErr result (self.new.labels ≡ self.old.labels) }
         ensures rest { (self.new.names ≡ self.old.names) × (self.new.values ≡ self.old.values) }
     {
@@ -274,7 +274,7 @@ impl<V: Copy, B: Copy> NameTracker<V, B> {
         ensures twice { (result ≡ Err DefineFault.MultipleDefinitions) ↔
             (is_defined (find name (innermost self.old.labels)) ≡ true) }
         ensures room { LacksRoom result → find name (innermost self.old.labels) ≡ None }
-        ensures full { (result ≡ Err (DefineFault.NoRoom NoRoom.Full)) ↔
+        ensures full { (result ≡ Err (DefineFault.NoRoom full)) ↔
             ((find name (innermost self.old.labels) ≡ None) × IsFull name self.old.labels) }
         ensures placeholder { IfOk result (λ h. h ≡ placeholder_of (find name (innermost self.old.labels))) }
         ensures ok { OnOk result (self.new.labels ≡ in_innermost (defined name def) self.old.labels) }

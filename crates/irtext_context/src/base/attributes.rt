@@ -11,6 +11,7 @@ ghost use Rattle.irtext_base.specs.Format.{given_names_key, distinct};
 ghost use Rattle.irtext_context.specs.Dictionary.{are_given_names, placed, moved_up, is_reserved_for, RefusesEntry};
 ghost use Rattle.irtext_context.specs.Entries.{entries_left};
 ghost use Rattle.irtext_base.specs.declared.base.attributes.Refusal.TheVariants.{Memory};
+ghost use Rattle.irtext_memory.specs.Rooms.{exhausted};
 
 mod copy;
 mod others;
@@ -105,11 +106,11 @@ fn put_other<A: Drop>(
 ) -> Result<(), Refusal>
     ensures ok { OnOk result (others.new ≡ insert_entry bytes_eq others.old key attr) }
     ensures err { OnErr result (others.new ≡ others.old) }
-    ensures memory { IfErr result (λ e. e ≡ Memory) }
+    ensures memory { IfErr result (λ e. e ≡ Memory exhausted) }
 {
     match others.put(key, attr) {
         Ok(()) => Ok(()),
-        Err(_) => Err(Refusal::Memory),
+        Err(error) => Err(Refusal::Memory(error)),
     }
 }
 

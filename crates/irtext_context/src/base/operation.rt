@@ -8,7 +8,7 @@ ghost use Rattle.irtext_graph.specs.Parts.{operation_at};
 ghost use Rattle.irtext_graph.specs.Store.{before};
 ghost use Rattle.irtext_context.specs.Context.{operation, with_attribute, with_attributes, with_changed_operation, with_loc, AddsRegion, EditsOperation, KeepsOlder};
 ghost use Rattle.irtext_context.specs.AttributeLends.{LendsHeld};
-ghost use Rattle.irtext_memory.specs.declared.NoRoom.{NoRoom};
+ghost use Rattle.irtext_memory.specs.Rooms.{full};
 
 use crate::base::context::making::Making;
 use crate::base::{AttributeDict, Context, Operation, Ptr, Region};
@@ -131,7 +131,7 @@ pub trait OperationAccess: Sized {
     ) -> Result<Ptr<Region>, NoRoom>
         requires { IsSome (operation ctx.old (pointer self)) }
         ensures added { IfOk result (λ r. AddsRegion ctx.old ctx.new (pointer self) r) }
-        ensures full { (result ≡ Err NoRoom.Full) ↔ NoMoreRegions ctx.old.graph }
+        ensures full { (result ≡ Err full) ↔ NoMoreRegions ctx.old.graph }
         ensures err { OnErr result (ctx.new ≡ ctx.old) }
         ensures kept { (mark : ℕ) → mark ≤ ctx.old.graph.made → before mark ctx.old.graph.operations
             (pointer self) ≡ None →

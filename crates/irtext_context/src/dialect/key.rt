@@ -9,7 +9,8 @@ use irtext_base::base::Identifier;
 use irtext_base::format::OpFormat;
 use irtext_format_check::format::parts;
 use irtext_format_check::format::parts::Sole;
-use std::alloc::{AllocError, Global};
+use irtext_memory::OutOfMemory;
+use std::alloc::Global;
 use std::marker::Model;
 
 /// The key `builtin_sym_name`.
@@ -49,7 +50,7 @@ fn has_header(format: &OpFormat) -> bool
 }
 
 /// Returns the key if the format has a symbol's name.
-pub(crate) fn key_for(alloc: Global, format: &OpFormat) -> Result<Option<SymNameKey>, AllocError>
+pub(crate) fn key_for(alloc: Global, format: &OpFormat) -> Result<Option<SymNameKey>, OutOfMemory>
     ensures { IfOk result (λ key. is_some key ≡ has_symbol (format_of format.now)) }
 {
     if !has_header(format) {

@@ -22,7 +22,8 @@ use irtext_base::result::{Cause, ErrorKind};
 use irtext_base::seed::Seed;
 use irtext_base::text::{AttrText, IrText};
 use irtext_format_check::format::check_format;
-use std::alloc::{AllocError, Global};
+use irtext_memory::Exhausted;
+use std::alloc::Global;
 
 /// Returns the id with these two texts if the format is accepted and both are identifiers.
 fn checked_id<A>(
@@ -44,10 +45,10 @@ fn checked_id<A>(
 }
 
 /// Makes a dialect with the name that the id has, without operations, and its key.
-fn dialect_for(alloc: Global, id: &OpId, index: usize) -> Result<(DialectName, Dialect), AllocError>
+fn dialect_for(alloc: Global, id: &OpId, index: usize) -> Result<(DialectName, Dialect), Exhausted>
     ensures { IfOk result (λ e. e ≡ (id.now.dialect, no_operations id.now.dialect)) }
 {
-    let name = id.dialect.clone()?;
+    let name = id.dialect.share()?;
     empty(alloc, &DialectName { name }, index)
 }
 
@@ -68,13 +69,12 @@ fn dialect_with<A>(
     ensures refused { IfErr result (λ e. IsRefusedBy id.dialect id format e.err) }
     ensures kind { IfErr result (λ e. (e.kind ≡ ErrorKind.InvalidArgument) × (e.loc ≡ Unknown)) }
 {
-    let Ok((key, dialect)) = dialect_for(alloc, &id, index) else {
-        return failed((id, format), invalid(Cause::Memory));
-    };
-    let mut dialect = dialect;
-    match dialect.add_op(id, format, isolated) {
-        Ok(()) => Ok((key, dialect)),
-        Err(error) => failed((key, dialect), error),
+    match dialect_for(alloc, &id, index) {
+        Ok((key, mut dialect)) => match dialect.add_op(id, format, isolated) {
+            Ok(()) => Ok((key, dialect)),
+            Err(error) => failed((key, dialect), error),
+        },
+        Err(error) => failed((id, format), invalid(Cause::Memory(error))),
     }
 }
 
@@ -97,7 +97,7 @@ fn put_first<A>(
     match dialect_with(alloc, id, format, isolated, dialects.len()) {
         Ok((key, dialect)) => match put_last(dialects, key, dialect) {
             Ok(()) => Ok(()),
-            Err(AllocError) => Err(invalid(Cause::Memory)),
+            Err(error) => Err(invalid(Cause::Memory(error))),
         },
         Err(error) => Err(error),
     }

@@ -6,6 +6,7 @@ ghost use Rattle.std.specs.Map.{lookup, values_of};
 ghost use Rattle.std.specs.Str.{bytes_eq};
 ghost use Rattle.irtext_context.specs.Dialects.{known_of, AllAccepted, IsKeyed};
 ghost use Rattle.irtext_context.specs.DialectTable.{IsKeptAt, no_operations, dialect_of, dialect_or_new, registered};
+ghost use Rattle.irtext_base.specs.Causes.{no_memory};
 ghost use Rattle.irtext_base.specs.FormatViews.{format_of};
 ghost use Rattle.irtext_base.specs.Format.{Accepted};
 ghost use Rattle.irtext_context.specs.Made.{IsUnregistered};
@@ -19,18 +20,19 @@ use irtext_base::result;
 use irtext_base::result::{Cause, ErrorKind};
 use irtext_base::seed::Seed;
 use irtext_base::text::{AttrText, IrText};
-use std::alloc::{AllocError, Global};
+use irtext_memory::{Exhausted, map};
+use std::alloc::Global;
 
 /// Makes a dialect without operations, and its key, a name that carries this index as a hint for lookups.
 pub(crate) fn empty(
     alloc: Global,
     name: &DialectName,
     index: usize,
-) -> Result<(DialectName, Dialect), AllocError>
+) -> Result<(DialectName, Dialect), Exhausted>
     ensures { IfOk result (λ e. e ≡ (name.now, no_operations name.now)) }
 {
     let key = name.name.hinted(alloc, index)?;
-    let name = key.clone()?;
+    let name = key.share()?;
     let dialect = Dialect::new(alloc, DialectName { name });
     Ok((DialectName { name: key }, dialect))
 }
@@ -40,12 +42,12 @@ pub(crate) fn put_last(
     dialects: &mut IndexMap<DialectName, Dialect, Seed>,
     key: DialectName,
     dialect: Dialect,
-) -> Result<(), AllocError>
+) -> Result<(), Exhausted>
     requires { lookup (bytes_eq key) dialects.old.entries ≡ None }
     ensures ok { OnOk result (dialects.new.entries ≡ dialects.old.entries ++ (key, dialect) ∷ []) }
     ensures err { OnErr result (dialects.new.entries ≡ dialects.old.entries) }
 {
-    dialects.insert(key, dialect)?;
+    map::insert(dialects, key, dialect)?;
     Ok(())
 }
 
@@ -55,7 +57,7 @@ fn keep(
     dialects: &mut IndexMap<DialectName, Dialect, Seed>,
     alloc: Global,
     name: &DialectName,
-) -> Result<usize, AllocError>
+) -> Result<usize, Exhausted>
     ensures index { IfOk result (λ i. IsKeptAt dialects.old.entries name.now i dialects.new.entries) }
     ensures err { OnErr result (dialects.new.entries ≡ dialects.old.entries) }
 {
@@ -97,7 +99,7 @@ impl<T: IrText<A>, A: AttrText<A>> Context<T, A> {
 
     /// Returns the index of the dialect with this name. Registers one without operations if there is none. If an allocation fails, the
     /// context is unchanged.
-    fn keep_dialect(&mut self, name: &DialectName) -> Result<usize, AllocError>
+    fn keep_dialect(&mut self, name: &DialectName) -> Result<usize, Exhausted>
         ensures index { IfOk result (λ i. IsKeptAt self.old.dialects name.now i self.new.dialects) }
         ensures rest { OnOk result (self.new ≡ record self.old { dialects = self.new.dialects }) }
         ensures err { OnErr result (self.new ≡ self.old) }
@@ -168,12 +170,12 @@ impl Dialect {
     ) -> result::Result<&'c mut Dialect, A>
         ensures* lends { sem 𝓛 (LendsDialect T.row A.row ctx.entry name.now result) }
         ensures value { IfOk result (λ dialect. dialect.now ≡ dialect_or_new ctx.old.dialects name.now) }
-        ensures refused { IfErr result (λ e. e.err ≡ Cause.Memory) }
+        ensures refused { IfErr result (λ e. e.err ≡ no_memory) }
         ensures kind { IfErr result (λ e. (e.kind ≡ ErrorKind.InvalidArgument) × (e.loc ≡ Unknown)) }
     {
         match ctx.keep_dialect(name) {
             Ok(index) => Ok(ctx.dialect_at(index)),
-            Err(AllocError) => Err(invalid(Cause::Memory)),
+            Err(error) => Err(invalid(Cause::Memory(error))),
         }
     }
 }

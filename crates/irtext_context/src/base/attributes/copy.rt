@@ -6,7 +6,7 @@ use crate::base::AttributeDict;
 use crate::base::attributes::others::Others;
 use irtext_base::base::AttrObj;
 use irtext_base::text::AttrText;
-use std::alloc::AllocError;
+use irtext_memory::Exhausted;
 
 /// Whether an attribute is outlined: it is printed in the section, and not in place. Given names are, an identifier is not, and an
 /// attribute of the caller's own is if its [`AttrText::is_outlined`] says so.
@@ -26,7 +26,7 @@ impl<A: AttrText<A>> AttributeDict<A> {
     /// an identifier never is, and an attribute of the caller's own is if its [`AttrText::is_outlined`] says so. Of
     /// `[builtin_given_names: builtin.given_names [x], k: builtin.identifier y]` the copy is `[k: builtin.identifier y]`. Fails only when
     /// out of memory. Nothing is allocated if no entry is copied.
-    pub fn clone_skip_outlined(&self) -> Result<AttributeDict<A>, AllocError>
+    pub fn clone_skip_outlined(&self) -> Result<AttributeDict<A>, Exhausted>
         ensures { IfOk result (λ copy. copy ≡ without_outlined A.outlined self.now) }
     {
         self.keeps_keys();
@@ -34,7 +34,7 @@ impl<A: AttrText<A>> AttributeDict<A> {
         let mut others = self.others.none_of();
         for (key, attr) in self.iter() {
             if !is_outlined(attr) {
-                others.put(key.clone()?, attr.try_clone(alloc)?)?;
+                others.put(key.share()?, attr.try_clone(alloc)?)?;
             }
         }
         Ok(AttributeDict {

@@ -11,7 +11,8 @@ ghost use Rattle.irtext_context.specs.Others.{entries_of, IsFew};
 use indexmap::IndexMap;
 use irtext_base::base::{AttrObj, Identifier};
 use irtext_base::seed::Seed;
-use std::alloc::{AllocError, Global};
+use irtext_memory::{Exhausted, boxed, map, vec};
+use std::alloc::Global;
 use std::marker::Model;
 
 /// The largest number of entries that are kept in a vector. With one more they are moved to a map.
@@ -100,11 +101,11 @@ fn seed_of<A>(stored: &Stored<A>) -> Seed {
     }
 }
 
-fn put_in<A: Drop>(map: &mut Table<A>, key: Identifier, attr: AttrObj<A>) -> Result<(), AllocError>
+fn put_in<A: Drop>(map: &mut Table<A>, key: Identifier, attr: AttrObj<A>) -> Result<(), Exhausted>
     ensures ok { OnOk result (map.new.entries ≡ insert_entry bytes_eq map.old.entries key attr) }
     ensures err { OnErr result (map.new.entries ≡ map.old.entries) }
 {
-    map.insert(key, attr)?;
+    map::insert(map, key, attr)?;
     Ok(())
 }
 
@@ -121,12 +122,12 @@ fn put_within<A: Drop>(map: &mut Table<A>, key: Identifier, attr: AttrObj<A>)
 }
 
 /// Returns an empty map with room for one entry more than `FEW`.
-fn roomy<A: Drop>(alloc: Global, seed: Seed) -> Result<Box<Table<A>>, AllocError>
+fn roomy<A: Drop>(alloc: Global, seed: Seed) -> Result<Box<Table<A>>, Exhausted>
     ensures empty { IfOk result (λ map. map.value.entries ≡ []) }
     ensures spare { IfOk result (λ map. 9 ≤ spare map.value) }
 {
-    let map = IndexMap::with_capacity_and_hasher(alloc, FEW + 1, seed)?;
-    Ok(Box::new(alloc, map)?)
+    let map = map::with_capacity_and_hasher(alloc, FEW + 1, seed)?;
+    Ok(boxed::new(alloc, map)?)
 }
 
 /// Puts all entries into a map that has room for them and for one more.
@@ -146,7 +147,7 @@ fn widened<A: Drop>(
     alloc: Global,
     key: Identifier,
     attr: AttrObj<A>,
-) -> Result<Box<Table<A>>, AllocError>
+) -> Result<Box<Table<A>>, Exhausted>
     requires few { length few.old.entries.items ≤ 8 }
     requires differ { distinct bytes_eq (keys_of few.old.entries.items) ≡ true }
     ensures ok { IfOk result (λ map. map.value.entries ≡ insert_entry bytes_eq few.old.entries.items
@@ -177,12 +178,12 @@ fn begun<A: Drop>(
     seed: Seed,
     key: Identifier,
     attr: AttrObj<A>,
-) -> Result<Box<Short<A>>, AllocError>
+) -> Result<Box<Short<A>>, Exhausted>
     ensures { IfOk result (λ few. few.value.entries.items ≡ (key, attr) ∷ []) }
 {
-    let mut entries = Vec::with_capacity(alloc, FIRST)?;
-    entries.push((key, attr))?;
-    Ok(Box::new(alloc, Short { entries, seed })?)
+    let mut entries = vec::with_capacity(alloc, FIRST)?;
+    vec::push(&mut entries, (key, attr))?;
+    Ok(boxed::new(alloc, Short { entries, seed })?)
 }
 
 /// Puts an entry among a few. If there is no room for it among them, all of them are moved to a map with it, which is returned.
@@ -191,7 +192,7 @@ fn put_among<A: Drop>(
     alloc: Global,
     key: Identifier,
     attr: AttrObj<A>,
-) -> Result<Option<Box<Table<A>>>, AllocError>
+) -> Result<Option<Box<Table<A>>>, Exhausted>
     requires few { length few.old.entries.items ≤ 8 }
     requires differ { distinct bytes_eq (keys_of few.old.entries.items) ≡ true }
     ensures ok { IfOk result (λ moved. MatchOption moved
@@ -205,7 +206,7 @@ fn put_among<A: Drop>(
         return Ok(None);
     }
     if few.entries.len() < FEW {
-        few.entries.push((key, attr))?;
+        vec::push(&mut few.entries, (key, attr))?;
         return Ok(None);
     }
     let map = widened(few, alloc, key, attr)?;
@@ -217,7 +218,7 @@ fn put<A: Drop>(
     alloc: Global,
     key: Identifier,
     attr: AttrObj<A>,
-) -> Result<(), AllocError>
+) -> Result<(), Exhausted>
     requires few { IsFew stored.old }
     requires differ { distinct bytes_eq (keys_of (entries_of stored.old)) ≡ true }
     ensures ok { OnOk result (entries_of stored.new ≡ insert_entry bytes_eq (entries_of stored.old)
@@ -282,7 +283,7 @@ impl<A: Drop> Others<A> {
 
     /// Puts an attribute under a key: in place of the one that is there, or else as the last entry. When out of memory, it fails and the
     /// entries are unchanged.
-    pub(crate) fn put(&mut self, key: Identifier, attr: AttrObj<A>) -> Result<(), AllocError>
+    pub(crate) fn put(&mut self, key: Identifier, attr: AttrObj<A>) -> Result<(), Exhausted>
         ensures ok { OnOk result (self.new ≡ insert_entry bytes_eq self.old key attr) }
         ensures err { OnErr result (self.new ≡ self.old) }
     {

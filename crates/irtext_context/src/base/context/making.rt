@@ -7,7 +7,7 @@ ghost use Rattle.irtext_graph.specs.Graph.{IsLive};
 ghost use Rattle.irtext_graph.specs.Limits.{NoMoreRegions, NoMoreBlocks, NoMoreOperations};
 ghost use Rattle.irtext_graph.specs.Store.{before};
 ghost use Rattle.irtext_graph.specs.declared.object.Object.TheVariants.{TheOperation};
-ghost use Rattle.irtext_memory.specs.declared.NoRoom.{NoRoom};
+ghost use Rattle.irtext_memory.specs.Rooms.{full};
 ghost use Rattle.irtext_context.specs.Made.{AreLiveBlocks, AreDefinedValues};
 ghost use Rattle.irtext_context.specs.Context.{KeepsOlder, RollsBack, MakesOperation, MakesBlock, AddsRegion};
 
@@ -19,8 +19,8 @@ use irtext_base::base::{Identifier, OpId};
 use irtext_base::location::{Location, PathKey};
 use irtext_base::text::{AttrText, IrText};
 use irtext_few::Few;
-use irtext_memory::{NoRoom, OutOfMemory};
-use std::alloc::AllocError;
+use irtext_graph::graph::Graph;
+use irtext_memory::{Exhausted, NoRoom, OutOfMemory};
 
 /// Makes objects of a context, and rolls them back.
 pub trait Making<T: IrText<A>, A: AttrText<A>> {
@@ -46,7 +46,7 @@ pub trait Making<T: IrText<A>, A: AttrText<A>> {
     ) -> Result<Ptr<Operation>, NoRoom>
         ensures made { IfOk result (λ p. MakesOperation (seen self.old) (seen self.new) p
             (record { id = id; attributes = attributes; loc = loc }) [] [] []) }
-        ensures full { (result ≡ Err NoRoom.Full) ↔ NoMoreOperations 0 0 0 (seen self.old).graph }
+        ensures full { (result ≡ Err full) ↔ NoMoreOperations 0 0 0 (seen self.old).graph }
         ensures err { OnErr result (seen self.new ≡ seen self.old) }
         ensures kept { (mark : ℕ) → mark ≤ (seen self.old).graph.made → KeepsOlder mark (seen self.old)
             (seen self.new) };
@@ -67,7 +67,7 @@ pub trait Making<T: IrText<A>, A: AttrText<A>> {
         ensures made { IfOk result (λ p. MakesOperation (seen self.old) (seen self.new) p
             (record { id = id; attributes = attributes; loc = loc }) result_types operands.now
             successors.now) }
-        ensures full { (result ≡ Err NoRoom.Full) ↔ NoMoreOperations (length result_types)
+        ensures full { (result ≡ Err full) ↔ NoMoreOperations (length result_types)
             (length operands.now) (length successors.now) (seen self.old).graph }
         ensures err { OnErr result (seen self.new ≡ seen self.old) }
         ensures kept { (mark : ℕ) → mark ≤ (seen self.old).graph.made → KeepsOlder mark (seen self.old)
@@ -84,7 +84,7 @@ pub trait Making<T: IrText<A>, A: AttrText<A>> {
     ) -> Result<Ptr<BasicBlock>, NoRoom>
         ensures made { IfOk result (λ p. MakesBlock (seen self.old) (seen self.new) p
             (record { label = label; attributes = attributes; loc = loc }) arg_types) }
-        ensures full { (result ≡ Err NoRoom.Full) ↔ NoMoreBlocks (length arg_types) (seen self.old).graph }
+        ensures full { (result ≡ Err full) ↔ NoMoreBlocks (length arg_types) (seen self.old).graph }
         ensures err { OnErr result (seen self.new ≡ seen self.old) }
         ensures kept { (mark : ℕ) → mark ≤ (seen self.old).graph.made → KeepsOlder mark (seen self.old)
             (seen self.new) };
@@ -94,7 +94,7 @@ pub trait Making<T: IrText<A>, A: AttrText<A>> {
     fn add_region(&mut self, op: Ptr<Operation>) -> Result<Ptr<Region>, NoRoom>
         requires { IsLive (seen self.old).graph (TheOperation op) }
         ensures added { IfOk result (λ r. AddsRegion (seen self.old) (seen self.new) op r) }
-        ensures full { (result ≡ Err NoRoom.Full) ↔ NoMoreRegions (seen self.old).graph }
+        ensures full { (result ≡ Err full) ↔ NoMoreRegions (seen self.old).graph }
         ensures err { OnErr result (seen self.new ≡ seen self.old) }
         ensures kept { (mark : ℕ) → mark ≤ (seen self.old).graph.made
             → before mark (seen self.old).graph.operations op ≡ None →
@@ -108,7 +108,7 @@ pub trait Making<T: IrText<A>, A: AttrText<A>> {
 
     /// Returns the key of a path, and keeps the path. A path that the context keeps already has its old key, and nothing is allocated.
     /// Fails if an allocation fails or the index of the path takes more than 32 bits; then the context is unchanged.
-    fn keep_path(&mut self, path: &str) -> Result<PathKey, AllocError>
+    fn keep_path(&mut self, path: &str) -> Result<PathKey, Exhausted>
         ensures key { IfOk result (λ key. key.index ≡ path_index (seen self.old).paths path.now) }
         ensures kept { OnOk result (seen self.new ≡ record (seen self.old)
             { paths = with_path (seen self.old).paths path.now }) }
@@ -116,13 +116,34 @@ pub trait Making<T: IrText<A>, A: AttrText<A>> {
         ensures known { OnErr result (MayBeRefused (seen self.old).paths path.now) };
 }
 
-/// Returns why an object was not made, for which memory was refused, while the graph is full or is not.
+/// Returns why an operation was not made for which memory was refused: the graph may be full too.
 #[cold]
-fn no_room(full: bool, error: OutOfMemory) -> NoRoom
-    ensures { (result ≡ NoRoom.Full) ↔ IsTrue full }
+fn no_operation<O: Drop, B: Drop, T: Drop>(
+    graph: &Graph<O, B, T>,
+    results: usize,
+    operands: usize,
+    successors: usize,
+    error: OutOfMemory,
+) -> NoRoom
+    ensures { (result ≡ full) ↔ NoMoreOperations results operands successors graph.now }
 {
-    if full {
-        return NoRoom::Full;
+    if graph.no_more_operations(results, operands, successors) {
+        return NoRoom::Full(graph.full_of_operations(results, operands, successors));
+    }
+    NoRoom::Memory(error)
+}
+
+/// Returns why a block was not made for which memory was refused: the graph may be full too.
+#[cold]
+fn no_block<O: Drop, B: Drop, T: Drop>(
+    graph: &Graph<O, B, T>,
+    arguments: usize,
+    error: OutOfMemory,
+) -> NoRoom
+    ensures { (result ≡ full) ↔ NoMoreBlocks arguments graph.now }
+{
+    if graph.no_more_blocks(arguments) {
+        return NoRoom::Full(graph.full_of_blocks(arguments));
     }
     NoRoom::Memory(error)
 }
@@ -142,7 +163,7 @@ impl<T: IrText<A>, A: AttrText<A>> Making<T, A> for Context<T, A> {
     ) -> Result<Ptr<Operation>, NoRoom>
         ensures made { IfOk result (λ p. MakesOperation self.old self.new p
             (record { id = id; attributes = attributes; loc = loc }) [] [] []) }
-        ensures full { (result ≡ Err NoRoom.Full) ↔ NoMoreOperations 0 0 0 self.old.graph }
+        ensures full { (result ≡ Err full) ↔ NoMoreOperations 0 0 0 self.old.graph }
         ensures err { OnErr result (self.new ≡ self.old) }
         ensures kept { (mark : ℕ) → mark ≤ self.old.graph.made → KeepsOlder mark self.old self.new }
     {
@@ -168,7 +189,7 @@ impl<T: IrText<A>, A: AttrText<A>> Making<T, A> for Context<T, A> {
         ensures made { IfOk result (λ p. MakesOperation self.old self.new p
             (record { id = id; attributes = attributes; loc = loc }) result_types operands.now
             successors.now) }
-        ensures full { (result ≡ Err NoRoom.Full) ↔ NoMoreOperations (length result_types)
+        ensures full { (result ≡ Err full) ↔ NoMoreOperations (length result_types)
             (length operands.now) (length successors.now) self.old.graph }
         ensures err { OnErr result (self.new ≡ self.old) }
         ensures kept { (mark : ℕ) → mark ≤ self.old.graph.made → KeepsOlder mark self.old self.new }
@@ -185,10 +206,8 @@ impl<T: IrText<A>, A: AttrText<A>> Making<T, A> for Context<T, A> {
                     .make_operation(Some(held), types, operands, successors)
             }
             Err(error) => {
-                let full = self
-                    .graph
-                    .no_more_operations(count, operands.len(), successors.len());
-                failed(held, no_room(full, error))
+                let room = no_operation(&self.graph, count, operands.len(), successors.len(), error);
+                failed(held, room)
             }
         }
     }
@@ -202,7 +221,7 @@ impl<T: IrText<A>, A: AttrText<A>> Making<T, A> for Context<T, A> {
     ) -> Result<Ptr<BasicBlock>, NoRoom>
         ensures made { IfOk result (λ p. MakesBlock self.old self.new p
             (record { label = label; attributes = attributes; loc = loc }) arg_types) }
-        ensures full { (result ≡ Err NoRoom.Full) ↔ NoMoreBlocks (length arg_types) self.old.graph }
+        ensures full { (result ≡ Err full) ↔ NoMoreBlocks (length arg_types) self.old.graph }
         ensures err { OnErr result (self.new ≡ self.old) }
         ensures kept { (mark : ℕ) → mark ≤ self.old.graph.made → KeepsOlder mark self.old self.new }
     {
@@ -215,8 +234,8 @@ impl<T: IrText<A>, A: AttrText<A>> Making<T, A> for Context<T, A> {
         match known_types(self.alloc, arg_types) {
             Ok(types) => self.graph.make_block(held, types),
             Err(error) => {
-                let full = self.graph.no_more_blocks(count);
-                failed(held, no_room(full, error))
+                let room = no_block(&self.graph, count, error);
+                failed(held, room)
             }
         }
     }
@@ -229,7 +248,7 @@ impl<T: IrText<A>, A: AttrText<A>> Making<T, A> for Context<T, A> {
         self.graph.roll_back(mark);
     }
 
-    fn keep_path(&mut self, path: &str) -> Result<PathKey, AllocError> {
+    fn keep_path(&mut self, path: &str) -> Result<PathKey, Exhausted> {
         self.paths.keep(path)
     }
 }

@@ -6,7 +6,7 @@ use Rattle.irtext_graph.specs.Graph.{IsNew, MakesRegion}
 use Rattle.irtext_graph.specs.Limits.{NoMoreRegions}
 use Rattle.irtext_graph.specs.declared.object.Object.TheVariants.{TheOperation}
 use Rattle.irtext_graph.proofs.Frames.{new_operation}
-use Rattle.irtext_memory.specs.declared.NoRoom.TheVariants.{Full}
+use Rattle.irtext_memory.specs.Rooms.{full}
 use Rattle.irtext_names.specs.Placing.{CreatesIn}
 use Rattle.irtext_names.proofs.RegionMade.{made_alone}
 use Rattle.irtext_names.proofs.entering.create.Goals as goal
@@ -34,4 +34,4 @@ returns-in-None-clause-creates g c =
     (made_alone old (with_graph old new) c.make_region.result (subst (λ k. IfOk c.make_region.result (MakesRegion k new)) c.graph_mut.ensures.value c.make_region.ensures.made) refl)
 
 pub returns-in-None-clause-full : goal.returns-in-None-clause-full
-returns-in-None-clause-full g c = subst (λ k. (c.make_region.result ≡ Err Full) ↔ NoMoreRegions k) c.graph_mut.ensures.value c.make_region.ensures.full
+returns-in-None-clause-full g c = subst (λ k. (c.make_region.result ≡ Err full) ↔ NoMoreRegions k) c.graph_mut.ensures.value c.make_region.ensures.full
