@@ -25,8 +25,8 @@ abbrev pub no_memory : {A : Type 0} → Cause A
 no_memory = Memory exhausted
 
 -- what comes of a message with this text, if its text is known: the text, or no memory for it, or an error of its printing
-abbrev pub IsMessage : {A : Type 0} → Option (List ℕ) → Cause A → Type 0
-IsMessage {A} said cause = ((s : StringError) → cause ≡ Text s → IfSome said (λ bytes. string_bytes s.0 ≡ bytes)) × IsMade cause
+abbrev pub IsMessageOf : {A : Type 0} → Option (List ℕ) → Cause A → Type 0
+IsMessageOf {A} said cause = ((s : StringError) → cause ≡ Text s → IfSome said (λ bytes. string_bytes s.0 ≡ bytes)) × IsMade cause
   where
     IsMade : Cause A → Type 0
     IsMade (Text s) = ⊤

@@ -1,7 +1,7 @@
 //! Errors: their kinds and causes, with the messages of these.
-ghost use Rattle.std.specs.Prelude.{◌≡◌, ◌⊎◌, ◌++◌, IsTrue, Some, string_bytes};
+ghost use Rattle.std.specs.Prelude.{◌≡◌, ◌⊎◌, ◌++◌, IsTrue, Some, MatchResult, string_bytes};
 ghost use Rattle.std.specs.Fmt.{◌++?◌, DisplaysOnOk, WritesOnOk};
-ghost use Rattle.irtext_base.specs.Causes.{no_memory, IsMessage, kind_text, expected_text, mismatch_text, is_flat, heading, cause_text, error_text, cause_of};
+ghost use Rattle.irtext_base.specs.Causes.{no_memory, IsMessageOf, kind_text, expected_text, mismatch_text, is_flat, heading, cause_text, error_text, cause_of};
 ghost use Rattle.irtext_base.specs.Locations.{out_of_memory};
 ghost use Rattle.irtext_base.specs.declared.result.Cause.{Fmt};
 ghost use Rattle.irtext_base.specs.declared.result.ErrorKind.TheVariants.{InvalidArgument};
@@ -160,10 +160,20 @@ impl<A: Drop> Drop for Error<A> {
 pub type Result<X, A> = std::result::Result<X, Error<A>>;
 
 impl<A> Cause<A> {
-    /// Returns the text of a message as a cause. If there is no memory for it, the cause is `Memory`, and if the message can't be printed
-    /// for another reason, it is `Fmt`.
-    pub fn of_text<M: Display + Drop>(alloc: Global, message: M) -> Cause<A>
-        ensures { IsMessage (M.output message) result }
+    /// Returns a text as a cause. If there was no memory for the text, the cause is `Memory`.
+    pub fn of_text(text: std::result::Result<String, OutOfMemory>) -> Cause<A>
+        ensures { MatchResult text (λ s. result ≡ Cause.Text (record { 0 = s })) (λ _. result ≡ no_memory) }
+    {
+        match text {
+            Ok(text) => Cause::Text(StringError(text)),
+            Err(error) => Cause::from(error),
+        }
+    }
+
+    /// Returns the text of a message of the caller as a cause. If there is no memory for it, the cause is `Memory`, and if the message
+    /// can't be printed for another reason, it is `Fmt`.
+    pub fn of_message<M: Display + Drop>(alloc: Global, message: M) -> Cause<A>
+        ensures { IsMessageOf (M.output message) result }
     {
         let mut message_text = MessageText {
             text: String::new(alloc),

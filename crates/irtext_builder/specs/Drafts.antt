@@ -63,7 +63,7 @@ symbol_key = codes "builtin_sym_name"
 
 -- why an attribute is not put under the key with this text: it is no identifier, else it takes only given names; or out of memory
 abbrev pub RefusesKey : {A : Type 0} → Text → AttrObj A → Cause A → Type 0
-RefusesKey key attr Memory = IsTrue (is_identifier key)
+RefusesKey key attr (Memory e) = IsTrue (is_identifier key)
 RefusesKey key attr (ReservedKey refused) = (refused ≡ key) × IsTrue (is_reserved_for key attr)
 RefusesKey key attr cause = (is_identifier key ≡ false) × (fault_of cause ≡ name_refused key)
 
@@ -117,11 +117,11 @@ module _ {T A : Type 0} where
   -- why an operation is not made in a block: the block is not in the context, else as without one
   abbrev pub RefusesIn : ContextView T A → Draft T A → Ptr BasicBlock → Cause A → Type 0
   RefusesIn c d b (IsText text) = IsSome (block c b) × AreContainedValues c d.operands × AreLiveBlocks c d.successors → ⊥
-  RefusesIn c d b Memory = Unit {0}
+  RefusesIn c d b (Memory e) = Unit {0}
   RefusesIn c d b cause = IsUnregistered c.dialects d.id cause
 
   -- why a block is not made in a region: the region is not in the context, or out of memory
   abbrev pub RefusesOutlineIn : ContextView T A → Ptr Region → Cause A → Type 0
   RefusesOutlineIn c r (IsText text) = IsSome (region c r) → ⊥
-  RefusesOutlineIn c r Memory = Unit {0}
+  RefusesOutlineIn c r (Memory e) = Unit {0}
   RefusesOutlineIn c r cause = ⊥

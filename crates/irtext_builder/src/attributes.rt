@@ -17,8 +17,8 @@ use irtext_base::result;
 use irtext_base::result::{Cause, Error, ErrorKind};
 use irtext_context::base::AttributeDict;
 use irtext_context::dialect::invalid;
-use irtext_memory::{OutOfMemory, vec};
-use std::alloc::{AllocError, Global};
+use irtext_memory::{Exhausted, OutOfMemory, vec};
+use std::alloc::Global;
 
 /// Puts an attribute under the key with this text: in place of the one that is there, or else as the last entry. Fails with `Unexpected` if
 /// the text is no identifier, else with `ReservedKey` if the key is `builtin_given_names` and the attribute is not `GivenNames`, and with
@@ -81,23 +81,21 @@ fn given_names<A>(alloc: Global, names: &[&str]) -> Result<AttrObj<A>, OutOfMemo
     Ok(AttrObj::GivenNames(all))
 }
 
-/// Puts an attribute under a key, which is an identifier. Fails if the key takes only given names and this is something else, or when out
-/// of memory; then the dictionary is unchanged.
+/// Puts an attribute under a key, which is an identifier and may have the attribute. Fails only when out of memory, and then the dictionary
+/// is unchanged.
 fn put<A: Drop>(
     alloc: Global,
     attributes: &mut AttributeDict<A>,
     key: &str,
     attr: AttrObj<A>,
-) -> Result<(), AllocError>
-    requires { IsTrue (is_identifier key.now) }
+) -> Result<(), Exhausted>
+    requires fits { IsTrue (is_identifier key.now) }
+    requires allowed { is_reserved_for key.now attr ≡ false }
     ensures ok { OnOk result (attributes.new ≡ insert_entry bytes_eq attributes.old key.now attr) }
     ensures err { OnErr result (attributes.new ≡ attributes.old) }
 {
     let key = Identifier::from_word(alloc, key)?;
-    match attributes.insert(key, attr) {
-        Ok(()) => Ok(()),
-        Err(_) => Err(AllocError),
-    }
+    attributes.put(key, attr)
 }
 
 /// Puts these given names, which are identifiers, into the dictionary. Fails only when out of memory, and then it is unchanged.
@@ -105,7 +103,7 @@ fn put_names<A: Drop>(
     alloc: Global,
     attributes: &mut AttributeDict<A>,
     names: &[&str],
-) -> Result<(), AllocError>
+) -> Result<(), Exhausted>
     requires { list_all is_identifier (texts names.now) ≡ true }
     ensures ok { OnOk result ((given : _) × Gives (texts names.now) given
         × (attributes.new ≡ insert_entry bytes_eq attributes.old given_names_key given)) }
@@ -132,7 +130,7 @@ pub(crate) fn insert_names<A: Drop>(
     check_names(alloc, names)?;
     match put_names(alloc, attributes, names) {
         Ok(()) => Ok(()),
-        Err(_) => Err(invalid(Cause::Memory)),
+        Err(error) => Err(invalid(Cause::Memory(error))),
     }
 }
 

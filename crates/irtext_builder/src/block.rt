@@ -1,5 +1,6 @@
 //! Drafts of blocks.
 ghost use Rattle.std.specs.Prelude.{◌≡◌, ◌≤◌, ◌∷◌, ℕ, [], Some, false, IsSome, IfOk, IfErr, OnOk, OnErr};
+ghost use Rattle.irtext_base.specs.Causes.{no_memory};
 ghost use Rattle.irtext_base.specs.Faults.{fault_of, name_refused};
 ghost use Rattle.irtext_base.specs.Format.{given_names_key};
 ghost use Rattle.irtext_base.specs.declared.location.Location.{Unknown};
@@ -121,12 +122,12 @@ impl<T: IrText<A>, A: AttrText<A>> BlockDraft<T, A> {
         ensures live { IfOk result (λ b. IsSome (block ctx.new b)) }
         ensures kept { (mark : ℕ) → mark ≤ ctx.old.graph.made → KeepsOlder mark ctx.old ctx.new }
         ensures err { OnErr result (ctx.new ≡ ctx.old) }
-        ensures refused { IfErr result (λ e. e.err ≡ Cause.Memory) }
+        ensures refused { IfErr result (λ e. e.err ≡ no_memory) }
         ensures kind { IfErr result (λ e. (e.kind ≡ ErrorKind.InvalidArgument) × (e.loc ≡ Unknown)) }
     {
         match ctx.make_block(self.label, self.attributes, self.loc, self.arg_types) {
             Ok(block) => Ok(block),
-            Err(_) => Err(invalid(Cause::Memory)),
+            Err(room) => Err(invalid(Cause::from(room))),
         }
     }
 
@@ -153,9 +154,9 @@ impl<T: IrText<A>, A: AttrText<A>> BlockDraft<T, A> {
         let block = self.build(ctx)?;
         match block.insert_at_back(region, ctx) {
             Ok(()) => Ok(block),
-            Err(_) => {
+            Err(error) => {
                 ctx.roll_back(mark);
-                Err(invalid(Cause::Memory))
+                Err(invalid(Cause::from(error)))
             }
         }
     }

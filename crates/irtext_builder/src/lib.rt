@@ -21,6 +21,7 @@ pub mod operation;
 
 use irtext_base::result::{Cause, Error, ErrorKind};
 use irtext_context::dialect::invalid;
+use irtext_memory::string;
 use std::alloc::Global;
 
 /// An error with this text as its cause, or out of memory if there is no memory for the text.
@@ -28,5 +29,5 @@ fn unfit<A>(alloc: Global, text: &str) -> Error<A>
     ensures cause { IsMessage result.err }
     ensures kind { (result.kind ≡ ErrorKind.InvalidArgument) × (result.loc ≡ Unknown) }
 {
-    invalid(Cause::of_text(String::from_str(alloc, text)))
+    invalid(Cause::of_text(string::from_str(alloc, text)))
 }

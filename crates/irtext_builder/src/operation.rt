@@ -200,9 +200,9 @@ impl<'a, T: IrText<A>, A: AttrText<A>> OpDraft<'a, T, A> {
         let op = self.build(ctx)?;
         match op.insert_at_back(block, ctx) {
             Ok(()) => Ok(op),
-            Err(_) => {
+            Err(error) => {
                 ctx.roll_back(mark);
-                Err(invalid(Cause::Memory))
+                Err(invalid(Cause::from(error)))
             }
         }
     }
@@ -248,9 +248,9 @@ fn make_registered<T: IrText<A>, A: AttrText<A>>(
     let mark = ctx.made();
     match make(ctx, draft) {
         Ok(op) => Ok(op),
-        Err(_) => {
+        Err(room) => {
             ctx.roll_back(mark);
-            Err(invalid(Cause::Memory))
+            Err(invalid(Cause::from(room)))
         }
     }
 }

@@ -10,7 +10,7 @@ use Rattle.irtext_graph.specs.declared.object.Object.{Object}
 -- an error with the text of a condition that does not hold
 pub refuses_for : {A : Type 0} (Fails : Unmet → Type 0) (unmet : Unmet) (cause : Cause A) → Fails unmet → Says unmet cause → RefusesFor Fails cause
 refuses_for Fails unmet (IsText text) fails says = (unmet, fails, says)
-refuses_for Fails unmet Memory fails says = record {}
+refuses_for Fails unmet (Memory e) fails says = record {}
 refuses_for Fails unmet cause fails says = absurd says
 
 module _ {O B T : Type 0} (g : GraphView O B T) where

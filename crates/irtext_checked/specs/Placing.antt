@@ -31,13 +31,13 @@ unmet_text BlockGone = codes "the block is not in the context"
 -- the cause is the text of this condition, or there was no memory for the text
 abbrev pub Says : {A : Type 0} → Unmet → Cause A → Type 0
 Says unmet (IsText text) = string_bytes text.0 ≡ unmet_text unmet
-Says unmet Memory = Unit {0}
+Says unmet (Memory e) = Unit {0}
 Says unmet _ = ⊥
 
 -- the cause is the text of a condition that does not hold; or an allocation failed
 abbrev pub RefusesFor : {A : Type 0} → (Unmet → Type 0) → Cause A → Type 0
 RefusesFor Fails (IsText text) = (unmet : Unmet) × Fails unmet × (string_bytes text.0 ≡ unmet_text unmet)
-RefusesFor Fails Memory = Unit {0}
+RefusesFor Fails (Memory e) = Unit {0}
 RefusesFor Fails _ = ⊥
 
 module _ {O B T : Type 0} where

@@ -160,7 +160,7 @@ fn insert<O: Drop, B: Drop, T: Drop, A>(
     }
     match graph.insert_at_back(holder, item) {
         Ok(()) => Ok(()),
-        Err(_) => Err(invalid(Cause::Memory)),
+        Err(error) => Err(invalid(Cause::from(error))),
     }
 }
 

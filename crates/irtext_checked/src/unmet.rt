@@ -5,6 +5,7 @@ ghost use Rattle.irtext_checked.specs.Placing.{unmet_text, Says};
 
 use irtext_base::result::{Cause, Error, ErrorKind};
 use irtext_context::dialect::invalid;
+use irtext_memory::string;
 use std::alloc::Global;
 
 /// A condition that does not hold.
@@ -59,6 +60,6 @@ impl Unmet {
         ensures says { Says self result.err }
         ensures kind { (result.kind ≡ ErrorKind.InvalidArgument) × (result.loc ≡ Unknown) }
     {
-        invalid(Cause::of_text(String::from_str(alloc, self.text())))
+        invalid(Cause::of_text(string::from_str(alloc, self.text())))
     }
 }

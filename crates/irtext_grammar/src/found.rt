@@ -5,7 +5,8 @@ ghost use Rattle.irtext_grammar.specs.Forms.{pieces_of, form_pieces};
 ghost use Rattle.irtext_grammar.specs.Found.{with_words};
 
 use crate::parsed::{CanonicalPieces, ReadPiece};
-use std::alloc::{AllocError, Global};
+use irtext_memory::{OutOfMemory, vec};
+use std::alloc::Global;
 use std::marker::Model;
 
 /// The capacity that the first piece allocates, in pieces that are not words.
@@ -60,19 +61,19 @@ impl<T, A> Model for Pieces<T, A> {
 }
 
 /// Appends an item. The first one allocates `ROOM` at once. If an allocation fails, nothing changes.
-fn push_roomy<X: Drop>(items: &mut Vec<X>, item: X) -> Result<(), AllocError>
+fn push_roomy<X: Drop>(items: &mut Vec<X>, item: X) -> Result<(), OutOfMemory>
     ensures items { OnOk result (items.new.items ≡ items.old.items ++ item ∷ []) }
     ensures err { OnErr result (items.new.items ≡ items.old.items) }
 {
     if items.is_empty() {
-        if let Err(error) = items.reserve(ROOM) {
+        if let Err(error) = vec::reserve(items, ROOM) {
             drop(item);
             return Err(error);
         }
     }
-    match items.push(item) {
+    match vec::push(items, item) {
         Ok(()) => Ok(()),
-        Err(_) => Err(AllocError),
+        Err(refused) => Err(OutOfMemory::from(refused)),
     }
 }
 
@@ -114,7 +115,7 @@ impl<T: Drop, A: Drop> CustomPieces<T, A> {
     }
 
     /// Appends a piece. If an allocation fails, the contents are unspecified.
-    pub fn push(&mut self, piece: ReadPiece<T, A>) -> Result<(), AllocError>
+    pub fn push(&mut self, piece: ReadPiece<T, A>) -> Result<(), OutOfMemory>
         requires { length self.old + 1 < 2 ^ 64 }
         ensures { OnOk result (self.new ≡ self.old ++ piece ∷ []) }
     {

@@ -37,7 +37,7 @@ module _ {A : Type 0} where
   entry_allowed e is h = (ap₂ (λ b c. b && not c) h.0 is, tt)
 
   pub entry_forbidden : (e : Key × AttrObj A) (r : NotGathered) → RefusesEntries (e ∷ []) r → Forbids block_may_hold (e ∷ []) r
-  entry_forbidden e refusal.Memory h = tt
+  entry_forbidden e (refusal.Memory m) h = tt
   entry_forbidden e (refusal.ReservedKey key) (inl h) = inl (ap (λ b. b && not (same_text e.0.name block_label_key)) h.0, h.1)
   entry_forbidden e (refusal.ReservedKey key) (inr h) = absurd h.1
   entry_forbidden e (refusal.NoActiveScope n) h = absurd h
@@ -48,13 +48,13 @@ module _ {A : Type 0} where
     all_allowed e es h k = (h.0, k)
 
     pub first_forbidden : (e : Key × AttrObj A) (es : List (Key × AttrObj A)) (r : NotGathered) → Forbids rule (e ∷ []) r → Forbids rule (e ∷ es) r
-    first_forbidden e es refusal.Memory h = tt
+    first_forbidden e es (refusal.Memory m) h = tt
     first_forbidden e es (refusal.ReservedKey key) (inl h) = inl h
     first_forbidden e es (refusal.ReservedKey key) (inr h) = absurd h.1
     first_forbidden e es (refusal.NoActiveScope n) h = absurd h
 
     pub later_forbidden : (e : Key × AttrObj A) (es : List (Key × AttrObj A)) (r : NotGathered) → AreAllowed rule (e ∷ []) → Forbids rule es r → Forbids rule (e ∷ es) r
-    later_forbidden e es refusal.Memory k h = tt
+    later_forbidden e es (refusal.Memory m) k h = tt
     later_forbidden e es (refusal.ReservedKey key) k h = inr (k.0, h)
     later_forbidden e es (refusal.NoActiveScope n) k h = absurd h
 

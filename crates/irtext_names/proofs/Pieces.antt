@@ -394,7 +394,7 @@ module _ {T A : Type 0} (x y : Gathered T A) where
 module _ (T : Type 0) {A : Type 0} where
   pub dictionary_refused : {X : Type 0} (r : Result X NotGathered) (es : Vec (Key × AttrObj A) Global) → IfErr r (RefusesEntries es.items) → IfErr r (RefusesAlone {T = T} {A = A} (read.Dictionary es ∷ []))
   dictionary_refused (Ok z) es h = tt
-  dictionary_refused (Err refusal.Memory) es h = λ names g. tt
+  dictionary_refused (Err (refusal.Memory m)) es h = λ names g. tt
   dictionary_refused (Err (refusal.ReservedKey key)) es h = λ names g. dictionary_fails names g es key h
   dictionary_refused (Err (refusal.NoActiveScope n)) es h = absurd h
 
@@ -402,7 +402,7 @@ module _ (T : Type 0) {A : Type 0} where
 module _ {O B T A : Type 0} where
   -- the first piece is an error
   pub gather_refused_first : (piece : ReadPiece T A) (ps : List (ReadPiece T A)) (names : Names) (g : GraphView (Option O) B (Option T)) (r : NotGathered) → RefusesGathering (piece ∷ []) names g r → RefusesGathering (piece ∷ ps) names g r
-  gather_refused_first piece ps names g refusal.Memory h = tt
+  gather_refused_first piece ps names g (refusal.Memory m) h = tt
   gather_refused_first piece ps names g (refusal.ReservedKey key) h = fails_at_first piece ps h
   gather_refused_first piece ps names g (refusal.NoActiveScope n) h = fails_at_first piece ps h
 
@@ -410,7 +410,7 @@ module _ {O B T A : Type 0} where
   pub gather_refused_from : (ps qs : List (ReadPiece T A)) (names mid : Names) (g h : GraphView (Option O) B (Option T)) → mid.names ≡ names.names
       → ((Is : Text → Name ℕ → Type 0) (cause : Text → Cause Text) → FailsAt ps mid h Is cause → FailsAt qs names g Is cause)
       → (r : NotGathered) → RefusesGathering ps mid h r → RefusesGathering qs names g r
-  gather_refused_from ps qs names mid g h same from refusal.Memory r = tt
+  gather_refused_from ps qs names mid g h same from (refusal.Memory m) r = tt
   gather_refused_from ps qs names mid g h same from (refusal.ReservedKey key) r = from (λ text n. IsKey text key n) ReservedKey r
   gather_refused_from ps qs names mid g h same from (refusal.NoActiveScope read) r = from (λ text n. Represents names.names text read n) NoActiveScope
       (subst (λ table. FailsAt ps mid h (λ text n. Represents table text read n) NoActiveScope) same r)

@@ -17,7 +17,7 @@ use Rattle.irtext_names.proofs.Stores.{holds_or_reserved}
 module _ {A : Type 0} where
   -- an error of the dictionary is one of the entry
   pub entry_refused : (key : Text) (at : Place) (a : AttrObj A) (e : Refusal) → RefusesEntry key a e → RefusesEntries ((record { name = key; at = at }, a) ∷ []) (refused_at e at)
-  entry_refused key at a entry.Memory r = tt
+  entry_refused key at a (entry.Memory m) r = tt
   entry_refused key at a (entry.ReservedKey name) r = inl (holds_or_reserved key a ∙ ap not r.1, ap (λ n. record { name = n; at = at }) r.0)
 
   -- the first entry is allowed, and so are the others

@@ -168,7 +168,7 @@ rule_of holder.Block = block_may_hold
 
 -- the error of an entry whose key is at this position
 abbrev pub refused_at : Refusal → Place → NotGathered
-refused_at entry.Memory at = refusal.Memory
+refused_at (entry.Memory e) at = refusal.Memory e
 refused_at (entry.ReservedKey name) at = refusal.ReservedKey (record { name = name; at = at })
 
 module _ {A : Type 0} (rule : Rule A) where
@@ -185,7 +185,7 @@ module _ {A : Type 0} (rule : Rule A) where
 
   -- why entries were not stored: an allocation failed, or a key is forbidden
   abbrev pub Forbids : List (Key × AttrObj A) → NotGathered → Type 0
-  Forbids es refusal.Memory = ⊤
+  Forbids es (refusal.Memory e) = ⊤
   Forbids es (refusal.ReservedKey key) = IsFirstForbidden es key
   Forbids es (refusal.NoActiveScope name) = ⊥
 
@@ -265,7 +265,7 @@ module _ {O B T A : Type 0} where
 
   -- why the pieces were not gathered: an allocation failed, or their acts fail
   abbrev pub RefusesGathering : List (ReadPiece T A) → Names → GraphView (Option O) B (Option T) → NotGathered → Type 0
-  RefusesGathering ps names g refusal.Memory = ⊤
+  RefusesGathering ps names g (refusal.Memory e) = ⊤
   RefusesGathering ps names g (refusal.ReservedKey key) = GatherFails ps names g key
   RefusesGathering ps names g (refusal.NoActiveScope read) = GatherOutside ps names g read
 

@@ -23,6 +23,7 @@ use irtext_grammar::parsed::ReadName;
 use irtext_graph::arena::Ptr;
 use irtext_graph::graph::Graph;
 use irtext_graph::object::BasicBlock;
+use irtext_memory::Exhausted;
 use irtext_scopes::scopes::DefineFault;
 use irtext_tokens::irfmt::faults::out_of_memory;
 
@@ -52,7 +53,7 @@ pub fn label_block<O: Drop, B: Drop, T: Drop, A>(
 {
     match define_name(names, graph, label.name, block) {
         Ok(()) => Ok(()),
-        Err(DefineFault::NoRoom(_)) => Err(out_of_memory(stream)),
+        Err(DefineFault::NoRoom(room)) => Err(out_of_memory(stream, Exhausted::from(room))),
         Err(DefineFault::MultipleDefinitions) => Err(name_error(
             stream,
             names,

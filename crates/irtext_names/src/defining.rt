@@ -20,6 +20,7 @@ use irtext_grammar::parsed::ReadName;
 use irtext_graph::arena::Ptr;
 use irtext_graph::graph::Graph;
 use irtext_graph::object::{BasicBlock, Operation, Value};
+use irtext_memory::Exhausted;
 use irtext_scopes::scopes::DefineFault;
 use irtext_tokens::irfmt::faults::out_of_memory;
 
@@ -94,7 +95,7 @@ pub fn undefined_error<A>(
     ensures { UnlessMemory (RefusesTwice names.now.names (whole stream.old) defined.now undefined) result }
 {
     match undefined.fault {
-        DefineFault::NoRoom(_) => out_of_memory(stream),
+        DefineFault::NoRoom(room) => out_of_memory(stream, Exhausted::from(room)),
         DefineFault::MultipleDefinitions => name_error(
             stream,
             names,

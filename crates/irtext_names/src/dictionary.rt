@@ -18,7 +18,8 @@ use irtext_base::seed::Seed;
 use irtext_context::base::AttributeDict;
 use irtext_few::{Few, Items};
 use irtext_grammar::parsed::{ReadEntry, ReadName};
-use std::alloc::{AllocError, Global};
+use irtext_memory::{Exhausted, vec};
+use std::alloc::Global;
 
 /// What a dictionary belongs to.
 #[derive(Clone, Copy)]
@@ -122,9 +123,9 @@ pub fn block_attributes<A: Drop>(
     }
     match names_stored(alloc, names, arguments, &mut attributes) {
         Ok(()) => Ok(attributes),
-        Err(AllocError) => {
+        Err(error) => {
             ended(attributes);
-            Err(NotGathered::Memory)
+            Err(NotGathered::Memory(error))
         }
     }
 }
@@ -134,18 +135,17 @@ fn argument_split<T: Drop>(
     names: &mut Vec<ReadName>,
     types: &mut Vec<T>,
     argument: (ReadName, T),
-) -> Result<(), AllocError>
+) -> Result<(), Exhausted>
     ensures names { OnOk result (names.new.items ≡ names.old.items ++ argument.0 ∷ []) }
     ensures types { OnOk result (types.new.items ≡ types.old.items ++ argument.1 ∷ []) }
 {
     let (name, of_type) = argument;
-    let Ok(()) = names.push(name) else {
-        ended(of_type);
-        return Err(AllocError);
-    };
-    match types.push(of_type) {
+    if let Err(refused) = vec::push(names, name) {
+        return failed(of_type, Exhausted::from(refused));
+    }
+    match vec::push(types, of_type) {
         Ok(()) => Ok(()),
-        Err(_) => Err(AllocError),
+        Err(refused) => Err(Exhausted::from(refused)),
     }
 }
 
@@ -153,7 +153,7 @@ fn argument_split<T: Drop>(
 fn many_split<T: Drop>(
     alloc: Global,
     arguments: Vec<(ReadName, T)>,
-) -> Result<(Few<ReadName>, Few<T>), AllocError>
+) -> Result<(Few<ReadName>, Few<T>), Exhausted>
     ensures { IfOk result (λ parts. (parts.0 ≡ map (λ a. a.0) arguments.items)
         × (parts.1 ≡ map (λ a. a.1) arguments.items)) }
 {
@@ -171,7 +171,7 @@ fn many_split<T: Drop>(
 pub fn arguments_split<T: Drop>(
     alloc: Global,
     arguments: Few<(ReadName, T)>,
-) -> Result<(Few<ReadName>, Few<T>), AllocError>
+) -> Result<(Few<ReadName>, Few<T>), Exhausted>
     ensures { IfOk result (λ parts. (parts.0 ≡ map (λ a. a.0) arguments)
         × (parts.1 ≡ map (λ a. a.1) arguments)) }
 {

@@ -36,7 +36,7 @@ use irtext_context::base::operation::OperationData;
 use irtext_context::base::{Operation, Ptr, Region};
 use irtext_graph::graph::Graph;
 use irtext_graph::held::HasGraph;
-use irtext_memory::NoRoom;
+use irtext_memory::{Exhausted, NoRoom};
 use irtext_parse_state::parsable::StateStream;
 use irtext_parse_state::parsable::state::State;
 use irtext_scopes::tracker::EnterFault;
@@ -99,7 +99,7 @@ pub fn enter_here<T: IrText<A>, A: AttrText<A>, U>(
 {
     match enter_region(names, graph_of(&s.state), isolated) {
         Ok(()) => Ok(()),
-        Err(EnterFault::Memory(_)) => Err(out_of_memory(&mut s.stream)),
+        Err(EnterFault::Memory(error)) => Err(out_of_memory(&mut s.stream, Exhausted::from(error))),
         Err(EnterFault::TopLevelOpRegionNotIsolatedFromAbove) => Err(not_isolated(&mut s.stream)),
     }
 }

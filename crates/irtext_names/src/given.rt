@@ -8,15 +8,15 @@ ghost use Rattle.irtext_names.specs.Rows.{AreKnown, AreNamed};
 ghost use Rattle.irtext_names.specs.Definitions.{numbers_of};
 
 use crate::defining::number_at;
-use crate::keys::{key_of, stored};
+use crate::keys::{key_of, stored_allowed};
 use crate::kinds::Names;
 use crate::making::failed;
-use crate::name_errors::identifier_of;
 use irtext_base::base::{AttrObj, Identifier};
 use irtext_context::base::AttributeDict;
 use irtext_few::Few;
 use irtext_grammar::parsed::ReadName;
-use std::alloc::{AllocError, Global};
+use irtext_memory::{Exhausted, vec};
+use std::alloc::Global;
 
 /// Returns the names with these numbers.
 #[inline(always)]
@@ -24,22 +24,20 @@ fn given_names(
     alloc: Global,
     names: &Names,
     read: &Few<ReadName>,
-) -> Result<Vec<Option<Identifier>>, AllocError>
+) -> Result<Vec<Option<Identifier>>, Exhausted>
     requires { AreKnown (length names.now.names) (numbers_of read.now) }
     ensures { IfOk result (λ given. given.items ≡ map (slice_get names.now.names) (numbers_of read.now)) }
 {
-    let mut given = match Vec::with_capacity(alloc, read.len()) {
-        Ok(given) => given,
-        Err(error) => return Err(error),
-    };
+    let mut given = Vec::new(alloc);
     for index in 0..read.len() {
         let number = number_at(read, index);
-        let Some(name) = identifier_of(alloc, names.name(number)) else {
-            return Err(AllocError);
+        let name = match Identifier::from_word(alloc, names.name(number)) {
+            Ok(name) => name,
+            Err(error) => return failed(given, Exhausted::from(error)),
         };
-        let Ok(()) = given.push(Some(name)) else {
-            return failed(given, AllocError);
-        };
+        if let Err(refused) = vec::push(&mut given, Some(name)) {
+            return failed(given, Exhausted::from(refused));
+        }
     }
     Ok(given)
 }
@@ -52,7 +50,7 @@ pub fn names_shared<A: Drop>(
     read: &Few<ReadName>,
     shared: Option<Identifier>,
     attributes: &mut AttributeDict<A>,
-) -> Result<(), AllocError>
+) -> Result<(), Exhausted>
     requires known { AreKnown (length names.now.names) (numbers_of read.now) }
     requires key { IfSome shared (λ key. key ≡ given_names_key) }
     ensures { OnOk result ((ws : List (Name ℕ)) → AreNamed names.now.names (numbers_of read.now) ws
@@ -64,10 +62,7 @@ pub fn names_shared<A: Drop>(
     }
     let given = given_names(alloc, names, read)?;
     let key = key_of(alloc, shared)?;
-    match stored(attributes, key, AttrObj::GivenNames(given)) {
-        Ok(()) => Ok(()),
-        Err(_) => Err(AllocError),
-    }
+    stored_allowed(attributes, key, AttrObj::GivenNames(given))
 }
 
 /// Stores the names as given names, if there are any.
@@ -77,7 +72,7 @@ pub(crate) fn names_stored<A: Drop>(
     names: &Names,
     read: &Few<ReadName>,
     attributes: &mut AttributeDict<A>,
-) -> Result<(), AllocError>
+) -> Result<(), Exhausted>
     requires { AreKnown (length names.now.names) (numbers_of read.now) }
     ensures { OnOk result ((ws : List (Name ℕ)) → AreNamed names.now.names (numbers_of read.now) ws
         → entries_of attributes.new ≡ put_all (entries_of attributes.old)

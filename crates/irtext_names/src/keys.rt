@@ -18,8 +18,8 @@ use irtext_context::dialect::OpInfo;
 use irtext_graph::graph::Graph;
 use irtext_graph::held::HasGraph;
 use irtext_graph::object::Object;
-use irtext_memory::unsealed;
-use std::alloc::{AllocError, Global};
+use irtext_memory::Exhausted;
+use std::alloc::Global;
 
 /// Stores an attribute under a key. On an error nothing changes.
 pub fn stored<A: Drop>(
@@ -35,14 +35,31 @@ pub fn stored<A: Drop>(
     attributes.insert(key, attr)
 }
 
+/// Stores an attribute that is allowed under its key. Fails only when out of memory, and then nothing changes.
+pub fn stored_allowed<A: Drop>(
+    attributes: &mut AttributeDict<A>,
+    key: Identifier,
+    attr: AttrObj<A>,
+) -> Result<(), Exhausted>
+    requires { may_hold key (attribute_of attr) ≡ true }
+    ensures stored { OnOk result (entries_of attributes.new
+        ≡ put_all (entries_of attributes.old) ((key, attribute_of attr) ∷ [])) }
+{
+    match stored(attributes, key, attr) {
+        Ok(()) => Ok(()),
+        Err(Refusal::Memory(error)) => Err(error),
+        Err(Refusal::ReservedKey(_)) => unreachable!(),
+    }
+}
+
 /// Returns the key of a symbol's name. Shares the text of `key` if it is given.
-pub fn symbol_key(alloc: Global, key: &Option<Identifier>) -> Result<Identifier, AllocError>
+pub fn symbol_key(alloc: Global, key: &Option<Identifier>) -> Result<Identifier, Exhausted>
     requires { IfSome key.now (λ k. k ≡ sym_name_key) }
     ensures { IfOk result (λ k. k ≡ sym_name_key) }
 {
     match key {
-        Some(key) => key.clone(),
-        None => unsealed(Identifier::from_word(alloc, "builtin_sym_name")),
+        Some(key) => Ok(key.share()?),
+        None => Ok(Identifier::from_word(alloc, "builtin_sym_name")?),
     }
 }
 
@@ -50,7 +67,7 @@ pub fn symbol_key(alloc: Global, key: &Option<Identifier>) -> Result<Identifier,
 pub fn kept_key(info: &OpInfo) -> Option<Identifier>
     ensures { IfSome result (λ key. key ≡ sym_name_key) }
 {
-    match info.sym_name_key()?.clone() {
+    match info.sym_name_key()?.share() {
         Ok(key) => Some(key),
         Err(_) => None,
     }
@@ -72,7 +89,7 @@ fn last_key<A: Drop>(attributes: &AttributeDict<A>) -> Option<Identifier>
     if !is_given_key(key.as_str()) {
         return None;
     }
-    match key.clone() {
+    match key.share() {
         Ok(copy) => Some(copy),
         Err(_) => None,
     }
@@ -130,13 +147,13 @@ pub fn neighbour_key<T: IrText<A>, A: AttrText<A>>(
 }
 
 /// Returns the key of given names: this one, or a new one.
-pub fn key_of(alloc: Global, shared: Option<Identifier>) -> Result<Identifier, AllocError>
+pub fn key_of(alloc: Global, shared: Option<Identifier>) -> Result<Identifier, Exhausted>
     requires { IfSome shared (λ key. key ≡ given_names_key) }
     ensures { IfOk result (λ key. key ≡ given_names_key) }
 {
     match shared {
         Some(key) => Ok(key),
-        None => unsealed(Identifier::from_word(alloc, GIVEN_NAMES_KEY)),
+        None => Ok(Identifier::from_word(alloc, GIVEN_NAMES_KEY)?),
     }
 }
 

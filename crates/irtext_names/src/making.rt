@@ -14,7 +14,8 @@ use irtext_base::text::{AttrText, IrText};
 use irtext_context::base::context::making::Making;
 use irtext_context::base::{AttributeDict, BasicBlock, Context, Operation, Ptr, Value};
 use irtext_few::Few;
-use std::alloc::{AllocError, Global};
+use irtext_memory::{Exhausted, vec};
+use std::alloc::Global;
 
 /// Returns the index of the first item with this place.
 fn index_of<X>(items: &Vec<(usize, X)>, place: usize) -> Option<usize>
@@ -35,13 +36,13 @@ fn taken<X: Drop>(items: &mut Vec<(usize, X)>, place: usize) -> Option<X>
 }
 
 /// Returns the items in the order of their places, which are the numbers from 0 on.
-fn ordered<X: Drop>(alloc: Global, mut items: Vec<(usize, X)>) -> Result<Vec<X>, AllocError>
+fn ordered<X: Drop>(alloc: Global, mut items: Vec<(usize, X)>) -> Result<Vec<X>, Exhausted>
     ensures { IfOk result (λ all. all.items ≡ in_order items.items) }
 {
     let mut all = Vec::new(alloc);
     for place in 0..items.len() {
         if let Some(item) = taken(&mut items, place) {
-            all.push(item)?;
+            vec::push(&mut all, item)?;
         }
     }
     ended(items);
@@ -49,7 +50,7 @@ fn ordered<X: Drop>(alloc: Global, mut items: Vec<(usize, X)>) -> Result<Vec<X>,
 }
 
 /// Returns the items with places of their own, in the order of the places, followed by the list.
-fn all_placed<X: Drop>(alloc: Global, placed: Placed<X>) -> Result<Vec<X>, AllocError>
+fn all_placed<X: Drop>(alloc: Global, placed: Placed<X>) -> Result<Vec<X>, Exhausted>
     ensures { IfOk result (λ all. all.items ≡ in_order placed.single.items ++ placed.list.items) }
 {
     let Placed { single, list } = placed;
@@ -62,9 +63,9 @@ fn all_placed<X: Drop>(alloc: Global, placed: Placed<X>) -> Result<Vec<X>, Alloc
         Err(error) => return failed(list, error),
     };
     for item in list {
-        let Ok(()) = all.push(item) else {
-            return failed(all, AllocError);
-        };
+        if let Err(refused) = vec::push(&mut all, item) {
+            return failed(all, Exhausted::from(refused));
+        }
     }
     Ok(all)
 }
@@ -74,7 +75,7 @@ fn result_types<T: Drop>(
     alloc: Global,
     single: Vec<(usize, T)>,
     listed: Few<T>,
-) -> Result<Few<T>, AllocError>
+) -> Result<Few<T>, Exhausted>
     ensures { IfOk result (λ types. types ≡ types_made single.items listed) }
 {
     if single.len() == 0 {
@@ -91,21 +92,21 @@ fn result_types<T: Drop>(
 }
 
 /// Returns a copy of the id that shares its texts.
-fn copied(id: &OpId) -> Result<OpId, AllocError>
+fn copied(id: &OpId) -> Result<OpId, Exhausted>
     ensures { IfOk result (λ copy. copy ≡ id.now) }
 {
-    let dialect = match id.dialect.clone() {
+    let dialect = match id.dialect.share() {
         Ok(dialect) => dialect,
-        Err(error) => return Err(error),
+        Err(full) => return Err(Exhausted::from(full)),
     };
-    match id.name.clone() {
+    match id.name.share() {
         Ok(name) => Ok(OpId { dialect, name }),
-        Err(error) => failed(dialect, error),
+        Err(full) => failed(dialect, Exhausted::from(full)),
     }
 }
 
 /// Ends what was to be used, and returns the error.
-pub fn failed<X: Drop, R>(_ended: X, error: AllocError) -> Result<R, AllocError>
+pub fn failed<X: Drop, R>(_ended: X, error: Exhausted) -> Result<R, Exhausted>
     ensures { result ≡ Err error }
 {
     Err(error)
@@ -118,7 +119,7 @@ pub fn make_bare<T: IrText<A>, A: AttrText<A>>(
     id: &OpId,
     loc: Location<A>,
     attributes: AttributeDict<A>,
-) -> Result<(Ptr<Operation>, usize), AllocError>
+) -> Result<(Ptr<Operation>, usize), Exhausted>
     ensures makes { IfOk result (λ made. MakesOperation ctx.old ctx.new made.0
         (record { id = id.now; attributes = attributes; loc = loc }) [] [] []) }
     ensures counts { IfOk result (λ made. made.1 ≡ 0) }
@@ -131,7 +132,7 @@ pub fn make_bare<T: IrText<A>, A: AttrText<A>>(
     };
     match ctx.make_operation(id, attributes, loc) {
         Ok(op) => Ok((op, 0)),
-        Err(_) => Err(AllocError),
+        Err(room) => Err(Exhausted::from(room)),
     }
 }
 
@@ -150,7 +151,7 @@ fn parts_of<T: Drop>(
     successors: Placed<Ptr<BasicBlock>>,
     types: Vec<(usize, T)>,
     listed: Few<T>,
-) -> Result<Parts<T>, AllocError>
+) -> Result<Parts<T>, Exhausted>
     ensures operands { IfOk result (λ p. p.operands.items ≡ in_order operands.single.items
         ++ operands.list.items) }
     ensures successors { IfOk result (λ p. p.successors.items ≡
@@ -183,7 +184,7 @@ fn make_of<T: IrText<A>, A: AttrText<A>>(
     loc: Location<A>,
     attributes: AttributeDict<A>,
     parts: Parts<T>,
-) -> Result<(Ptr<Operation>, usize), AllocError>
+) -> Result<(Ptr<Operation>, usize), Exhausted>
     requires operands { AreDefinedValues ctx.old parts.operands.items }
     requires successors { AreLiveBlocks ctx.old parts.successors.items }
     ensures makes { IfOk result (λ made. MakesOperation ctx.old ctx.new made.0
@@ -200,7 +201,7 @@ fn make_of<T: IrText<A>, A: AttrText<A>>(
             ended((operands, successors));
             Ok((op, results))
         }
-        Err(_) => failed((operands, successors), AllocError),
+        Err(room) => failed((operands, successors), Exhausted::from(room)),
     }
 }
 
@@ -211,7 +212,7 @@ pub fn make_gathered<T: IrText<A>, A: AttrText<A>>(
     id: &OpId,
     loc: Location<A>,
     gathered: Gathered<T, A>,
-) -> Result<(Ptr<Operation>, usize), AllocError>
+) -> Result<(Ptr<Operation>, usize), Exhausted>
     requires { AllUsesLive ctx.old.graph gathered }
     ensures makes { IfOk result (λ made. MakesOperation ctx.old ctx.new made.0
         (record { id = id.now; attributes = gathered.attributes; loc = loc })

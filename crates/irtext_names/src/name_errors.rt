@@ -1,26 +1,11 @@
 //! What can be wrong with a name, as the cause of an error.
-ghost use Rattle.std.specs.Prelude.{◌≡◌, IfSome};
+ghost use Rattle.std.specs.Prelude.{◌≡◌};
 ghost use Rattle.irtext_base.specs.Faults.{fault_of};
 ghost use Rattle.irtext_names.specs.NameFaults.{fault_named};
 
 use irtext_base::base::Identifier;
-use irtext_base::base::identifier::is_identifier;
 use irtext_base::parsable::{ParserNameTrackerError, UnresolvedReference};
 use irtext_base::result::Cause;
-use std::alloc::Global;
-
-/// Returns a stored name as an identifier; `None` if it is no identifier, or if an allocation fails.
-pub fn identifier_of(alloc: Global, text: &str) -> Option<Identifier>
-    ensures { IfSome result (λ i. i ≡ text.now) }
-{
-    if !is_identifier(text) {
-        return None;
-    }
-    match Identifier::from_word(alloc, text) {
-        Ok(name) => Some(name),
-        Err(_) => None,
-    }
-}
 
 /// What is wrong with a name.
 #[derive(Clone, Copy)]

@@ -8,13 +8,14 @@ ghost use Rattle.irtext_grammar.specs.Graphs.Build.{put_all};
 ghost use Rattle.irtext_names.specs.Tied.{MatchesGraph};
 ghost use Rattle.irtext_grammar.specs.Forms.{pieces_of};
 ghost use Rattle.irtext_grammar.specs.declared.parsed.ReadPiece.TheVariants as read;
+ghost use Rattle.irtext_memory.specs.Rooms.{exhausted};
 ghost use Rattle.irtext_names.specs.declared.operation_parts.NotGathered.TheVariants.{Memory};
 ghost use Rattle.irtext_names.specs.Gathering.{entry_read, refused_at, single_of, list_of, GathersAlone, GathersHalf, RefusesAlone, MayAllHold, RefusesEntries, CanUseAll, CanGather, Gathers, RefusesGathering};
 ghost use Rattle.irtext_names.specs.Uses.{KeepsScopes};
 
 use crate::dictionary::{Holder, entries_stored};
 use crate::gathered::{Gathered, Objects, Placed};
-use crate::keys::{stored, symbol_key};
+use crate::keys::{stored, stored_allowed, symbol_key};
 use crate::kinds::{Blank, Names, Referent};
 use crate::memory::ended;
 use crate::piece_uses::names_used;
@@ -26,12 +27,13 @@ use irtext_context::base::block::BlockData;
 use irtext_few::Few;
 use irtext_grammar::found::{Form, Pieces};
 use irtext_grammar::parsed::{CanonicalPieces, Key, ReadEntry, ReadName, ReadPiece, Symbol};
+use irtext_memory::{Exhausted, vec};
 use std::alloc::Global;
 
 /// Why pieces were not gathered.
 #[derive(Drop)]
 pub enum NotGathered {
-    Memory,
+    Memory(Exhausted),
     /// The key is reserved, and the attribute is not allowed under it.
     ReservedKey(Key),
     /// No scope of the name's kind is open.
@@ -50,7 +52,7 @@ fn refused(refusal: Refusal, at: Place) -> NotGathered
     ensures { result ≡ refused_at refusal at }
 {
     match refusal {
-        Refusal::Memory => NotGathered::Memory,
+        Refusal::Memory(error) => NotGathered::Memory(error),
         Refusal::ReservedKey(name) => NotGathered::ReservedKey(Key { name, at }),
     }
 }
@@ -93,10 +95,10 @@ where
     if !K::has_scope(names) {
         return Err(NotGathered::NoActiveScope(name));
     }
-    let Ok(()) = name_placed(names, graph, &mut placed.single, index, name.name) else {
-        return Err(NotGathered::Memory);
-    };
-    Ok(())
+    match name_placed(names, graph, &mut placed.single, index, name.name) {
+        Ok(()) => Ok(()),
+        Err(error) => Err(NotGathered::Memory(error)),
+    }
 }
 
 /// Uses the names of a list of operands or of successors.
@@ -126,10 +128,10 @@ where
         ended(used);
         return Err(NotGathered::NoActiveScope(first));
     }
-    let Ok(()) = names_used(names, graph, &used, &mut placed.list) else {
+    if let Err(error) = names_used(names, graph, &used, &mut placed.list) {
         ended(used);
-        return Err(NotGathered::Memory);
-    };
+        return Err(NotGathered::Memory(error));
+    }
     ended(used);
     Ok(())
 }
@@ -140,13 +142,14 @@ pub fn kept<A: Drop>(
     key: Identifier,
     attr: AttrObj<A>,
 ) -> Result<(), NotGathered>
+    requires { may_hold key (attribute_of attr) ≡ true }
     ensures stored { OnOk result (entries_of attributes.new
         ≡ put_all (entries_of attributes.old) ((key, attribute_of attr) ∷ [])) }
-    ensures refused { IfErr result (λ refusal. refusal ≡ Memory) }
+    ensures refused { IfErr result (λ refusal. refusal ≡ Memory exhausted) }
 {
-    match stored(attributes, key, attr) {
+    match stored_allowed(attributes, key, attr) {
         Ok(()) => Ok(()),
-        Err(_) => Err(NotGathered::Memory),
+        Err(error) => Err(NotGathered::Memory(error)),
     }
 }
 
@@ -156,6 +159,7 @@ fn attr_gathered<T: Drop, A: Drop>(
     key: Identifier,
     attr: Option<AttrObj<A>>,
 ) -> Result<(), NotGathered>
+    requires { IfSome attr (λ a. may_hold key (attribute_of a) ≡ true) }
     ensures gathers { OnOk result (GathersAlone (read.Attr key attr ∷ []) gathered.old gathered.new) }
     ensures refused { IfErr result (RefusesAlone {T = T} {A = A} (read.Attr key attr ∷ [])) }
 {
@@ -186,10 +190,10 @@ fn header_gathered<T: Drop, A: Drop>(
     ensures gathers { OnOk result (GathersAlone (read.Header symbol ∷ []) gathered.old gathered.new) }
     ensures refused { IfErr result (RefusesAlone {T = T} {A = A} (read.Header symbol ∷ [])) }
 {
-    let Ok(key) = symbol_key(key.alloc, key.given) else {
-        return Err(NotGathered::Memory);
-    };
-    kept(&mut gathered.attributes, key, AttrObj::Ident(symbol.name))
+    match symbol_key(key.alloc, key.given) {
+        Ok(key) => kept(&mut gathered.attributes, key, AttrObj::Ident(symbol.name)),
+        Err(error) => Err(NotGathered::Memory(error)),
+    }
 }
 
 /// Stores the type of a result, with its place.
@@ -202,10 +206,10 @@ fn type_gathered<T: Drop, A: Drop>(
         gathered.new) }
     ensures refused { IfErr result (RefusesAlone {T = T} {A = A} (read.ResultType index of_type ∷ [])) }
 {
-    let Ok(()) = gathered.types.push((index, of_type)) else {
-        return Err(NotGathered::Memory);
-    };
-    Ok(())
+    match vec::push(&mut gathered.types, (index, of_type)) {
+        Ok(()) => Ok(()),
+        Err(refused) => Err(NotGathered::Memory(Exhausted::from(refused))),
+    }
 }
 
 /// Stores a list of types, which replaces the one before it.

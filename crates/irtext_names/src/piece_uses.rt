@@ -12,7 +12,7 @@ use crate::uses::name_used;
 use irtext_few::Few;
 use irtext_grammar::parsed::ReadName;
 use irtext_graph::graph::Graph;
-use std::alloc::AllocError;
+use irtext_memory::{Exhausted, vec};
 
 /// Returns the number of one of the names.
 fn number_at(names: &Few<ReadName>, index: usize) -> usize
@@ -29,7 +29,7 @@ pub(crate) fn names_used<K: Referent<B>, O: Drop, B: Drop, T: Drop>(
     graph: &mut Graph<Option<O>, B, Option<T>>,
     used: &Few<ReadName>,
     referents: &mut Vec<K>,
-) -> Result<(), AllocError>
+) -> Result<(), Exhausted>
 where
     K::Blank: Blank,
     requires open { is_open (scopes_of K.kind names.old) ≡ true }
@@ -45,9 +45,9 @@ where
             Ok(referent) => referent,
             Err(error) => return Err(error),
         };
-        let Ok(()) = referents.push(referent) else {
-            return Err(AllocError);
-        };
+        if let Err(refused) = vec::push(referents, referent) {
+            return Err(Exhausted::from(refused));
+        }
     }
     Ok(())
 }

@@ -14,7 +14,7 @@ ghost use Rattle.irtext_names.specs.Uses.{KeepsScopes, TakesName};
 use crate::kinds::{Blank, Names, Referent};
 use crate::named::Named;
 use irtext_graph::graph::Graph;
-use std::alloc::AllocError;
+use irtext_memory::{Exhausted, vec};
 
 /// Returns what a name refers to where it is used, a value or the block of a label: its definition, or the placeholder that waits for it.
 /// A scope of the name's kind must be open. A name that is new in its scope gets a placeholder, which for a label is made with this data.
@@ -24,7 +24,7 @@ pub fn use_name<K: Referent<B>, O: Drop, B: Drop, T: Drop>(
     graph: &mut Graph<Option<O>, B, Option<T>>,
     name: usize,
     with: K::Blank,
-) -> Result<K, AllocError>
+) -> Result<K, Exhausted>
     requires open { is_open (scopes_of K.kind names.old) ≡ true }
     requires known { name < length names.old.names }
     requires tied { MatchesGraph names.old.values names.old.labels graph.old }
@@ -45,9 +45,9 @@ pub fn use_name<K: Referent<B>, O: Drop, B: Drop, T: Drop>(
     }
     let mark = graph.made();
     let placeholder = K::make(graph, with)?;
-    if K::wait(names, name, placeholder).is_err() {
+    if let Err(room) = K::wait(names, name, placeholder) {
         graph.roll_back(mark);
-        return Err(AllocError);
+        return Err(Exhausted::from(room));
     }
     Ok(placeholder)
 }
@@ -59,7 +59,7 @@ pub fn use_names<N: Named, K: Referent<B>, O: Drop, B: Drop, T: Drop>(
     graph: &mut Graph<Option<O>, B, Option<T>>,
     used: &[N],
     referents: &mut Vec<K>,
-) -> Result<(), AllocError>
+) -> Result<(), Exhausted>
 where
     K::Blank: Blank,
     requires open { is_open (scopes_of K.kind names.old) ≡ true }
@@ -76,7 +76,7 @@ where
     for name in used {
         let with = K::Blank::blank(graph.allocator());
         let referent = use_name(names, graph, name.number(), with)?;
-        referents.push(referent)?;
+        vec::push(referents, referent)?;
     }
     Ok(())
 }
@@ -87,7 +87,7 @@ pub fn name_used<K: Referent<B>, O: Drop, B: Drop, T: Drop>(
     names: &mut Names,
     graph: &mut Graph<Option<O>, B, Option<T>>,
     name: usize,
-) -> Result<K, AllocError>
+) -> Result<K, Exhausted>
 where
     K::Blank: Blank,
     requires open { is_open (scopes_of K.kind names.old) ≡ true }
@@ -108,7 +108,7 @@ pub fn name_placed<K: Referent<B>, O: Drop, B: Drop, T: Drop>(
     single: &mut Vec<(usize, K)>,
     index: usize,
     name: usize,
-) -> Result<(), AllocError>
+) -> Result<(), Exhausted>
 where
     K::Blank: Blank,
     requires open { is_open (scopes_of K.kind names.old) ≡ true }
@@ -122,8 +122,8 @@ where
         Ok(referent) => referent,
         Err(error) => return Err(error),
     };
-    let Ok(()) = single.push((index, referent)) else {
-        return Err(AllocError);
-    };
-    Ok(())
+    match vec::push(single, (index, referent)) {
+        Ok(()) => Ok(()),
+        Err(refused) => Err(Exhausted::from(refused)),
+    }
 }

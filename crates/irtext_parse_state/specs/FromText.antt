@@ -7,7 +7,8 @@ use Rattle.irtext_base.specs.Stream.{StreamView}
 use Rattle.irtext_base.specs.declared.location.Location.{SrcPos, Unknown}
 use Rattle.irtext_base.specs.declared.location.Source.TheVariants.{InMemory}
 use Rattle.irtext_base.specs.declared.parsable.fault.ParseFault.{ParseFault}
-use Rattle.irtext_base.specs.declared.result.Cause.{Cause, Memory, Parse'}
+use Rattle.irtext_base.specs.declared.result.Cause.{Cause, Parse'}
+use Rattle.irtext_base.specs.Causes.{no_memory}
 use Rattle.irtext_base.specs.declared.result.Error.{Error}
 use Rattle.irtext_base.specs.declared.result.ErrorKind.TheVariants.{InvalidInput, InvalidArgument}
 use Rattle.irtext_parse_state.specs.States.{marks_of}
@@ -21,7 +22,7 @@ module _ {A : Type 0} where
   -- the cause of the error for a failed parse: the parser's cause and its position, or `Memory` if these cannot be allocated
   abbrev pub IsCauseOf : ParseFault A → Cause A → Type 0
   IsCauseOf fault (Parse' at p cause) = (at ≡ fault.pos) × (cause ≡ fault.cause)
-  IsCauseOf fault cause = cause ≡ Memory
+  IsCauseOf fault cause = cause ≡ no_memory
 
   -- the error for a parse from memory that failed
   pub record IsErrorOf (fault : ParseFault A) (error : Error A) : Type 0 where
@@ -32,7 +33,7 @@ module _ {A : Type 0} where
   -- the error for a text that cannot be allocated
   pub record IsMemory (error : Error A) : Type 0 where
     pub kind : error.kind ≡ InvalidArgument
-    pub cause : error.err ≡ Memory
+    pub cause : error.err ≡ no_memory
     pub place : error.loc ≡ Unknown
 
   -- the result for a text that cannot be allocated

@@ -1,10 +1,11 @@
 //! The names of values and of blocks during a parse: what each refers to in the scopes of the open regions.
-ghost use Rattle.std.specs.Prelude.{◌≡◌, ◌<◌, [], length, None, Some, Err, true, false, OnOk, OnErr, IfOk, IfSome, IfNone, ◌↔◌, option_map, slice_get};
-ghost use Rattle.std.specs.List.{list_any};
+ghost use Rattle.std.specs.Prelude.{◌≡◌, ◌<◌, [], length, None, Some, Err, true, false, IsTrue, OnOk, OnErr, IfOk, IfSome, IfNone, ◌↔◌, option_map, slice_get};
+ghost use Rattle.std.specs.List.{list_all, list_any};
 ghost use Rattle.std.specs.Str.{bytes_eq};
 ghost use Rattle.irtext_scopes.specs.declared.scopes.Entry.{Entry};
 ghost use Rattle.irtext_scopes.specs.declared.scopes.Entry.TheVariants.{Defined, Pending};
 ghost use Rattle.irtext_scopes.specs.declared.scopes.DefineFault.{DefineFault};
+ghost use Rattle.irtext_base.specs.Text.{is_identifier};
 ghost use Rattle.irtext_memory.specs.Rooms.{full};
 ghost use Rattle.irtext_scopes.specs.declared.tracker.EnterFault.{EnterFault};
 ghost use Rattle.irtext_scopes.specs.Names.{number_of, with_name, KeepsNames, AreDistinct};
@@ -31,6 +32,7 @@ pub struct NameTracker<V, B> {
     names: Interner,
     values: Scopes<V>,
     labels: Scopes<B>,
+    ghost words: { list_all is_identifier names ≡ true },
     ghost values_known: { are_known (length names) values ≡ true },
     ghost labels_known: { are_known (length names) labels ≡ true },
 }
@@ -109,9 +111,10 @@ impl<V: Copy, B: Copy> NameTracker<V, B> {
         }
     }
 
-    /// Returns the number of a name, which is kept from then on. A name that was mentioned before in this parse has the number that it had,
+    /// Returns the number of a name, an identifier, which is kept from then on. A name that was mentioned before in this parse has the number that it had,
     /// and needs no allocation. When out of memory, it fails and nothing changes.
     pub fn intern(&mut self, text: &str) -> Result<usize, OutOfMemory>
+        requires { IsTrue (is_identifier text.now) }
         ensures number { IfOk result (λ i. i ≡ number_of self.old.names text.now) }
         ensures kept { OnOk result (self.new.names ≡ with_name self.old.names text.now) }
         ensures err { OnErr result (self.new.names ≡ self.old.names) }
@@ -142,7 +145,8 @@ impl<V: Copy, B: Copy> NameTracker<V, B> {
     /// Returns the name with this number.
     pub fn name(&self, number: usize) -> &str
         requires { number < length self.now.names }
-        ensures { slice_get self.now.names number ≡ Some result.now }
+        ensures name { slice_get self.now.names number ≡ Some result.now }
+        ensures fits { IsTrue (is_identifier result.now) }
     {
         self.names.text(number)
     }

@@ -17,8 +17,7 @@ ghost use Rattle.irtext_base.specs.Families.{is_one_of};
 use crate::irfmt::parsers::{Class, skip_class};
 use irtext_base::parsable::{CharStream, ParseResult, TextStream};
 use irtext_base::text::{Apart, AttrText, Family, IrText, Worded};
-use irtext_memory::OutOfMemory;
-use std::alloc::AllocError;
+use irtext_memory::{Exhausted, OutOfMemory};
 use std::marker::PhantomData;
 
 /// A type or an attribute of one of two families. `W` says that these have no word in common (`Apart`). A text whose first word is one of
@@ -130,7 +129,7 @@ impl<B, L: AttrText<B> + Family<B>, R: AttrText<B> + Family<B>, W: Apart<L, R>> 
         }
     }
 
-    fn try_clone(&self) -> Result<Either<L, R, W>, AllocError> {
+    fn try_clone(&self) -> Result<Either<L, R, W>, Exhausted> {
         match self {
             Either::Left(x) => Ok(Either::Left(x.try_clone()?)),
             Either::Right(y, _) => Ok(Either::right(y.try_clone()?)),

@@ -1,5 +1,6 @@
 //! Making blocks.
 ghost use Rattle.std.specs.Prelude.{◌≡◌, ◌≤◌, ℕ, IfOk, IfErr, OnErr};
+ghost use Rattle.irtext_base.specs.Causes.{no_memory};
 ghost use Rattle.irtext_base.specs.declared.location.Location.{Unknown};
 ghost use Rattle.irtext_context.specs.Context.{KeepsOlder, MakesBlock};
 ghost use Rattle.irtext_context.specs.Made.{bare_block};
@@ -26,14 +27,14 @@ pub trait NewBlock {
     ) -> result::Result<Ptr<BasicBlock>, A>
         ensures made { IfOk result (λ p. MakesBlock ctx.old ctx.new p (bare_block label) arg_types) }
         ensures err { OnErr result (ctx.new ≡ ctx.old) }
-        ensures refused { IfErr result (λ e. e.err ≡ Cause.Memory) }
+        ensures refused { IfErr result (λ e. e.err ≡ no_memory) }
         ensures kind { IfErr result (λ e. (e.kind ≡ ErrorKind.InvalidArgument) × (e.loc ≡ Unknown)) }
         ensures kept { (mark : ℕ) → mark ≤ ctx.old.graph.made → KeepsOlder mark ctx.old ctx.new }
     {
         let attributes = AttributeDict::with_seed(ctx.allocator(), ctx.seed());
         match ctx.make_block(label, attributes, Location::Unknown, arg_types) {
             Ok(p) => Ok(p),
-            Err(_) => Err(invalid(Cause::Memory)),
+            Err(room) => Err(invalid(Cause::from(room))),
         }
     }
 }

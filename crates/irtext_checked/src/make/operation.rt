@@ -96,9 +96,9 @@ pub trait NewOperation {
         let made = ctx.made();
         match make(ctx, id, result_types, operands, successors, num_regions) {
             Ok(op) => Ok(op),
-            Err(_) => {
+            Err(room) => {
                 ctx.roll_back(made);
-                Err(invalid(Cause::Memory))
+                Err(invalid(Cause::from(room)))
             }
         }
     }

@@ -19,6 +19,7 @@ mod others;
 pub use copy::is_outlined;
 use irtext_base::base::{AttrObj, GIVEN_NAMES_KEY, Identifier, Refusal};
 use irtext_base::seed::Seed;
+use irtext_memory::Exhausted;
 use others::Others;
 use std::alloc::Global;
 use std::marker::Model;
@@ -197,6 +198,21 @@ impl<A: Drop> AttributeDict<A> {
         let at = self.others.len();
         put_given(&mut self.given, at, key, attr);
         Ok(())
+    }
+
+    /// Puts an attribute under a key that may have it, as `insert` does. It fails only when out of memory, and never for given names under
+    /// their key; then the dictionary is unchanged.
+    pub fn put(&mut self, key: Identifier, attr: AttrObj<A>) -> Result<(), Exhausted>
+        requires { is_reserved_for key attr ≡ false }
+        ensures entries { OnOk result (self.new ≡ insert_entry bytes_eq self.old key attr) }
+        ensures err { OnErr result (self.new ≡ self.old) }
+        ensures needed { OnErr result (bytes_eq given_names_key key ≡ false) }
+    {
+        match self.insert(key, attr) {
+            Ok(()) => Ok(()),
+            Err(Refusal::Memory(error)) => Err(error),
+            Err(Refusal::ReservedKey(_)) => unreachable!(),
+        }
     }
 
     /// Removes the attribute under the key and returns it, or returns `None` if there is none. The order of the other entries is unchanged.

@@ -7,7 +7,8 @@ ghost use Rattle.irtext_parse_state.specs.States.{same_index, Notes};
 
 use indexmap::IndexMap;
 use irtext_base::seed::Seed;
-use std::alloc::{AllocError, Global};
+use irtext_memory::{OutOfMemory, map, vec};
+use std::alloc::Global;
 use std::marker::Model;
 
 /// Items by their indices, in the order in which they were recorded. No index occurs twice.
@@ -43,7 +44,7 @@ fn note_last<X: Drop>(
     others: &mut IndexMap<usize, X, Seed>,
     index: usize,
     item: X,
-) -> Result<(), AllocError>
+) -> Result<(), OutOfMemory>
     requires { lookup (same_index index) others.old.entries ≡ None }
     ensures ok { OnOk result (all_numbered dense.new.items others.new.entries ≡ all_numbered dense.old.items
         others.old.entries ++ (index, item) ∷ []) }
@@ -51,10 +52,10 @@ fn note_last<X: Drop>(
         others.old.entries) }
 {
     if others.is_empty() && index == dense.len() {
-        dense.push(item)?;
+        vec::push(dense, item)?;
         return Ok(());
     }
-    others.insert(index, item)?;
+    map::insert(others, index, item)?;
     Ok(())
 }
 
@@ -98,7 +99,7 @@ impl<X: Drop> Numbered<X> {
 
     /// Records an item. Returns false, and records nothing, if the index is recorded already. If an allocation fails, nothing is
     /// recorded.
-    pub fn note(&mut self, index: usize, item: X) -> Result<bool, AllocError>
+    pub fn note(&mut self, index: usize, item: X) -> Result<bool, OutOfMemory>
         ensures noted { IfOk result (λ noting. Notes index item noting self.old self.new) }
         ensures err { OnErr result (self.new ≡ self.old) }
     {

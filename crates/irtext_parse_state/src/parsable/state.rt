@@ -15,7 +15,8 @@ use irtext_base::seed::Seed;
 use irtext_base::text::{AttrText, IrText};
 use irtext_context::base::{Context, Item};
 use irtext_tokens::parsable::OwnStream;
-use std::alloc::{AllocError, Global};
+use irtext_memory::OutOfMemory;
+use std::alloc::Global;
 
 /// The state of a parse beside its text.
 #[derive(Drop)]
@@ -79,7 +80,7 @@ pub trait Noting {
 
     /// Records the mark of an operation or a block. Returns false, and records nothing, if the index is recorded already. If an
     /// allocation fails, nothing is recorded.
-    fn mark(&mut self, index: usize, item: Item) -> Result<bool, AllocError>
+    fn mark(&mut self, index: usize, item: Item) -> Result<bool, OutOfMemory>
         ensures marks { IfOk result (λ noting. Notes index item noting (noted self.old) (noted self.new)) }
         ensures err { OnErr result (noted self.new ≡ noted self.old) };
 
@@ -96,7 +97,7 @@ pub trait Noting {
 impl<'c, T: IrText<A>, A: AttrText<A>, U> Noting for State<'c, T, A, U> {
     ghost noted = { λ s. marks_of s };
 
-    fn mark(&mut self, index: usize, item: Item) -> Result<bool, AllocError>
+    fn mark(&mut self, index: usize, item: Item) -> Result<bool, OutOfMemory>
         ensures lent { self.new.ctx.ghost_name ≡ self.old.ctx.ghost_name }
         ensures ctx { self.new.ctx.now ≡ self.old.ctx.now }
         ensures src { self.new.src ≡ self.old.src }

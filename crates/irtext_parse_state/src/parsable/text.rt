@@ -12,17 +12,17 @@ use irtext_base::parsable::{ParseFault, ParseResult, TextStream};
 use irtext_base::result::{Cause, Error, ErrorKind, Result};
 use irtext_base::text::{AttrText, IrText};
 use irtext_context::base::Context;
-use irtext_memory::unsealed;
-use std::alloc::{AllocError, Global};
+use irtext_memory::{OutOfMemory, boxed, string};
+use std::alloc::Global;
 
 /// Returns the cause of the error for a parser that failed on a text in memory.
 fn cause_of<A: Drop>(alloc: Global, fault: ParseFault<A>) -> Cause<A>
     ensures { IsCauseOf fault result }
 {
     let at = fault.pos;
-    match Box::new(alloc, fault.into_cause()) {
+    match boxed::new(alloc, fault.into_cause()) {
         Ok(cause) => Cause::Parse { at, cause },
-        Err(_) => Cause::Memory,
+        Err(refused) => Cause::from(refused),
     }
 }
 
@@ -76,7 +76,7 @@ pub trait ParseAnswer: Sized {
         ensures { passes self result };
 
     /// Returns the error for a text that cannot be allocated.
-    fn no_memory() -> Self::Answer
+    fn no_memory(error: OutOfMemory) -> Self::Answer
         ensures { ran_out result };
 }
 
@@ -94,10 +94,10 @@ impl<X, A: Drop> ParseAnswer for ParseResult<X, A> {
         }
     }
 
-    fn no_memory() -> Result<X, A> {
+    fn no_memory(error: OutOfMemory) -> Result<X, A> {
         Err(Error {
             kind: ErrorKind::InvalidArgument,
-            err: Cause::Memory,
+            err: Cause::from(error),
             loc: Location::Unknown,
         })
     }
@@ -123,10 +123,10 @@ where
     ensures { Ran R.passes (F.post parse) text.now ctx.old result ctx.new ⊎ (R.ran_out result
         × (ctx.new ≡ ctx.old)) }
 {
-    let Ok(text) = String::from_str(ctx.allocator(), text) else {
-        return R::no_memory();
-    };
-    parse_from_string(parse, ctx, text)
+    match string::from_str(ctx.allocator(), text) {
+        Ok(text) => parse_from_string(parse, ctx, text),
+        Err(error) => R::no_memory(error),
+    }
 }
 
 /// Does what `parse_from_str` does, on a text that it takes: the text is not copied, and is dropped before the call returns. If there is no
@@ -148,25 +148,30 @@ where
         × (ctx.new ≡ ctx.old)) }
 {
     let alloc = ctx.allocator();
-    let Ok(stream) = TextStream::from_string(alloc, text) else {
-        return R::no_memory();
-    };
-    let answer = run_on(stream, ctx, parse);
-    answer.into_answer(alloc)
+    match TextStream::from_string(alloc, text) {
+        Ok(stream) => {
+            let answer = run_on(stream, ctx, parse);
+            answer.into_answer(alloc)
+        }
+        Err(error) => R::no_memory(error),
+    }
 }
 
 /// Makes a stream of the characters of a finite iterator. Fails only if an allocation fails.
 fn stream_of<I: Iterator<Item = char>>(
     alloc: Global,
     iterator: I,
-) -> std::result::Result<TextStream, AllocError>
+) -> std::result::Result<TextStream, OutOfMemory>
     requires can { I.can_next iterator }
     requires finite { IsFinite (I.remaining iterator) }
     ensures { IfOk result (λ stream. (items : List ℕ) × Drains I.next_gives iterator items
         × (stream ≡ at_beginning (encode_utf8_all items))) }
 {
-    let text: String = iterator.collect(alloc)?;
-    unsealed(TextStream::from_string(alloc, text))
+    let mut text = String::new(alloc);
+    for c in iterator {
+        string::push(&mut text, c)?;
+    }
+    TextStream::from_string(alloc, text)
 }
 
 impl<'c, T: IrText<A>, A: AttrText<A>, U: Drop> State<'c, T, A, U> {
@@ -175,7 +180,7 @@ impl<'c, T: IrText<A>, A: AttrText<A>, U: Drop> State<'c, T, A, U> {
     pub fn stream_from_iterator<I: Iterator<Item = char>>(
         self,
         iterator: I,
-    ) -> std::result::Result<StateStream<'c, T, A, U>, AllocError>
+    ) -> std::result::Result<StateStream<'c, T, A, U>, OutOfMemory>
         requires can { I.can_next iterator }
         requires finite { IsFinite (I.remaining iterator) }
         ensures* unchanged_at_err { sem 𝓛 (RestsIfErr (the_row T.row A.row) self.entry.ctx
@@ -216,7 +221,7 @@ pub fn state_stream_from_iterator<
 >(
     iterator: I,
     state: State<'c, T, A, U>,
-) -> std::result::Result<StateStream<'c, T, A, U>, AllocError>
+) -> std::result::Result<StateStream<'c, T, A, U>, OutOfMemory>
     requires can { I.can_next iterator }
     requires finite { IsFinite (I.remaining iterator) }
     ensures same_reference { IfOk result (λ s. s.state.ctx.ghost_name ≡ state.entry.ctx.ghost_name) }

@@ -12,6 +12,7 @@ ghost use Rattle.irtext_stream.specs.Places.{AtPlace};
 
 use irtext_base::parsable::{CharStream, Class, ParseFault, ParseResult, Place, SourcePosition};
 use irtext_base::result::{Cause, Expected};
+use irtext_memory::Exhausted;
 
 /// Whether this character comes next.
 #[inline]
@@ -80,14 +81,15 @@ pub fn refuse_at<S: CharStream, A>(stream: &mut S, place: Place, cause: Cause<A>
     fail_at(stream, pos, cause)
 }
 
-/// Returns the committed error `Memory` at the current position, for an allocation that failed, and marks the stream as failed.
+/// Returns the committed error `Memory` at the current position, for an allocation that was refused or a counter that is full, and marks
+/// the stream as failed.
 #[cold]
 #[inline(never)]
-pub fn out_of_memory<S: CharStream, A>(stream: &mut S) -> ParseFault<A>
+pub fn out_of_memory<S: CharStream, A>(stream: &mut S, error: Exhausted) -> ParseFault<A>
     ensures { RunsOutHere S.view S.at stream.old result stream.new }
 {
     let pos = current_position(stream);
-    fail_at(stream, pos, Cause::Memory)
+    fail_at(stream, pos, Cause::Memory(error))
 }
 
 /// Returns an uncommitted error with this cause at the current position.

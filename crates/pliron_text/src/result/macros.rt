@@ -1,13 +1,13 @@
 //! Macros that create errors, for users of this crate alone. `create_error!` takes a location and a kind. A macro that is named after a
 //! kind takes a location; one whose name ends in `_noloc` takes neither. After that each takes a cause, or `in`, an allocator, `;` and
-//! a format text, whose text becomes the cause. If there is no memory for that text, the cause is `Cause::Memory`. The macros named
+//! a format text, whose text becomes the cause. If there is no memory for that text, the cause is `Cause::Memory`, and if it can't be printed for another reason, `Cause::Fmt`. The macros named
 //! `.._err` give the error as an `Err`.
 
 /// Creates an error with this location and this kind. The cause is given as a value, or as `in alloc;` and a format text.
 #[macro_export]
 macro_rules! create_error {
     ($loc:expr, $kind:expr, in $alloc:expr; $($format:tt)+) => {
-        $crate::create_error!($loc, $kind, $crate::result::Cause::of_text(std::format!(in $alloc; $($format)+)))
+        $crate::create_error!($loc, $kind, $crate::result::Cause::of_message($alloc, std::format_args!($($format)+)))
     };
     ($loc:expr, $kind:expr, $cause:expr) => {
         $crate::result::Error {

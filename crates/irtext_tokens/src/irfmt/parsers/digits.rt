@@ -14,6 +14,7 @@ use crate::irfmt::faults::{out_of_memory, refuse_at};
 use crate::irfmt::parsers::class::{Class, skip_class};
 use irtext_base::parsable::{CharStream, ParseFault, Place};
 use irtext_base::result::Cause;
+use irtext_memory::{Exhausted, string};
 
 /// The radix of a number's digits.
 #[derive(Clone, Copy)]
@@ -109,8 +110,8 @@ pub fn out_of_range<S: CharStream, A>(stream: &mut S, place: Place) -> ParseFaul
         RunsOutOrFails S.view S.at (NumberRange (encode_utf8_all taken)) passed stream.old
         result stream.new) }
 {
-    match String::from_str(stream.allocator(), stream.text_since(place)) {
+    match string::from_str(stream.allocator(), stream.text_since(place)) {
         Ok(text) => refuse_at(stream, place, Cause::NumberRange(text)),
-        Err(_) => out_of_memory(stream),
+        Err(error) => out_of_memory(stream, Exhausted::from(error)),
     }
 }

@@ -10,7 +10,8 @@ ghost use Rattle.irtext_tokens.specs.Reads.{ReadsAs, SparesMemory};
 use crate::irfmt::faults::{commit, next_is, out_of_memory, refuse, unexpected};
 use irtext_base::parsable::{CharStream, ParseFault, ParseResult};
 use irtext_base::result::{Cause, Expected, Token};
-use std::alloc::{AllocError, Global};
+use irtext_memory::{Exhausted, OutOfMemory, string};
+use std::alloc::Global;
 
 /// Consumes the characters of a text as long as they come next. Returns `None` if all of them do, otherwise whether any was consumed.
 fn spell<S: CharStream>(stream: &mut S, text: &str) -> Option<bool>
@@ -43,14 +44,14 @@ fn missing<S: CharStream, A>(stream: &mut S, begun: bool, expected: Expected) ->
 
 /// Returns a fixed text as an `Expected`. A text of at most 24 bytes is stored inline, a longer one is copied. Fails only if the copy
 /// cannot be allocated.
-pub fn held(alloc: Global, text: &str) -> Result<Expected, AllocError>
+pub fn held(alloc: Global, text: &str) -> Result<Expected, OutOfMemory>
     ensures { IfOk result (λ e. demand_of e ≡ Word (characters text.now)) }
 {
     match Token::from(text) {
         Ok(token) => Ok(Expected::Text(token)),
-        Err(_) => match String::from_str(alloc, text) {
+        Err(_) => match string::from_str(alloc, text) {
             Ok(copy) => Ok(Expected::Literal(copy)),
-            Err(_) => Err(AllocError),
+            Err(error) => Err(error),
         },
     }
 }
@@ -69,7 +70,7 @@ fn spelled_parse<S: CharStream, A>(stream: &mut S, text: &str) -> ParseResult<()
     };
     match held(stream.allocator(), text) {
         Ok(expected) => Err(missing(stream, begun, expected)),
-        Err(_) => Err(out_of_memory(stream)),
+        Err(error) => Err(out_of_memory(stream, Exhausted::from(error))),
     }
 }
 

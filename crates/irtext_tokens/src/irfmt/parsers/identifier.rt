@@ -11,6 +11,7 @@ use crate::irfmt::parsers::class::{Class, skip_class};
 use irtext_base::base::Identifier;
 use irtext_base::parsable::{CharStream, ParseResult};
 use irtext_base::result::{Cause, Expected};
+use irtext_memory::Exhausted;
 
 /// Parses the longest identifier that comes next. If none does, fails with `Unexpected`, uncommitted, with this expectation.
 #[tactic(auto, unfolding(crate::specs::Tokens::word_at))]
@@ -30,7 +31,7 @@ pub fn word_parse<S: CharStream, A>(
     skip_class(stream, Class::Word);
     match Identifier::from_word(stream.allocator(), stream.text_since(place)) {
         Ok(name) => Ok(name),
-        Err(_) => Err(out_of_memory(stream)),
+        Err(error) => Err(out_of_memory(stream, Exhausted::from(error))),
     }
 }
 

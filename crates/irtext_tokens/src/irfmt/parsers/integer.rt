@@ -13,6 +13,7 @@ use crate::irfmt::parsers::digits::{Radix, out_of_range, take_digits};
 use crate::irfmt::parsers::from_str_radix::FromStrRadix;
 use irtext_base::parsable::{CharStream, ParseResult};
 use irtext_base::result::{Cause, Expected};
+use irtext_memory::{Exhausted, string};
 
 /// If a sign comes next, consumes and returns it.
 fn take_sign<S: CharStream>(stream: &mut S) -> Option<char>
@@ -82,8 +83,8 @@ pub fn number_as_string_parse<S: CharStream, A>(stream: &mut S) -> ParseResult<S
     let place = stream.position();
     let _ = sign_parse(stream)?;
     skip_class(stream, Class::Digit);
-    match String::from_str(stream.allocator(), stream.text_since(place)) {
+    match string::from_str(stream.allocator(), stream.text_since(place)) {
         Ok(text) => Ok(text),
-        Err(_) => Err(out_of_memory(stream)),
+        Err(error) => Err(out_of_memory(stream, Exhausted::from(error))),
     }
 }

@@ -13,6 +13,7 @@ use crate::irfmt::parsers::class::{Class, skip_white_space};
 use crate::irfmt::separator::ListSeparator;
 use irtext_base::parsable::{CharStream, ParseFault, ParseResult, Place};
 use irtext_base::result::{Cause, Expected};
+use irtext_memory::{Exhausted, vec};
 
 /// Whether no character was consumed since an earlier position.
 fn is_still_at<S: CharStream>(stream: &S, place: Place) -> bool
@@ -53,8 +54,8 @@ where
                 if is_still_at(stream, start) {
                     return Err(refuse(stream, Cause::EmptyItem));
                 }
-                if found.push(x).is_err() {
-                    return Err(out_of_memory(stream));
+                if let Err(refused) = vec::push(&mut found, x) {
+                    return Err(out_of_memory(stream, Exhausted::from(refused)));
                 }
                 skip_white_space(stream);
             }
@@ -81,8 +82,8 @@ where
         skip_white_space(stream);
         match item(stream) {
             Ok(x) => {
-                if found.push(x).is_err() {
-                    return Err(out_of_memory(stream));
+                if let Err(refused) = vec::push(&mut found, x) {
+                    return Err(out_of_memory(stream, Exhausted::from(refused)));
                 }
             }
             Err(fault) => return Err(commit(stream, fault)),
@@ -106,8 +107,8 @@ where
     let mut found = Vec::new(stream.allocator());
     match item(stream) {
         Ok(x) => {
-            if found.push(x).is_err() {
-                return Err(out_of_memory(stream));
+            if let Err(refused) = vec::push(&mut found, x) {
+                return Err(out_of_memory(stream, Exhausted::from(refused)));
             }
         }
         Err(fault) => return unless_committed(fault, found),

@@ -15,6 +15,7 @@ use crate::irfmt::parsers::digits::{Radix, take_digits};
 use crate::irfmt::parsers::fixed_text::text_parse;
 use irtext_base::parsable::{CharStream, ParseFault, ParseResult, Place};
 use irtext_base::result::{Cause, Expected};
+use irtext_memory::{Exhausted, string};
 
 /// Consumes the characters that come next and denote themselves, and appends them to the text. Fails only if an allocation fails.
 fn append_plain<S: CharStream, A>(stream: &mut S, text: &mut String) -> ParseResult<(), A>
@@ -28,9 +29,9 @@ fn append_plain<S: CharStream, A>(stream: &mut S, text: &mut String) -> ParseRes
 {
     let place = stream.position();
     skip_class(stream, Class::Plain);
-    match text.push_str(stream.text_since(place)) {
+    match string::push_str(text, stream.text_since(place)) {
         Ok(()) => Ok(()),
-        Err(_) => Err(out_of_memory(stream)),
+        Err(error) => Err(out_of_memory(stream, Exhausted::from(error))),
     }
 }
 
@@ -57,9 +58,9 @@ fn no_character<S: CharStream, A>(stream: &mut S, escape: Place, digits: Place) 
         RunsOutOrFails S.view S.at (BadUnicodeEscape (encode_utf8_all taken)) before stream.old result
         stream.new)) }
 {
-    match String::from_str(stream.allocator(), stream.text_since(digits)) {
+    match string::from_str(stream.allocator(), stream.text_since(digits)) {
         Ok(text) => refuse_at(stream, escape, Cause::BadUnicodeEscape(text)),
-        Err(_) => out_of_memory(stream),
+        Err(error) => out_of_memory(stream, Exhausted::from(error)),
     }
 }
 
@@ -141,8 +142,8 @@ fn units_parse<S: CharStream, A>(stream: &mut S) -> ParseResult<String, A>
     append_plain(stream, &mut text)?;
     while !next_is(stream, '"') {
         let c = unit_parse(stream)?;
-        if text.push(c).is_err() {
-            return Err(out_of_memory(stream));
+        if let Err(error) = string::push(&mut text, c) {
+            return Err(out_of_memory(stream, Exhausted::from(error)));
         }
         append_plain(stream, &mut text)?;
     }
