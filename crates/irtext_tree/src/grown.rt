@@ -138,7 +138,11 @@ fn write_heads<S: Grammar<H, A>, H: Eq, A>(heads: &[H], f: &mut String) -> Resul
 }
 
 /// Appends the text of a head, and those of the heads after it.
-fn write_tree<S: Grammar<H, A>, H: Eq, A>(head: &H, rest: &[H], f: &mut String) -> Result<(), OutOfMemory>
+fn write_tree<S: Grammar<H, A>, H: Eq, A>(
+    head: &H,
+    rest: &[H],
+    f: &mut String,
+) -> Result<(), OutOfMemory>
     ensures text { OnOk result (string_bytes f.new ≡ string_bytes f.old
         ++ encode_utf8_all (heads_text S.written (head.now ∷ rest.now))) }
     ensures appended { OnErr result (OnlyAppends f.old f.new) }
