@@ -17,7 +17,8 @@ use irtext_base::text::{AttrText, IrText};
 use irtext_context::base::{
     AttributeDict, BasicBlock, BlockAccess, Context, Item, Operation, OperationAccess, Ptr,
 };
-use std::alloc::{AllocError, Global};
+use irtext_memory::Exhausted;
+use std::alloc::Global;
 
 /// Returns the given attribute: the one in the entry, or a copy of the print-once attribute that it refers to; `None` if there is no such
 /// attribute.
@@ -25,7 +26,7 @@ fn attr_given<A: AttrText<A>>(
     alloc: Global,
     once: &Once<A>,
     given: GivenAttr<A>,
-) -> Result<Option<AttrObj<A>>, AllocError>
+) -> Result<Option<AttrObj<A>>, Exhausted>
     ensures { IfOk result (λ attr. option_map attribute_of attr ≡ given_by once.now.entries given) }
 {
     let mark = match given {
@@ -38,19 +39,17 @@ fn attr_given<A: AttrText<A>>(
     }
 }
 
-/// Stores an attribute under a key. If the attribute is allowed there, fails only if an allocation fails.
+/// Stores an attribute under a key that may have it. Fails only if an allocation fails.
 pub(crate) fn attr_stored<A: Drop>(
     attributes: &mut AttributeDict<A>,
     key: Identifier,
     attr: AttrObj<A>,
-) -> Result<(), AllocError>
+) -> Result<(), Exhausted>
+    requires { may_hold key (attribute_of attr) ≡ true }
     ensures { OnOk result (entries_of attributes.new ≡ put_all (entries_of attributes.old)
         ((key, attribute_of attr) ∷ [])) }
 {
-    let Ok(()) = attributes.insert(key, attr) else {
-        return Err(AllocError);
-    };
-    Ok(())
+    attributes.put(key, attr)
 }
 
 /// Stores what a pair gives.
@@ -59,7 +58,7 @@ fn pair_stored<A: AttrText<A>>(
     once: &Once<A>,
     attributes: &mut AttributeDict<A>,
     pair: ReadPair<A>,
-) -> Result<(), AllocError>
+) -> Result<(), Exhausted>
     ensures { OnOk result (entries_of attributes.new ≡ put_all (entries_of attributes.old)
         (stored_by once.now.entries pair)) }
 {
@@ -76,7 +75,7 @@ pub(crate) fn pairs_stored<A: AttrText<A>>(
     once: &Once<A>,
     attributes: &mut AttributeDict<A>,
     pairs: Vec<ReadPair<A>>,
-) -> Result<(), AllocError>
+) -> Result<(), Exhausted>
     ensures { OnOk result (entries_of attributes.new ≡ put_all (entries_of attributes.old)
         (all_stored once.now.entries pairs.items)) }
 {
@@ -107,7 +106,7 @@ fn block_pair_stored<A: AttrText<A>>(
     attributes: &mut AttributeDict<A>,
     label: Option<Identifier>,
     pair: ReadPair<A>,
-) -> Result<Option<Identifier>, AllocError>
+) -> Result<Option<Identifier>, Exhausted>
     ensures stored { OnOk result (entries_of attributes.new ≡ put_all (entries_of attributes.old)
         (no_label (stored_by once.now.entries pair))) }
     ensures label { IfOk result (λ last. last ≡ label_in label (stored_by once.now.entries pair)) }
@@ -126,7 +125,7 @@ pub(crate) fn block_pairs_stored<A: AttrText<A>>(
     once: &Once<A>,
     attributes: &mut AttributeDict<A>,
     pairs: Vec<ReadPair<A>>,
-) -> Result<Option<Identifier>, AllocError>
+) -> Result<Option<Identifier>, Exhausted>
     ensures stored { OnOk result (entries_of attributes.new ≡ put_all (entries_of attributes.old)
         (no_label (all_stored once.now.entries pairs.items))) }
     ensures label { IfOk result (λ label. label ≡ label_in None (all_stored once.now.entries pairs.items)) }
@@ -161,7 +160,7 @@ fn operation_stored<T: IrText<A>, A: AttrText<A>>(
     once: &Once<A>,
     op: Ptr<Operation>,
     pairs: Vec<ReadPair<A>>,
-) -> Result<(), AllocError>
+) -> Result<(), Exhausted>
     requires { IsSome (operation ctx.old op) }
     ensures stores { OnOk result (StoresOperation op (all_stored once.now.entries pairs.items)
         ctx.old ctx.new) }
@@ -181,7 +180,7 @@ fn operation_given<T: IrText<A>, A: AttrText<A>>(
     op: Ptr<Operation>,
     location: Option<Location<A>>,
     pairs: Vec<ReadPair<A>>,
-) -> Result<(), AllocError>
+) -> Result<(), Exhausted>
     ensures gives { OnOk result (GivesOperation op location (all_stored once.now.entries pairs.items)
         ctx.old ctx.new) }
     ensures kept { (mark : ℕ) → before mark ctx.old.graph.operations op ≡ None
@@ -216,7 +215,7 @@ fn block_stored<T: IrText<A>, A: AttrText<A>>(
     once: &Once<A>,
     at: Ptr<BasicBlock>,
     pairs: Vec<ReadPair<A>>,
-) -> Result<Option<Identifier>, AllocError>
+) -> Result<Option<Identifier>, Exhausted>
     requires { IsSome (block ctx.old at) }
     ensures stores { OnOk result (StoresBlock at (no_label (all_stored once.now.entries pairs.items))
         ctx.old ctx.new) }
@@ -251,7 +250,7 @@ fn block_given<T: IrText<A>, A: AttrText<A>>(
     at: Ptr<BasicBlock>,
     location: Option<Location<A>>,
     pairs: Vec<ReadPair<A>>,
-) -> Result<(), AllocError>
+) -> Result<(), Exhausted>
     ensures gives { OnOk result (GivesBlock at location (all_stored once.now.entries pairs.items)
         ctx.old ctx.new) }
     ensures kept { (mark : ℕ) → before mark ctx.old.graph.blocks at ≡ None → KeepsOlder mark ctx.old ctx.new }
@@ -272,7 +271,7 @@ pub fn item_given<T: IrText<A>, A: AttrText<A>>(
     ctx: &mut Context<T, A>,
     once: &Once<A>,
     entry: ItemEntry<A>,
-) -> Result<(), AllocError>
+) -> Result<(), Exhausted>
     ensures gives { OnOk result (Gives entry.item entry.location (all_stored once.now.entries
         entry.pairs.items) ctx.old ctx.new) }
     ensures kept { (mark : ℕ) → IsNewer mark ctx.old entry.item → KeepsOlder mark ctx.old ctx.new }
@@ -294,7 +293,7 @@ pub fn items_given<T: IrText<A>, A: AttrText<A>>(
     ctx: &mut Context<T, A>,
     once: &Once<A>,
     items: Vec<ItemEntry<A>>,
-) -> Result<(), AllocError>
+) -> Result<(), Exhausted>
     ensures gives { OnOk result (GivesAll once.now.entries items.items ctx.old ctx.new) }
     ensures kept { (mark : ℕ) → ItemsAreNewer mark ctx.old items.items → KeepsOlder mark ctx.old ctx.new }
     ensures closed { (mark : ℕ) → IsClosedBelow mark ctx.old.graph → IsClosedBelow mark ctx.new.graph }

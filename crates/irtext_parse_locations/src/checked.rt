@@ -9,6 +9,7 @@ use irtext_base::base::AttrObj;
 use irtext_base::parsable::{CharStream, ParseFault, ParseResult, TextStream};
 use irtext_base::result::Cause;
 use irtext_grammar::parsed::Key;
+use irtext_memory::Exhausted;
 use irtext_tokens::irfmt::faults::{out_of_memory, refuse_at};
 
 /// Returns the print-once attribute with this index.
@@ -22,9 +23,9 @@ pub(crate) fn written_once<A>(once: &Once<A>, index: usize) -> Option<&AttrObj<A
 fn reserved<A>(stream: &mut TextStream, key: &Key) -> ParseFault<A>
     ensures { ReservesAt key.now stream.old result stream.new }
 {
-    match key.name.clone() {
+    match key.name.share() {
         Ok(name) => refuse_at(stream, key.at, Cause::ReservedKey(name)),
-        Err(_) => out_of_memory(stream),
+        Err(full) => out_of_memory(stream, Exhausted::from(full)),
     }
 }
 

@@ -20,7 +20,8 @@ use irtext_base::text::{AttrText, IrText};
 use irtext_context::base::{
     AttributeDict, BasicBlock, BlockAccess, Context, Item, Operation, OperationAccess, Ptr,
 };
-use std::alloc::{AllocError, Global};
+use irtext_memory::{Exhausted, vec};
+use std::alloc::Global;
 
 /// An entry whose attributes have been stored: the attributes that its item had before, if the item is live, and what the item still has
 /// to get.
@@ -38,11 +39,11 @@ fn entry_copied<A: AttrText<A>>(
     copy: &mut AttributeDict<A>,
     key: &Identifier,
     attr: &AttrObj<A>,
-) -> Result<(), AllocError>
+) -> Result<(), Exhausted>
     ensures { OnOk result (entries_of copy.new ≡ put_all (entries_of copy.old)
         ((key.now, attribute_of attr.now) ∷ [])) }
 {
-    let name = key.clone()?;
+    let name = key.share()?;
     let attr = attr.try_clone(alloc)?;
     attr_stored(copy, name, attr)
 }
@@ -52,7 +53,7 @@ fn copied<A: AttrText<A>>(
     alloc: Global,
     seed: Seed,
     attributes: &AttributeDict<A>,
-) -> Result<AttributeDict<A>, AllocError>
+) -> Result<AttributeDict<A>, Exhausted>
     ensures { IfOk result (λ copy. entries_of copy ≡ entries_of attributes.now) }
 {
     attributes.keeps_keys();
@@ -69,7 +70,7 @@ fn operation_next<T: IrText<A>, A: AttrText<A>>(
     once: &Once<A>,
     op: Ptr<Operation>,
     pairs: Vec<ReadPair<A>>,
-) -> Result<AttributeDict<A>, AllocError>
+) -> Result<AttributeDict<A>, Exhausted>
     requires { IsSome (operation ctx.now op) }
     ensures { IfOk result (HasStored (all_stored once.now.entries pairs.items)
         (option_map (λ op. op.attributes) (operation ctx.now op))) }
@@ -113,7 +114,7 @@ fn operation_stepped<T: IrText<A>, A: AttrText<A>>(
     once: &Once<A>,
     op: Ptr<Operation>,
     pairs: Vec<ReadPair<A>>,
-) -> Result<Option<AttributeDict<A>>, AllocError>
+) -> Result<Option<AttributeDict<A>>, Exhausted>
     ensures stores { OnOk result (Stores (all_stored once.now.entries pairs.items) (item.Operation op) None
         ctx.old ctx.new) }
     ensures takes { IfOk result (λ before. Takes (item.Operation op) before ctx.old ctx.new) }
@@ -132,7 +133,7 @@ fn block_next<T: IrText<A>, A: AttrText<A>>(
     once: &Once<A>,
     at: Ptr<BasicBlock>,
     pairs: Vec<ReadPair<A>>,
-) -> Result<(AttributeDict<A>, Option<Identifier>), AllocError>
+) -> Result<(AttributeDict<A>, Option<Identifier>), Exhausted>
     requires { IsSome (block ctx.now at) }
     ensures stored { IfOk result (λ next. HasStored (no_label (all_stored once.now.entries pairs.items))
         (option_map (λ b. b.attributes) (block ctx.now at)) next.0) }
@@ -151,7 +152,7 @@ fn block_stepped<T: IrText<A>, A: AttrText<A>>(
     once: &Once<A>,
     at: Ptr<BasicBlock>,
     pairs: Vec<ReadPair<A>>,
-) -> Result<(Option<AttributeDict<A>>, Option<Identifier>), AllocError>
+) -> Result<(Option<AttributeDict<A>>, Option<Identifier>), Exhausted>
     ensures stores { IfOk result (λ done. Stores (all_stored once.now.entries pairs.items) (item.Block at)
         done.1 ctx.old ctx.new) }
     ensures takes { IfOk result (λ done. Takes (item.Block at) done.0 ctx.old ctx.new) }
@@ -169,7 +170,7 @@ fn step_made<T: IrText<A>, A: AttrText<A>>(
     ctx: &mut Context<T, A>,
     once: &Once<A>,
     entry: ItemEntry<A>,
-) -> Result<Step<A>, AllocError>
+) -> Result<Step<A>, Exhausted>
     ensures made { IfOk result (λ step. IsStepOf once.now.entries entry step ctx.old ctx.new) }
     ensures takes { IfOk result (λ step. Takes step.item step.before ctx.old ctx.new) }
     ensures err { OnErr result (ctx.new ≡ ctx.old) }
@@ -192,7 +193,7 @@ fn noted<A: Drop>(steps: &mut Vec<Step<A>>, step: Step<A>)
     requires { vec_len steps.old < vec_capacity steps.old }
     ensures { steps.new.items ≡ steps.old.items ++ step ∷ [] }
 {
-    match steps.push(step) {
+    match vec::push(steps, step) {
         Ok(()) => (),
         Err(_) => unreachable!(),
     }
@@ -204,13 +205,13 @@ fn step_taken<T: IrText<A>, A: AttrText<A>>(
     once: &Once<A>,
     entry: ItemEntry<A>,
     steps: &mut Vec<Step<A>>,
-) -> Result<(), AllocError>
+) -> Result<(), Exhausted>
     ensures taken { OnOk result (StepsOn once.now.entries entry steps.old.items steps.new.items
         ctx.old ctx.new) }
     ensures err { OnErr result (ctx.new ≡ ctx.old) }
     ensures same { OnErr result (steps.new.items ≡ steps.old.items) }
 {
-    steps.reserve(1)?;
+    vec::reserve_one(steps)?;
     let step = step_made(ctx, once, entry)?;
     noted(steps, step);
     Ok(())
@@ -248,16 +249,16 @@ fn steps_taken<T: IrText<A>, A: AttrText<A>>(
     ctx: &mut Context<T, A>,
     once: &Once<A>,
     items: Vec<ItemEntry<A>>,
-) -> Result<Vec<Step<A>>, AllocError>
+) -> Result<Vec<Step<A>>, Exhausted>
     ensures stores { IfOk result (λ steps. StoresAll once.now.entries items.items steps.items
         ctx.old ctx.new) }
     ensures unchanged { (mark : ℕ) → OnErr result (KeepsOlder mark ctx.old ctx.new) }
 {
     let mut steps = Vec::new(ctx.allocator());
     for entry in items {
-        if step_taken(ctx, once, entry, &mut steps).is_err() {
+        if let Err(error) = step_taken(ctx, once, entry, &mut steps) {
             steps_undone(ctx, steps);
-            return Err(AllocError);
+            return Err(error);
         }
     }
     Ok(steps)
@@ -343,7 +344,7 @@ pub fn items_given_together<T: IrText<A>, A: AttrText<A>>(
     ctx: &mut Context<T, A>,
     once: &Once<A>,
     items: Vec<ItemEntry<A>>,
-) -> Result<(), AllocError>
+) -> Result<(), Exhausted>
     ensures unchanged { (mark : ℕ) → OnErr result (KeepsOlder mark ctx.old ctx.new) }
     ensures gives { OnOk result (GivesAll once.now.entries items.items ctx.old ctx.new) }
     ensures kept { (mark : ℕ) → ItemsAreNewer mark ctx.old items.items → KeepsOlder mark ctx.old ctx.new }

@@ -53,6 +53,7 @@ use irtext_parse_pieces::ids::results_and_id_parse;
 use irtext_parse_pieces::keys::Keys;
 use irtext_parse_state::parsable::StateStream;
 use irtext_parse_state::parsable::state::StreamLocation;
+use irtext_memory::Exhausted;
 use irtext_tokens::irfmt::faults::{commit, out_of_memory, refuse_at};
 
 /// What precedes an operation's first region.
@@ -149,7 +150,7 @@ pub(crate) fn gather_fault<A>(
     ensures { SaysGather names.now.names (whole stream.old) refusal result }
 {
     match refusal {
-        NotGathered::Memory => out_of_memory(stream),
+        NotGathered::Memory(error) => out_of_memory(stream, error),
         NotGathered::ReservedKey(key) => { refuse_at(stream, key.at, Cause::ReservedKey(key.name)) }
         NotGathered::NoActiveScope(name) => name_error(
             stream,
@@ -285,10 +286,10 @@ fn begin_read<T: IrText<A>, A: AttrText<A>, U>(
     };
     let ctx = &mut *s.state.ctx;
     ended(key);
-    let Ok(()) = placed(ctx, block, op) else {
+    if let Err(error) = placed(ctx, block, op) {
         ended((defined, id, coming));
-        return Err(out_of_memory(&mut s.stream));
-    };
+        return Err(out_of_memory(&mut s.stream, Exhausted::from(error)));
+    }
     Ok(BegunOperation {
         op,
         id,

@@ -52,7 +52,8 @@ use irtext_parse_pieces::headers::{BlockHead, block_head_parse};
 use irtext_parse_pieces::keys::Keys;
 use irtext_parse_state::parsable::StateStream;
 use irtext_tokens::irfmt::faults::{out_of_memory, refuse_at};
-use std::alloc::{AllocError, Global};
+use irtext_memory::Exhausted;
+use std::alloc::Global;
 
 /// Parses the header of a block. Its names are stored, and no name has two numbers.
 fn head_parse<T: IrText<A>, A: AttrText<A>>(
@@ -73,7 +74,7 @@ fn refusal_fault<A>(stream: &mut TextStream, refusal: NotGathered) -> ParseFault
     ensures { UnlessMemory (IsRefusalFault (whole stream.old) refusal) result }
 {
     match refusal {
-        NotGathered::Memory => out_of_memory(stream),
+        NotGathered::Memory(error) => out_of_memory(stream, error),
         NotGathered::ReservedKey(key) => { refuse_at(stream, key.at, Cause::ReservedKey(key.name)) }
         NotGathered::NoActiveScope(_) => unreachable!(),
     }
@@ -90,7 +91,7 @@ fn block_made<T: IrText<A>, A: AttrText<A>>(
     loc: Location<A>,
     attributes: AttributeDict<A>,
     types: Few<T>,
-) -> Result<Ptr<BasicBlock>, AllocError>
+) -> Result<Ptr<BasicBlock>, Exhausted>
     requires region { IsLive ctx.old.graph (TheRegion region) }
     requires known { label.name < length names.now.names }
     ensures places { IfOk result (PlacesLabelled names.now.names label loc attributes types ctx.old
@@ -98,12 +99,13 @@ fn block_made<T: IrText<A>, A: AttrText<A>>(
     ensures kept { (m : ℕ) → m ≤ ctx.old.graph.made → IsNew m ctx.old.graph (TheRegion region)
         → KeepsOlder m ctx.old ctx.new }
 {
-    let Some(name) = keys.label(alloc, label.name, names.name(label.name)) else {
-        return failed((loc, attributes, types), AllocError);
+    let name = match keys.label(alloc, label.name, names.name(label.name)) {
+        Ok(name) => name,
+        Err(error) => return failed((loc, attributes, types), Exhausted::from(error)),
     };
     match place_block(ctx, region, Some(name), attributes, loc, types) {
         Ok(block) => Ok(block),
-        Err(_) => Err(AllocError),
+        Err(room) => Err(Exhausted::from(room)),
     }
 }
 
@@ -135,9 +137,12 @@ fn head_made<T: IrText<A>, A: AttrText<A>, U>(
         → KeepsOlder m s.old.state.ctx.now s.new.state.ctx.now }
 {
     let alloc = s.stream.allocator();
-    let Ok((arguments, types)) = arguments_split(alloc, arguments) else {
-        ended(entries);
-        return Err(NotGathered::Memory);
+    let (arguments, types) = match arguments_split(alloc, arguments) {
+        Ok(split) => split,
+        Err(error) => {
+            ended(entries);
+            return Err(NotGathered::Memory(error));
+        }
     };
     let attributes = match block_attributes(alloc, s.state.seed(), names, entries, &arguments) {
         Ok(attributes) => attributes,
@@ -152,9 +157,9 @@ fn head_made<T: IrText<A>, A: AttrText<A>, U>(
         ctx, alloc, names, keys, region, label, loc, attributes, types,
     ) {
         Ok(block) => Ok((block, arguments)),
-        Err(AllocError) => {
+        Err(error) => {
             ended(arguments);
-            Err(NotGathered::Memory)
+            Err(NotGathered::Memory(error))
         }
     }
 }

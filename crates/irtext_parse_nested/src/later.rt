@@ -17,6 +17,7 @@ ghost use Rattle.irtext_grammar.specs.Unchanged.{ModifiesOnly};
 ghost use Rattle.irtext_grammar.specs.Heads.{steps_of};
 ghost use Rattle.irtext_grammar.specs.Reached.{steps_in};
 ghost use Rattle.irtext_parse_pieces.specs.Named.{NamesRead};
+ghost use Rattle.irtext_memory.specs.Rooms.{exhausted};
 ghost use Rattle.irtext_names.specs.declared.operation_parts.NotGathered.TheVariants.{Memory};
 ghost use Rattle.irtext_parse_nested.specs.Ends.{WritesAttributes};
 ghost use Rattle.irtext_names.specs.Gathering.{stored_of};
@@ -64,9 +65,10 @@ fn attr_stored<A: Drop>(
     key: Identifier,
     attr: Option<AttrObj<A>>,
 ) -> Result<(), NotGathered>
+    requires { IfSome attr (λ a. may_hold key (attribute_of a) ≡ true) }
     ensures stored { OnOk result (entries_of attributes.new
         ≡ put_all (entries_of attributes.old) (given_by key attr)) }
-    ensures refused { IfErr result (λ why. why ≡ Memory) }
+    ensures refused { IfErr result (λ why. why ≡ Memory exhausted) }
 {
     match attr {
         Some(attr) => kept(attributes, key, attr),
@@ -82,12 +84,12 @@ fn symbol_stored<A: Drop>(
 ) -> Result<(), NotGathered>
     ensures stored { OnOk result (entries_of attributes.new
         ≡ put_all (entries_of attributes.old) ((sym_name_key, ident symbol.name) ∷ [])) }
-    ensures refused { IfErr result (λ why. why ≡ Memory) }
+    ensures refused { IfErr result (λ why. why ≡ Memory exhausted) }
 {
-    let Ok(key) = symbol_key(alloc, &None) else {
-        return Err(NotGathered::Memory);
-    };
-    kept(attributes, key, AttrObj::Ident(symbol.name))
+    match symbol_key(alloc, &None) {
+        Ok(key) => kept(attributes, key, AttrObj::Ident(symbol.name)),
+        Err(error) => Err(NotGathered::Memory(error)),
+    }
 }
 
 /// Stores what a piece gives its operation: an attribute, the entries of a dictionary, or a symbol's name.

@@ -58,7 +58,8 @@ use irtext_parse_state::parsable::StateStream;
 use irtext_parse_state::parsable::state::Noting;
 use irtext_tokens::irfmt::faults::{out_of_memory, refuse_at};
 use irtext_tokens::irfmt::parsers::skip_white_space;
-use std::alloc::{AllocError, Global};
+use irtext_memory::Exhausted;
+use std::alloc::Global;
 
 /// Returns the error for an operation that does not have as many names as results, at the operation's beginning. Leaves the stream
 /// failed.
@@ -179,7 +180,7 @@ fn given_kept<T: IrText<A>, A: AttrText<A>>(
     alloc: Global,
     names: &Names,
     begun: &BegunOperation,
-) -> Result<(), AllocError>
+) -> Result<(), Exhausted>
     requires alive { IsSome (operation ctx.old begun.now.op) }
     requires known { AreKnown (length names.now.names) (numbers_of begun.now.names) }
     ensures writes { WritesAttributes ctx.old ctx.new begun.now.op }
@@ -272,7 +273,7 @@ pub(crate) fn note_mark<T: IrText<A>, A: AttrText<A>, U>(
             let twice = Cause::DuplicateIndex(read.index);
             Err(refuse_at(&mut s.stream, read.at, twice))
         }
-        Err(AllocError) => Err(out_of_memory(&mut s.stream)),
+        Err(error) => Err(out_of_memory(&mut s.stream, Exhausted::from(error))),
     }
 }
 

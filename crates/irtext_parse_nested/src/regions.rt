@@ -32,6 +32,7 @@ use irtext_names::name_errors::NameFault;
 use irtext_names::regions::exit_region;
 use irtext_parse_state::parsable::StateStream;
 use irtext_tokens::irfmt::demanded::text_demanded;
+use irtext_memory::Exhausted;
 use irtext_tokens::irfmt::faults::out_of_memory;
 
 /// Begins a region: opens its scopes, creates it, and parses its `{` and the white space after it. It is the last of an operation, or has
@@ -77,8 +78,9 @@ pub fn region_begin<T: IrText<A>, A: AttrText<A>, U>(
     if let Err(fault) = enter_here(s, names, isolated) {
         return Err(fault);
     }
-    let Ok(region) = create(s, op) else {
-        return Err(out_of_memory(&mut s.stream));
+    let region = match create(s, op) {
+        Ok(region) => region,
+        Err(room) => return Err(out_of_memory(&mut s.stream, Exhausted::from(room))),
     };
     if let Err(fault) = brace_demanded(&mut s.stream) {
         return Err(fault);

@@ -21,6 +21,7 @@ use irtext_base::parsable::{CharStream, ParseResult, Place};
 use irtext_base::result::{Cause, Expected};
 use irtext_base::text::AttrText;
 use irtext_grammar::parsed::{Key, NameKind, ReadEntry};
+use irtext_memory::{Exhausted, vec};
 use irtext_tokens::irfmt::demanded::{spaced_text_demanded, text_demanded};
 use irtext_tokens::irfmt::faults::{
     begins, committed, next_is, out_of_memory, refuse, refuse_at, unexpected,
@@ -48,7 +49,7 @@ fn key_taken<S: CharStream>(stream: &mut S, kept: &Identifier) -> Option<Identif
     if begins(stream, Class::Word) {
         return None;
     }
-    match kept.clone() {
+    match kept.share() {
         Ok(key) => Some(key),
         Err(_) => None,
     }
@@ -87,7 +88,7 @@ pub fn key_parse<S: CharStream, A>(
     skip_class(stream, Class::Word);
     match keys.key(stream.allocator(), index, stream.text_since(at)) {
         Ok(name) => Ok(Key { name, at }),
-        Err(_) => Err(out_of_memory(stream)),
+        Err(error) => Err(out_of_memory(stream, Exhausted::from(error))),
     }
 }
 
@@ -188,11 +189,11 @@ fn with_last<S: CharStream, X: Drop, A>(
     ensures stream { OnOk result (stream.new ≡ stream.old) }
     ensures ran_out { IfErr result (λ fault. RunsOutHere S.view S.at stream.old fault stream.new) }
 {
-    match items.push(item) {
+    match vec::push(&mut items, item) {
         Ok(()) => Ok(items),
-        Err(lost) => {
-            ended((items, lost));
-            Err(out_of_memory(stream))
+        Err(refused) => {
+            ended(items);
+            Err(out_of_memory(stream, Exhausted::from(refused)))
         }
     }
 }

@@ -22,12 +22,12 @@ use irtext_base::result::Cause;
 use irtext_base::text::{AttrText, IrText};
 use irtext_grammar::found::{CustomPieces, Pieces};
 use irtext_grammar::parsed::{ReadPiece, Setting};
+use irtext_memory::Exhausted;
 use irtext_scopes::tracker::NameTracker;
 use irtext_tokens::irfmt::demanded::text_demanded;
 use irtext_tokens::irfmt::faults::{out_of_memory, refuse};
 use irtext_tokens::irfmt::parsers::skip_white_space;
 use irtext_tokens::parsable::OwnStream;
-use std::alloc::AllocError;
 
 /// Appends a piece that was parsed to the pieces, or returns its error.
 #[inline(always)]
@@ -47,7 +47,7 @@ fn piece_kept<S: CharStream, T: Drop, A: Drop>(
     };
     match found.push(piece) {
         Ok(()) => Ok(()),
-        Err(AllocError) => Err(out_of_memory(stream)),
+        Err(error) => Err(out_of_memory(stream, Exhausted::from(error))),
     }
 }
 

@@ -16,10 +16,10 @@ use irtext_context::base::Context;
 use irtext_context::dialect::OpInfo;
 use irtext_few::Few;
 use irtext_grammar::parsed::ReadName;
+use irtext_memory::{Exhausted, Full};
 use irtext_scopes::tracker::NameTracker;
 use irtext_tokens::irfmt::faults::{committed, next_is, out_of_memory, refuse, refuse_at};
 use irtext_tokens::irfmt::parsers::{id_parse, skip_identifier, skip_white_space};
-use std::alloc::AllocError;
 use std::convert::AsStr;
 
 /// Consumes what may be an id, and looks it up: returns the id of a registered operation, as its dialect has it, with its registered
@@ -49,11 +49,11 @@ fn look_up<'c, S: CharStream, T: IrText<A>, A: AttrText<A>>(
 }
 
 /// Returns a copy of the id that shares its texts.
-fn copied(id: &OpId) -> Result<OpId, AllocError>
+fn copied(id: &OpId) -> Result<OpId, Full>
     ensures { IfOk result (λ copy. copy ≡ id.now) }
 {
-    let dialect = id.dialect.clone()?;
-    let name = id.name.clone()?;
+    let dialect = id.dialect.share()?;
+    let name = id.name.share()?;
     Ok(OpId { dialect, name })
 }
 
@@ -71,7 +71,7 @@ fn shared<'c, S: CharStream, A>(
 {
     match copied(id) {
         Ok(id) => Ok((id, info)),
-        Err(AllocError) => Err(out_of_memory(stream)),
+        Err(full) => Err(out_of_memory(stream, Exhausted::from(full))),
     }
 }
 

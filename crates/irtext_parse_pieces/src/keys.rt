@@ -3,8 +3,7 @@ ghost use Rattle.std.specs.Prelude.{◌≡◌, IfOk, IfSome, IsTrue};
 ghost use Rattle.irtext_base.specs.Text.{is_identifier};
 
 use irtext_base::base::Identifier;
-use irtext_base::base::identifier::is_identifier;
-use irtext_memory::OutOfMemory;
+use irtext_memory::{OutOfMemory, vec};
 use std::alloc::Global;
 
 /// How many keys are kept: those at the first places of a dictionary.
@@ -54,7 +53,7 @@ impl Keys {
         if kept.as_str() != text {
             return None;
         }
-        match kept.clone() {
+        match kept.share() {
             Ok(key) => Some(key),
             Err(_) => None,
         }
@@ -65,13 +64,13 @@ impl Keys {
         if index >= self.places {
             return;
         }
-        let Ok(key) = key.clone() else {
+        let Ok(key) = key.share() else {
             return;
         };
         match self.kept.get_mut(index) {
             Some(kept) => *kept = key,
             None => {
-                let _ = self.kept.push(key);
+                let _ = vec::push(&mut self.kept, key);
             }
         }
     }
@@ -85,36 +84,43 @@ impl Keys {
         if *last != number || label.as_str() != text {
             return None;
         }
-        match label.clone() {
+        match label.share() {
             Ok(label) => Some(label),
             Err(_) => None,
         }
     }
 
-    /// Returns a new label with this text; `None` if that is no identifier, or if an allocation fails.
+    /// Returns a new label with this text, which must be that of an identifier. Fails only when out of memory.
     #[inline(never)]
-    fn new_label(&mut self, alloc: Global, number: usize, text: &str) -> Option<Identifier>
-        ensures { IfSome result (λ label. label ≡ text.now) }
+    fn new_label(
+        &mut self,
+        alloc: Global,
+        number: usize,
+        text: &str,
+    ) -> Result<Identifier, OutOfMemory>
+        requires { IsTrue (is_identifier text.now) }
+        ensures { IfOk result (λ label. label ≡ text.now) }
     {
-        if !is_identifier(text) {
-            return None;
-        }
-        let Ok(label) = Identifier::from_word(alloc, text) else {
-            return None;
-        };
-        if let Ok(copy) = label.clone() {
+        let label = Identifier::from_word(alloc, text)?;
+        if let Ok(copy) = label.share() {
             self.label = Some((number, copy));
         }
-        Some(label)
+        Ok(label)
     }
 
-    /// Returns the label with this number and this text; `None` if that is no identifier, or if an allocation fails. Shares the text of the
-    /// last label if that is the same.
-    pub fn label(&mut self, alloc: Global, number: usize, text: &str) -> Option<Identifier>
-        ensures { IfSome result (λ label. label ≡ text.now) }
+    /// Returns the label with this number and this text, which must be that of an identifier. Shares the text of the last label if that is
+    /// the same. Fails only when out of memory.
+    pub fn label(
+        &mut self,
+        alloc: Global,
+        number: usize,
+        text: &str,
+    ) -> Result<Identifier, OutOfMemory>
+        requires { IsTrue (is_identifier text.now) }
+        ensures { IfOk result (λ label. label ≡ text.now) }
     {
         match self.last_label(number, text) {
-            Some(label) => Some(label),
+            Some(label) => Ok(label),
             None => self.new_label(alloc, number, text),
         }
     }

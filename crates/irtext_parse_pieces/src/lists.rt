@@ -14,39 +14,40 @@ use irtext_grammar::parsed::{NameKind, ReadName};
 use irtext_scopes::tracker::NameTracker;
 use irtext_tokens::irfmt::faults::{begins, committed, next_is, out_of_memory};
 use irtext_tokens::irfmt::parsers::{Class, skip_white_space, text_parse};
-use std::alloc::{AllocError, Global};
+use irtext_memory::{Exhausted, vec};
+use std::alloc::Global;
 
 /// Returns a list of three items.
-fn many<X: Drop>(alloc: Global, first: X, second: X, third: X) -> Result<Few<X>, AllocError>
+fn many<X: Drop>(alloc: Global, first: X, second: X, third: X) -> Result<Few<X>, Exhausted>
     ensures { IfOk result (λ items. items ≡ first ∷ second ∷ third ∷ []) }
 {
     let mut items = Vec::new(alloc);
-    let Ok(()) = items.push(first) else {
+    if let Err(refused) = vec::push(&mut items, first) {
         ended((items, second, third));
-        return Err(AllocError);
-    };
-    let Ok(()) = items.push(second) else {
+        return Err(Exhausted::from(refused));
+    }
+    if let Err(refused) = vec::push(&mut items, second) {
         ended((items, third));
-        return Err(AllocError);
-    };
-    let Ok(()) = items.push(third) else {
+        return Err(Exhausted::from(refused));
+    }
+    if let Err(refused) = vec::push(&mut items, third) {
         ended(items);
-        return Err(AllocError);
-    };
+        return Err(Exhausted::from(refused));
+    }
     Ok(Few::from_vec(items))
 }
 
 /// Returns the items with one more appended. Allocates only if it is the third or a later one.
-fn with_item<X: Drop>(alloc: Global, items: Few<X>, item: X) -> Result<Few<X>, AllocError>
+fn with_item<X: Drop>(alloc: Global, items: Few<X>, item: X) -> Result<Few<X>, Exhausted>
     ensures { IfOk result (λ more. more ≡ items ++ item ∷ []) }
 {
     match items.into_items() {
         Items::Nothing => Ok(Few::one(item)),
         Items::One(first) => Ok(Few::two(first, item)),
         Items::Two(first, second) => many(alloc, first, second, item),
-        Items::Many(mut found) => match found.push(item) {
+        Items::Many(mut found) => match vec::push(&mut found, item) {
             Ok(()) => Ok(Few::from_vec(found)),
-            Err(_) => Err(AllocError),
+            Err(refused) => Err(Exhausted::from(refused)),
         },
     }
 }
@@ -64,7 +65,7 @@ pub(crate) fn with_spaced<S: CharStream, X: Drop, A>(
     skip_white_space(stream);
     match with_item(stream.allocator(), items, item) {
         Ok(more) => Ok(more),
-        Err(AllocError) => Err(out_of_memory(stream)),
+        Err(error) => Err(out_of_memory(stream, error)),
     }
 }
 

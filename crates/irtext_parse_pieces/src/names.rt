@@ -10,6 +10,7 @@ use irtext_base::base::Identifier;
 use irtext_base::parsable::{CharStream, ParseFault, ParseResult};
 use irtext_base::result::{Cause, Expected};
 use irtext_grammar::parsed::{ReadName, Symbol};
+use irtext_memory::{Exhausted, OutOfMemory};
 use irtext_scopes::tracker::NameTracker;
 use irtext_tokens::irfmt::demanded;
 use irtext_tokens::irfmt::demanded::text_demanded;
@@ -46,10 +47,10 @@ fn name_missing<S: CharStream, A>(stream: &mut S) -> ParseResult<ReadName, A>
 /// Returns the error `Memory`, committed, for a name that cannot be stored.
 #[cold]
 #[inline(never)]
-fn name_unstored<S: CharStream, A>(stream: &mut S) -> ParseResult<ReadName, A>
+fn name_unstored<S: CharStream, A>(stream: &mut S, error: OutOfMemory) -> ParseResult<ReadName, A>
     ensures { IsErrAnd result (λ fault. RunsOutHere S.view S.at stream.old fault stream.new) }
 {
-    Err(out_of_memory(stream))
+    Err(out_of_memory(stream, Exhausted::from(error)))
 }
 
 /// Parses a name, and stores it. If none comes next, the error is uncommitted and the stream is unchanged; other errors are committed.
@@ -71,7 +72,7 @@ pub(crate) fn name_parse<S: CharStream, V: Copy, B: Copy, A>(
     skip_class(stream, Class::Word);
     match names.intern(stream.text_since(at)) {
         Ok(name) => Ok(ReadName { name, at }),
-        Err(_) => name_unstored(stream),
+        Err(error) => name_unstored(stream, error),
     }
 }
 

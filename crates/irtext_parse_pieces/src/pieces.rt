@@ -29,6 +29,7 @@ use irtext_base::parsable::{CharStream, ParseResult};
 use irtext_base::result::{Cause, Expected};
 use irtext_base::text::{AttrText, IrText};
 use irtext_grammar::parsed::{NameKind, ReadPiece, Setting};
+use irtext_memory::Exhausted;
 use irtext_scopes::tracker::NameTracker;
 use irtext_tokens::irfmt::demanded::text_demanded;
 use irtext_tokens::irfmt::faults::{commit_unexpected, committed, out_of_memory, refuse};
@@ -127,9 +128,9 @@ fn attr_piece<S: OwnStream, T: IrText<A>, A: AttrText<A>>(
         Ok(attr) => attr,
         Err(fault) => return Err(fault),
     };
-    match key.clone() {
+    match key.share() {
         Ok(key) => Ok(ReadPiece::Attr(key, attr)),
-        Err(_) => failed(attr, out_of_memory(stream)),
+        Err(full) => failed(attr, out_of_memory(stream, Exhausted::from(full))),
     }
 }
 

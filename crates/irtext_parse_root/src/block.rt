@@ -31,6 +31,7 @@ use irtext_base::result::Cause;
 use irtext_base::text::{AttrText, IrText};
 use irtext_context::base::{BasicBlock, Ptr};
 use irtext_grammar::parsed::{Key, ReadEntry, ReadMark, ReadName};
+use irtext_memory::Exhausted;
 use irtext_names::kinds::Names;
 use irtext_parse_locations::rules::{is_given, is_label_key, is_names_key};
 use irtext_parse_pieces::headers::{BlockHead, block_head_parse};
@@ -96,9 +97,9 @@ fn key_fault<A>(stream: &mut TextStream, key: &Key) -> ParseFault<A>
     ensures says { UnlessMemory (IsKeyFault (whole stream.old) key.now) result }
     ensures fails { stream.new ≡ after_failure stream.old }
 {
-    match key.name.clone() {
+    match key.name.share() {
         Ok(name) => refuse_at(stream, key.at, Cause::ReservedKey(name)),
-        Err(_) => out_of_memory(stream),
+        Err(error) => out_of_memory(stream, Exhausted::from(error)),
     }
 }
 
@@ -114,7 +115,7 @@ fn no_scope_error<A>(stream: &mut TextStream, names: &Names, read: ReadName) -> 
 {
     match Identifier::from_word(stream.allocator(), names.name(read.name)) {
         Ok(name) => refuse_at(stream, read.at, Cause::NoActiveScope(name)),
-        Err(_) => out_of_memory(stream),
+        Err(error) => out_of_memory(stream, Exhausted::from(error)),
     }
 }
 
@@ -173,7 +174,7 @@ fn header_parse<T: IrText<A>, A: AttrText<A>>(
     }
     match held(stream.allocator(), "^") {
         Ok(label) => Err(unexpected(stream, label)),
-        Err(_) => Err(out_of_memory(stream)),
+        Err(error) => Err(out_of_memory(stream, Exhausted::from(error))),
     }
 }
 

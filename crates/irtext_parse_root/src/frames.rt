@@ -2,8 +2,9 @@
 ghost use Rattle.std.specs.Prelude.{◌≡◌, ◌++◌, ◌∷◌, [], OnOk};
 ghost use Rattle.irtext_parse_root.specs.Turned.{TakesLast};
 
+use irtext_memory::{OutOfMemory, vec};
 use irtext_parse_nested::frame::{BegunBlock, BegunOperation, BegunRegion};
-use std::alloc::{AllocError, Global};
+use std::alloc::Global;
 use std::marker::Model;
 
 /// A frame: an operation, a region or a block whose text has begun and has not ended.
@@ -44,14 +45,14 @@ impl Waiting {
 
     /// Pushes a frame. Allocates only if another frame is on the stack.
     #[inline(always)]
-    pub(crate) fn push(&mut self, frame: Frame) -> Result<(), AllocError>
+    pub(crate) fn push(&mut self, frame: Frame) -> Result<(), OutOfMemory>
         ensures { OnOk result (self.new ≡ self.old ++ frame ∷ []) }
     {
         if self.outermost.is_none() && self.inner.is_empty() {
             self.outermost = Some(frame);
             return Ok(());
         }
-        self.inner.push(frame)?;
+        vec::push(&mut self.inner, frame)?;
         Ok(())
     }
 

@@ -32,6 +32,7 @@ use irtext_context::base::context::making::Making;
 use irtext_context::base::operation::OperationAccess;
 use irtext_context::base::{Context, Operation, Ptr, Region};
 use irtext_graph_queries::edits::ObjectEdits;
+use irtext_memory::Exhausted;
 use irtext_names::kinds::Names;
 use irtext_parse_nested::regions::region_begin;
 use irtext_parse_state::parsable::StateStream;
@@ -151,7 +152,7 @@ fn region_placed<T: IrText<A>, A: AttrText<A>, U>(
     let ctx = &mut *s.state.ctx;
     match region.insert_at_back(op, ctx) {
         Ok(()) => Ok(()),
-        Err(_) => Err(out_of_memory(&mut s.stream)),
+        Err(error) => Err(out_of_memory(&mut s.stream, Exhausted::from(error))),
     }
 }
 

@@ -19,6 +19,7 @@ use irtext_base::result::Cause;
 use irtext_base::text::{AttrText, IrText};
 use irtext_context::base::{Operation, Ptr};
 use irtext_graph::held::HasGraph;
+use irtext_memory::Exhausted;
 use irtext_parse_state::parsable::{State, StateStream};
 use irtext_tokens::irfmt::faults::{current_position, fail_at, out_of_memory};
 
@@ -53,9 +54,9 @@ fn no_scope_error<A>(stream: &mut TextStream, name: &Identifier, loc: &Location<
         × IsOutermost loc.now f.pos) result }
     ensures refused { Refusal stream.old result stream.new }
 {
-    match name.clone() {
+    match name.share() {
         Ok(name) => fail_at(stream, position_of(loc), Cause::NoActiveScope(name)),
-        Err(_) => out_of_memory(stream),
+        Err(full) => out_of_memory(stream, Exhausted::from(full)),
     }
 }
 

@@ -17,6 +17,7 @@ use crate::passing::{skip_to_operation, space_parse};
 use crate::turns::{begin, end, enter, go_on, head, leave};
 use irtext_base::parsable::ParseResult;
 use irtext_base::text::{AttrText, IrText};
+use irtext_memory::Exhausted;
 use irtext_names::kinds::Names;
 use irtext_parse_nested::frame::{BegunBlock, BegunOperation, BegunRegion};
 use irtext_parse_pieces::coming::Coming;
@@ -98,9 +99,9 @@ fn region_step<T: IrText<A>, A: AttrText<A>, U>(
         Err(fault) => return ended(Err(fault), begun),
     };
     let waits = at_step(begun, following);
-    let Ok(()) = frames.push(Frame::Operation(waits)) else {
-        return Err(out_of_memory(&mut s.stream));
-    };
+    if let Err(error) = frames.push(Frame::Operation(waits)) {
+        return Err(out_of_memory(&mut s.stream, Exhausted::from(error)));
+    }
     Ok(Some(Frame::Region(region)))
 }
 
@@ -130,9 +131,9 @@ fn regions_step<T: IrText<A>, A: AttrText<A>, U>(
         Ok(region) => region,
         Err(fault) => return ended(Err(fault), begun),
     };
-    let Ok(()) = frames.push(Frame::Operation(begun)) else {
-        return Err(out_of_memory(&mut s.stream));
-    };
+    if let Err(error) = frames.push(Frame::Operation(begun)) {
+        return Err(out_of_memory(&mut s.stream, Exhausted::from(error)));
+    }
     Ok(Some(Frame::Region(region)))
 }
 
@@ -198,9 +199,9 @@ fn blocks_step<T: IrText<A>, A: AttrText<A>, U>(
         return Ok(frames.pop());
     }
     let block = head(s, names, keys, region.region)?;
-    let Ok(()) = frames.push(Frame::Region(region)) else {
-        return Err(out_of_memory(&mut s.stream));
-    };
+    if let Err(error) = frames.push(Frame::Region(region)) {
+        return Err(out_of_memory(&mut s.stream, Exhausted::from(error)));
+    }
     Ok(Some(Frame::Block(block)))
 }
 
@@ -226,9 +227,9 @@ fn block_step<T: IrText<A>, A: AttrText<A>, U>(
         block: block.block,
         first: false,
     };
-    let Ok(()) = frames.push(Frame::Block(waits)) else {
-        return Err(out_of_memory(&mut s.stream));
-    };
+    if let Err(error) = frames.push(Frame::Block(waits)) {
+        return Err(out_of_memory(&mut s.stream, Exhausted::from(error)));
+    }
     Ok(Some(Frame::Operation(begun)))
 }
 

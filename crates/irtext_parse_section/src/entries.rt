@@ -13,13 +13,14 @@ use indexmap::IndexMap;
 use irtext_base::parsable::{CharStream, ParseResult};
 use irtext_base::seed::Seed;
 use irtext_base::text::{AttrText, IrText};
+use irtext_memory::{Exhausted, OutOfMemory, boxed, map, vec};
 use irtext_parse_locations::said::{Entries, NotedEntries, ReadEntry};
 use irtext_parse_pieces::keys::Keys;
 use irtext_parse_state::parsable::StateStream;
 use irtext_parse_state::parsable::numbered::Numbered;
 use irtext_tokens::irfmt::faults::{next_is, out_of_memory};
 use irtext_tokens::irfmt::parsers::skip_white_space;
-use std::alloc::{AllocError, Global};
+use std::alloc::Global;
 
 /// Returns an empty list of entries. Allocates nothing.
 fn none_noted<A>(alloc: Global, seed: Seed) -> NotedEntries<A>
@@ -37,16 +38,16 @@ fn none_noted<A>(alloc: Global, seed: Seed) -> NotedEntries<A>
 fn entry_noted<A: Drop>(
     entries: &mut NotedEntries<A>,
     entry: ReadEntry<A>,
-) -> Result<(), AllocError>
+) -> Result<(), OutOfMemory>
     ensures { OnOk result (Notes (noted entries.old) entry (noted entries.new)) }
 {
     match entry {
         ReadEntry::OfItem(index, entry) => {
             entries.seen.note(index, ())?;
-            entries.items.push(entry)?;
+            vec::push(&mut entries.items, entry)?;
         }
         ReadEntry::OfOnce(index, attr) => {
-            entries.once.insert(index, attr)?;
+            map::insert(&mut entries.once, index, attr)?;
         }
     }
     Ok(())
@@ -57,7 +58,7 @@ fn first_noted<A: Drop>(
     alloc: Global,
     seed: Seed,
     first: ReadEntry<A>,
-) -> Result<NotedEntries<A>, AllocError>
+) -> Result<NotedEntries<A>, OutOfMemory>
     ensures { IfOk result (λ entries. noted entries ≡ one_noted first) }
 {
     let mut entries = none_noted(alloc, seed);
@@ -84,16 +85,16 @@ fn more_parse<T: IrText<A>, A: AttrText<A>, U>(
                 return Err(fault);
             }
         };
-        if entry_noted(&mut entries, entry).is_err() {
+        if let Err(error) = entry_noted(&mut entries, entry) {
             drop((entries, keys));
-            return Err(out_of_memory(&mut s.stream));
+            return Err(out_of_memory(&mut s.stream, Exhausted::from(error)));
         }
         skip_white_space(&mut s.stream);
     }
     drop(keys);
-    match Box::new(s.stream.allocator(), entries) {
+    match boxed::new(s.stream.allocator(), entries) {
         Ok(all) => Ok(Entries::All(all)),
-        Err(_) => Err(out_of_memory(&mut s.stream)),
+        Err(refused) => Err(out_of_memory(&mut s.stream, Exhausted::from(refused))),
     }
 }
 
@@ -109,7 +110,7 @@ fn first_and_more<T: IrText<A>, A: AttrText<A>, U>(
 {
     match first_noted(s.stream.allocator(), s.state.seed(), first) {
         Ok(entries) => more_parse(s, entries, keys),
-        Err(AllocError) => Err(out_of_memory(&mut s.stream)),
+        Err(error) => Err(out_of_memory(&mut s.stream, Exhausted::from(error))),
     }
 }
 

@@ -12,6 +12,7 @@ use irtext_base::parsable::{CharStream, ParseResult, Place, TextStream};
 use irtext_base::result::Cause;
 use irtext_base::text::AttrText;
 use irtext_grammar::parsed::ReadMark;
+use irtext_memory::{Exhausted, OutOfMemory, vec};
 use irtext_parse_locations::rules::is_allowed_under;
 use irtext_parse_locations::said::{GivenAttr, ReadPair};
 use irtext_parse_pieces::entries::{attr_demanded, key_parse};
@@ -19,7 +20,6 @@ use irtext_parse_pieces::keys::Keys;
 use irtext_tokens::irfmt::demanded::{index_demanded, spaced_text_demanded, text_demanded};
 use irtext_tokens::irfmt::faults::{committed, next_is, out_of_memory, refuse, refuse_at};
 use irtext_tokens::irfmt::parsers::skip_white_space;
-use std::alloc::AllocError;
 
 /// Parses what follows `=`: an attribute, or `!` and the index of a print-once attribute. Every error is committed.
 fn item_parse<A: AttrText<A>>(stream: &mut TextStream) -> ParseResult<GivenAttr<A>, A>
@@ -94,11 +94,11 @@ fn kept_parse<A: AttrText<A>>(
 fn pushed<A: Drop>(
     found: Vec<ReadPair<A>>,
     pair: ReadPair<A>,
-) -> Result<Vec<ReadPair<A>>, AllocError>
+) -> Result<Vec<ReadPair<A>>, OutOfMemory>
     ensures { IfOk result (λ more. more.items ≡ found.items ++ pair ∷ []) }
 {
     let mut found = found;
-    found.push(pair)?;
+    vec::push(&mut found, pair)?;
     Ok(found)
 }
 
@@ -114,7 +114,7 @@ fn more_pairs<A: AttrText<A>>(
 {
     let mut found = match pushed(Vec::new(stream.allocator()), first) {
         Ok(one) => one,
-        Err(AllocError) => return Err(out_of_memory(stream)),
+        Err(error) => return Err(out_of_memory(stream, Exhausted::from(error))),
     };
     while next_is(stream, ',') {
         let _ = stream.take();
@@ -124,7 +124,7 @@ fn more_pairs<A: AttrText<A>>(
         skip_white_space(stream);
         found = match pushed(found, next) {
             Ok(more) => more,
-            Err(AllocError) => return Err(out_of_memory(stream)),
+            Err(error) => return Err(out_of_memory(stream, Exhausted::from(error))),
         };
     }
     Ok(found)

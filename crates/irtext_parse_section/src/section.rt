@@ -21,12 +21,12 @@ use crate::entries::entries_parse;
 use crate::whole::{all_given, entries_checked};
 use irtext_base::parsable::{CharStream, ParseResult};
 use irtext_base::text::{AttrText, IrText};
+use irtext_memory::Exhausted;
 use irtext_parse_locations::said::Entries;
 use irtext_parse_state::parsable::StateStream;
 use irtext_parse_state::parsable::state::Noting;
 use irtext_tokens::irfmt::demanded::spaced_text_demanded;
 use irtext_tokens::irfmt::faults::out_of_memory;
-use std::alloc::AllocError;
 
 /// Parses the section's first word, and all entries. Every error is committed.
 fn all_parse<T: IrText<A>, A: AttrText<A>, U>(
@@ -59,7 +59,7 @@ fn entries_given<T: IrText<A>, A: AttrText<A>, U>(
     s: &mut StateStream<'_, T, A, U>,
     earlier: bool,
     entries: Entries<A>,
-) -> Result<(), AllocError>
+) -> Result<(), Exhausted>
     ensures lent { s.new.state.ctx.ghost_name ≡ s.old.state.ctx.ghost_name }
     ensures rest { KeepsRest s.old.state s.new.state }
     ensures marks { marks_of s.new.state ≡ marks_of s.old.state }
@@ -96,8 +96,8 @@ pub fn section_given<T: IrText<A>, A: AttrText<A>, U>(
     ensures unchanged { (mark : ℕ) → earlier ≡ true → OnErr result (KeepsOlder mark s.old.state.ctx.now
         s.new.state.ctx.now) }
 {
-    if entries_given(s, earlier, entries).is_err() {
-        return Err(out_of_memory(&mut s.stream));
+    if let Err(error) = entries_given(s, earlier, entries) {
+        return Err(out_of_memory(&mut s.stream, error));
     }
     s.state.truncate_marks(0);
     Ok(())

@@ -11,12 +11,13 @@ use irtext_base::parsable::{CharStream, ParseResult, TextStream};
 use irtext_base::seed::Seed;
 use irtext_base::text::{AttrText, IrText};
 use irtext_context::base::Context;
+use irtext_memory::{Exhausted, vec};
 use irtext_parse_locations::applied::{item_given, items_given};
 use irtext_parse_locations::checked::{items_checked, pairs_checked};
 use irtext_parse_locations::rules::is_block;
 use irtext_parse_locations::said::{Entries, ItemEntry, NotedEntries};
 use irtext_parse_locations::together::{item_located, items_given_together};
-use std::alloc::{AllocError, Global};
+use std::alloc::Global;
 
 /// Fails at the first reference of the only entry: there are no print-once attributes.
 fn only_checked<A: Drop>(stream: &mut TextStream, entry: &ItemEntry<A>) -> ParseResult<(), A>
@@ -45,11 +46,11 @@ pub(crate) fn entries_checked<A: Drop>(
 }
 
 /// Returns a vector of one entry.
-fn one_item<A: Drop>(alloc: Global, entry: ItemEntry<A>) -> Result<Vec<ItemEntry<A>>, AllocError>
+fn one_item<A: Drop>(alloc: Global, entry: ItemEntry<A>) -> Result<Vec<ItemEntry<A>>, Exhausted>
     ensures { IfOk result (λ items. items.items ≡ entry ∷ []) }
 {
     let mut items = Vec::new(alloc);
-    items.push(entry)?;
+    vec::push(&mut items, entry)?;
     Ok(items)
 }
 
@@ -60,7 +61,7 @@ fn only_stored<T: IrText<A>, A: AttrText<A>>(
     ctx: &mut Context<T, A>,
     earlier: bool,
     entry: ItemEntry<A>,
-) -> Result<(), AllocError>
+) -> Result<(), Exhausted>
     ensures gives { OnOk result (GivesAll [] (entry ∷ []) ctx.old ctx.new) }
     ensures kept { (mark : ℕ) → ItemsAreNewer mark ctx.old (entry ∷ []) → KeepsOlder mark ctx.old ctx.new }
     ensures closed { (mark : ℕ) → IsClosedBelow mark ctx.old.graph → IsClosedBelow mark ctx.new.graph }
@@ -81,7 +82,7 @@ fn only_given<T: IrText<A>, A: AttrText<A>>(
     ctx: &mut Context<T, A>,
     entry: ItemEntry<A>,
     earlier: bool,
-) -> Result<(), AllocError>
+) -> Result<(), Exhausted>
     ensures gives { OnOk result (GivesAll [] (entry ∷ []) ctx.old ctx.new) }
     ensures kept { (mark : ℕ) → ItemsAreNewer mark ctx.old (entry ∷ []) → KeepsOlder mark ctx.old ctx.new }
     ensures closed { (mark : ℕ) → IsClosedBelow mark ctx.old.graph → IsClosedBelow mark ctx.new.graph }
@@ -99,7 +100,7 @@ fn many_given<T: IrText<A>, A: AttrText<A>>(
     ctx: &mut Context<T, A>,
     entries: NotedEntries<A>,
     earlier: bool,
-) -> Result<(), AllocError>
+) -> Result<(), Exhausted>
     ensures gives { OnOk result (GivesAll entries.once.entries entries.items.items ctx.old ctx.new) }
     ensures kept { (mark : ℕ) → ItemsAreNewer mark ctx.old entries.items.items
         → KeepsOlder mark ctx.old ctx.new }
@@ -123,7 +124,7 @@ pub(crate) fn all_given<T: IrText<A>, A: AttrText<A>>(
     ctx: &mut Context<T, A>,
     entries: Entries<A>,
     earlier: bool,
-) -> Result<(), AllocError>
+) -> Result<(), Exhausted>
     ensures gives { OnOk result (GivesAll (once_of entries) (items_of entries) ctx.old ctx.new) }
     ensures kept { (mark : ℕ) → ItemsAreNewer mark ctx.old (items_of entries)
         → KeepsOlder mark ctx.old ctx.new }

@@ -8,9 +8,9 @@ use irtext_base::parsable::Place;
 use irtext_few::Few;
 use irtext_grammar::found::{Form, Pieces};
 use irtext_grammar::parsed::{ReadMark, ReadName, ReadPiece};
+use irtext_memory::{OutOfMemory, vec};
 use irtext_parse_pieces::headers::BlockHead;
 use irtext_scopes::tracker::NameTracker;
-use std::alloc::AllocError;
 
 /// The names of a walk, by number. No scope is ever opened.
 pub(crate) type Names = NameTracker<(), ()>;
@@ -40,16 +40,16 @@ fn name_noted(
     name: &str,
     mention: Mention,
     read: ReadName,
-) -> Result<(), AllocError>
+) -> Result<(), OutOfMemory>
     requires { AreNamed names.now.names ((mention, read) ∷ []) }
     ensures { OnOk result (Notes names.now.names name.now ((mention, read) ∷ []) book.old book.new) }
 {
     if names.name(read.name) != name {
         return Ok(());
     }
-    match book.notes.push(Note::Mentions(mention, read.at)) {
+    match vec::push(&mut book.notes, Note::Mentions(mention, read.at)) {
         Ok(()) => Ok(()),
-        Err(_) => Err(AllocError),
+        Err(refused) => Err(OutOfMemory::from(refused)),
     }
 }
 
@@ -76,7 +76,7 @@ pub(crate) fn names_noted(
     name: &str,
     mention: Mention,
     read: &Few<ReadName>,
-) -> Result<(), AllocError>
+) -> Result<(), OutOfMemory>
     requires { AreNamed names.now.names (read_as mention read.now) }
     ensures { OnOk result (Notes names.now.names name.now (read_as mention read.now) book.old book.new) }
 {
@@ -94,7 +94,7 @@ pub(crate) fn piece_noted<T: Drop, A: Drop>(
     names: &Names,
     name: &str,
     piece: &ReadPiece<T, A>,
-) -> Result<(), AllocError>
+) -> Result<(), OutOfMemory>
     requires { AreNamed names.now.names (read_uses piece.now) }
     ensures { OnOk result (Notes names.now.names name.now (read_uses piece.now) book.old book.new) }
 {
@@ -126,7 +126,7 @@ fn found_noted<T: Drop, A: Drop>(
     names: &Names,
     name: &str,
     pieces: &[(usize, ReadPiece<T, A>)],
-) -> Result<(), AllocError>
+) -> Result<(), OutOfMemory>
     requires { AreNamed names.now.names (all_read (map (λ f. f.1) pieces.now)) }
     ensures { OnOk result (Notes names.now.names name.now (all_read (map (λ f. f.1) pieces.now)) book.old
         book.new) }
@@ -145,7 +145,7 @@ pub(crate) fn pieces_noted<T: Drop, A: Drop>(
     names: &Names,
     name: &str,
     pieces: Pieces<T, A>,
-) -> Result<(), AllocError>
+) -> Result<(), OutOfMemory>
     requires { AreNamed names.now.names (all_read pieces) }
     ensures { OnOk result (Notes names.now.names name.now (all_read pieces) book.old book.new) }
 {
@@ -171,7 +171,7 @@ fn arguments_noted<T: Drop>(
     names: &Names,
     name: &str,
     arguments: &Few<(ReadName, T)>,
-) -> Result<(), AllocError>
+) -> Result<(), OutOfMemory>
     requires { AreNamed names.now.names (arguments_read arguments.now) }
     ensures { OnOk result (Notes names.now.names name.now (arguments_read arguments.now) book.old book.new) }
 {
@@ -190,7 +190,7 @@ pub(crate) fn head_noted<T: Drop, A: Drop>(
     names: &Names,
     name: &str,
     head: &BlockHead<T, A>,
-) -> Result<(), AllocError>
+) -> Result<(), OutOfMemory>
     requires { AreNamed names.now.names (arguments_read head.now.arguments ++ (mention.DefinesLabel, head.now.label) ∷ []) }
     ensures { OnOk result (Notes names.now.names name.now
         (arguments_read head.now.arguments ++ (mention.DefinesLabel, head.now.label) ∷ []) book.old book.new) }

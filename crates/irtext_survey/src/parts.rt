@@ -16,6 +16,7 @@ use irtext_context::base::Context;
 use irtext_few::Few;
 use irtext_grammar::found::Pieces;
 use irtext_grammar::parsed::{ReadName, ReadPiece, Setting};
+use irtext_memory::{Exhausted, vec};
 use irtext_names::entering::brace_demanded;
 use irtext_parse_pieces::fronts::front_parse;
 use irtext_parse_pieces::headers::{BlockHead, block_head_parse};
@@ -54,9 +55,9 @@ pub(crate) fn operation_begin<T: IrText<A>, A: AttrText<A>>(
         Err(fault) => return Err(fault),
     };
     let step = pieces.len();
-    let Ok(()) = pieces_noted(book, names, name, pieces) else {
-        return Err(out_of_memory(stream));
-    };
+    if let Err(error) = pieces_noted(book, names, name, pieces) {
+        return Err(out_of_memory(stream, Exhausted::from(error)));
+    }
     Ok(OpenOperation {
         names: results,
         id,
@@ -86,9 +87,9 @@ pub(crate) fn piece_parse<T: IrText<A>, A: AttrText<A>>(
         Ok(piece) => piece,
         Err(fault) => return Err(fault),
     };
-    let Ok(()) = piece_noted(book, names, name, &piece) else {
-        return Err(out_of_memory(stream));
-    };
+    if let Err(error) = piece_noted(book, names, name, &piece) {
+        return Err(out_of_memory(stream, Exhausted::from(error)));
+    }
     Ok(())
 }
 
@@ -104,9 +105,9 @@ pub(crate) fn end_parse<A>(
     requires named { AreNamed names.now.names (read_as DefinesValue results.now) }
     ensures ends { Ends name.now names.now.names results.now book.old stream.old result book.new stream.new }
 {
-    let Ok(()) = names_noted(book, names, name, Mention::DefinesValue, results) else {
-        return Err(out_of_memory(stream));
-    };
+    if let Err(error) = names_noted(book, names, name, Mention::DefinesValue, results) {
+        return Err(out_of_memory(stream, Exhausted::from(error)));
+    }
     skip_white_space(stream);
     match mark_parse(stream) {
         Ok(mark) => {
@@ -133,9 +134,9 @@ pub(crate) fn head_parse<T: IrText<A>, A: AttrText<A>>(
         Err(fault) => return Err(fault),
     };
     mark_noted(book, &head.mark);
-    let Ok(()) = head_noted(book, names, name, &head) else {
-        return Err(out_of_memory(stream));
-    };
+    if let Err(error) = head_noted(book, names, name, &head) {
+        return Err(out_of_memory(stream, Exhausted::from(error)));
+    }
     Ok(())
 }
 
@@ -149,9 +150,9 @@ pub(crate) fn region_begin<A>(
     ensures enters { Enters isolated book.old stream.old result book.new stream.new }
 {
     let at = stream.position();
-    let Ok(()) = book.notes.push(Note::Enters(isolated)) else {
-        return Err(out_of_memory(stream));
-    };
+    if let Err(error) = vec::push(&mut book.notes, Note::Enters(isolated)) {
+        return Err(out_of_memory(stream, Exhausted::from(error)));
+    }
     match brace_demanded(stream) {
         Ok(()) => Ok(OpenRegion { isolated, at }),
         Err(fault) => Err(fault),
@@ -170,8 +171,8 @@ pub(crate) fn region_end<A>(
     if let Err(fault) = text_demanded(stream, "}") {
         return Err(fault);
     }
-    match book.notes.push(Note::Leaves(region.isolated, region.at)) {
+    match vec::push(&mut book.notes, Note::Leaves(region.isolated, region.at)) {
         Ok(()) => Ok(()),
-        Err(_) => Err(out_of_memory(stream)),
+        Err(refused) => Err(out_of_memory(stream, Exhausted::from(refused))),
     }
 }

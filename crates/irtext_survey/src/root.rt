@@ -13,9 +13,9 @@ use crate::steps::step;
 use irtext_base::parsable::{CharStream, ParseResult, TextStream};
 use irtext_base::text::{AttrText, IrText};
 use irtext_context::base::Context;
+use irtext_memory::Exhausted;
 use irtext_parse_pieces::keys::Keys;
 use irtext_scopes::tracker::NameTracker;
-use std::alloc::AllocError;
 
 /// Parses the rest of a frame that is the only open one, and notes what it does with the name.
 fn rest_parse<T: IrText<A>, A: AttrText<A>>(
@@ -71,7 +71,7 @@ pub(crate) fn tree_noted<T: IrText<A>, A: AttrText<A>>(
     ctx: &Context<T, A>,
     name: &str,
     book: &mut Notebook,
-) -> Result<bool, AllocError>
+) -> Result<bool, Exhausted>
     requires fine { stream.old.failed ≡ false }
     requires notes { book.old.notes.items ≡ [] }
     requires marked { book.old.marked ≡ false }

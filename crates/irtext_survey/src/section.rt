@@ -11,6 +11,7 @@ use irtext_base::parsable::{CharStream, ParseResult, TextStream};
 use irtext_base::seed::Seed;
 use irtext_base::text::{AttrText, IrText};
 use irtext_context::base::Context;
+use irtext_memory::Exhausted;
 use irtext_parse_pieces::entries::attr_demanded;
 use irtext_parse_pieces::keys::Keys;
 use irtext_parse_section::entry::{begins_given, index_parse};
@@ -19,7 +20,6 @@ use irtext_parse_section::pairs::pair_parse;
 use irtext_tokens::irfmt::demanded::{spaced_text_demanded, text_demanded};
 use irtext_tokens::irfmt::faults::{committed, next_is};
 use irtext_tokens::irfmt::parsers::skip_white_space;
-use std::alloc::AllocError;
 
 /// Passes an attribute. Every error is committed.
 fn attribute_passed<A: AttrText<A>>(stream: &mut TextStream) -> ParseResult<(), A>
@@ -146,7 +146,7 @@ fn section_passed<T: IrText<A>, A: AttrText<A>>(
 pub(crate) fn section_skipped<T: IrText<A>, A: AttrText<A>>(
     stream: &mut TextStream,
     seed: Seed,
-) -> Result<bool, AllocError>
+) -> Result<bool, Exhausted>
     requires fine { stream.old.failed ≡ false }
     ensures { IfOk result (λ there. SkipsSection (attr_at A.IrText.reading) stream.old there stream.new) }
 {

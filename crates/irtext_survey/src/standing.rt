@@ -5,7 +5,8 @@ ghost use Rattle.irtext_base.specs.Stream.{IsAt, cut};
 ghost use Rattle.irtext_survey.specs.Standing.{StandsAt};
 
 use irtext_base::parsable::{SourcePosition, TextStream};
-use std::alloc::{AllocError, Global};
+use irtext_memory::OutOfMemory;
+use std::alloc::Global;
 
 /// Returns the number of the line or the column after this one, capped at `i32::MAX`.
 fn next_number(number: i32) -> i32
@@ -53,7 +54,7 @@ fn advance(stream: &mut TextStream, at: SourcePosition)
 /// Returns a stream over a text, which is copied, at a position of it: what the stream has passed is the shortest beginning of the text that
 /// ends at this line and this column, as `a\n` at line 2, column 1 of `a\nb`. Both count from 1, columns in characters. If the text has no
 /// such position, the stream is at its end. Fails only if an allocation fails.
-pub fn stream_at(alloc: Global, text: &str, at: SourcePosition) -> Result<TextStream, AllocError>
+pub fn stream_at(alloc: Global, text: &str, at: SourcePosition) -> Result<TextStream, OutOfMemory>
     ensures { IfOk result (StandsAt (chars text.now) at) }
 {
     let mut stream = TextStream::new(alloc, text)?;

@@ -21,21 +21,21 @@ use irtext_base::base::OpId;
 use irtext_base::parsable::{CharStream, Class, ParseResult, TextStream};
 use irtext_base::text::{AttrText, IrText};
 use irtext_context::base::Context;
+use irtext_memory::{Exhausted, OutOfMemory, vec};
 use irtext_parse_pieces::coming::{Coming, kind_of};
 use irtext_parse_pieces::counting::step_count;
 use irtext_parse_pieces::keys::Keys;
 use irtext_parse_pieces::steps::{FormatStep, step_at};
 use irtext_tokens::irfmt::faults::{begins, next_is, out_of_memory};
 use irtext_tokens::irfmt::parsers::skip_white_space;
-use std::alloc::AllocError;
 
 /// Appends a frame to those that wait.
-fn pushed(frames: &mut Vec<Frame>, frame: Frame) -> Result<(), AllocError>
+fn pushed(frames: &mut Vec<Frame>, frame: Frame) -> Result<(), OutOfMemory>
     ensures { OnOk result (frames.new.items ≡ frames.old.items ++ frame ∷ []) }
 {
-    match frames.push(frame) {
+    match vec::push(frames, frame) {
         Ok(()) => Ok(()),
-        Err(_) => Err(AllocError),
+        Err(refused) => Err(OutOfMemory::from(refused)),
     }
 }
 
@@ -143,9 +143,9 @@ fn region_step<T: IrText<A>, A: AttrText<A>>(
         Ok(region) => region,
         Err(fault) => return Err(fault),
     };
-    let Ok(()) = pushed(frames, Frame::Operation(at_step(held, following))) else {
-        return Err(out_of_memory(stream));
-    };
+    if let Err(error) = pushed(frames, Frame::Operation(at_step(held, following))) {
+        return Err(out_of_memory(stream, Exhausted::from(error)));
+    }
     Ok(Some(Frame::Region(region)))
 }
 
@@ -178,9 +178,9 @@ fn regions_step<T: IrText<A>, A: AttrText<A>>(
         Ok(region) => region,
         Err(fault) => return Err(fault),
     };
-    let Ok(()) = pushed(frames, Frame::Operation(held)) else {
-        return Err(out_of_memory(stream));
-    };
+    if let Err(error) = pushed(frames, Frame::Operation(held)) {
+        return Err(out_of_memory(stream, Exhausted::from(error)));
+    }
     Ok(Some(Frame::Region(region)))
 }
 
@@ -268,9 +268,9 @@ fn region_on<T: IrText<A>, A: AttrText<A>>(
     if let Err(fault) = head_parse::<T, A>(stream, names, name, book) {
         return Err(fault);
     }
-    let Ok(()) = pushed(frames, Frame::Region(region)) else {
-        return Err(out_of_memory(stream));
-    };
+    if let Err(error) = pushed(frames, Frame::Region(region)) {
+        return Err(out_of_memory(stream, Exhausted::from(error)));
+    }
     Ok(Some(Frame::Block(true)))
 }
 
@@ -339,9 +339,9 @@ fn block_on<T: IrText<A>, A: AttrText<A>>(
         Ok(held) => held,
         Err(fault) => return Err(fault),
     };
-    let Ok(()) = pushed(frames, Frame::Block(false)) else {
-        return Err(out_of_memory(stream));
-    };
+    if let Err(error) = pushed(frames, Frame::Block(false)) {
+        return Err(out_of_memory(stream, Exhausted::from(error)));
+    }
     Ok(Some(Frame::Operation(held)))
 }
 

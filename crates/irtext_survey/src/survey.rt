@@ -16,7 +16,8 @@ use crate::section::section_skipped;
 use irtext_base::parsable::{Place, SourcePosition, TextStream};
 use irtext_base::text::{AttrText, IrText};
 use irtext_context::base::Context;
-use std::alloc::{AllocError, Global};
+use irtext_memory::Exhausted;
+use std::alloc::Global;
 
 /// Returns an empty notebook. Allocates nothing.
 fn nothing_noted(alloc: Global) -> Notebook
@@ -120,7 +121,7 @@ pub fn first_use<T: IrText<A>, A: AttrText<A>>(
     ctx: &Context<T, A>,
     name: &str,
     region: SourcePosition,
-) -> Result<Option<SourcePosition>, AllocError>
+) -> Result<Option<SourcePosition>, Exhausted>
     requires fine { stream.old.failed ≡ false }
     ensures first { IfOk result (Finds T.IrText.reading (attr_at A.IrText.reading) ctx.now.dialects name.now
         (λ text notes. first_use text region notes) stream.old) }
@@ -148,7 +149,7 @@ pub fn first_definition<T: IrText<A>, A: AttrText<A>>(
     ctx: &Context<T, A>,
     name: &str,
     second: SourcePosition,
-) -> Result<Option<SourcePosition>, AllocError>
+) -> Result<Option<SourcePosition>, Exhausted>
     requires fine { stream.old.failed ≡ false }
     ensures first { IfOk result (Finds T.IrText.reading (attr_at A.IrText.reading) ctx.now.dialects name.now
         (λ text notes. first_definition text second notes) stream.old) }
@@ -176,7 +177,7 @@ pub fn first_definition<T: IrText<A>, A: AttrText<A>>(
 pub fn skip_root<T: IrText<A>, A: AttrText<A>>(
     stream: &mut TextStream,
     ctx: &Context<T, A>,
-) -> Result<bool, AllocError>
+) -> Result<bool, Exhausted>
     requires fine { stream.old.failed ≡ false }
     ensures skips { IfOk result (λ there. Skips T.IrText.own A.IrText.own ctx.now.dialects stream.old there
         stream.new) }

@@ -8,6 +8,7 @@ ghost use Rattle.irtext_grammar.specs.Readers.Streams.{itself, replaced};
 use irtext_base::base::AttrObj;
 use irtext_base::location::Location;
 use irtext_base::parsable::{CharStream, ParseResult, TextStream};
+use irtext_memory::{Exhausted, boxed};
 use irtext_tokens::irfmt::faults::out_of_memory;
 
 /// Puts a value into a box of its own. Fails only when out of memory.
@@ -16,9 +17,9 @@ fn boxed<X: Drop, A>(stream: &mut TextStream, value: X) -> ParseResult<Box<X>, A
     ensures still { OnOk result (stream.new ≡ stream.old) }
     ensures ran_out { IfErr result (λ fault. RunsOutHere itself replaced stream.old fault stream.new) }
 {
-    match Box::new(stream.allocator(), value) {
+    match boxed::new(stream.allocator(), value) {
         Ok(made) => Ok(made),
-        Err(_) => Err(out_of_memory(stream)),
+        Err(refused) => Err(out_of_memory(stream, Exhausted::from(refused))),
     }
 }
 

@@ -26,6 +26,7 @@ use irtext_base::parsable::{CharStream, ParseResult, TextStream};
 use irtext_base::result::{Cause, Expected};
 use irtext_base::text::{AttrText, IrText};
 use irtext_context::base::Context;
+use irtext_memory::{Exhausted, boxed, vec};
 use irtext_tokens::irfmt::demanded::{spaced_text_demanded, text_demanded};
 use irtext_tokens::irfmt::faults::{commit, committed, next_is, out_of_memory, refuse, unexpected};
 use irtext_tokens::irfmt::parsers::{attr_parse, skip_white_space};
@@ -107,8 +108,8 @@ fn push_location<A: Drop>(
 ) -> ParseResult<(), A>
     ensures { PushesRow found.old location stream.old found.new result stream.new }
 {
-    if found.push(location).is_err() {
-        return Err(out_of_memory(stream));
+    if let Err(refused) = vec::push(found, location) {
+        return Err(out_of_memory(stream, Exhausted::from(refused)));
     }
     skip_white_space(stream);
     Ok(())
@@ -146,8 +147,9 @@ fn fused_opened<A: AttrText<A>>(stream: &mut TextStream) -> ParseResult<Progress
     text_demanded(stream, "fused")?;
     skip_white_space(stream);
     let metadata = metadata_demanded(stream)?;
-    let Ok(metadata) = Box::new(stream.allocator(), metadata) else {
-        return Err(out_of_memory(stream));
+    let metadata = match boxed::new(stream.allocator(), metadata) {
+        Ok(metadata) => metadata,
+        Err(refused) => return Err(out_of_memory(stream, Exhausted::from(refused))),
     };
     text_demanded(stream, "[")?;
     skip_white_space(stream);
@@ -282,9 +284,9 @@ fn nested_demanded<T: IrText<A>, A: AttrText<A>>(
                     let place = place_demanded(stream, ctx)?;
                     progress = location_after(stream, frame, place)?;
                 } else {
-                    let Ok(()) = frames.push(frame) else {
-                        return Err(out_of_memory(stream));
-                    };
+                    if let Err(refused) = vec::push(&mut frames, frame) {
+                        return Err(out_of_memory(stream, Exhausted::from(refused)));
+                    }
                     progress = location_opened(stream, ctx)?;
                 }
             }

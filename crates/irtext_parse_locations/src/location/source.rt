@@ -17,6 +17,7 @@ use irtext_base::result::{Cause, Expected};
 use irtext_base::text::{AttrText, IrText};
 use irtext_context::base::Context;
 use irtext_context::base::context::making::Making;
+use irtext_memory::Exhausted;
 use irtext_tokens::irfmt::demanded::{spaced_text_demanded, text_demanded};
 use irtext_tokens::irfmt::faults::{commit, committed, next_is, out_of_memory, refuse, unexpected};
 use irtext_tokens::irfmt::parsers::{held, quoted_string_parse};
@@ -37,10 +38,10 @@ fn path_demanded<T: IrText<A>, A: AttrText<A>>(
     ensures { ReadsSource path_at ctx.old stream.old ctx.new result stream.new }
 {
     let path = quoted_demanded(stream)?;
-    let Ok(key) = ctx.keep_path(&path) else {
-        return Err(out_of_memory(stream));
-    };
-    Ok(Source::File(key))
+    match ctx.keep_path(&path) {
+        Ok(key) => Ok(Source::File(key)),
+        Err(error) => Err(out_of_memory(stream, error)),
+    }
 }
 
 /// Parses a source, which is required: every error is committed.
@@ -129,7 +130,7 @@ pub fn position_parse<A>(stream: &mut TextStream) -> ParseResult<SourcePosition,
     if !next_is(stream, 'l') {
         return Err(match held(stream.allocator(), "line") {
             Ok(expected) => unexpected(stream, expected),
-            Err(_) => out_of_memory(stream),
+            Err(error) => out_of_memory(stream, Exhausted::from(error)),
         });
     }
     position_demanded(stream)
