@@ -6,7 +6,7 @@ from dialects.parts import BRACKETS, FIXED, HOLES, NUMBERS, PARTS, Wrong, check_
 from dialects.trees import check_tree
 
 # names that the sources import, so that nothing of the dialect's own can have them
-IMPORTED = {*PARTS, *BRACKETS, *FIXED, *(it.capitalize() for it in NUMBERS), "AllocError", "AttrText", "AttrWord", "Choice", "Err", "Expected"}
+IMPORTED = {*PARTS, *BRACKETS, *FIXED, *(it.capitalize() for it in NUMBERS), "AttrText", "AttrWord", "Choice", "Err", "Exhausted", "Expected", "NotationFault", "OutOfMemory"}
 IMPORTED |= {"Family", "Global", "Hash", "IrText", "None", "Ok", "ParseResult", "Part", "Range", "Result", "Self", "Some", "String", "Table"}
 IMPORTED |= {"TextStream", "TryClone", "TypeWord", "Vec", "Word", "Worded", "Attr", "Op", "Test", "Type", "Keyword", "A", "B", "T"}
 MODULES = ("attributes", "fixed", "keys", "lib", "operations", "types", "values")

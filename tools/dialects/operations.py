@@ -161,7 +161,9 @@ class Operations:
             "use irtext_base::result::{ErrorKind, Result as Answer};",
             "use irtext_base::text::{AttrText, IrText};",
             "use irtext_context::base::Context;",
-            "use std::alloc::{AllocError, Global};",
+            "use irtext_memory::OutOfMemory;",
+            "use irtext_stream::notation::fault::NotationFault;",
+            "use std::alloc::Global;",
         ]
         return "\n".join(head) + "\n\n" + text
 
@@ -200,12 +202,13 @@ class Operations:
             "}",
             "",
             "/// Returns the operation's format, newly allocated.",
-            f"fn op_format(alloc: Global, op: {self.enum}) -> Result<OpFormat, AllocError>",
+            f"fn op_format(alloc: Global, op: {self.enum}) -> Result<OpFormat, OutOfMemory>",
             f"    ensures {{ IfOk result (λ f. format_of f ≡ ({self.row} op).format) }}",
             "{",
             "    match OpFormat::parse(alloc, notation(op)) {",
             "        Ok(format) => Ok(format),",
-            "        Err(_) => Err(AllocError),",
+            "        Err(NotationFault::Memory(error)) => Err(error),",
+            "        Err(NotationFault::Unexpected { .. }) => unreachable!(),",
             "    }",
             "}",
         ]

@@ -158,7 +158,7 @@ class Sources:
             rows = [f"{family.enum}::{row.variant}{'(_)' if row.part else ''}" for row in family.rows if flag in row.flags]
             body = f"matches!(self, {' | '.join(rows)})" if rows else "false"
             lines += ["", f"    fn {method}(&self) -> bool {{", f"        {body}", "    }"]
-        return lines + ["", f"    fn try_clone(&self) -> Result<{self.enum}, AllocError> {{"] + self.copies() + ["    }", "}"]
+        return lines + ["", f"    fn try_clone(&self) -> Result<{self.enum}, Exhausted> {{"] + self.copies() + ["    }", "}"]
 
     def family_of(self):
         family, n = self.family, self.name
@@ -185,7 +185,7 @@ class Sources:
         family = self.family
         body = self.enums() + Words(family).methods() + self.table() + self.texts()
         if family.is_type:
-            body += ["", f"impl TryClone for {self.enum} {{", f"    fn try_clone(&self) -> Result<{self.enum}, AllocError> {{"] + self.copies() + ["    }", "}"]
+            body += ["", f"impl TryClone for {self.enum} {{", f"    fn try_clone(&self) -> Result<{self.enum}, Exhausted> {{"] + self.copies() + ["    }", "}"]
         else:
             body += self.held_in_section()
         text = "\n".join(body + self.family_of()) + "\n"
@@ -203,9 +203,9 @@ class Sources:
         ]
         syntax += [("table", "Table after_word table_parse word_alone write_row write_word")]
         modules = own + [("irtext_base::parsable", "ParseResult TextStream"), ("irtext_base::result", "Expected")]
-        modules += [("irtext_base::text", "AttrText Family IrText Worded"), ("irtext_memory", "OutOfMemory"), ("irtext_syntax", "Characters ListOf Name Number match_text matches_text")]
+        modules += [("irtext_base::text", "AttrText Family IrText Worded"), ("irtext_memory", "Exhausted OutOfMemory"), ("irtext_syntax", "Characters ListOf Name Number match_text matches_text")]
         modules += [(f"irtext_syntax::{module}", names) for module, names in syntax]
-        modules += [*more_uses(), ("std::alloc", "AllocError")]
+        modules += [*more_uses()]
         shown_names = text + ("TryClone" if clones else "")
         head += rust_uses(modules, shown_names)
         if " Hash + " in text:

@@ -654,7 +654,7 @@ class TreeSources:
         lines += ["    fn has_word(word: &str) -> bool {", *Words(family).has_word(), "    }", "}"]
         lines += ["", f"impl<{self.errors}> LedGrammar<{g.head}, A> for {g.place} {{", self.ghosts(family.laws, [f"{n}_led"]), ""]
         lines += [f"    ghost led = {{ {n}_led }};", "}", "", f"impl TryClone for {g.head} {{"]
-        lines += [f"    fn try_clone(&self) -> Result<{g.head}, AllocError> {{", "        match self {"]
+        lines += [f"    fn try_clone(&self) -> Result<{g.head}, Exhausted> {{", "        match self {"]
         for it in g.heads:
             made = f"{g.head}::{it.variant}"
             lines += [f"            {made}(part) => Ok({made}(part.try_clone()?))," if it.part else f"            {made} => Ok({made}),"]
@@ -669,19 +669,19 @@ class TreeSources:
             flagged = [it for it in g.first if flag in it.row.flags]
             body = f"matches!(head, {self.cases(flagged)})" if flagged else "false"
             lines += ["", f"    fn {method}({'head' if flagged else '_'}: &{g.head}) -> bool {{", f"        {body}", "    }"]
-        return lines + ["", f"    fn clone_head(head: &{g.head}) -> Result<{g.head}, AllocError> {{", "        head.try_clone()", "    }", "}"]
+        return lines + ["", f"    fn clone_head(head: &{g.head}) -> Result<{g.head}, Exhausted> {{", "        head.try_clone()", "    }", "}"]
 
     def written(self):
         body = [*self.enums(), *Words(self.family).methods(), *self.table(), *self.grows(), *self.grammar_of(), *self.worded()] + ([] if self.family.is_type else self.in_section())
         text = "\n".join(body) + "\n"
         own = [*self.dialect.own_modules(), ("crate::fixed", " ".join([*self.dialect.fixed, *self.dialect.ranges])), ("crate::brackets", " ".join(self.grammar.brackets))]
         modules = own + [("irtext_base::parsable", "ParseResult TextStream"), ("irtext_base::result", "Expected"), ("irtext_base::text", "Worded")]
-        modules += [("irtext_memory", "OutOfMemory")]
+        modules += [("irtext_memory", "Exhausted OutOfMemory")]
         modules += [("irtext_syntax", "Characters ListOf Name Number match_text matches_text"), ("irtext_syntax::keyword", "Flag Keyword"), ("irtext_syntax::part", "TryClone")]
         modules += [("irtext_syntax::range", "Ranged"), ("irtext_syntax::ready", " ".join([*BRACKETS, "Arrow Colon Comma SpacedArrow"])), ("irtext_syntax::sequence", "Then Within")]
         modules += [("irtext_syntax::table", "Table after_word table_parse word_alone write_row write_word")]
         modules += [("irtext_tree", "AttrGrammar Grammar Grows LedGrammar Tree Waits"), ("irtext_tree::marks", "mark_parse more_parse opened_parse opening_parse write_spaced_row")]
-        modules += [*more_uses(), ("std::alloc", "AllocError")]
+        modules += [*more_uses()]
         head = [f"//! The heads of the {self.family.noun}s of the dialect `{self.dialect.name}`, which hold {self.family.noun}s of the context.", *rust_uses(modules, text)]
         return "\n".join(head) + "\n\n" + text
 

@@ -4,7 +4,7 @@ use crate::predicate::Predicate;
 use irtext_base::parsable::{ParseResult, TextStream};
 use irtext_base::result::Expected;
 use irtext_base::text::{AttrText, Family, IrText, Worded};
-use irtext_memory::OutOfMemory;
+use irtext_memory::{Exhausted, OutOfMemory};
 use irtext_syntax::keyword::Flag;
 use irtext_syntax::own::Own;
 use irtext_syntax::part::TryClone;
@@ -13,7 +13,6 @@ use irtext_syntax::ready::{Angle, Colon, Comma};
 use irtext_syntax::sequence::{Then, Within};
 use irtext_syntax::table::{Table, after_word, table_parse, write_row};
 use irtext_syntax::{Characters, Number, match_text, matches_text};
-use std::alloc::AllocError;
 use std::hash::Hash;
 
 /// What comes after `arith.value`: `<N: T>`.
@@ -130,7 +129,7 @@ impl<B, T: IrText<B> + Hash + TryClone> AttrText<B> for ArithAttr<T> {
         matches!(self, ArithAttr::Doc(_))
     }
 
-    fn try_clone(&self) -> Result<ArithAttr<T>, AllocError> {
+    fn try_clone(&self) -> Result<ArithAttr<T>, Exhausted> {
         match self {
             ArithAttr::Value(part) => Ok(ArithAttr::Value(part.try_clone()?)),
             ArithAttr::Compares(part) => Ok(ArithAttr::Compares(part.try_clone()?)),

@@ -11,7 +11,9 @@ use irtext_base::format::OpFormat;
 use irtext_base::result::{ErrorKind, Result as Answer};
 use irtext_base::text::{AttrText, IrText};
 use irtext_context::base::Context;
-use std::alloc::{AllocError, Global};
+use irtext_memory::OutOfMemory;
+use irtext_stream::notation::fault::NotationFault;
+use std::alloc::Global;
 
 /// An operation of the dialect.
 #[derive(Clone, Copy)]
@@ -65,12 +67,13 @@ fn notation(op: ArithOp) -> &'static str
 }
 
 /// Returns the operation's format, newly allocated.
-fn op_format(alloc: Global, op: ArithOp) -> Result<OpFormat, AllocError>
+fn op_format(alloc: Global, op: ArithOp) -> Result<OpFormat, OutOfMemory>
     ensures { IfOk result (λ f. format_of f ≡ (arith_op op).format) }
 {
     match OpFormat::parse(alloc, notation(op)) {
         Ok(format) => Ok(format),
-        Err(_) => Err(AllocError),
+        Err(NotationFault::Memory(error)) => Err(error),
+        Err(NotationFault::Unexpected { .. }) => unreachable!(),
     }
 }
 

@@ -2,11 +2,10 @@
 use irtext_base::parsable::{ParseResult, TextStream};
 use irtext_base::result::Expected;
 use irtext_base::text::{Family, IrText, Worded};
-use irtext_memory::OutOfMemory;
+use irtext_memory::{Exhausted, OutOfMemory};
 use irtext_syntax::part::TryClone;
 use irtext_syntax::table::{Table, after_word, table_parse, word_alone, write_row, write_word};
 use irtext_syntax::{Number, match_text, matches_text};
-use std::alloc::AllocError;
 
 /// A type of the dialect `arith`.
 #[derive(PartialEq, Eq, Hash, Debug, Drop)]
@@ -72,7 +71,7 @@ impl<A> IrText<A> for ArithType {
 }
 
 impl TryClone for ArithType {
-    fn try_clone(&self) -> Result<ArithType, AllocError> {
+    fn try_clone(&self) -> Result<ArithType, Exhausted> {
         match self {
             ArithType::Int(part) => Ok(ArithType::Int(part.try_clone()?)),
             ArithType::Index => Ok(ArithType::Index),

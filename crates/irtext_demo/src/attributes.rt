@@ -8,13 +8,12 @@ use crate::attributes::integer::IntegerAttr;
 use irtext_base::parsable::{ParseResult, TextStream};
 use irtext_base::result::Expected;
 use irtext_base::text::{AttrText, Family, IrText, Worded};
-use irtext_memory::OutOfMemory;
+use irtext_memory::{Exhausted, OutOfMemory};
 use irtext_syntax::boxed::Boxed;
 use irtext_syntax::characters::Characters;
 use irtext_syntax::part::TryClone;
 use irtext_syntax::table::{Table, after_word, table_parse, write_row};
 use irtext_syntax::{match_text, matches_text};
-use std::alloc::AllocError;
 
 /// A demo attribute.
 #[derive(PartialEq, Eq, Hash, Debug, Drop)]
@@ -114,7 +113,7 @@ impl<B: Drop> AttrText<B> for DemoAttr {
         matches!(self, DemoAttr::Debug(_))
     }
 
-    fn try_clone(&self) -> Result<DemoAttr, AllocError> {
+    fn try_clone(&self) -> Result<DemoAttr, Exhausted> {
         match self {
             DemoAttr::Integer(attr) => Ok(DemoAttr::Integer(attr.try_clone()?)),
             DemoAttr::String(text) => Ok(DemoAttr::String(text.try_clone()?)),

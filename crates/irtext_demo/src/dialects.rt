@@ -14,7 +14,9 @@ use irtext_base::format::OpFormat;
 use irtext_base::result::{ErrorKind, Result as Answer};
 use irtext_base::text::{AttrText, IrText};
 use irtext_context::base::Context;
-use std::alloc::{AllocError, Global};
+use irtext_memory::OutOfMemory;
+use irtext_stream::notation::fault::NotationFault;
+use std::alloc::Global;
 
 /// The operations of the demo dialects.
 #[derive(Clone, Copy)]
@@ -95,12 +97,13 @@ fn notation(demo: Demo) -> &'static str
 }
 
 /// Returns the operation's format, newly allocated.
-fn op_format(alloc: Global, demo: Demo) -> Result<OpFormat, AllocError>
+fn op_format(alloc: Global, demo: Demo) -> Result<OpFormat, OutOfMemory>
     ensures { IfOk result (λ f. format_of f ≡ (demo_op demo).format) }
 {
     match OpFormat::parse(alloc, notation(demo)) {
         Ok(format) => Ok(format),
-        Err(_) => Err(AllocError),
+        Err(NotationFault::Memory(error)) => Err(error),
+        Err(NotationFault::Unexpected { .. }) => unreachable!(),
     }
 }
 

@@ -11,7 +11,7 @@ use crate::wrapping::Wrapping;
 use irtext_base::parsable::{ParseResult, TextStream};
 use irtext_base::result::Expected;
 use irtext_base::text::{AttrText, Family, IrText, Worded};
-use irtext_memory::OutOfMemory;
+use irtext_memory::{Exhausted, OutOfMemory};
 use irtext_parts::{Decimal, Digits, Hexadecimal, Symbol, Truth};
 use irtext_syntax::own::Own;
 use irtext_syntax::part::TryClone;
@@ -20,7 +20,6 @@ use irtext_syntax::ready::{Angle, Comma, Square};
 use irtext_syntax::sequence::{Then, Within};
 use irtext_syntax::table::{Table, after_word, table_parse, word_alone, write_row, write_word};
 use irtext_syntax::{Characters, ListOf, Name, Number, match_text};
-use std::alloc::AllocError;
 use std::hash::Hash;
 
 /// What comes after `llvm.block`: `<@S, I>`.
@@ -398,7 +397,7 @@ impl<B: Drop, T: IrText<B> + Hash + TryClone> AttrText<B> for LlvmAttr<T> {
         false
     }
 
-    fn try_clone(&self) -> Result<LlvmAttr<T>, AllocError> {
+    fn try_clone(&self) -> Result<LlvmAttr<T>, Exhausted> {
         match self {
             LlvmAttr::Integer(part) => Ok(LlvmAttr::Integer(part.try_clone()?)),
             LlvmAttr::Bool(part) => Ok(LlvmAttr::Bool(part.try_clone()?)),

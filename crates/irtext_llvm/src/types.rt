@@ -5,7 +5,7 @@ use crate::float_kind::FloatKind;
 use irtext_base::parsable::{ParseResult, TextStream};
 use irtext_base::result::Expected;
 use irtext_base::text::Worded;
-use irtext_memory::OutOfMemory;
+use irtext_memory::{Exhausted, OutOfMemory};
 use irtext_syntax::part::TryClone;
 use irtext_syntax::range::Ranged;
 use irtext_syntax::ready::Angle;
@@ -14,7 +14,6 @@ use irtext_syntax::table::{Table, after_word, table_parse, word_alone, write_row
 use irtext_syntax::{Characters, Number, match_text, matches_text};
 use irtext_tree::marks::{mark_parse, more_parse, opened_parse, write_spaced_row};
 use irtext_tree::{Grammar, Grows, LedGrammar, Tree, Waits};
-use std::alloc::AllocError;
 
 /// What comes after `llvm.ptr_in`: `<N>`.
 pub type PointerInText = Within<Angle, Number<u32>>;
@@ -373,7 +372,7 @@ impl<A> LedGrammar<LlvmTypeHead, A> for LlvmTypePlace {
 }
 
 impl TryClone for LlvmTypeHead {
-    fn try_clone(&self) -> Result<LlvmTypeHead, AllocError> {
+    fn try_clone(&self) -> Result<LlvmTypeHead, Exhausted> {
         match self {
             LlvmTypeHead::Void => Ok(LlvmTypeHead::Void),
             LlvmTypeHead::Label => Ok(LlvmTypeHead::Label),

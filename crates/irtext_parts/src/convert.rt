@@ -7,8 +7,9 @@ ghost use Rattle.irtext_tokens.specs.Integers.{signed_parses, unsigned_parses};
 
 use crate::literals::{Decimal, DecimalSpelling, DigitsSpelling};
 use crate::spelled::Spelled;
+use irtext_memory::{OutOfMemory, string};
 use ryu::Buffer;
-use std::alloc::{AllocError, Global};
+use std::alloc::Global;
 use std::num::ParseIntError;
 
 impl Spelled<DigitsSpelling> {
@@ -40,7 +41,7 @@ impl Spelled<DecimalSpelling> {
 
     /// Returns a decimal number that is read back to the same float, or `None` if the float is not finite. Fails only if an allocation
     /// fails.
-    pub fn from_f64(alloc: Global, x: f64) -> Result<Option<Decimal>, AllocError>
+    pub fn from_f64(alloc: Global, x: f64) -> Result<Option<Decimal>, OutOfMemory>
         ensures { IfOk result (λ found. MatchOption found (IsFalse (float_is_finite x))
             (λ d. IsTrue (float_is_finite x) × (parse_float binary64 d.text.characters ≡ Some x))) }
     {
@@ -48,7 +49,7 @@ impl Spelled<DecimalSpelling> {
             return Ok(None);
         }
         let mut buffer = Buffer::new();
-        let text = String::from_str(alloc, buffer.format_finite(x))?;
+        let text = string::from_str(alloc, buffer.format_finite(x))?;
         Ok(Some(Spelled::kept(text)))
     }
 }

@@ -2,10 +2,10 @@
 ghost use Rattle.std.specs.Prelude.{◌≡◌, IfOk, IsTrue};
 
 use irtext_base::parsable::{CharStream, ParseResult, TextStream};
-use irtext_memory::OutOfMemory;
+use irtext_memory::{Exhausted, OutOfMemory};
 use irtext_syntax::part::{Item, Part, TryClone};
 use irtext_tokens::irfmt::faults::out_of_memory;
-use std::alloc::{AllocError, Global};
+use std::alloc::Global;
 use std::marker::PhantomData;
 
 /// The default value of a part.
@@ -14,7 +14,7 @@ pub trait DefaultOf<P: PartialEq> {
     ghost value: { P };
 
     /// Makes a value that is equal to it. Fails only if an allocation fails.
-    fn make(alloc: Global) -> Result<P, AllocError>
+    fn make(alloc: Global) -> Result<P, Exhausted>
         ensures { IfOk result (λ x. IsTrue (P.eq x value)) };
 
     /// Whether a value is the default one.
@@ -45,7 +45,7 @@ impl<P, D> Defaulted<P, D> {
 }
 
 impl<P: TryClone, D> TryClone for Defaulted<P, D> {
-    fn try_clone(&self) -> Result<Defaulted<P, D>, AllocError> {
+    fn try_clone(&self) -> Result<Defaulted<P, D>, Exhausted> {
         let value = self.value.try_clone()?;
         Ok(Defaulted {
             value,
@@ -82,7 +82,7 @@ impl<A: Drop, P: Item<A>, D: DefaultOf<P>> Part<A> for Defaulted<P, D> {
         }
         match D::make(stream.allocator()) {
             Ok(value) => Ok(Defaulted::new(value)),
-            Err(_) => Err(out_of_memory(stream)),
+            Err(error) => Err(out_of_memory(stream, error)),
         }
     }
 

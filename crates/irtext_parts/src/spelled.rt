@@ -5,11 +5,10 @@ ghost use Rattle.irtext_parts.specs.Spellings.{is_spelled};
 use crate::spelling::{Spelling, begins_here, is_spelled, misspelled, skip_spelled};
 use irtext_base::parsable::{CharStream, ParseResult, TextStream};
 use irtext_base::result::Cause;
-use irtext_memory::{OutOfMemory, string};
+use irtext_memory::{Exhausted, OutOfMemory, string};
 use irtext_syntax::Characters;
 use irtext_syntax::part::{Item, Last, Part, TryClone};
 use irtext_tokens::irfmt::faults::{out_of_memory, refuse, unexpected};
-use std::alloc::AllocError;
 use std::marker::PhantomData;
 
 /// A text that is kept as it is spelled, such as `1.50`. Two are equal if they are spelled alike: `1.5` and `1.50` differ. As many of its
@@ -61,7 +60,7 @@ impl<K: Spelling> Spelled<K> {
 }
 
 impl<K: Spelling> TryClone for Spelled<K> {
-    fn try_clone(&self) -> Result<Spelled<K>, AllocError> {
+    fn try_clone(&self) -> Result<Spelled<K>, Exhausted> {
         let text = self.text.try_clone()?;
         Ok(Spelled {
             text,
@@ -102,9 +101,9 @@ impl<A, K: Spelling> Part<A> for Spelled<K> {
         if !K::accepts(found) {
             return Err(misspelled::<K, A>(stream, place));
         }
-        match String::from_str(stream.allocator(), stream.text_since(place)) {
+        match string::from_str(stream.allocator(), stream.text_since(place)) {
             Ok(text) => Ok(Spelled::kept(text)),
-            Err(_) => Err(out_of_memory(stream)),
+            Err(error) => Err(out_of_memory(stream, Exhausted::from(error))),
         }
     }
 

@@ -11,6 +11,7 @@ ghost use Rattle.irtext_parts.specs.Spellings.{Rules, RulesLaw, is_spelled};
 
 use irtext_base::parsable::{CharStream, ParseFault, Place, TextStream};
 use irtext_base::result::{Cause, Expected};
+use irtext_memory::{Exhausted, string};
 use irtext_tokens::irfmt::faults::{out_of_memory, refuse_at};
 
 /// How texts of a kind are spelled, such as decimal numbers.
@@ -108,8 +109,8 @@ pub(crate) fn misspelled<K: Spelling, A>(stream: &mut TextStream, place: Place) 
 {
     let refusal = K::refusal();
     let found = stream.text_since(place);
-    match format!(in stream.allocator(); "{refusal}{found}") {
+    match string::joined(stream.allocator(), refusal, found) {
         Ok(text) => refuse_at(stream, place, Cause::OwnText(text)),
-        Err(_) => out_of_memory(stream),
+        Err(error) => out_of_memory(stream, Exhausted::from(error)),
     }
 }

@@ -9,13 +9,12 @@ ghost use Rattle.irtext_parts.specs.SymbolTexts.{bare_at, symbol_name_at, symbol
 use irtext_base::base::identifier::is_identifier;
 use irtext_base::parsable::{CharStream, ParseResult, TextStream};
 use irtext_base::result::{Cause, Expected};
-use irtext_memory::{OutOfMemory, string};
+use irtext_memory::{Exhausted, OutOfMemory, string};
 use irtext_syntax::Characters;
 use irtext_syntax::part::{Item, Last, Part, TryClone};
 use irtext_tokens::irfmt::faults::{begins, committed, next_is, out_of_memory, refuse, unexpected};
 use irtext_tokens::irfmt::parsers::{Class, skip_class, text_parse};
 use irtext_tokens::printable::fmt_quoted;
-use std::alloc::AllocError;
 
 /// A symbol, as a part of a text such as `@main` or `@".str.1"`: `@` and an identifier, or `@` and a quoted text, which may be any. It is
 /// printed with an identifier if its name is one, and otherwise with a quoted text. If `@` does not come next, parsing fails with
@@ -27,7 +26,7 @@ pub struct Symbol {
 }
 
 impl TryClone for Symbol {
-    fn try_clone(&self) -> Result<Symbol, AllocError> {
+    fn try_clone(&self) -> Result<Symbol, Exhausted> {
         let name = self.name.try_clone()?;
         Ok(Symbol { name })
     }
@@ -46,9 +45,9 @@ fn bare_parse<A>(stream: &mut TextStream) -> ParseResult<Characters, A>
     }
     let place = stream.position();
     skip_class(stream, Class::Word);
-    match String::from_str(stream.allocator(), stream.text_since(place)) {
+    match string::from_str(stream.allocator(), stream.text_since(place)) {
         Ok(text) => Ok(Characters::new(text)),
-        Err(_) => Err(out_of_memory(stream)),
+        Err(error) => Err(out_of_memory(stream, Exhausted::from(error))),
     }
 }
 

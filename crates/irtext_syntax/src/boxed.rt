@@ -4,9 +4,9 @@ ghost use Rattle.std.specs.Cmp.{on_equiv, on_per};
 
 use crate::part::{Closed, Item, Last, Part, TryClone};
 use irtext_base::parsable::{CharStream, ParseResult, TextStream};
-use irtext_memory::OutOfMemory;
+use irtext_memory::{Exhausted, OutOfMemory, boxed};
 use irtext_tokens::irfmt::faults::out_of_memory;
-use std::alloc::{AllocError, Global};
+use std::alloc::Global;
 use std::fmt;
 use std::hash::{Hash, Hasher};
 use std::marker::Model;
@@ -28,11 +28,11 @@ impl<P> Model for Boxed<P> {
 
 impl<P: Drop> Boxed<P> {
     /// Puts a value into a box. Fails only if its allocation fails.
-    pub fn new(alloc: Global, value: P) -> Result<Boxed<P>, AllocError>
+    pub fn new(alloc: Global, value: P) -> Result<Boxed<P>, OutOfMemory>
         ensures { IfOk result (λ b. b ≡ value) }
     {
         Ok(Boxed {
-            value: Box::new(alloc, value)?,
+            value: boxed::new(alloc, value)?,
         })
     }
 }
@@ -47,9 +47,9 @@ impl<P> Boxed<P> {
 }
 
 impl<P: TryClone + Drop> TryClone for Boxed<P> {
-    fn try_clone(&self) -> Result<Boxed<P>, AllocError> {
+    fn try_clone(&self) -> Result<Boxed<P>, Exhausted> {
         let copy = self.get().try_clone()?;
-        Boxed::new(*Box::allocator(&self.value), copy)
+        Ok(Boxed::new(*Box::allocator(&self.value), copy)?)
     }
 }
 
@@ -95,7 +95,7 @@ impl<A, P: Part<A>> Part<A> for Boxed<P> {
         };
         match Boxed::new(stream.allocator(), value) {
             Ok(boxed) => Ok(boxed),
-            Err(_) => Err(out_of_memory(stream)),
+            Err(error) => Err(out_of_memory(stream, Exhausted::from(error))),
         }
     }
 

@@ -7,7 +7,7 @@ ghost use Rattle.std.specs.Hash as fed;
 ghost use Rattle.std.specs.Str.{bytes_eq, chars, encode_utf8_all};
 ghost use Rattle.std.proofs.Common.{rules};
 
-use std::alloc::AllocError;
+use irtext_memory::{OutOfMemory, string};
 use std::fmt;
 use std::hash::{Hash, Hasher};
 use std::marker::Model;
@@ -47,10 +47,10 @@ impl Characters {
     }
 
     /// Returns an equal copy. Fails only if an allocation fails.
-    pub fn try_clone(&self) -> Result<Characters, AllocError>
+    pub fn try_clone(&self) -> Result<Characters, OutOfMemory>
         ensures { IfOk result (λ copy. copy ≡ self.now) }
     {
-        let text = self.text.clone()?;
+        let text = string::from_str(*self.text.allocator(), self.text.as_str())?;
         Ok(Characters { text })
     }
 }

@@ -15,10 +15,9 @@ ghost use Rattle.irtext_syntax.specs.NameTexts.{WordText, ends_word};
 use crate::part::{Item, Last, Part, TryClone};
 use irtext_base::parsable::{CharStream, ParseResult, TextStream};
 use irtext_base::result::Cause;
-use irtext_memory::{OutOfMemory, string};
+use irtext_memory::{Exhausted, OutOfMemory, string};
 use irtext_tokens::irfmt::faults::{out_of_memory, refuse, unexpected};
 use irtext_tokens::irfmt::parsers::{Class, held, skip_class};
-use std::alloc::AllocError;
 use std::fmt;
 use std::hash::{Hash, Hasher};
 use std::marker::{Model, PhantomData};
@@ -89,13 +88,13 @@ impl<W> Flag<W> {
 }
 
 impl<W> TryClone for Keyword<W> {
-    fn try_clone(&self) -> Result<Keyword<W>, AllocError> {
+    fn try_clone(&self) -> Result<Keyword<W>, Exhausted> {
         Ok(Keyword::new())
     }
 }
 
 impl<W> TryClone for Flag<W> {
-    fn try_clone(&self) -> Result<Flag<W>, AllocError> {
+    fn try_clone(&self) -> Result<Flag<W>, Exhausted> {
         Ok(Flag::new(self.is_set()))
     }
 }
@@ -187,7 +186,7 @@ fn word_parse<W: Word, A>(stream: &mut TextStream) -> ParseResult<(), A>
     }
     match held(stream.allocator(), W::word()) {
         Ok(expected) => Err(unexpected(stream, expected)),
-        Err(_) => Err(out_of_memory(stream)),
+        Err(error) => Err(out_of_memory(stream, Exhausted::from(error))),
     }
 }
 

@@ -12,9 +12,9 @@ ghost use Rattle.irtext_syntax.specs.ListParts.{SeparatorLaw, tail_text, joined_
 use crate::fixed::{Brackets, close_demanded, open_parse};
 use crate::part::{Closed, Item, Last, Part, TryClone};
 use irtext_base::parsable::{ParseResult, TextStream};
-use irtext_memory::{OutOfMemory, string};
+use irtext_memory::{Exhausted, OutOfMemory, string, vec};
 use irtext_tokens::irfmt::parsers::list_parser;
-use std::alloc::{AllocError, Global};
+use std::alloc::Global;
 use std::fmt;
 use std::hash::{Hash, Hasher};
 use std::marker::{Model, PhantomData};
@@ -70,18 +70,18 @@ impl<B, P> ListOf<B, P> {
 }
 
 /// Returns equal copies of the items. Fails only if an allocation fails.
-fn copies<P: TryClone + Drop>(alloc: Global, items: &[P]) -> Result<Vec<P>, AllocError>
+fn copies<P: TryClone + Drop>(alloc: Global, items: &[P]) -> Result<Vec<P>, Exhausted>
     ensures { IfOk result (λ copies. copies.items ≡ items.now) }
 {
     let mut copies = Vec::new(alloc);
     for item in items {
-        copies.push(item.try_clone()?)?;
+        vec::push(&mut copies, item.try_clone()?)?;
     }
     Ok(copies)
 }
 
 impl<B, P: TryClone + Drop> TryClone for ListOf<B, P> {
-    fn try_clone(&self) -> Result<ListOf<B, P>, AllocError> {
+    fn try_clone(&self) -> Result<ListOf<B, P>, Exhausted> {
         let items = copies(*self.items.allocator(), self.items.as_slice())?;
         Ok(ListOf::new(items))
     }

@@ -1,9 +1,8 @@
 //! Parts that may be left out.
 use crate::part::{Item, Part, TryClone};
 use irtext_base::parsable::{ParseResult, TextStream};
-use irtext_memory::OutOfMemory;
+use irtext_memory::{Exhausted, OutOfMemory};
 use irtext_tokens::irfmt::faults::unless_committed;
-use std::alloc::AllocError;
 
 /// A part that may be left out. It is missing if no value of `P` begins, and nothing is then printed. So that this is seen, a closing
 /// character has to come after it, as `>` or `,`, with or without white space before it.
@@ -40,7 +39,7 @@ impl<A: Drop, P: Item<A>> Part<A> for Option<P> {
 }
 
 impl<P: TryClone> TryClone for Option<P> {
-    fn try_clone(&self) -> Result<Option<P>, AllocError> {
+    fn try_clone(&self) -> Result<Option<P>, Exhausted> {
         match self {
             Some(value) => Ok(Some(value.try_clone()?)),
             None => Ok(None),

@@ -12,9 +12,8 @@ ghost use Rattle.irtext_syntax.specs.NameLaws.{name_law, name_decides, name_miss
 use crate::part::{Item, Last, Part, TryClone};
 use irtext_base::base::Identifier;
 use irtext_base::parsable::{ParseResult, TextStream};
-use irtext_memory::{OutOfMemory, string};
+use irtext_memory::{Exhausted, OutOfMemory, string};
 use irtext_tokens::irfmt::parsers::identifier_parse;
-use std::alloc::AllocError;
 use std::fmt;
 use std::hash::{Hash, Hasher};
 use std::marker::Model;
@@ -62,8 +61,8 @@ impl Name {
 }
 
 impl TryClone for Name {
-    fn try_clone(&self) -> Result<Name, AllocError> {
-        let identifier = self.identifier.clone()?;
+    fn try_clone(&self) -> Result<Name, Exhausted> {
+        let identifier = self.identifier.share()?;
         Ok(Name { identifier })
     }
 }

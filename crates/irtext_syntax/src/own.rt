@@ -2,9 +2,8 @@
 use crate::part::{Item, Last, Part, TryClone};
 use irtext_base::parsable::{ParseResult, TextStream};
 use irtext_base::text::IrText;
-use irtext_memory::OutOfMemory;
+use irtext_memory::{Exhausted, OutOfMemory};
 use irtext_tokens::either::Either;
-use std::alloc::AllocError;
 
 /// A type or an attribute of the caller, as a part.
 #[derive(PartialEq, Eq, Hash, Debug, Drop)]
@@ -49,7 +48,7 @@ impl<A, T: IrText<A>> Last<A> for Own<T> {
 }
 
 impl<T: TryClone> TryClone for Own<T> {
-    fn try_clone(&self) -> Result<Own<T>, AllocError> {
+    fn try_clone(&self) -> Result<Own<T>, Exhausted> {
         Ok(Own {
             value: self.value.try_clone()?,
         })
@@ -57,7 +56,7 @@ impl<T: TryClone> TryClone for Own<T> {
 }
 
 impl<L: TryClone, R: TryClone, W> TryClone for Either<L, R, W> {
-    fn try_clone(&self) -> Result<Either<L, R, W>, AllocError> {
+    fn try_clone(&self) -> Result<Either<L, R, W>, Exhausted> {
         match self {
             Either::Left(x) => Ok(Either::Left(x.try_clone()?)),
             Either::Right(y, _) => Ok(Either::right(y.try_clone()?)),

@@ -6,8 +6,7 @@ ghost use Rattle.irtext_tokens.specs.MustRead.{MayRead};
 ghost use Rattle.irtext_syntax.specs.PartLaws.{PartText, PartLaws, MissesClosers, EndsAnywhere};
 
 use irtext_base::parsable::{ParseResult, TextStream};
-use irtext_memory::OutOfMemory;
-use std::alloc::AllocError;
+use irtext_memory::{Exhausted, OutOfMemory};
 
 /// A part of a type's or an attribute's text, such as a number or a quoted string; a value of `Self` is what it is parsed as. Errors are
 /// those of a context whose attributes are `A`.
@@ -60,7 +59,7 @@ pub trait Closed<A>: Part<A> {
 /// A value that can be copied. A copy equals the value.
 pub trait TryClone: Sized {
     /// Returns an equal copy. Fails only if an allocation fails.
-    fn try_clone(&self) -> Result<Self, AllocError>
+    fn try_clone(&self) -> Result<Self, Exhausted>
         ensures { IfOk result (λ copy. copy ≡ self.now) };
 }
 
@@ -68,7 +67,7 @@ pub trait TryClone: Sized {
 pub trait Plain: Copy {}
 
 impl<T: Plain> TryClone for T {
-    fn try_clone(&self) -> Result<T, AllocError> {
+    fn try_clone(&self) -> Result<T, Exhausted> {
         Ok(*self)
     }
 }

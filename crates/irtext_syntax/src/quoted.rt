@@ -6,10 +6,9 @@ ghost use Rattle.irtext_syntax.specs.QuotedLaws.{characters_law, characters_deci
 use crate::characters::Characters;
 use crate::part::{Closed, Item, Last, Part, TryClone};
 use irtext_base::parsable::{ParseResult, TextStream};
-use irtext_memory::OutOfMemory;
+use irtext_memory::{Exhausted, OutOfMemory};
 use irtext_tokens::irfmt::parsers::quoted_string_parse;
 use irtext_tokens::printable::fmt_quoted;
-use std::alloc::AllocError;
 
 /// A quoted text: its characters between quotation marks, with escapes, as `quoted_string_parse` and `fmt_quoted` have them. Fails with
 /// `Unexpected`, uncommitted, if no quotation mark comes next. Every other error is committed.
@@ -29,8 +28,8 @@ impl<A> Part<A> for Characters {
 }
 
 impl TryClone for Characters {
-    fn try_clone(&self) -> Result<Characters, AllocError> {
-        Characters::try_clone(self)
+    fn try_clone(&self) -> Result<Characters, Exhausted> {
+        Ok(Characters::try_clone(self)?)
     }
 }
 

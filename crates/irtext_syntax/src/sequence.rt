@@ -8,9 +8,8 @@ ghost use Rattle.irtext_syntax.specs.Sequences.{then_text, second_at, within_tex
 use crate::fixed::{After, Between, Brackets, between_demanded, close_demanded, open_parse};
 use crate::part::{Closed, Item, Last, Part, TryClone};
 use irtext_base::parsable::{ParseResult, TextStream};
-use irtext_memory::{OutOfMemory, string};
+use irtext_memory::{Exhausted, OutOfMemory, string};
 use irtext_tokens::irfmt::faults::committed;
-use std::alloc::AllocError;
 use std::marker::PhantomData;
 
 /// Two parts with the fixed text of `W` between them, as `5: si32`.
@@ -193,7 +192,7 @@ impl<A, P: Part<A>, W: After<A, P>, Q: Closed<A>> Closed<A> for Then<P, W, Q> {
 }
 
 impl<P: TryClone + Drop, W, Q: TryClone> TryClone for Then<P, W, Q> {
-    fn try_clone(&self) -> Result<Then<P, W, Q>, AllocError> {
+    fn try_clone(&self) -> Result<Then<P, W, Q>, Exhausted> {
         let first = self.first.try_clone()?;
         let second = self.second.try_clone()?;
         Ok(Then {
@@ -205,7 +204,7 @@ impl<P: TryClone + Drop, W, Q: TryClone> TryClone for Then<P, W, Q> {
 }
 
 impl<B, P: TryClone> TryClone for Within<B, P> {
-    fn try_clone(&self) -> Result<Within<B, P>, AllocError> {
+    fn try_clone(&self) -> Result<Within<B, P>, Exhausted> {
         let inside = self.inside.try_clone()?;
         Ok(Within {
             inside,

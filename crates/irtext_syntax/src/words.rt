@@ -11,6 +11,7 @@ ghost use Rattle.irtext_syntax.specs.Words.{dotted_at};
 use crate::table::Table;
 use irtext_base::parsable::{CharStream, ParseFault, ParseResult, Place, TextStream};
 use irtext_base::result::{Cause, Expected};
+use irtext_memory::{Exhausted, string};
 use irtext_tokens::irfmt::faults::{begins, out_of_memory, refuse, refuse_at, unexpected};
 use irtext_tokens::irfmt::parsers::{Class, skip_class};
 
@@ -27,9 +28,9 @@ fn unregistered<A>(stream: &mut TextStream, place: Place, refusal: &str) -> Pars
         (OwnText (refusal.now ++ encode_utf8_all taken)) passed stream.old result stream.new }
 {
     let word = stream.text_since(place);
-    match format!(in stream.allocator(); "{refusal}{word}") {
+    match string::joined(stream.allocator(), refusal, word) {
         Ok(text) => refuse_at(stream, place, Cause::OwnText(text)),
-        Err(_) => out_of_memory(stream),
+        Err(error) => out_of_memory(stream, Exhausted::from(error)),
     }
 }
 

@@ -5,7 +5,8 @@ use crate::grammar::AttrGrammar;
 use crate::heads::Heads;
 use crate::tree::Tree;
 use irtext_base::text::AttrText;
-use std::alloc::{AllocError, Global};
+use irtext_memory::{Exhausted, vec};
+use std::alloc::Global;
 use std::hash::Hash;
 use std::marker::PhantomData;
 
@@ -13,12 +14,12 @@ use std::marker::PhantomData;
 fn heads_cloned<S: AttrGrammar<H, A>, H: Eq + Drop, A>(
     alloc: Global,
     heads: &[H],
-) -> Result<Vec<H>, AllocError>
+) -> Result<Vec<H>, Exhausted>
     ensures { IfOk result (λ copies. copies.items ≡ heads.now) }
 {
     let mut copies = Vec::new(alloc);
     for head in heads {
-        copies.push(S::clone_head(head)?)?;
+        vec::push(&mut copies, S::clone_head(head)?)?;
     }
     Ok(copies)
 }
@@ -42,7 +43,7 @@ impl<A: Drop, S: AttrGrammar<H, A>, H: Eq + Hash + Drop> AttrText<A> for Tree<S,
         S::is_print_once(self.head())
     }
 
-    fn try_clone(&self) -> Result<Tree<S, H>, AllocError> {
+    fn try_clone(&self) -> Result<Tree<S, H>, Exhausted> {
         let first = S::clone_head(self.head())?;
         let rest = heads_cloned::<S, H, A>(self.heads.allocator(), self.rest())?;
         Ok(Tree {

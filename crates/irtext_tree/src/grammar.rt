@@ -11,8 +11,7 @@ ghost use Rattle.irtext_tree.specs.Words.{HeadsLed, HeadsUnreserved};
 use crate::waits::Waits;
 use irtext_base::parsable::{ParseResult, TextStream};
 use irtext_base::text::Worded;
-use irtext_memory::OutOfMemory;
-use std::alloc::AllocError;
+use irtext_memory::{Exhausted, OutOfMemory};
 
 /// The places of a grammar, at each of which one of several heads `H` can come. `Self` is the place: most impls are on an enum, as one of a
 /// type, of `>`, and of `, ` or `>`.
@@ -83,7 +82,7 @@ pub trait AttrGrammar<H: Eq, A>: Grammar<H, A> {
         ensures { result ≡ print_once head.now };
 
     /// Returns an equal copy of the head. Fails only if an allocation fails.
-    fn clone_head(head: &H) -> Result<H, AllocError>
+    fn clone_head(head: &H) -> Result<H, Exhausted>
         ensures { IfOk result (λ copy. copy ≡ head.now) };
 
     ghost unreserved: { HeadsUnreserved Self.Grows.growth Self.Grammar.written };

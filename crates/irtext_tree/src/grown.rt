@@ -16,11 +16,11 @@ use crate::waits::Waits;
 use irtext_base::parsable::{CharStream, ParseResult, TextStream};
 use irtext_base::result::Cause;
 use irtext_base::text::{Family, IrText, Worded};
-use irtext_memory::{OutOfMemory, vec};
+use irtext_memory::{Exhausted, OutOfMemory, vec};
 use irtext_syntax::part::TryClone;
 use irtext_tokens::irfmt::faults::{committed, out_of_memory, refuse};
 use irtext_tokens::irfmt::parsers::skip_white_space;
-use std::alloc::{AllocError, Global};
+use std::alloc::Global;
 use std::marker::PhantomData;
 
 /// The places that wait, the next one last. Fails only if an allocation fails.
@@ -100,14 +100,14 @@ fn heads_after<S: Grammar<H, A>, H: Eq + Drop, A: Drop>(
     let alloc = stream.allocator();
     let mut left: Vec<S> = Vec::new(alloc);
     let mut found = Vec::new(alloc);
-    let Ok(()) = push_waits(S::waits(&first), &mut left) else {
-        return Err(out_of_memory(stream));
-    };
+    if let Err(error) = push_waits(S::waits(&first), &mut left) {
+        return Err(out_of_memory(stream, Exhausted::from(error)));
+    }
     while let Some(place) = left.pop() {
         let head = head_demanded::<S, H, A>(stream, place)?;
-        let Ok(()) = take_head(head, &mut left, &mut found) else {
-            return Err(out_of_memory(stream));
-        };
+        if let Err(error) = take_head(head, &mut left, &mut found) {
+            return Err(out_of_memory(stream, Exhausted::from(error)));
+        }
     }
     Ok(Heads::new(first, found))
 }
@@ -225,7 +225,7 @@ impl<S: Grows<H>, H: Worded> Worded for Tree<S, H> {
 }
 
 impl<S: Grows<H>, H: TryClone + Drop> TryClone for Tree<S, H> {
-    fn try_clone(&self) -> Result<Tree<S, H>, AllocError> {
+    fn try_clone(&self) -> Result<Tree<S, H>, Exhausted> {
         let heads = self.heads.try_clone()?;
         Ok(Tree {
             heads,

@@ -4,9 +4,9 @@ ghost use Rattle.std.specs.Cmp.{on_equiv, on_per};
 ghost use Rattle.std.specs.Cmp.Lexicographic.{pointwise, lists_equiv, lists_per};
 ghost use Rattle.irtext_tree.specs.Fed.{heads_fed, heads_alike};
 
-use irtext_memory::{OutOfMemory, vec};
+use irtext_memory::{Exhausted, OutOfMemory, vec};
 use irtext_syntax::part::TryClone;
-use std::alloc::{AllocError, Global};
+use std::alloc::Global;
 use std::fmt;
 use std::hash::{Hash, Hasher};
 use std::marker::Model;
@@ -90,18 +90,18 @@ fn appended<H: Drop>(mut heads: Vec<H>, next: H, more: Vec<H>) -> Result<Vec<H>,
 }
 
 /// Returns equal copies of the heads. Fails only if an allocation fails.
-pub(crate) fn copies<H: TryClone + Drop>(alloc: Global, heads: &[H]) -> Result<Vec<H>, AllocError>
+pub(crate) fn copies<H: TryClone + Drop>(alloc: Global, heads: &[H]) -> Result<Vec<H>, Exhausted>
     ensures { IfOk result (λ copies. copies.items ≡ heads.now) }
 {
     let mut copies = Vec::new(alloc);
     for head in heads {
-        copies.push(head.try_clone()?)?;
+        vec::push(&mut copies, head.try_clone()?)?;
     }
     Ok(copies)
 }
 
 impl<H: TryClone + Drop> TryClone for Heads<H> {
-    fn try_clone(&self) -> Result<Heads<H>, AllocError> {
+    fn try_clone(&self) -> Result<Heads<H>, Exhausted> {
         let first = self.first.try_clone()?;
         let rest = copies(self.allocator(), self.rest())?;
         Ok(Heads::new(first, rest))

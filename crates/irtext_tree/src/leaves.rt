@@ -4,8 +4,7 @@ use crate::places::Leaf;
 use crate::waits::Waits;
 use irtext_base::parsable::{ParseResult, TextStream};
 use irtext_base::text::{AttrText, Family, IrText};
-use irtext_memory::OutOfMemory;
-use std::alloc::AllocError;
+use irtext_memory::{Exhausted, OutOfMemory};
 
 impl<H> Grows<H> for Leaf {
     ghost use Rattle.irtext_tree.specs.Leaves.{leaf_growth};
@@ -75,7 +74,7 @@ impl<A, H: AttrText<A>> AttrGrammar<H, A> for Leaf {
         <H as AttrText<A>>::is_print_once(head)
     }
 
-    fn clone_head(head: &H) -> Result<H, AllocError> {
+    fn clone_head(head: &H) -> Result<H, Exhausted> {
         <H as AttrText<A>>::try_clone(head)
     }
 }

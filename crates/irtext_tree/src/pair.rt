@@ -9,10 +9,9 @@ use crate::places::Places;
 use crate::waits::Waits;
 use irtext_base::parsable::{CharStream, ParseResult, TextStream};
 use irtext_base::text::{Apart, Worded};
-use irtext_memory::OutOfMemory;
+use irtext_memory::{Exhausted, OutOfMemory};
 use irtext_tokens::either::Either;
 use irtext_tokens::irfmt::parsers::{Class, skip_class};
-use std::alloc::AllocError;
 
 /// Returns whether the dotted word that is next in the stream is one of the family's. The stream is unchanged.
 fn is_next_word_of<F: Worded>(stream: &mut TextStream) -> bool
@@ -199,7 +198,7 @@ impl<
         }
     }
 
-    fn clone_head(head: &Either<L, R, W>) -> Result<Either<L, R, W>, AllocError> {
+    fn clone_head(head: &Either<L, R, W>) -> Result<Either<L, R, W>, Exhausted> {
         match head {
             Either::Left(head) => Ok(Either::Left(<S as AttrGrammar<L, A>>::clone_head(head)?)),
             Either::Right(head, _) => Ok(Either::right(<T as AttrGrammar<R, A>>::clone_head(

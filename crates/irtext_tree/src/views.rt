@@ -6,6 +6,7 @@ ghost use Rattle.irtext_tree.specs.Rows.{Filled, after_front, at_tree, children_
 use crate::grammar::Grows;
 use crate::heads::{Heads, copies};
 use crate::tree::Tree;
+use irtext_memory::Exhausted;
 use irtext_syntax::part::TryClone;
 use std::alloc::{AllocError, Global};
 use std::marker::PhantomData;
@@ -105,7 +106,7 @@ impl<'a, S: Grows<H>, H> SubTree<'a, S, H> {
 
 impl<'a, S: Grows<H>, H: TryClone + Drop> SubTree<'a, S, H> {
     /// Returns a copy of the tree. Fails only if an allocation fails.
-    pub fn to_tree(self, alloc: Global) -> Result<Tree<S, H>, AllocError>
+    pub fn to_tree(self, alloc: Global) -> Result<Tree<S, H>, Exhausted>
         ensures { IfOk result (λ t. t.heads ≡ self.entry.head.now ∷ self.entry.rest.now) }
     {
         let first = self.head.try_clone()?;
