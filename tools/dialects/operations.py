@@ -131,7 +131,7 @@ class Operations:
         return [
             f"-- why registering the operation fails: an allocation failed, or a dialect with another name is registered under the name `{self.name}`",
             "abbrev pub Refuses : {A : Type 0} → List (Text × Table) → Operation → Cause A → Type 0",
-            "Refuses dialects op Memory = Unit {0}",
+            "Refuses dialects op (Memory e) = Unit {0}",
             f'Refuses dialects op (WrongDialect id name) = (bytes_eq (codes "{self.name}") {registered} ≡ false) × (id ≡ id_of_texts (codes "{self.name}") op.name)'
             f" × (name ≡ {registered})",
             "Refuses dialects op _ = ⊥",
@@ -332,7 +332,7 @@ class Operations:
             f"pub refused : {{A : Type 0}} (dialects : List (Text × Table)) (op : {self.enum}) (name : Text) (format : OpFormat) (cause : Cause A)",
             f"    → name ≡ ({row} op).name → format_of format ≡ ({row} op).format",
             f"    → RefusesOp (dialect_or_new dialects {name}).name {name} name (format_of format) cause → Refuses dialects ({row} op) cause",
-            "refused dialects op name format Memory f k why = tt",
+            "refused dialects op name format (Memory e) f k why = tt",
             "refused dialects op name format (Unexpected found expected) f k (_, why) ="
             f" absurd (no_name op found (demand_of expected) (why ∙ ap (id_refused {name}) f))",
             "refused dialects op name format (WrongDialect id own) f k (_, other, same, named) ="

@@ -28,7 +28,7 @@ fn error_text<T: IrText<A>, A: AttrText<A>>(
 fn rejection<T: IrText<A>, A: AttrText<A>>(ctx: &Context<T, A>, error: &Error<A>) -> Fault
     ensures { IsRejected A.written ctx.now.paths error.now result }
 {
-    if let (Cause::Memory, ErrorKind::InvalidArgument) = (&error.err, error.kind) {
+    if let (Cause::Memory(_), ErrorKind::InvalidArgument) = (&error.err, error.kind) {
         return Fault::Memory;
     }
     match error_text(ctx, error) {

@@ -49,7 +49,7 @@ no_name op.Return found demand e = absurd (cc)
 pub refused : {A : Type 0} (dialects : List (Text × Table)) (op : ArithOp) (name : Text) (format : OpFormat) (cause : Cause A)
     → name ≡ (arith_op op).name → format_of format ≡ (arith_op op).format
     → RefusesOp (dialect_or_new dialects (codes "arith")).name (codes "arith") name (format_of format) cause → Refuses dialects (arith_op op) cause
-refused dialects op name format Memory f k why = tt
+refused dialects op name format (Memory e) f k why = tt
 refused dialects op name format (Unexpected found expected) f k (_, why) = absurd (no_name op found (demand_of expected) (why ∙ ap (id_refused (codes "arith")) f))
 refused dialects op name format (WrongDialect id own) f k (_, other, same, named) = (other, same ∙ ap (id_of_texts (codes "arith")) f, named)
 refused dialects op name format (IsFault fault) f k fails = absurd (no_fault fault (sym fails ∙ ap first_fault k ∙ accepted op))

@@ -43,7 +43,7 @@ with_all dialects (op ∷ ops) = with_all (with_one dialects op) ops
 
 -- why registering the operation fails: an allocation failed, or a dialect with another name is registered under the name `arith`
 abbrev pub Refuses : {A : Type 0} → List (Text × Table) → Operation → Cause A → Type 0
-Refuses dialects op Memory = Unit {0}
+Refuses dialects op (Memory e) = Unit {0}
 Refuses dialects op (WrongDialect id name) = (bytes_eq (codes "arith") (dialect_or_new dialects (codes "arith")).name ≡ false) × (id ≡ id_of_texts (codes "arith") op.name) × (name ≡ (dialect_or_new dialects (codes "arith")).name)
 Refuses dialects op _ = ⊥
 

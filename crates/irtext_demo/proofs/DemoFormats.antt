@@ -60,7 +60,7 @@ no_name demo.Global found demand e = absurd (cc)
 pub refused : {A : Type 0} (dialects : List (Text × Table)) (d : Demo) (dialect name : Text) (format : OpFormat) (cause : Cause A)
     → dialect ≡ (demo_op d).id.dialect → name ≡ (demo_op d).id.name → format_of format ≡ (demo_op d).format
     → RefusesOp (dialect_or_new dialects dialect).name dialect name (format_of format) cause → Refuses dialects (demo_op d) cause
-refused dialects d dialect name format Memory e f k said_in_error = tt
+refused dialects d dialect name format (Memory m) e f k said_in_error = tt
 refused dialects d dialect name format (Unexpected found expected) e f k (_, said_in_error) = absurd (no_name d found (demand_of expected) (said_in_error ∙ (λ i. id_refused (e i) (f i))))
 refused dialects d dialect name format (WrongDialect id own) e f k (_, other, same, named) =
     (subst (λ t. bytes_eq t (dialect_or_new dialects t).name ≡ false) e other, same ∙ (λ i. id_of_texts (e i) (f i)), named ∙ ap (λ t. (dialect_or_new dialects t).name) e)

@@ -97,7 +97,7 @@ with_all dialects (op ∷ ops) = with_all (with_demo dialects op) ops
 
 -- why registering the operation fails: an allocation failed, or a dialect with another name is registered under its dialect's name
 abbrev pub Refuses : {A : Type 0} → List (Text × Table) → DemoOp → Cause A → Type 0
-Refuses dialects op Memory = Unit {0}
+Refuses dialects op (Memory e) = Unit {0}
 Refuses dialects op (WrongDialect id name) = (bytes_eq op.id.dialect (dialect_or_new dialects op.id.dialect).name ≡ false) × (id ≡ op.id) × (name ≡ (dialect_or_new dialects op.id.dialect).name)
 Refuses dialects op _ = ⊥
 

@@ -12,7 +12,7 @@ tracker_word TopLevelOpRegionNotIsolatedFromAbove = codes "not-isolated"
 
 -- the word of a cause
 abbrev pub cause_word : {A : Type 0} → Cause A → List ℕ
-cause_word Memory = codes "out-of-memory"
+cause_word (Memory e) = codes "out-of-memory"
 cause_word StreamFailed = codes "stream-failed"
 cause_word (Unexpected found expected) = codes "unexpected"
 cause_word (NumberRange text) = codes "number-out-of-range"

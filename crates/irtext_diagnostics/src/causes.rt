@@ -19,7 +19,7 @@ pub fn cause_word<A>(cause: &Cause<A>) -> &'static str
     ensures { result.now ≡ cause_word cause.now }
 {
     match cause {
-        Cause::Memory => "out-of-memory",
+        Cause::Memory(_) => "out-of-memory",
         Cause::StreamFailed => "stream-failed",
         Cause::Unexpected { .. } => "unexpected",
         Cause::NumberRange(_) => "number-out-of-range",

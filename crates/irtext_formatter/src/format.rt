@@ -29,7 +29,7 @@ fn is_memory<A>(cause: &Cause<A>) -> bool
     ensures { result ≡ is_memory (fault_of cause.now) }
 {
     match cause {
-        Cause::Memory => true,
+        Cause::Memory(_) => true,
         _ => false,
     }
 }

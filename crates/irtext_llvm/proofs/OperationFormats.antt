@@ -191,7 +191,7 @@ no_name op.Landingpad found demand e = absurd (cc)
 pub refused : {A : Type 0} (dialects : List (Text × Table)) (op : LlvmOp) (name : Text) (format : OpFormat) (cause : Cause A)
     → name ≡ (llvm_op op).name → format_of format ≡ (llvm_op op).format
     → RefusesOp (dialect_or_new dialects (codes "llvm")).name (codes "llvm") name (format_of format) cause → Refuses dialects (llvm_op op) cause
-refused dialects op name format Memory f k why = tt
+refused dialects op name format (Memory e) f k why = tt
 refused dialects op name format (Unexpected found expected) f k (_, why) = absurd (no_name op found (demand_of expected) (why ∙ ap (id_refused (codes "llvm")) f))
 refused dialects op name format (WrongDialect id own) f k (_, other, same, named) = (other, same ∙ ap (id_of_texts (codes "llvm")) f, named)
 refused dialects op name format (IsFault fault) f k fails = absurd (no_fault fault (sym fails ∙ ap first_fault k ∙ accepted op))

@@ -26,7 +26,7 @@ module _ {A : Type 0} where
 
   -- the first entry is an error
   pub first_refused : (e : Key × AttrObj A) (es : List (Key × AttrObj A)) (r : NotGathered) → RefusesEntries (e ∷ []) r → RefusesEntries (e ∷ es) r
-  first_refused e es refusal.Memory h = tt
+  first_refused e es (refusal.Memory m) h = tt
   first_refused e es (refusal.ReservedKey key) (inl h) = inl h
   first_refused e es (refusal.ReservedKey key) (inr h) = absurd h.1
   first_refused e es (refusal.NoActiveScope n) h = absurd h

@@ -80,7 +80,7 @@ module _ {T A : Type 0} {old used : ContextView T A} {before names : Names} (all
 module _ {O B T A : Type 0} (ps : List (ReadPiece T A)) (names : Names) (g : GraphView (Option O) B (Option T)) (text : Text) (parts : List (Part ℕ T A)) (are : Each (IsPart names.names text) ps parts) where
   -- the name in the error is known
   pub refusal_known : (new : List Text) → new ≡ names.names → (why : NotGathered) → RefusesGathering ps names g why → IsKnownIn (length new) why
-  refusal_known new same refusal.Memory r = tt
+  refusal_known new same (refusal.Memory m) r = tt
   refusal_known new same (refusal.ReservedKey key) r = tt
   refusal_known new same (refusal.NoActiveScope read) r = let n = r.so text parts are in subst (λ ns. read.name < length ns) (sym same) (within names.names read.name n.0.text n.1.named)
 

@@ -61,20 +61,20 @@ if_ok (Err e) f p = tt
 -- the fault is for the first such key
 keys_said : {A : Type 0} (text : Text) (entries : List (Key × AttrObj A)) (why : NotGathered) (fault : ParseFault A) → Forbids block_may_hold entries why → UnlessMemory (IsRefusalFault text why) fault → UnlessMemory (RefusesKeys text entries) fault
 keys_said text entries why fault forbids (inl s) = inl s
-keys_said text entries refusal.Memory fault forbids (inr says) = absurd says
+keys_said text entries (refusal.Memory m) fault forbids (inr says) = absurd says
 keys_said text entries (refusal.ReservedKey key) fault forbids (inr says) = inr (record { key = key; first = forbids; says = says })
 keys_said text entries (refusal.NoActiveScope name) fault forbids (inr says) = absurd says
 
 -- an error of the entries is not about a name
 pub of_entries : {A : Type 0} (entries : List (Key × AttrObj A)) (why : NotGathered) → Forbids block_may_hold entries why → IsOfEntries why
-of_entries entries refusal.Memory forbids = tt
+of_entries entries (refusal.Memory m) forbids = tt
 of_entries entries (refusal.ReservedKey key) forbids = tt
 of_entries entries (refusal.NoActiveScope name) forbids = absurd forbids
 
 -- and it is committed
 pub keys_commit : {A : Type 0} (text : Text) (why : NotGathered) (fault : ParseFault A) → UnlessMemory (IsRefusalFault text why) fault → fault.committed ≡ true
 keys_commit text why fault (inl s) = s.flag
-keys_commit text refusal.Memory fault (inr says) = absurd says
+keys_commit text (refusal.Memory m) fault (inr says) = absurd says
 keys_commit text (refusal.ReservedKey key) fault (inr says) = says.flag
 keys_commit text (refusal.NoActiveScope name) fault (inr says) = absurd says
 

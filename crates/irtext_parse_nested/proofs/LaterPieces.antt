@@ -158,7 +158,7 @@ module _ {T A : Type 0} where
 
   -- so the error is about no name
   pub known_in : (count : ℕ) (piece : ReadPiece T A) (why : NotGathered) → RefusesStored piece why → IsKnownIn count why
-  known_in count piece refusal.Memory r = tt
+  known_in count piece (refusal.Memory m) r = tt
   known_in count piece (refusal.ReservedKey key) r = tt
   known_in count piece (refusal.NoActiveScope n) r = absurd (never_outside piece n r)
 

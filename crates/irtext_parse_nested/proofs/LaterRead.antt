@@ -199,7 +199,7 @@ module _ {T A U : Type 0} (types_at : Reader T) (attr : Reader (AttrView A)) (ol
     module _ (read : NamesRead before middle) (distinct : AreDistinct middle.names) (piece : ReadPiece T A) (mid : StreamView)
         (must : MustPiece {A = A} itself replaced middle.names (space_at ▷ piece_at types_at attr (setting true false) step) old.stream (Ok piece) mid) (fault : ParseFault A) where
       why_refused : (why : NotGathered) → RefusesStored piece why → SaysGather middle.names (whole old.stream) why fault → UnlessMemory (RefusesPiece types_at attr o step before old) fault
-      why_refused refusal.Memory r s = inl s
+      why_refused (refusal.Memory m) r s = inl s
       why_refused (refusal.NoActiveScope n) r s = absurd (never_outside piece n r)
       why_refused (refusal.ReservedKey key) r s =
           let a = there read distinct piece mid must in
@@ -275,7 +275,7 @@ pub unstored_commits : {T A : Type 0} (piece : ReadPiece T A) (names : List Text
 unstored_commits {T} {A} piece names text fault n = go n.why n.refuses n.says
   where
     go : (why : NotGathered) → RefusesStored piece why → SaysGather names text why fault → fault.committed ≡ true
-    go refusal.Memory r s = s.flag
+    go (refusal.Memory m) r s = s.flag
     go (refusal.ReservedKey key) r s = s.1
     go (refusal.NoActiveScope m) r s = absurd (never_outside piece m r)
 

@@ -365,7 +365,7 @@ module _ {T A U : Type 0} (types_at : Text → Outcome T) (attr : Text → Outco
   -- if the pieces could not be gathered, the error is committed
   pub ungathered_commits : (pieces : List (ReadPiece T A)) (names : Names) (text : Text) (fault : ParseFault A) → NotGatheredAs pieces names old.state.ctx.now.graph text fault → fault.committed ≡ true
   ungathered_commits pieces names text fault (ran_out s) = s.flag
-  ungathered_commits pieces names text fault (refused refusal.Memory r s) = s.flag
+  ungathered_commits pieces names text fault (refused (refusal.Memory m) r s) = s.flag
   ungathered_commits pieces names text fault (refused (refusal.ReservedKey key) r s) = s.1
   ungathered_commits pieces names text fault (refused (refusal.NoActiveScope name) r (inl s)) = s.flag
   ungathered_commits pieces names text fault (refused (refusal.NoActiveScope name) r (inr s)) = s.flag
@@ -398,7 +398,7 @@ module _ {T A U : Type 0} (types_at : Text → Outcome T) (attr : Text → Outco
 
     why_fails : (fault : ParseFault A) (why : NotGathered) → RefusesGathering pieces middle old.state.ctx.now.graph why → SaysGather middle.names (whole old.stream) why fault
         → UnlessMemory (λ z. ActFails (whole old.stream) (uses_of types_at attr inside old mid.rest (front_reads f mid.rest refl)) before old.state [] z) fault
-    why_fails fault refusal.Memory r s = inl s
+    why_fails fault (refusal.Memory m) r s = inl s
     why_fails fault (refusal.ReservedKey key) r s =
         let n = failing r in
         inr (uses_fail r fault (record { cause = s.0 ∙ ap causes.ReservedKey n.1.named; place = place_is_there n.1.place s.2; committed = s.1 }))

@@ -90,7 +90,7 @@ IsKnownIn count _ = ⊤
 module _ {A : Type 0} where
   -- the fault is that of the error: an allocation failed; or the key is reserved, or no scope is open for the name, at its place
   abbrev pub SaysGather : List Text → Text → NotGathered → ParseFault A → Type 0
-  SaysGather names text refusal.Memory fault = IsOutOfMemory fault
+  SaysGather names text (refusal.Memory e) fault = IsOutOfMemory fault
   SaysGather names text (refusal.ReservedKey key) fault = (fault_of fault.cause ≡ causes.ReservedKey key.name) × (fault.committed ≡ true)
       × AtOffset key.at.offset text (λ passed rest. IsAt fault.pos.line fault.pos.column passed)
   SaysGather names text (refusal.NoActiveScope read) fault = UnlessMemory (IsFaultOf names text causes.NoActiveScope read) fault

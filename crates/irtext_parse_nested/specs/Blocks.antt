@@ -63,13 +63,13 @@ pub record IsKeyFault {A : Type 0} (text : Text) (key : Key) (fault : ParseFault
 
 -- the error of entries: an allocation failed, or a key is reserved; it is not about a name
 abbrev pub IsOfEntries : NotGathered → Type 0
-IsOfEntries refusal.Memory = ⊤
+IsOfEntries (refusal.Memory e) = ⊤
 IsOfEntries (refusal.ReservedKey key) = ⊤
 IsOfEntries (refusal.NoActiveScope name) = ⊥
 
 -- the fault is that of this reserved key; the error is about a key
 abbrev pub IsRefusalFault : {A : Type 0} → Text → NotGathered → ParseFault A → Type 0
-IsRefusalFault text refusal.Memory fault = ⊥
+IsRefusalFault text (refusal.Memory e) fault = ⊥
 IsRefusalFault text (refusal.ReservedKey key) fault = IsKeyFault text key fault
 IsRefusalFault text (refusal.NoActiveScope name) fault = ⊥
 

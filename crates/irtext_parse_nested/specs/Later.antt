@@ -29,6 +29,7 @@ use Rattle.irtext_grammar.specs.declared.parsed.ReadPiece.TheVariants as read
 use Rattle.irtext_parse_pieces.specs.Pieces.{MustPiece}
 use Rattle.irtext_parse_nested.specs.declared.frame.BegunOperation.{BegunOperation}
 use Rattle.irtext_names.specs.declared.operation_parts.NotGathered.{NotGathered}
+use Rattle.irtext_memory.specs.Rooms.{exhausted}
 use Rattle.irtext_names.specs.declared.operation_parts.NotGathered.TheVariants as refusal
 use Rattle.irtext_parse_nested.specs.Beginning.{HasBegun, SaysGather}
 use Rattle.irtext_parse_nested.specs.OpenOperation.{IsBegun}
@@ -61,7 +62,7 @@ module _ {T A : Type 0} where
   -- why the piece was not stored: an allocation failed, or a key of its dictionary is reserved
   abbrev pub RefusesStored : ReadPiece T A → NotGathered → Type 0
   RefusesStored (read.Dictionary es) why = RefusesEntries es.items why
-  RefusesStored _ why = why ≡ refusal.Memory
+  RefusesStored _ why = why ≡ refusal.Memory exhausted
 
   -- what the piece gives its operation was stored after the attributes that it had
   pub record StoresPiece (piece : ReadPiece T A) (old new : ContextView T A) (op : Ptr Operation) : Type 0 where

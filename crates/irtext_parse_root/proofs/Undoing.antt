@@ -2,6 +2,7 @@
 use Rattle.std.proofs.Common.{◌≡◌, ◌∙◌, ◌⊎◌, true, false, true≢false, Result, Ok, Err, length, take, refl, sym, ap, subst, inl, inr}
 use Rattle.std.proofs.Math.Seq.{take-append_seam}
 use Rattle.std.specs.Prelude.{IfErr, OnOk, OnErr}
+use Rattle.irtext_base.specs.Causes.{no_memory}
 use Rattle.irtext_base.specs.Faults.{Memory, fault_of}
 use Rattle.irtext_base.specs.declared.parsable.fault.ParseFault.{ParseFault}
 use Rattle.irtext_base.specs.declared.parsable.names.ParserNameTrackerError.TheVariants as tracked
@@ -20,8 +21,8 @@ use Rattle.irtext_parse_root.specs.Parses.{Undoes, CanUndo, Resolves, FirstFault
 use Rattle.irtext_parse_root.specs.declared.undo.Start.{Start}
 
 -- only one cause says that memory ran out
-pub is_memory : {A : Type 0} (c : Cause A) → fault_of c ≡ Memory → c ≡ cause.Memory
-is_memory cause.Memory e = refl
+pub is_memory : {A : Type 0} (c : Cause A) → fault_of c ≡ Memory → c ≡ no_memory
+is_memory (cause.Memory m) e = refl
 is_memory cause.StreamFailed e = absurd (cc)
 is_memory (cause.Unexpected found expected) e = absurd (cc)
 is_memory (cause.NumberRange text) e = absurd (cc)

@@ -8,7 +8,7 @@ use Rattle.irtext_base.specs.Locations.{AttrView}
 use Rattle.irtext_base.specs.Own.{Texts, Language, texts_of}
 use Rattle.irtext_base.specs.Paths.{Written}
 use Rattle.irtext_base.specs.declared.parsable.fault.ParseFault.{ParseFault}
-use Rattle.irtext_base.specs.declared.result.Cause.{Memory}
+use Rattle.irtext_base.specs.Causes.{no_memory}
 use Rattle.irtext_base.specs.declared.text.IrText as ir_text
 use Rattle.irtext_context.specs.Context.{KeepsOlder, RollsBack}
 use Rattle.irtext_context.specs.Made.{SameObjects}
@@ -59,7 +59,7 @@ module _ {T A U X : Type 0} (old : StateStream T A U) (result : Result X (ParseF
 -- On a fresh state: what was built of a text that resolves; or, by an error that is not out of memory, that the text does not resolve.
 pub record Resolves {T A U X : Type 0} (Builds : X → StateStream T A U → StateStream T A U → Type 0) (Unresolved : StateStream T A U → ParseFault A → Type 0) (old : StateStream T A U) (result : Result X (ParseFault A)) (new : StateStream T A U) : Type 0 where
   pub builds : IsFresh old → IfOk result (λ x. Builds x old new)
-  pub unresolved : IsFresh old → IfErr result (λ fault. (fault.cause ≡ Memory) ⊎ Unresolved old fault)
+  pub unresolved : IsFresh old → IfErr result (λ fault. (fault.cause ≡ no_memory) ⊎ Unresolved old fault)
 
 -- On any state, in which marks of earlier roots may be recorded: what was parsed of a text without a fault; or, by an error that is not
 -- out of memory, the first fault of the text. On a fresh state that is the first failure of whatever the text parses as. The stream is as

@@ -3,8 +3,8 @@
 use irtext_base::parsable::SourcePosition;
 use irtext_base::text::{AttrText, IrText};
 use irtext_context::base::Context;
+use irtext_memory::Exhausted;
 pub use irtext_survey::stream_at;
-use std::alloc::AllocError;
 
 /// A rejected root: the text that it is in, and where it begins.
 #[derive(Clone, Copy)]
@@ -20,7 +20,7 @@ impl RejectedRoot<'_> {
         ctx: &Context<T, A>,
         name: &str,
         region: SourcePosition,
-    ) -> Result<Option<SourcePosition>, AllocError> {
+    ) -> Result<Option<SourcePosition>, Exhausted> {
         let mut stream = stream_at(ctx.allocator(), self.text, self.begin)?;
         irtext_survey::first_use(&mut stream, ctx, name, region)
     }
@@ -31,7 +31,7 @@ impl RejectedRoot<'_> {
         ctx: &Context<T, A>,
         name: &str,
         second: SourcePosition,
-    ) -> Result<Option<SourcePosition>, AllocError> {
+    ) -> Result<Option<SourcePosition>, Exhausted> {
         let mut stream = stream_at(ctx.allocator(), self.text, self.begin)?;
         irtext_survey::first_definition(&mut stream, ctx, name, second)
     }
@@ -40,7 +40,7 @@ impl RejectedRoot<'_> {
     pub fn end<T: IrText<A>, A: AttrText<A>>(
         &self,
         ctx: &Context<T, A>,
-    ) -> Result<Option<SourcePosition>, AllocError> {
+    ) -> Result<Option<SourcePosition>, Exhausted> {
         let mut stream = stream_at(ctx.allocator(), self.text, self.begin)?;
         if irtext_survey::skip_root::<T, A>(&mut stream, ctx)? {
             return Ok(Some(stream.locate(stream.position())));

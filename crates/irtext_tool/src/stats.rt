@@ -87,7 +87,7 @@ impl Counts {
 /// Returns the fault for a root that was rejected.
 fn rejected<A: Drop>(fault: ParseFault<A>) -> Fault<A> {
     match fault.cause {
-        Cause::Memory => Fault::Memory,
+        Cause::Memory(_) => Fault::Memory,
         _ => Fault::Rejected(fault),
     }
 }

@@ -4,7 +4,7 @@ use Rattle.irtext_base.specs.Format.{given_names_key}
 use Rattle.irtext_base.specs.Locations.{src_pos, unknown}
 use Rattle.irtext_base.specs.Paths.{Written}
 use Rattle.irtext_base.specs.Text.{Text}
-use Rattle.irtext_base.specs.declared.result.Cause.{Memory}
+use Rattle.irtext_base.specs.Causes.{no_memory}
 use Rattle.irtext_context.specs.Context.{ContextView}
 use Rattle.irtext_graph.specs.declared.arena.Ptr.{Ptr}
 use Rattle.irtext_graph.specs.declared.object.Operation.{Operation}
@@ -58,4 +58,4 @@ module _ {T A : Type 0} where
 -- the root was not printed; or there was no memory to parse its text
 abbrev pub IsNotRejected : {A : Type 0} → NotBack A → Type 0
 IsNotRejected (Unprinted refusal) = ⊤
-IsNotRejected (Unread fault) = fault.cause ≡ Memory
+IsNotRejected (Unread fault) = fault.cause ≡ no_memory

@@ -42,9 +42,13 @@ module _ {A : Type 0} where
     pub says : string_bytes message.0 ≡ misfit_text misfit
     pub location : location_view error.loc ≡ location_view misfit.loc.now
 
+  -- the error of a text that could not be printed, though no allocation was refused
+  abbrev pub unprintable : Error A
+  unprintable = record { kind = InvalidArgument; err = cause.Fmt; loc = Unknown }
+
   -- the error of the library for a misfit
   abbrev pub IsErrorOfMisfit : misfits.Misfit A → Error A → Type 0
-  IsErrorOfMisfit misfit error = (error ≡ out_of_memory) ⊎ SaysMisfit misfit error
+  IsErrorOfMisfit misfit error = (error ≡ out_of_memory) ⊎ (error ≡ unprintable) ⊎ SaysMisfit misfit error
 
   -- the error of the library that says why an operation was not printed
   abbrev pub IsErrorOf : PrintError A → Error A → Type 0

@@ -39,6 +39,7 @@ use irtext_base::result::Cause;
 use irtext_base::text::{AttrText, IrText};
 use irtext_checked::context::keeps_parts;
 use irtext_context::base::{Context, Operation, Ptr};
+use irtext_memory::OutOfMemory;
 use irtext_parse_root::outermost::outermost_parse;
 use irtext_parse_state::parsable::{State, StateStream};
 use irtext_print::printable::{Refusal, State as PrintState};
@@ -100,12 +101,12 @@ fn bytes_counted(text: &str)
 }
 
 /// The fault that says that there was no memory to copy the text: committed, at line 1, column 1.
-fn no_memory<A>() -> ParseFault<A>
+fn no_memory<A>(error: OutOfMemory) -> ParseFault<A>
     ensures { IsOutOfMemory result }
 {
     ParseFault {
         pos: SourcePosition { line: 1, column: 1 },
-        cause: Cause::Memory,
+        cause: Cause::from(error),
         committed: true,
     }
 }
@@ -145,7 +146,7 @@ fn read_text<T: IrText<A>, A: AttrText<A>>(
     let alloc = ctx.allocator();
     let stream = match TextStream::new(alloc, text) {
         Ok(stream) => stream,
-        Err(_) => return Err(no_memory()),
+        Err(error) => return Err(no_memory(error)),
     };
     let state = State::new(ctx, Source::InMemory, ());
     let mut s = StateStream { stream, state };

@@ -8,14 +8,14 @@ ghost use Rattle.pliron_text.specs.Unprinted.{plain, misfit_text, IsErrorOfMisfi
 use crate::ir::misfit::first_misfit;
 use irtext_base::base::OpId;
 use irtext_base::location::Location;
-use irtext_base::result::{Cause, Error, ErrorKind, StringError};
+use irtext_base::result::{Cause, Error, ErrorKind};
 use irtext_base::text::{AttrText, IrText};
 use irtext_context::base::{Context, Operation, OperationAccess, Ptr};
 use irtext_memory::{OutOfMemory, string};
 use irtext_print::printable::{Refusal, State};
 use irtext_print_ir::ir::print::print_root;
 use irtext_print_ops::fits::FitFault;
-use std::alloc::{AllocError, Global};
+use std::alloc::Global;
 use std::fmt;
 use std::fmt::Display;
 
@@ -58,18 +58,25 @@ impl<A> Display for Misfit<'_, A> {
 }
 
 impl<A: AttrText<A>> Misfit<'_, A> {
-    /// Returns the misfit as an error: its text, at a copy of its location. If out of memory, that is the error.
+    /// Returns the misfit as an error: its text, at a copy of its location. If out of memory, that is the error; and if the text can't be
+    /// printed for another reason, the cause is `Fmt`.
     fn to_error(&self) -> Error<A>
         ensures { IsErrorOfMisfit self.now result }
     {
-        let message = match format!(in self.alloc; "{self}") {
-            Ok(message) => message,
-            Err(AllocError) => return Error::from(AllocError),
+        let message = match Cause::of_message(self.alloc, std::format_args!("{self}")) {
+            Cause::Text(message) => message,
+            other => {
+                return Error {
+                    kind: ErrorKind::InvalidArgument,
+                    err: other,
+                    loc: Location::Unknown,
+                };
+            }
         };
         match self.loc.try_clone(self.alloc) {
             Ok(loc) => Error {
                 kind: ErrorKind::InvalidArgument,
-                err: Cause::Text(StringError(message)),
+                err: Cause::Text(message),
                 loc,
             },
             Err(error) => error,
@@ -86,7 +93,7 @@ impl<A: AttrText<A>> From<PrintError<'_, A>> for Error<A> {
 
     fn from(error: PrintError<'_, A>) -> Error<A> {
         match error {
-            PrintError::Memory(_) => Error::from(AllocError),
+            PrintError::Memory(error) => Error::from(error),
             PrintError::TooDeep => Error::from(fmt::Error),
             PrintError::Misfit(misfit) => misfit.to_error(),
         }
