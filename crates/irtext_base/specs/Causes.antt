@@ -1,5 +1,5 @@
 -- The messages of causes and errors, in bytes.
-use Rattle.std.specs.Prelude.{◌≡◌, ℕ, Bool, true, false, Option, Some, None, IfSome, List, ◌++◌, codes, string_bytes}
+use Rattle.std.specs.Prelude.{⊤, ℕ, Bool, true, false, Option, Some, None, IfSome, List, ◌++◌, codes, string_bytes}
 use Rattle.std.specs.Fmt.{decimal}
 use Rattle.std.specs.Char.{encode_utf8}
 use Rattle.irtext_base.specs.declared.base.identifier.OpId.{OpId}
@@ -17,7 +17,6 @@ use Rattle.irtext_base.specs.declared.parsable.names.UnresolvedReference as refe
 use Rattle.irtext_base.specs.declared.parsable.names.ParserNameTrackerError as tracker
 use Rattle.irtext_base.specs.declared.parsable.names.ParserNameTrackerError.TheVariants as tracked
 use Rattle.irtext_base.specs.declared.result.Error.{Error}
-use Rattle.irtext_base.specs.declared.result.StringError.{StringError}
 pub use Rattle.irtext_stream.specs.Places.{position_text}
 
 -- an allocation was refused, or a counter is full, as a cause
@@ -26,13 +25,10 @@ no_memory = Memory exhausted
 
 -- what comes of a message with this text, if its text is known: the text, or no memory for it, or an error of its printing
 abbrev pub IsMessageOf : {A : Type 0} → Option (List ℕ) → Cause A → Type 0
-IsMessageOf {A} said cause = ((s : StringError) → cause ≡ Text s → IfSome said (λ bytes. string_bytes s.0 ≡ bytes)) × IsMade cause
-  where
-    IsMade : Cause A → Type 0
-    IsMade (Text s) = ⊤
-    IsMade (Memory e) = ⊤
-    IsMade Fmt = ⊤
-    IsMade _ = ⊥
+IsMessageOf said (Text s) = IfSome said (λ bytes. string_bytes s.0 ≡ bytes)
+IsMessageOf said (Memory e) = ⊤
+IsMessageOf said Fmt = ⊤
+IsMessageOf said _ = ⊥
 
 -- why a dictionary rejects an entry, as a cause
 abbrev pub cause_of : {A : Type 0} → Refusal → Cause A

@@ -1,5 +1,5 @@
 //! Errors: their kinds and causes, with the messages of these.
-ghost use Rattle.std.specs.Prelude.{◌≡◌, ◌⊎◌, ◌++◌, IsTrue, Some, MatchResult, string_bytes};
+ghost use Rattle.std.specs.Prelude.{◌≡◌, ◌++◌, ℕ, List, Option, IsTrue, Some, MatchResult, string_bytes};
 ghost use Rattle.std.specs.Fmt.{◌++?◌, DisplaysOnOk, WritesOnOk};
 ghost use Rattle.irtext_base.specs.Causes.{no_memory, IsMessageOf, kind_text, expected_text, mismatch_text, is_flat, heading, cause_text, error_text, cause_of};
 ghost use Rattle.irtext_base.specs.Locations.{out_of_memory};
@@ -196,7 +196,7 @@ struct MessageText {
 impl MessageText {
     /// Returns why the message could not be printed.
     fn cause<A>(self) -> Cause<A>
-        ensures { (result ≡ no_memory) ⊎ (result ≡ Cause.Fmt) }
+        ensures { (said : Option (List ℕ)) → IsMessageOf said result }
     {
         match self.refused {
             Some(error) => Cause::from(error),

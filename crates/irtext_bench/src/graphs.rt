@@ -1,6 +1,7 @@
 //! Calls on graphs and names, which the benchmark counts. After `graphs` the arguments say what is done, with how many objects or names, and
 //! how often. Then come the calls that are made for each name, if names and a graph are counted together.
 
+mod interned;
 mod named;
 mod names;
 mod objects;

@@ -74,7 +74,7 @@ pub fn erase(ctx: &mut Ctx, root: Ptr<Operation>) -> bool {
 
 /// Whether a cause is out of memory.
 fn is_memory(cause: &Cause<DemoAttr>) -> bool {
-    matches!(cause, Cause::Memory)
+    matches!(cause, Cause::Memory(_))
 }
 
 /// Returns the result for a text that is rejected, and appends the cause, unless that is out of memory.

@@ -62,7 +62,7 @@ impl Fault {
 /// Returns the fault for an error, which ends here: `Memory` if its cause is out of memory, in parsing or for its text; otherwise `Wrong`.
 pub(crate) fn fault_of(error: Error<DemoAttr>) -> Fault {
     let fault = match cause_of(&error) {
-        Cause::Memory => Fault::Memory,
+        Cause::Memory(_) => Fault::Memory,
         _ => Fault::Wrong,
     };
     drop(error);

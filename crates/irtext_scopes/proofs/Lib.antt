@@ -1,3 +1,4 @@
+pub mod Identifiers
 pub mod Maps
 pub mod Newest
 pub mod Chains

@@ -9,3 +9,4 @@ pub mod contexts;
 pub mod formats;
 pub mod mentioned;
 pub mod nesting;
+pub mod refused;

@@ -4,6 +4,7 @@
 
 pub mod causes;
 pub mod definitions;
+pub mod interning;
 pub mod labels;
 pub mod location_rows;
 #[cfg(test)]

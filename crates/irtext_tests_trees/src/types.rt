@@ -3,14 +3,13 @@ use crate::brackets::AngleComma;
 use irtext_base::parsable::{ParseResult, TextStream};
 use irtext_base::result::Expected;
 use irtext_base::text::Worded;
-use irtext_memory::OutOfMemory;
+use irtext_memory::{Exhausted, OutOfMemory};
 use irtext_syntax::part::TryClone;
 use irtext_syntax::sequence::Within;
 use irtext_syntax::table::{Table, after_word, table_parse, word_alone, write_row, write_word};
 use irtext_syntax::{Number, match_text, matches_text};
 use irtext_tree::marks::{mark_parse, more_parse, opened_parse, opening_parse, write_spaced_row};
 use irtext_tree::{AttrGrammar, Grammar, Grows, LedGrammar, Waits};
-use std::alloc::AllocError;
 
 /// What comes after `llvm.array`: `<N, `.
 pub type ArrayText = Within<AngleComma, Number<u64>>;
@@ -193,7 +192,7 @@ impl<A> LedGrammar<LlvmHead, A> for LlvmPlace {
 }
 
 impl TryClone for LlvmHead {
-    fn try_clone(&self) -> Result<LlvmHead, AllocError> {
+    fn try_clone(&self) -> Result<LlvmHead, Exhausted> {
         match self {
             LlvmHead::Int(part) => Ok(LlvmHead::Int(part.try_clone()?)),
             LlvmHead::Ptr => Ok(LlvmHead::Ptr),
@@ -227,7 +226,7 @@ impl<A> AttrGrammar<LlvmHead, A> for LlvmPlace {
         matches!(head, LlvmHead::Func)
     }
 
-    fn clone_head(head: &LlvmHead) -> Result<LlvmHead, AllocError> {
+    fn clone_head(head: &LlvmHead) -> Result<LlvmHead, Exhausted> {
         head.try_clone()
     }
 }

@@ -11,6 +11,7 @@ use irtext_names::regions::{enter_region, exit_region, no_names};
 use irtext_names::uses;
 use irtext_scopes::tracker::NameTracker;
 use std::alloc::{AllocError, Global};
+use super::interned::interned;
 
 type Names = NameTracker<Value, Ptr<BasicBlock>>;
 
@@ -161,7 +162,7 @@ fn call_one(names: &mut Names, graph: &mut Measured, call: Call, text: &str) -> 
         Call::Skip => true,
         Call::Make => make(names, graph),
         Call::MakeBlock => make_block(names, graph),
-        _ => match names.intern(text) {
+        _ => match interned(names, text) {
             Ok(name) => call_number(names, graph, call, name),
             Err(_) => false,
         },

@@ -2,6 +2,7 @@
 
 use irtext_scopes::tracker::NameTracker;
 use std::alloc::{AllocError, Global};
+use super::interned::interned;
 
 type Measured = NameTracker<u32, u32>;
 
@@ -35,7 +36,7 @@ pub fn are_texts(alloc: Global, size: usize) -> Result<bool, AllocError> {
 
 /// Defines a name in the innermost scope, if it is new there.
 fn define(tracker: &mut Measured, text: &str) -> Result<bool, AllocError> {
-    let name = tracker.intern(text)?;
+    let name = interned(tracker, text)?;
     Ok(tracker.has_value_scope() && tracker.ssa_def(name, 1).is_ok())
 }
 
@@ -65,7 +66,7 @@ fn define_often(
 /// Interns these names. Returns how many names are known then.
 fn intern_all(tracker: &mut Measured, texts: &[String]) -> Result<usize, AllocError> {
     for text in texts {
-        tracker.intern(text.as_str())?;
+        interned(tracker, text.as_str())?;
     }
     Ok(tracker.num_names())
 }
@@ -74,7 +75,7 @@ fn intern_all(tracker: &mut Measured, texts: &[String]) -> Result<usize, AllocEr
 fn use_all(tracker: &mut Measured, texts: &[String]) -> Result<bool, AllocError> {
     let mut all = true;
     for text in texts {
-        let name = tracker.intern(text.as_str())?;
+        let name = interned(tracker, text.as_str())?;
         all = tracker.ssa_use(name).is_some() && all;
     }
     Ok(all)

@@ -39,8 +39,8 @@ fn refused(
     out: &mut String,
 ) -> Result<Said, Fault> {
     match &fault.cause {
-        Cause::Memory if refuses_another(s) => Ok(Said::RanOut),
-        Cause::Memory => Err(Fault::Wrong),
+        Cause::Memory(_) if refuses_another(s) => Ok(Said::RanOut),
+        Cause::Memory(_) => Err(Fault::Wrong),
         _ => push_fault(fault, out),
     }
 }

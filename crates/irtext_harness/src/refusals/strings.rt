@@ -25,7 +25,7 @@ fn push_lines(texts: &[String], out: &mut String) -> Result<(), AllocError> {
 /// Returns the fault for a parse fault: `Memory` if it is out of memory and the stream has failed from then on.
 fn fault_of(stream: &mut TextStream, fault: &ParseFault<DemoAttr>) -> Fault {
     match &fault.cause {
-        Cause::Memory if fault.committed && has_failed(list(stream)) => Fault::Memory,
+        Cause::Memory(_) if fault.committed && has_failed(list(stream)) => Fault::Memory,
         _ => Fault::Wrong,
     }
 }

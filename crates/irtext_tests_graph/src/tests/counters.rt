@@ -22,6 +22,6 @@ pub(crate) fn refuses(graph: &mut Numbers, kind: Kind) -> bool {
         Kind::Block => graph.make_block(0, Few::one(6)).err(),
         Kind::Region => graph.make_region().err(),
     };
-    let refused = refused == Some(NoRoom::Full);
+    let refused = matches!(refused, Some(NoRoom::Full(_)));
     refused & (graph.made() == 1) & (graph.num_live() == 1)
 }

@@ -8,7 +8,8 @@ use irtext_base::result::{Cause, Error, Result as Answer};
 use irtext_context::base::{Operation, OperationAccess, Ptr};
 use irtext_demo::DemoAttr;
 use irtext_tests_common::contexts::{Ctx, named};
-use std::alloc::{AllocError, Global};
+use irtext_tests_common::refused::exhausted;
+use std::alloc::Global;
 use std::process::Abort;
 
 /// A result whose error is one with a location.
@@ -50,7 +51,7 @@ pub(crate) fn check_keys(rt: &impl Abort, alloc: Global, ctx: &mut Ctx) {
 #[test]
 fn attributes_are_set_and_refused(rt: HostRuntime) {
     alone(&rt, rt.alloc(), Check::Keys);
-    let error: Error<DemoAttr> = Error::from(AllocError);
+    let error: Error<DemoAttr> = Error::from(exhausted(&rt, rt.alloc()));
     same(
         &rt,
         error_told(&rt, rt.alloc(), error),
@@ -60,9 +61,9 @@ fn attributes_are_set_and_refused(rt: HostRuntime) {
 
 #[test]
 fn errors_and_faults_have_causes(rt: HostRuntime) {
-    let error: Error<DemoAttr> = Error::from(AllocError);
+    let error: Error<DemoAttr> = Error::from(exhausted(&rt, rt.alloc()));
     let cause = error.into_cause();
-    assert!(&rt; matches!(&cause, Cause::Memory));
+    assert!(&rt; matches!(&cause, Cause::Memory(_)));
     let fault: ParseFault<DemoAttr> = ParseFault {
         pos: SourcePosition::default(),
         cause: Cause::EmptyItem,

@@ -4,6 +4,7 @@ use irtext_base::location::Location;
 use irtext_base::parsable::{ParserNameTrackerError, SourcePosition, UnresolvedReference};
 use irtext_base::result::{Cause, Error, ErrorKind};
 use irtext_diagnostics::{cause_name, cause_word, innermost};
+use irtext_memory::{Exhausted, vec};
 use std::alloc::Global;
 use std::process::Abort;
 
@@ -26,10 +27,27 @@ fn identifier(rt: &impl Abort, alloc: Global, text: &str) -> Identifier {
     }
 }
 
+/// More bytes than an address can count in sixteen of these.
+type Huge = [u8; 1152921504606846976];
+
+/// The error of an allocation that no allocator can grant.
+fn exhausted(rt: &impl Abort, alloc: Global) -> Exhausted {
+    match vec::with_capacity::<Huge, Global>(alloc, 16) {
+        Ok(_) => rt.panic("an allocation of 2^64 bytes"),
+        Err(error) => Exhausted::from(error),
+    }
+}
+
 #[test]
 fn causes_have_words(rt: HostRuntime) {
     let alloc = rt.alloc();
-    told(&rt, alloc, Cause::Memory, "out-of-memory", None);
+    told(
+        &rt,
+        alloc,
+        Cause::Memory(exhausted(&rt, alloc)),
+        "out-of-memory",
+        None,
+    );
     told(&rt, alloc, Cause::BadEscape('x'), "bad-escape", None);
     let name = identifier(&rt, alloc, "scf");
     told(

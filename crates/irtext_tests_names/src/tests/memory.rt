@@ -1,6 +1,7 @@
 //! Allocations that fail, and full counters: scopes and objects are unchanged, and the same call with memory succeeds.
 ghost use Rattle.irtext_names.specs.Tied.{MatchesGraph};
 
+use crate::interning::interned;
 use crate::tests::steps::{Names, Tested, defines, labels};
 use irtext_graph::arena::Ptr;
 use irtext_graph::object::{BasicBlock, Value};
@@ -87,9 +88,9 @@ fn known(names: &mut Names, graph: &Tested, text: &str) -> Option<usize>
     ensures { MatchesGraph names.new.values names.new.labels graph.now }
 {
     let _graph = graph;
-    match names.intern(text) {
+    match interned(names, text) {
         Ok(name) => Some(name),
-        Err(_) => names.intern(text).ok(),
+        Err(_) => interned(names, text).ok(),
     }
 }
 
@@ -128,7 +129,7 @@ pub(crate) fn numbers_end(names: &mut Names, graph: &mut Tested) -> Option<bool>
     requires { MatchesGraph names.old.values names.old.labels graph.old }
 {
     enter_region(names, graph, true).ok()?;
-    let x = names.intern("x").ok()?;
+    let x = interned(names, "x").ok()?;
     let refused = refuses(names, graph, x, Sort::Value) & refuses(names, graph, x, Sort::Value);
     let label = is_used(names, graph, x, Sort::Label);
     Some(refused & label & (graph.num_live() == 1) & (graph.made() == 1))
@@ -139,8 +140,8 @@ pub(crate) fn places_end(names: &mut Names, graph: &mut Tested) -> Option<bool>
     requires { MatchesGraph names.old.values names.old.labels graph.old }
 {
     enter_region(names, graph, true).ok()?;
-    let a = names.intern("a").ok()?;
-    let b = names.intern("b").ok()?;
+    let a = interned(names, "a").ok()?;
+    let b = interned(names, "b").ok()?;
     let first = is_used(names, graph, a, Sort::Label);
     let second = refuses(names, graph, b, Sort::Label);
     let again = is_used(names, graph, a, Sort::Label);

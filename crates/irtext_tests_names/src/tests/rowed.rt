@@ -2,6 +2,7 @@
 ghost use Rattle.std.specs.Prelude.{◌<◌, length};
 ghost use Rattle.irtext_names.specs.Tied.{MatchesGraph};
 
+use crate::interning::interned;
 use crate::tests::steps::{Names, Tested};
 use irtext_few::Few;
 use irtext_graph::arena::Ptr;
@@ -77,8 +78,8 @@ fn are_alike(
 ) -> Result<bool, AllocError>
     requires tied { MatchesGraph names.old.values names.old.labels graph.old }
 {
-    let first = names.intern("a")?;
-    let second = names.intern("b")?;
+    let first = interned(names, "a")?;
+    let second = interned(names, "b")?;
     if enter_region(names, graph, true).is_err() {
         return Ok(false);
     }

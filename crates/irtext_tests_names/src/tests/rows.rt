@@ -1,6 +1,7 @@
 //! Scripts of calls with their results, what each use holds in the end, and the number of objects.
 ghost use Rattle.irtext_names.specs.Tied.{MatchesGraph};
 
+use crate::interning::interned;
 use crate::tests::held::Held::{Definition, Waits};
 use crate::tests::held::{Held, holds_all};
 use crate::tests::steps::Answer::{Done, NoScope, NotIsolated, Twice, Undefined};
@@ -109,7 +110,7 @@ fn answers(
     let mut all = true;
     for word in script.split(' ') {
         let (call, text, answer) = row_of(word);
-        let name = names.intern(text)?;
+        let name = interned(names, text)?;
         all = step(names, graph, made, call, name)? == answer && all;
     }
     Ok(all)

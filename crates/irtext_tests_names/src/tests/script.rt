@@ -1,6 +1,7 @@
 //! A random script: names over a graph and a plain model of them get the same calls.
 ghost use Rattle.irtext_names.specs.Tied.{MatchesGraph};
 
+use crate::interning::interned;
 use crate::tests::held::holds;
 use crate::tests::model::{Model, Referred};
 use crate::tests::steps::{Kind, Made, Names, Tested, step};
@@ -37,7 +38,7 @@ fn answer_alike(
     let Some(text) = NAMES.get(index) else {
         return Ok(false);
     };
-    let name = names.intern(text)?;
+    let name = interned(names, text)?;
     if name != model.scopes.names.intern(index)? {
         return Ok(false);
     }

@@ -2,6 +2,7 @@
 ghost use Rattle.std.specs.Prelude.{refl};
 
 use irtext_base::parsable::{CharStream, ParseFault, TextStream};
+use irtext_memory::Exhausted;
 use irtext_parts::defaulted::{DefaultOf, Defaulted};
 use irtext_parts::spaced::{Blank, Equals, Times};
 use irtext_parts::{Decimal, Digits, Hex, Hexadecimal, Symbol, Truth};
@@ -11,7 +12,7 @@ use irtext_syntax::number::Number;
 use irtext_syntax::part::{Part, TryClone};
 use irtext_syntax::ready::{Angle, Round, Square};
 use irtext_syntax::sequence::{Then, Within};
-use std::alloc::{AllocError, Global};
+use std::alloc::Global;
 use std::process::Abort;
 use std::test::Fail;
 
@@ -21,7 +22,7 @@ struct Eight;
 impl DefaultOf<Number<u32>> for Eight {
     ghost value = { record { value = 8; in_range = refl } };
 
-    fn make(_: Global) -> Result<Number<u32>, AllocError> {
+    fn make(_: Global) -> Result<Number<u32>, Exhausted> {
         Ok(Number::new(8))
     }
 

@@ -1,14 +1,16 @@
 //! The example of docs/DIALECTS.md, as it is there (`tools/pages` compares both), with a test of it.
 use irtext_demo::{DemoAttr, DemoType};
+use irtext_memory::{OutOfMemory, string, vec};
 use pliron_text::base::Context;
 use pliron_text::format::{Directive, OpFormat};
 use pliron_text::result::Result as Answer;
-use std::alloc::{AllocError, Global};
+use std::alloc::Global;
 
-fn make_format(alloc: Global) -> Result<OpFormat, AllocError> {
+fn make_format(alloc: Global) -> Result<OpFormat, OutOfMemory> {
     let mut directives = Vec::new(alloc);
-    directives.push(Directive::Literal(String::from_str(alloc, ":")?))?;
-    directives.push(Directive::ResultType(0))?;
+    let colon = string::from_str(alloc, ":")?;
+    vec::push(&mut directives, Directive::Literal(colon))?;
+    vec::push(&mut directives, Directive::ResultType(0))?;
     Ok(OpFormat::Custom(directives))
 }
 

@@ -3,7 +3,6 @@ use super::nested::AnyType;
 use crate::build::{LlvmType, LlvmView, array, as_array, as_func, func, int, ptr};
 use crate::types::{LlvmHead, LlvmPlace};
 use irtext_base::text::{Family, IrText};
-use irtext_memory::unsealed;
 use irtext_tree::Tree;
 use std::alloc::Global;
 use std::process::Abort;
@@ -13,8 +12,8 @@ use std::test::Fail;
 fn made(alloc: Global) -> Result<LlvmType, Fail> {
     let mut others = Vec::new(alloc);
     others.push(int(alloc, 8))?;
-    let element = unsealed(func(alloc, ptr(alloc), others))?;
-    Ok(unsealed(array(alloc, 4, element))?)
+    let element = func(alloc, ptr(alloc), others)?;
+    Ok(array(alloc, 4, element)?)
 }
 
 /// What is printed for a type of `llvm` alone.
@@ -59,7 +58,7 @@ fn is_type(alloc: Global, closed: bool) -> Result<bool, Fail> {
     if closed {
         rest.push(LlvmHead::End)?;
     }
-    let ty = unsealed(Tree::<LlvmPlace, LlvmHead>::try_new(LlvmHead::Func, rest))?;
+    let ty = Tree::<LlvmPlace, LlvmHead>::try_new(LlvmHead::Func, rest)?;
     Ok(ty.is_some())
 }
 

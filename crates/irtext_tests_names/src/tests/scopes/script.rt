@@ -1,4 +1,5 @@
 //! A random script: a tracker and a plain model of it get the same calls.
+use crate::interning::interned;
 use crate::tests::scopes::model::Model;
 use crate::tests::scopes::steps::{Tracker, step};
 use irtext_tests_common::calls::{NAMES, next_call};
@@ -18,7 +19,7 @@ fn answer_alike(
     let Some(text) = NAMES.get(index) else {
         return Ok(false);
     };
-    let name = tracker.intern(text)?;
+    let name = interned(tracker, text)?;
     if name != model.names.intern(index)? || tracker.name(name) != *text {
         return Ok(false);
     }

@@ -1,4 +1,5 @@
 //! Many names, many uses, and many scopes.
+use crate::interning::interned;
 use crate::tests::scopes::steps::{Tracker, step};
 use crate::tests::steps::Answer;
 use crate::tests::steps::Answer::{Done, Holds};
@@ -19,7 +20,7 @@ fn answers(
     value: u32,
     answer: Answer,
 ) -> Result<bool, AllocError> {
-    let name = tracker.intern(text)?;
+    let name = interned(tracker, text)?;
     Ok(step(tracker, call, name, value)? == answer)
 }
 

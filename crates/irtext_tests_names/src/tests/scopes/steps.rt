@@ -1,6 +1,7 @@
 //! One step on a tracker, and whether the calls of a script have their results.
 ghost use Rattle.std.specs.Prelude.{◌<◌, length};
 
+use crate::interning::interned;
 use crate::tests::rows::refusal;
 use crate::tests::steps::{Answer, refused};
 use irtext_scopes::scopes::DefineFault;
@@ -144,7 +145,7 @@ fn answers_on(tracker: &mut Tracker, script: &str) -> Result<bool, AllocError> {
         let Some((call, text, value, answer)) = row_of(word) else {
             return Ok(false);
         };
-        let name = tracker.intern(text)?;
+        let name = interned(tracker, text)?;
         if step(tracker, call, name, value)? != answer {
             return Ok(false);
         }

@@ -1,4 +1,5 @@
 //! What names refer to in scopes that begin, hide one another and end.
+use crate::interning::interned;
 use crate::tests::scopes::steps::{Tracker, answers};
 use std::alloc::AllocError;
 use std::test::Fail;
@@ -18,9 +19,9 @@ const SCRIPTS: &[&str] = &[
 
 /// Whether names have numbers in the order in which they were mentioned first.
 pub(crate) fn has_numbers(tracker: &mut Tracker) -> Result<bool, AllocError> {
-    let first = tracker.intern("first")?;
-    let second = tracker.intern("second")?;
-    let again = tracker.intern("first")?;
+    let first = interned(tracker, "first")?;
+    let second = interned(tracker, "second")?;
+    let again = interned(tracker, "first")?;
     let numbered = first == 0 && second == 1 && again == 0;
     Ok(numbered && tracker.num_names() == 2 && tracker.name(1) == "second")
 }

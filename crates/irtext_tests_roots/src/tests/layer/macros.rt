@@ -4,6 +4,7 @@ use crate::tests::parse::errors::{Answer, at, shown};
 use crate::tests::value::{same, to_text};
 use irtext_demo::DemoAttr;
 use irtext_tests_common::contexts::Ctx;
+use irtext_tests_common::refused::exhausted;
 use pliron_text::result::{Cause, Error, ErrorKind};
 use std::alloc::Global;
 use std::process::Abort;
@@ -20,43 +21,43 @@ const MADE: &[&str] = &[
 ];
 
 /// The error of a line, as a macro makes it.
-fn made(alloc: Global, number: usize) -> Answer {
+fn made(rt: &impl Abort, alloc: Global, number: usize) -> Answer {
     match number {
         0 => Ok(pliron_text::create_error!(at(4, 2), ErrorKind::InvalidInput, Cause::EmptyItem)),
         1 => Ok(pliron_text::verify_error!(at(4, 2), in alloc; "located {}", 1)),
         2 => Ok(pliron_text::verify_error_noloc!(Cause::StreamFailed)),
         3 => Ok(pliron_text::input_error!(at(4, 2), Cause::BadSeparator)),
         4 => Ok(pliron_text::input_error_noloc!(in alloc; "alone {}", 2)),
-        5 => Ok(pliron_text::arg_error!(at(4, 2), Cause::Memory)),
+        5 => Ok(pliron_text::arg_error!(at(4, 2), Cause::Memory(exhausted(rt, alloc)))),
         _ => Ok(pliron_text::arg_error_noloc!(in alloc; "alone 3")),
     }
 }
 
 /// The error of a line, as a macro returns it.
-fn answered(alloc: Global, number: usize) -> Answer {
+fn answered(rt: &impl Abort, alloc: Global, number: usize) -> Answer {
     match number {
         0 => pliron_text::create_err!(at(4, 2), ErrorKind::InvalidInput, Cause::EmptyItem),
         1 => pliron_text::verify_err!(at(4, 2), in alloc; "located {}", 1),
         2 => pliron_text::verify_err_noloc!(Cause::StreamFailed),
         3 => pliron_text::input_err!(at(4, 2), Cause::BadSeparator),
         4 => pliron_text::input_err_noloc!(in alloc; "alone {}", 2),
-        5 => pliron_text::arg_err!(at(4, 2), Cause::Memory),
+        5 => pliron_text::arg_err!(at(4, 2), Cause::Memory(exhausted(rt, alloc))),
         _ => pliron_text::arg_err_noloc!(in alloc; "alone 3"),
     }
 }
 
 /// The error that the macros of a set make for a line.
-fn of_set(alloc: Global, set: usize, number: usize) -> Answer {
+fn of_set(rt: &impl Abort, alloc: Global, set: usize, number: usize) -> Answer {
     match set {
-        0 => made(alloc, number),
-        _ => answered(alloc, number),
+        0 => made(rt, alloc, number),
+        _ => answered(rt, alloc, number),
     }
 }
 
 /// Checks the text of the error that the macros of a set make for each line.
 pub(crate) fn check(rt: &impl Abort, alloc: Global, ctx: &Ctx, set: usize) {
     for (number, wanted) in MADE.iter().enumerate() {
-        let text = shown(rt, alloc, ctx, of_set(alloc, set, number));
+        let text = shown(rt, alloc, ctx, of_set(rt, alloc, set, number));
         same(rt, text, *wanted);
     }
 }

@@ -8,6 +8,7 @@ use irtext_base::parsable::{ParserNameTrackerError, SourcePosition, UnresolvedRe
 use irtext_base::result::{Cause, ErrorKind, Expected, StringError};
 use irtext_demo::DemoAttr;
 use irtext_print_ir::ir::verify::{BasicBlockVerifyErr, DefUseVerifyErr};
+use irtext_tests_common::refused::exhausted;
 use irtext_tokens::irfmt::parsers;
 use std::alloc::Global;
 use std::process::Abort;
@@ -54,9 +55,9 @@ const CAUSES: &[&str] = &[
 ];
 
 /// A cause that holds no text.
-fn plain(number: usize) -> Cause<DemoAttr> {
+fn plain(rt: &impl Abort, alloc: Global, number: usize) -> Cause<DemoAttr> {
     match number {
-        0 => Cause::Memory,
+        0 => Cause::Memory(exhausted(rt, alloc)),
         1 => Cause::StreamFailed,
         2 => Cause::Fmt,
         4 => Cause::BadEscape('q'),
@@ -136,7 +137,8 @@ fn of_operation(rt: &impl Abort, alloc: Global, number: usize) -> Cause<DemoAttr
 
 /// A cause that holds others.
 fn nested(rt: &impl Abort, alloc: Global) -> Cause<DemoAttr> {
-    let inner = error(ErrorKind::InvalidArgument, Location::Unknown, Cause::Memory);
+    let memory = Cause::Memory(exhausted(rt, alloc));
+    let inner = error(ErrorKind::InvalidArgument, Location::Unknown, memory);
     let inner = Box::new(alloc, inner).expect(rt, "out of memory");
     let nested: Cause<DemoAttr> = Cause::Nested(inner);
     Cause::Parse {
@@ -157,7 +159,7 @@ fn fixed_text(rt: &impl Abort, alloc: Global) -> Cause<DemoAttr> {
 fn cause(rt: &impl Abort, alloc: Global, number: usize) -> Cause<DemoAttr> {
     match number {
         3 => fixed_text(rt, alloc),
-        0..=23 => plain(number),
+        0..=23 => plain(rt, alloc, number),
         24..=28 => with_name(number, name_of(rt, alloc, "x")),
         29..=33 => with_text(number, held(rt, alloc, "110000")),
         34..=35 => of_operation(rt, alloc, number),

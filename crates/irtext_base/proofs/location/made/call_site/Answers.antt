@@ -7,4 +7,4 @@ pub returns : goal.returns
 returns g c =
     let k = c.in_ok-callee in
     let l = c.in_ok-caller in
-    seen-call_site k.callee l.caller ∙ ap₂ (λ x y. call_site (location_view x) (location_view y)) k.ensures l.ensures
+    seen-call_site k.callee l.caller ∙ ap₂ (λ x y. call_site (location_view x) (location_view y)) k.ensures.ok l.ensures.ok

@@ -7,4 +7,4 @@ pub returns : goal.returns
 returns g c =
     let m = c.in_ok-metadata in
     let ls = c.in_ok-locations in
-    seen-fused m.metadata ls.locations ∙ ap₂ (λ x y. fused x (in_row (map location_view y))) m.ensures (ap (λ v. v.items) ls.ensures)
+    seen-fused m.metadata ls.locations ∙ ap₂ (λ x y. fused x (in_row (map location_view y))) m.ensures (ap (λ v. v.items) ls.ensures.ok)

@@ -7,6 +7,7 @@ pub invariant_of-self : goal.invariant_of-self
 invariant_of-self g c =
     let s = c.args.self.now in
     record {
+      words = s.words;
       values_known = ap (are_known (length s.names)) c.leave.ensures.values ∙ known_left (length s.names) c.args.isolated s.values s.values_known;
       labels_known = ap (are_known (length s.names)) c.leave.ensures.labels ∙ known_outer (length s.names) s.labels s.labels_known;
     }

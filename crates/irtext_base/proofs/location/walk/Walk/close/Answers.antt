@@ -14,6 +14,6 @@ pub returns-in_ok-push-in-Fused-clause-on : goal.returns-in_ok-push-in-Fused-cla
 returns-in_ok-push-in-Fused-clause-on g c =
     let rule = g.M.NewSources.rule c.args.self.now.sources.now in
     let row = c.in-Fused.row in
-    let later = record row { copies = c.push.new.self } in
+    let later = record row { copies = c.push.new.items } in
     IfOk-weaker c.go_on.result _ _ (λ t h. closes_as rule t c.args.frame (frame.Fused row) c.args.copy c.in-Fused.is
     (λ w. h w ∙ row_noted rule w row later c.args.copy refl refl c.in_ok-push-in-Fused.ensures.items)) c.go_on.ensures.on
