@@ -154,7 +154,7 @@ module _ {T A : Type 0} where
 
   -- the first piece can be gathered
   pub can_first : (names : Names) (vs : List Value) (bs : List (Ptr BasicBlock)) (p : ReadPiece T A) (ps : List (ReadPiece T A)) → CanGather names vs bs (p ∷ ps) → CanGather names vs bs (p ∷ [])
-  can_first names vs bs p ps c = record { names_are = (c.names_are.0, tt); operands_once = once_first vs p ps c.operands_once; successors_once = labels_first bs p ps c.successors_once }
+  can_first names vs bs p ps c = record { names_are = (c.names_are.0, tt); operands_once = once_first vs p ps c.operands_once; successors_once = labels_first bs p ps c.successors_once; allowed = (c.allowed.0, tt) }
 
   -- and then the others
   pub can_after : (old new : Names) (vs ws : List Value) (bs cs : List (Ptr BasicBlock)) (p : ReadPiece T A) (ps : List (ReadPiece T A)) → new.names ≡ old.names
@@ -163,6 +163,7 @@ module _ {T A : Type 0} where
     names_are = subst (λ z. CanUseAll z ps) (sym (ap length names)) c.names_are.1;
     operands_once = once_after vs ws p ps so c.operands_once;
     successors_once = labels_after bs cs p ps to c.successors_once;
+    allowed = c.allowed.1;
   }
 
   first_views : (p : Path) (k l : ℕ) (part : Part ℕ T A) (parts : List (Part ℕ T A)) → views (piece_acts p k l) (part ∷ parts) ≡ views (piece_acts p k l) (part ∷ []) ++ views (piece_acts p k l) parts

@@ -1,5 +1,5 @@
 -- Attributes that are stored under their keys.
-use Rattle.std.proofs.Common.{◌≡◌, ◌∙◌, Bool, true, false, not, ◌&&◌, ◌||◌, List, [], ◌∷◌, Result, Ok, Err, OnOk, refl, ap}
+use Rattle.std.proofs.Common.{◌≡◌, ◌∙◌, sym, Bool, true, false, not, ◌&&◌, ◌||◌, List, [], ◌∷◌, Result, Ok, Err, OnOk, refl, ap}
 use Rattle.std.specs.Str.{bytes_eq}
 use Rattle.indexmap.specs.IndexMap.{insert_entry}
 use Rattle.irtext_base.specs.Text.{Text}
@@ -28,6 +28,14 @@ holds_or_reserved k a = ap (λ b. not b || is_given (attribute_of a)) (same_text
     either true true = refl
     either true false = refl
     either false c = refl
+
+-- the dictionary accepts an attribute that is allowed under the key
+pub free_key : {A : Type 0} (k : Text) (a : AttrObj A) → may_hold k (attribute_of a) ≡ true → is_reserved_for k a ≡ false
+free_key k a h = denied (is_reserved_for k a) (sym (holds_or_reserved k a) ∙ h)
+  where
+    denied : (b : Bool) → not b ≡ true → b ≡ false
+    denied true h = cc
+    denied false h = refl
 
 -- an attribute that was inserted is stored, and is allowed under its key
 pub stored_ok : {A X E : Type 0} (r : Result X E) (old new : List (Text × AttrObj A)) (k : Text) (a : AttrObj A) → OnOk r (new ≡ insert_entry bytes_eq old k a) → OnOk r (entries_of new ≡ put_all (entries_of old) ((k, attribute_of a) ∷ []))

@@ -18,7 +18,7 @@ module _ {T A : Type 0} (names : Names) (vs : List Value) (bs : List (Ptr BasicB
   -- the pieces after words can be gathered
   pub can_after_words : (n : ℕ) → CanGather names vs bs (only_words n ++ ps) → CanGather names vs bs ps
   can_after_words zero c = c
-  can_after_words (suc n) c = can_after_words n (record { names_are = c.names_are.1; operands_once = c.operands_once; successors_once = c.successors_once })
+  can_after_words (suc n) c = can_after_words n (record { names_are = c.names_are.1; operands_once = c.operands_once; successors_once = c.successors_once; allowed = c.allowed.1 })
 
 module _ {O B T A : Type 0} (names : Names) (g : GraphView (Option O) B (Option T)) (x : Gathered T A) where
   -- where it was gathered, all was

@@ -1,5 +1,5 @@
 -- Between functions: the pieces before an operation's first region: what they use, and what they give the operation.
-use Rattle.std.specs.Prelude.{◌≡◌, ◌⊎◌, ◌+◌, ◌<◌, ℕ, true, false, List, [], ◌∷◌, ◌++◌, length, map, flat_map, slice_get, Option, Some, None, ⊤, Vec}
+use Rattle.std.specs.Prelude.{◌≡◌, ◌⊎◌, ◌+◌, ◌<◌, ℕ, true, false, List, [], ◌∷◌, ◌++◌, length, map, flat_map, slice_get, Option, Some, None, IfSome, ⊤, Vec}
 use Rattle.irtext_base.specs.Text.{Text}
 use Rattle.irtext_base.specs.Format.{sym_name_key}
 use Rattle.irtext_base.specs.declared.base.attributes.AttrObj.{AttrObj}
@@ -149,11 +149,22 @@ module _ {T A : Type 0} where
   SuccessorsOnce bs (read.Successors ns ∷ ps) = (bs ≡ []) × LackSuccessors ps
   SuccessorsOnce bs (_ ∷ ps) = SuccessorsOnce bs ps
 
+  -- the attribute of a directive is allowed under its key
+  abbrev pub IsAllowed : ReadPiece T A → Type 0
+  IsAllowed (read.Attr key attr) = IfSome attr (λ a. may_hold key (attribute_of a) ≡ true)
+  IsAllowed _ = ⊤
+
+  -- the same of each piece
+  abbrev pub AttrsAllowed : List (ReadPiece T A) → Type 0
+  AttrsAllowed [] = ⊤
+  AttrsAllowed (p ∷ ps) = IsAllowed p × AttrsAllowed ps
+
   -- The pieces can be used, given these names and the listed operands and successors so far.
   pub record CanGather (names : Names) (values : List Value) (blocks : List (Ptr BasicBlock)) (ps : List (ReadPiece T A)) : Type 0 where
     pub names_are : CanUseAll (length names.names) ps
     pub operands_once : OperandsOnce values ps
     pub successors_once : SuccessorsOnce blocks ps
+    pub allowed : AttrsAllowed ps
 
 -- ---- entries of a dictionary
 -- the entries of a dictionary, if there is one

@@ -18,6 +18,9 @@ use irtext_grammar::parsed::ReadName;
 use irtext_memory::{Exhausted, vec};
 use std::alloc::Global;
 
+/// For how many names there is room at first.
+const ROOM: usize = 16;
+
 /// Returns the names with these numbers.
 #[inline(always)]
 fn given_names(
@@ -28,7 +31,10 @@ fn given_names(
     requires { AreKnown (length names.now.names) (numbers_of read.now) }
     ensures { IfOk result (λ given. given.items ≡ map (slice_get names.now.names) (numbers_of read.now)) }
 {
-    let mut given = Vec::new(alloc);
+    let mut given = match vec::with_capacity(alloc, read.len().min(ROOM)) {
+        Ok(given) => given,
+        Err(error) => return Err(Exhausted::from(error)),
+    };
     for index in 0..read.len() {
         let number = number_at(read, index);
         let name = match Identifier::from_word(alloc, names.name(number)) {

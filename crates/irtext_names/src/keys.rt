@@ -45,11 +45,7 @@ pub fn stored_allowed<A: Drop>(
     ensures stored { OnOk result (entries_of attributes.new
         ≡ put_all (entries_of attributes.old) ((key, attribute_of attr) ∷ [])) }
 {
-    match stored(attributes, key, attr) {
-        Ok(()) => Ok(()),
-        Err(Refusal::Memory(error)) => Err(error),
-        Err(Refusal::ReservedKey(_)) => unreachable!(),
-    }
+    attributes.put(key, attr)
 }
 
 /// Returns the key of a symbol's name. Shares the text of `key` if it is given.

@@ -29,6 +29,7 @@ use Rattle.irtext_names.specs.Items.{Names}
 use Rattle.irtext_names.proofs.Gathers.{map_both}
 use Rattle.irtext_names.proofs.Ordering.{none_left}
 use Rattle.irtext_parse_nested.proofs.Faults.{each_length}
+use Rattle.irtext_parse_nested.proofs.FreeKeys.{attrs_allowed}
 use Rattle.irtext_parse_nested.proofs.StepParts.{AreOfSteps, directive_of_step, picked, operand_of, successor_of, flag, list_in, OnlyEarly, is_early, shown_by_steps, shown_in_front, flagged, accepted_places}
 
 -- ---- steps
@@ -516,4 +517,5 @@ can_gather names text inside rs ps each f a of = record {
       (λ ds k. and_right (are_places (operand_places ds)) (nat_lt (count is_operands ds) 2) (accepted_places ds k).operands) f a of);
   successors_once = once_of successors_of LackSuccessors (SuccessorsOnce []) successors_turn tt tt rs (few names.names text inside rs ps each successors_of is_successors successors_late (λ r p e. (alike names.names text r p e).successors) refl
       (λ ds k. and_right (are_places (successor_places ds)) (nat_lt (count is_successors ds) 2) (accepted_places ds k).successors) f a of);
+  allowed = attrs_allowed names.names text inside rs ps each f a of;
 }

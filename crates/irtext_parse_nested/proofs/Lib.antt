@@ -10,6 +10,7 @@ pub mod BlockPlaced
 pub mod Unplaced
 pub mod RegionBegun
 pub mod StepParts
+pub mod FreeKeys
 pub mod Begins
 pub mod Entering
 pub mod Leaving

@@ -11,7 +11,7 @@ pub loop-index-init : goal.loop-index-init
 loop-index-init c = c.in-Ok.ensures.items ∙ given_none c.args.names.now.names (numbers_of c.args.read.now)
 
 pub loop-index-preserved : goal.loop-index-preserved
-loop-index-preserved c = given_more c.args.names.now.names (numbers_of c.args.read.now) c.loop-index.index c.number_at-number.result c.in-Some.name c.name.result.now c.loop-index.given.items c.push.new.self.items c.number_at-number.ensures c.name.ensures c.in-Some.ensures c.in-Ok-push.ensures.items c.loop-index.invariant
+loop-index-preserved c = given_more c.args.names.now.names (numbers_of c.args.read.now) c.loop-index.index c.number_at-number.result c.in-Ok-from_word.name c.name.result.now c.loop-index.given.items c.push.new.items.items c.number_at-number.ensures c.name.ensures.name c.in-Ok-from_word.ensures c.in_default.ensures.items c.loop-index.invariant
 
 pub returns : goal.returns
 returns c = c.loop-index.invariant ∙ ap (map (slice_get c.args.names.now.names)) (take_numbers c.args.read.now c.loop-index.index (omega (arith, c.len-index-end.ensures, c.loop-index-test.false)))

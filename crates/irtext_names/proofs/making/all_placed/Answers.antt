@@ -6,7 +6,7 @@ pub loop-item-preserved : goal.loop-item-preserved
 loop-item-preserved g c =
     let all = c.loop-item.all.items in
     let rest = c.next.new.self.rest.items in
-    ap (λ xs. xs ++ rest) c.in-Ok-push.ensures.items
+    ap (λ xs. xs ++ rest) c.in_default.ensures.items
     ∙ (append_assoc all (c.in-Some.item ∷ []) rest ∙ (ap (λ xs. all ++ xs) (sym c.in-Some.ensures.steps.0) ∙ c.loop-item.invariant))
 
 pub returns : goal.returns

@@ -12,5 +12,5 @@ returns-then-not-has_scope-clause-steady g c = steady_itself c.args.names.now c.
 pub name_placed-requires-clause-known : goal.name_placed-requires-clause-known
 name_placed-requires-clause-known g c = single_known _ _ g.K.Referent.kind (length c.args.names.now.names) c.args.index c.args.name c.requires.can
 
-pub returns-clause-gathers : goal.returns-clause-gathers
-returns-clause-gathers g c = let r = c.in-Ok.ensures.placed in single_half g.K.Referent.kind c.args.placed.now _ c.args.index c.args.name r.0 r.1 refl r.2
+pub returns-in-Ok-clause-gathers : goal.returns-in-Ok-clause-gathers
+returns-in-Ok-clause-gathers g c = let r = c.in-Ok.ensures.placed in single_half g.K.Referent.kind c.args.placed.now _ c.args.index c.args.name r.0 r.1 refl r.2

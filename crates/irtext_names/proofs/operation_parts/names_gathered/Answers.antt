@@ -22,4 +22,4 @@ pub returns-then-len-eq0-clause-steady : goal.returns-then-len-eq0-clause-steady
 returns-then-len-eq0-clause-steady g c = steady_itself c.args.names.now c.args.graph.now c.requires.tied
 
 pub returns-clause-gathers : goal.returns-clause-gathers
-returns-clause-gathers g c = let r = c.in-Ok.ensures.uses in list_half g.K.Referent.kind c.args.placed.now _ c.args.used r.0 r.1 refl r.2
+returns-clause-gathers g c = let r = c.in_default.ensures.uses in list_half g.K.Referent.kind c.args.placed.now _ c.args.used r.0 r.1 refl r.2

@@ -29,8 +29,8 @@ name_used-requires-clause-tied g c = c.loop-index.invariant.steady.tied
 pub returns-in-Err-clause-steady : goal.returns-in-Err-clause-steady
 returns-in-Err-clause-steady g c = steady_both c.loop-index.invariant.steady c.name_used.ensures.steady
 
-pub returns-in_default-clause-steady : goal.returns-in_default-clause-steady
-returns-in_default-clause-steady g c = steady_both c.loop-index.invariant.steady c.name_used.ensures.steady
+pub returns-in-Err-push-clause-steady : goal.returns-in-Err-push-clause-steady
+returns-in-Err-push-clause-steady g c = steady_both c.loop-index.invariant.steady c.name_used.ensures.steady
 
 pub loop-index-preserved : goal.loop-index-preserved
 loop-index-preserved g c =
@@ -44,7 +44,7 @@ loop-index-preserved g c =
     record {
       uses = (
         i.uses.0 ++ v ∷ [],
-        c.in-Ok-push.ensures.items ∙ (ap (λ xs. xs ++ v ∷ []) i.uses.1 ∙ append_assoc c.args.referents.now.items i.uses.0 (v ∷ [])),
+        c.in_default.ensures.items ∙ (ap (λ xs. xs ++ v ∷ []) i.uses.1 ∙ append_assoc c.args.referents.now.items i.uses.0 (v ∷ [])),
         subst (λ zs. UsesRow of by zs c.args.names.now c.name_used.new.names c.args.graph.now c.name_used.new.graph (i.uses.0 ++ v ∷ [])) (sym (number_more ns c.loop-index.index c.number_at.result c.number_at.ensures)) more,
       );
       steady = steady_both i.steady c.name_used.ensures.steady;

@@ -3,7 +3,7 @@ use Rattle.irtext_graph.proofs.Closed.{closed_kept, older_on}
 use Rattle.irtext_names.proofs.Gained.{back_again}
 use Rattle.irtext_names.proofs.ByKind.{ties, before_ties, before_waits, used_ties, made_placeholder}
 use Rattle.irtext_names.proofs.Linked.Uses.{takes_use}
-use Rattle.irtext_names.proofs.Pairs.{there_here, accepted, refused, unknown_here, uses_known, uses_new}
+use Rattle.irtext_names.proofs.Pairs.{there_here, unknown_here, uses_known, uses_new}
 use Rattle.irtext_names.specs.Kinds.{scopes_of, defined_as}
 use Rattle.irtext_names.proofs.UsedRows.{ties_stay}
 use Rattle.irtext_names.proofs.uses.use_name.Goals as goal
@@ -19,18 +19,18 @@ roll_back-requires g c =
     let up = c.made-mark.ensures.value in
     record { closed = closed_kept mark c.args.graph.now c.make.new.graph (c.make.ensures.kept mark (omega arith)) c.made-mark.ensures.closed }
 
-pub returns-then-is_err-clause-objects : goal.returns-then-is_err-clause-objects
-returns-then-is_err-clause-objects g c =
+pub returns-in-Err-clause-objects : goal.returns-in-Err-clause-objects
+returns-in-Err-clause-objects g c =
     let mark = c.made-mark.result in
     let up = c.made-mark.ensures.value in
     back_again mark c.args.graph.now c.make.new.graph c.roll_back.new.self c.made-mark.ensures.older (c.make.ensures.kept mark (omega arith)) c.roll_back.ensures.back
 
-pub returns-then-is_err-clause-ties : goal.returns-then-is_err-clause-ties
-returns-then-is_err-clause-ties g c =
+pub returns-in-Err-clause-ties : goal.returns-in-Err-clause-ties
+returns-in-Err-clause-ties g c =
     let kind = g.K.Referent.kind in
     let up = c.made-mark.ensures.value in
-    let same = refused c.wait.result c.is_err.result c.is_err.ensures.value c.if-is_err.true c.wait.ensures.err in
-    let objects = returns-then-is_err-clause-objects g c in
+    let same = c.in-Err.ensures.err in
+    let objects = returns-in-Err-clause-objects g c in
     record {
       tied = before_ties kind c.args.names.now c.wait.new.names c.wait.ensures.rest.1 c.requires.tied same objects;
       waiting = λ m own le. before_waits kind c.args.names.now c.wait.new.names c.wait.ensures.rest.1 c.requires.tied same objects m own;
@@ -43,7 +43,7 @@ returns-clause-there g c = (made_placeholder c.args.graph.now c.make.new.graph g
 pub returns-clause-ties : goal.returns-clause-ties
 returns-clause-ties g c =
     used_ties g.K.Referent.kind (g.K.Referent.blank c.args.with) c.args.names.now c.wait.new.names c.wait.ensures.rest.1 c.requires.tied c.args.name c.in_ok-placeholder.placeholder
-    (accepted c.wait.result c.is_err.result c.is_err.ensures.value c.if-is_err.false c.wait.ensures.ok) c.in_ok-placeholder.ensures.made c.requires.open (unknown_here c.referred.result c.in_default.not-Some c.referred.ensures.unknown) c.make.ensures.kept
+    c.in_default-wait.ensures.ok c.in_ok-placeholder.ensures.made c.requires.open (unknown_here c.referred.result c.in_default.not-Some c.referred.ensures.unknown) c.make.ensures.kept
 
 pub returns-in-Some-clause-follows : goal.returns-in-Some-clause-follows
 returns-in-Some-clause-follows g c = λ w u is.
@@ -55,7 +55,7 @@ pub returns-clause-uses : goal.returns-clause-uses
 returns-clause-uses g c =
     let kind = g.K.Referent.kind in
     uses_new c.args.name c.in_ok-placeholder.placeholder (scopes_of kind c.args.names.now) (scopes_of kind c.wait.new.names) c.args.graph.now c.make.new.graph (unknown_here c.referred.result c.in_default.not-Some c.referred.ensures.unknown)
-    (accepted c.wait.result c.is_err.result c.is_err.ensures.value c.if-is_err.false c.wait.ensures.ok) c.in_ok-placeholder.ensures.made
+    c.in_default-wait.ensures.ok c.in_ok-placeholder.ensures.made
 
 pub returns-clause-follows : goal.returns-clause-follows
 returns-clause-follows g c = λ w u is.

@@ -7,4 +7,4 @@ pub returns : goal.returns
 returns g c =
     let n = c.in_ok-name in
     let l = c.in_ok-child_loc in
-    seen-named n.name l.child_loc ∙ ap₂ (λ x y. named x (location_view y)) (ap string_bytes n.ensures.ok ∙ c.in_ok-from_str.ensures) l.ensures.ok
+    seen-named n.name l.child_loc ∙ ap₂ (λ x y. named x (location_view y)) (ap string_bytes n.ensures.ok ∙ c.in_ok-from_str.ensures.ok) l.ensures.ok

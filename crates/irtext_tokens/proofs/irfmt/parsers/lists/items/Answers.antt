@@ -17,8 +17,8 @@ returns-then-is_still_at g c =
     let hands : MovesOn m.view m.at c.loop-x.stream c.item.new.arg2 = rules_at m.view m.at c.requires.rules _ _ _ _ _ called in
     c.loop-x.invariant.1 _ _ (empty _ _ _ _ _ _ _ called (none_taken m.view m.at _ _ hands (passed_says (hands.taken ≡ []) (hands.taken ≡ [] → ⊥) c.is_still_at.result (c.is_still_at.ensures _ _ (sym hands.passed) c.position-start.ensures) c.if-is_still_at.true)) c.refuse.ensures)
 
-pub returns-then-is_err : goal.returns-then-is_err
-returns-then-is_err g c =
+pub returns-in-Err-push : goal.returns-in-Err-push
+returns-in-Err-push g c =
     let called : Calls (λ r. r) g.F.FnMut c.loop-x.item c.loop-x.stream (Ok c.in-Ok.x) c.item.new.self c.item.new.arg2 = called_at c.in-Ok.ensures refl in
     c.loop-x.invariant.1 _ _ (no_room _ _ _ _ _ _ _ called c.out_of_memory.ensures)
 
@@ -42,8 +42,7 @@ loop-x-preserved g c =
     let m = g.S.CharStream in
     let called : Calls (λ r. r) g.F.FnMut c.loop-x.item c.loop-x.stream (Ok c.in-Ok.x) c.item.new.self c.item.new.arg2 = called_at c.in-Ok.ensures refl in
     let hands : MovesOn m.view m.at c.loop-x.stream c.item.new.arg2 = rules_at m.view m.at c.requires.rules _ _ _ _ _ called in
-    let pushed = c.is_err.ensures.negation ∙ ap not c.if-is_err.false in
-    let grown : c.push.new.self.items ≡ c.loop-x.found.items ++ (c.in-Ok.x ∷ []) = rw pushed at c.push.ensures.items in
+    let grown : c.push.new.items.items ≡ c.loop-x.found.items ++ (c.in-Ok.x ∷ []) = c.in_default.ensures.items in
     let less : length (m.view c.item.new.arg2).rest < length (m.view c.loop-x.stream).rest = some_taken m.view m.at _ _ hands (failed_says (hands.taken ≡ []) (hands.taken ≡ [] → ⊥) c.is_still_at.result (c.is_still_at.ensures _ _ (sym hands.passed) c.position-start.ensures) c.if-is_still_at.false) in (
       search of_calls,
       λ r u later. rw (grown, ← prepended-more c.loop-x.found.items c.in-Ok.x r)

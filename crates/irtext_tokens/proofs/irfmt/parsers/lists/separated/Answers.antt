@@ -3,8 +3,8 @@ use Rattle.irtext_tokens.specs.Lists.{Calls, Separated, listed, no_item, bad_ite
 use Rattle.irtext_tokens.proofs.ListSteps.{called_at, unless_error}
 use Rattle.irtext_tokens.proofs.irfmt.parsers.lists.separated.Goals as goal
 
-pub returns-then-is_err : goal.returns-then-is_err
-returns-then-is_err g c =
+pub returns-in-Err-push : goal.returns-in-Err-push
+returns-in-Err-push g c =
     let called : Calls (λ r. r) g.F.FnMut c.args.item c.args.stream.now (Ok c.in-Ok.x) c.item.new.self c.item.new.arg2 = called_at c.in-Ok.ensures refl in
     no_first_room _ _ _ _ _ _ _ called c.out_of_memory.ensures
 
@@ -19,7 +19,6 @@ returns-in-Err g c =
 pub returns : goal.returns
 returns g c =
     let called : Calls (λ r. r) g.F.FnMut c.args.item c.args.stream.now (Ok c.in-Ok.x) c.item.new.self c.item.new.arg2 = called_at c.in-Ok.ensures refl in
-    let pushed = c.is_err.ensures.negation ∙ ap not c.if-is_err.false in
-    let added : c.push.new.self.items ≡ c.new-found.result.items ++ (c.in-Ok.x ∷ []) = rw pushed at c.push.ensures.items in
+    let added : c.push.new.items.items ≡ c.new-found.result.items ++ (c.in-Ok.x ∷ []) = c.in_default.ensures.items in
     let grown = added ∙ ap (λ z. z ++ (c.in-Ok.x ∷ [])) c.new-found.ensures.items in
     an_item _ _ _ _ _ _ _ _ called c.skip_white_space.ensures.is (rw grown at c.tail.ensures)

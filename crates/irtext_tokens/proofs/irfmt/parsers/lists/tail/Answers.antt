@@ -3,8 +3,8 @@ use Rattle.irtext_tokens.specs.Lists.{Calls, none, insisted, no_more_room, next,
 use Rattle.irtext_tokens.proofs.ListSteps.{called_at, rules_at, tail_lt, prepended-more, commits_item}
 use Rattle.irtext_tokens.proofs.irfmt.parsers.lists.tail.Goals as goal
 
-pub returns-then-is_err : goal.returns-then-is_err
-returns-then-is_err g c =
+pub returns-in-Err-push : goal.returns-in-Err-push
+returns-in-Err-push g c =
     let called : Calls (λ r. r) g.F.FnMut c.loop-sep.item c.skip_white_space.new.stream (Ok c.in-Ok.x) c.item.new.self c.item.new.arg2 = called_at c.in-Ok.ensures refl in
     let opens : Opens g.S.CharStream.view g.S.CharStream.at c.args.sep c.loop-sep.stream c.skip_white_space.new.stream = record { mid = c.take.new.self; begins_so = sym c.loop-sep-test.ensures; taken = c.take.ensures.after; skips = c.skip_white_space.ensures.is } in
     c.loop-sep.invariant.1 _ _ (_, no_more_room _ _ _ _ _ _ _ _ opens called c.out_of_memory.ensures, refl)
@@ -27,8 +27,7 @@ pub loop-sep-preserved : goal.loop-sep-preserved
 loop-sep-preserved g c =
     let called : Calls (λ r. r) g.F.FnMut c.loop-sep.item c.skip_white_space.new.stream (Ok c.in-Ok.x) c.item.new.self c.item.new.arg2 = called_at c.in-Ok.ensures refl in
     let opens : Opens g.S.CharStream.view g.S.CharStream.at c.args.sep c.loop-sep.stream c.skip_white_space.new.stream = record { mid = c.take.new.self; begins_so = sym c.loop-sep-test.ensures; taken = c.take.ensures.after; skips = c.skip_white_space.ensures.is } in
-    let pushed = c.is_err.ensures.negation ∙ ap not c.if-is_err.false in
-    let grown : c.push.new.self.items ≡ c.loop-sep.found.items ++ (c.in-Ok.x ∷ []) = rw pushed at c.push.ensures.items in (
+    let grown : c.push.new.items.items ≡ c.loop-sep.found.items ++ (c.in-Ok.x ∷ []) = c.in_default.ensures.items in (
       search of_calls,
       λ q u later. c.loop-sep.invariant.1 q u (
         prepended (c.in-Ok.x ∷ []) later.0,

@@ -33,8 +33,8 @@ returns-in_err-c g c =
     let h = c.loop-stream.invariant in
     rw (propagated c.from_residual-in_err-c.result c.from_residual-in_err-c.ensures.1) (spoiled g.S.CharStream.view g.S.CharStream.at m.view_at m.at_view m.at_at _ _ _ _ _ _ h.3 (sym c.next_is.ensures ∙ c.loop-stream-test.true) c.in_err-c.ensures)
 
-pub returns-then-is_err : goal.returns-then-is_err
-returns-then-is_err g c =
+pub returns-in-Err : goal.returns-in-Err
+returns-in-Err g c =
     let m = g.met.S.CharStream in
     let h = c.loop-stream.invariant in
     let n = within_unit g.S.CharStream.view g.S.CharStream.at m.view_at m.at_view m.at_at _ _ _ _ _ _ h.3 (sym c.next_is.ensures ∙ c.loop-stream-test.true) c.in_ok-c.ensures in
@@ -56,7 +56,7 @@ pub loop-stream-preserved : goal.loop-stream-preserved
 loop-stream-preserved g c =
     let m = g.met.S.CharStream in
     let h = c.loop-stream.invariant in
-    let grown : string_bytes c.push.new.self ≡ string_bytes c.loop-stream.text ++ encode_utf8 c.in_ok-c.c = search rules in
+    let grown : string_bytes c.push.new.text ≡ string_bytes c.loop-stream.text ++ encode_utf8 c.in_ok-c.c = c.in_default.ensures.bytes in
     let n = within_more g.S.CharStream.view g.S.CharStream.at m.view_at m.at_view m.at_at _ _ _ _ _ _ _ h.3 (sym c.next_is.ensures ∙ c.loop-stream-test.true) c.in_ok-c.ensures c.in_ok-append_plain-2.ensures.stream in
     (_, n.0, encodes-unit _ _ _ _ h.0 c.in_ok-c.c h.2 grown c.in_ok-append_plain-2.ensures.value, n.1)
 
