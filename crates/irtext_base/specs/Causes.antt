@@ -1,5 +1,5 @@
 -- The messages of causes and errors, in bytes.
-use Rattle.std.specs.Prelude.{⊤, ℕ, Bool, true, false, Option, Some, None, IfSome, List, ◌++◌, codes, string_bytes}
+use Rattle.std.specs.Prelude.{◌≡◌, ⊤, ℕ, Bool, true, false, Option, Some, None, IfSome, List, ◌++◌, codes, string_bytes}
 use Rattle.std.specs.Fmt.{decimal}
 use Rattle.std.specs.Char.{encode_utf8}
 use Rattle.irtext_base.specs.declared.base.identifier.OpId.{OpId}

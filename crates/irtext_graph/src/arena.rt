@@ -118,7 +118,7 @@ impl<X: Drop> Arena<X> {
     pub(crate) fn full(&self, made: u64, counters: Counters) -> Full
         requires { IsFull made counters.first_place (free_place self.now) (length self.now.slots.items) }
     {
-        if made == u64::MAX {
+        if u64::MAX == made {
             return at_limit(made);
         }
         let slots = self.slots.len() + (counters.first_place as usize);

@@ -237,7 +237,7 @@ impl<O: Drop, B: Drop, T: Drop> Graph<O, B, T> {
     pub fn full_of_blocks(&self, arguments: usize) -> Full
         requires { NoMoreBlocks arguments self.now }
     {
-        if arguments as u64 > u64::MAX - self.counters.values {
+        if u64::MAX - self.counters.values < arguments as u64 {
             return at_limit(self.counters.values.saturating_add(arguments as u64));
         }
         self.objects.blocks.full(self.made, self.counters)
@@ -248,13 +248,13 @@ impl<O: Drop, B: Drop, T: Drop> Graph<O, B, T> {
     pub fn full_of_operations(&self, results: usize, operands: usize, successors: usize) -> Full
         requires { NoMoreOperations results operands successors self.now }
     {
-        if operands > i32::MAX as usize {
+        if i32::MAX as usize < operands {
             return at_limit(operands as u64);
         }
-        if successors > i32::MAX as usize {
+        if i32::MAX as usize < successors {
             return at_limit(successors as u64);
         }
-        if results as u64 > u64::MAX - self.counters.values {
+        if u64::MAX - self.counters.values < results as u64 {
             return at_limit(self.counters.values.saturating_add(results as u64));
         }
         self.objects.operations.full(self.made, self.counters)
