@@ -1,8 +1,9 @@
 //! What the pieces before an operation's first region give: their names are used, and what they give the operation is gathered, in the
 //! order of the text. A name is used by looking up the value or the block that it refers to; without a definition so far it gets a
 //! placeholder.
-ghost use Rattle.std.specs.Prelude.{◌≡◌, ◌∷◌, [], length, IfErr, IfSome, OnOk};
+ghost use Rattle.std.specs.Prelude.{◌≡◌, ◌∷◌, [], length, IfErr, IfSome, OnOk, true};
 ghost use Rattle.irtext_base.specs.Format.{sym_name_key};
+ghost use Rattle.irtext_grammar.specs.Names.Acts.{may_hold};
 ghost use Rattle.irtext_grammar.specs.Contexts.Held.{attribute_of, entries_of};
 ghost use Rattle.irtext_grammar.specs.Graphs.Build.{put_all};
 ghost use Rattle.irtext_names.specs.Tied.{MatchesGraph};

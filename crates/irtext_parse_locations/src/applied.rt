@@ -1,7 +1,8 @@
 //! Applies what entries give: the locations, attributes and labels of their items. An item is an operation or a block that carries a
 //! mark.
-ghost use Rattle.std.specs.Prelude.{◌≡◌, ℕ, None, IsSome, IfOk, OnOk, [], ◌∷◌, option_map};
+ghost use Rattle.std.specs.Prelude.{◌≡◌, ℕ, None, IsSome, IfOk, OnOk, [], ◌∷◌, option_map, false};
 ghost use Rattle.irtext_context.specs.Context.{KeepsOlder, operation, block};
+ghost use Rattle.irtext_context.specs.Dictionary.{is_reserved_for};
 ghost use Rattle.irtext_graph.specs.Back.{IsClosedBelow};
 ghost use Rattle.irtext_graph.specs.Store.{before};
 ghost use Rattle.irtext_grammar.specs.Contexts.Held.{attribute_of, entries_of};
@@ -45,7 +46,7 @@ pub(crate) fn attr_stored<A: Drop>(
     key: Identifier,
     attr: AttrObj<A>,
 ) -> Result<(), Exhausted>
-    requires { may_hold key (attribute_of attr) ≡ true }
+    requires { is_reserved_for key attr ≡ false }
     ensures { OnOk result (entries_of attributes.new ≡ put_all (entries_of attributes.old)
         ((key, attribute_of attr) ∷ [])) }
 {

@@ -138,7 +138,7 @@ fn head_made<T: IrText<A>, A: AttrText<A>, U>(
 {
     let alloc = s.stream.allocator();
     let (arguments, types) = match arguments_split(alloc, arguments) {
-        Ok(split) => split,
+        Ok((arguments, types)) => (arguments, types),
         Err(error) => {
             ended(entries);
             return Err(NotGathered::Memory(error));

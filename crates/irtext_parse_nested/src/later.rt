@@ -1,5 +1,5 @@
 //! A piece of an operation after a region: it is parsed by the operation's next step, and what it gives is stored.
-ghost use Rattle.std.specs.Prelude.{◌≡◌, ◌≤◌, ◌<◌, ◌+◌, ◌∷◌, [], ℕ, None, IfErr, OnOk, IsSome, length, slice_get, false, true};
+ghost use Rattle.std.specs.Prelude.{◌≡◌, ◌≤◌, ◌<◌, ◌+◌, ◌∷◌, [], ℕ, None, IfErr, OnOk, IsSome, length, slice_get, false, true, IfSome};
 ghost use Rattle.irtext_base.specs.Faults.{id_of};
 ghost use Rattle.irtext_base.specs.Format.{sym_name_key};
 ghost use Rattle.irtext_context.specs.Context.{KeepsOlder, operation};
@@ -8,7 +8,8 @@ ghost use Rattle.irtext_graph.specs.Graph.{IsNew};
 ghost use Rattle.irtext_graph.specs.declared.object.Object.TheVariants.{TheOperation};
 ghost use Rattle.irtext_tokens.specs.AttrTexts.{attr_at};
 ghost use Rattle.irtext_parse_state.specs.States.{KeepsRest, marks_of};
-ghost use Rattle.irtext_grammar.specs.Contexts.Held.{entries_of, whole};
+ghost use Rattle.irtext_grammar.specs.Names.Acts.{may_hold};
+ghost use Rattle.irtext_grammar.specs.Contexts.Held.{attribute_of, entries_of, whole};
 ghost use Rattle.irtext_grammar.specs.Graphs.Build.{put_all};
 ghost use Rattle.irtext_grammar.specs.Grammar.Tree.{ident};
 ghost use Rattle.irtext_names.specs.Tied.{MatchesGraph};

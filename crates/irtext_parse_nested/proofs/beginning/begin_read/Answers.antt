@@ -14,11 +14,11 @@ placed-requires g c =
     let creates = c.in-Ok.ensures.creates in
     record { block = block_there creates older c.args.block c.requires.block; op = op_there creates older; free = op_free creates older; empty = op_empty creates older }
 
-pub returns-in_default-clause-refused : goal.returns-in_default-clause-refused
-returns-in_default-clause-refused g c = ran_out (record { because = c.out_of_memory.ensures.because; flag = c.out_of_memory.ensures.committed })
+pub returns-in-Err-placed-clause-refused : goal.returns-in-Err-placed-clause-refused
+returns-in-Err-placed-clause-refused g c = ran_out (record { because = c.out_of_memory.ensures.because; flag = c.out_of_memory.ensures.committed })
 
-pub returns-in_default-clause-kept : goal.returns-in_default-clause-kept
-returns-in_default-clause-kept g c = λ m le n.
+pub returns-in-Err-placed-clause-kept : goal.returns-in-Err-placed-clause-kept
+returns-in-Err-placed-clause-kept g c = λ m le n.
     let old = c.args.s.now.state.ctx.now in
     keeps_placed c.in-Ok.ensures.creates (subst (λ n. AllOlder n old.graph) c.made.ensures.made c.made.ensures.older) c.placed.new.ctx c.args.block m le n (c.created.ensures.kept m le) (c.placed.ensures.kept m)
 
@@ -26,7 +26,7 @@ pub returns-clause-makes : goal.returns-clause-makes
 returns-clause-makes g c = record {
   made = c.created.new.s.state.ctx.now;
   creates = c.in-Ok.ensures.creates;
-  placed = c.in-Ok-placed.ensures.places;
+  placed = c.in_default.ensures.places;
   id_is = refl;
   names_are = refl;
   at_is = refl;

@@ -72,8 +72,8 @@ returns-clause-spares g c = region_spares _ _ c.in-Ok.region c.args.op (subst (�
 pub returns-clause-open : goal.returns-clause-open
 returns-clause-open g c = c.in_default.ensures.open
 
-pub returns-in_default-create-clause-kept : goal.returns-in_default-create-clause-kept
-returns-in_default-create-clause-kept g c = λ m. subst (λ x. m ≤ x.graph.made → IfSome c.args.op (λ o. IsNew m x.graph (TheOperation o)) → KeepsOlder m x c.create.new.s.state.ctx.now) c.in_default.ensures.ctx (c.create.ensures.kept m)
+pub returns-in-Err-create-clause-kept : goal.returns-in-Err-create-clause-kept
+returns-in-Err-create-clause-kept g c = λ m. subst (λ x. m ≤ x.graph.made → IfSome c.args.op (λ o. IsNew m x.graph (TheOperation o)) → KeepsOlder m x c.create.new.s.state.ctx.now) c.in_default.ensures.ctx (c.create.ensures.kept m)
 
 pub returns-in-Err-brace_demanded-clause-kept : goal.returns-in-Err-brace_demanded-clause-kept
 returns-in-Err-brace_demanded-clause-kept g c = λ m. subst (λ x. m ≤ x.graph.made → IfSome c.args.op (λ o. IsNew m x.graph (TheOperation o)) → KeepsOlder m x c.create.new.s.state.ctx.now) c.in_default.ensures.ctx (c.in-Ok.ensures.kept m)
@@ -84,11 +84,11 @@ returns-clause-kept g c = λ m. subst (λ x. m ≤ x.graph.made → IfSome c.arg
 pub returns-in-Err-clause-kept : goal.returns-in-Err-clause-kept
 returns-in-Err-clause-kept g c = λ m le new. keeps_unmoved c.in-Err.ensures.ctx m
 
-pub returns-in_default-create-clause-refused : goal.returns-in_default-create-clause-refused
-returns-in_default-create-clause-refused g c = inl (record { because = c.out_of_memory.ensures.because; flag = c.out_of_memory.ensures.committed })
+pub returns-in-Err-create-clause-refused : goal.returns-in-Err-create-clause-refused
+returns-in-Err-create-clause-refused g c = inl (record { because = c.out_of_memory.ensures.because; flag = c.out_of_memory.ensures.committed })
 
-pub returns-in_default-create-clause-committed : goal.returns-in_default-create-clause-committed
-returns-in_default-create-clause-committed g c = c.out_of_memory.ensures.committed
+pub returns-in-Err-create-clause-committed : goal.returns-in-Err-create-clause-committed
+returns-in-Err-create-clause-committed g c = c.out_of_memory.ensures.committed
 
 pub returns-in-Err-brace_demanded-clause-committed : goal.returns-in-Err-brace_demanded-clause-committed
 returns-in-Err-brace_demanded-clause-committed g c = must_commit (ap (λ v. v.failed) (c.in-Ok.ensures.stream ∙ c.in_default.ensures.stream) ∙ c.requires.fine) c.in-Err-brace_demanded.ensures

@@ -10,7 +10,7 @@ pub returns-then-begins : goal.returns-then-begins
 returns-then-begins g c = word_taken (lens_of g.world g.met.S.CharStream) c.as_str.result.now c.as_str.utf8 c.as_str.ensures.text c.as_str.ensures.fits c.if-not-accept.ensures None tt
 
 pub returns-in-Ok : goal.returns-in-Ok
-returns-in-Ok g c = word_taken (lens_of g.world g.met.S.CharStream) c.as_str.result.now c.as_str.utf8 c.as_str.ensures.text c.as_str.ensures.fits c.if-not-accept.ensures (Some c.in-Ok.key) (c.in-Ok.ensures.cases, sym c.begins.ensures ∙ c.if-begins.false)
+returns-in-Ok g c = word_taken (lens_of g.world g.met.S.CharStream) c.as_str.result.now c.as_str.utf8 c.as_str.ensures.text c.as_str.ensures.fits c.if-not-accept.ensures (Some c.in-Ok.key) (c.in-Ok.ensures, sym c.begins.ensures ∙ c.if-begins.false)
 
 pub returns-in-Err : goal.returns-in-Err
 returns-in-Err g c = word_taken (lens_of g.world g.met.S.CharStream) c.as_str.result.now c.as_str.utf8 c.as_str.ensures.text c.as_str.ensures.fits c.if-not-accept.ensures None tt

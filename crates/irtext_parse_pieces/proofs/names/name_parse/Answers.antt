@@ -16,6 +16,15 @@ text_since-requires g c =
     let text = (l.view old).rest in
     ((l.view old).passed, front in_word text, sym (ap (λ v. v.passed) (seen_after l.view l.at l.view_at l.at_at old c.skip_class.new.stream (front in_word text) (after in_word text) c.skip_class.ensures)), c.position-at.ensures)
 
+pub intern-requires : goal.intern-requires
+intern-requires g c =
+    let l = lens_of g.world g.met.S.CharStream in
+    let old = c.args.stream.now in
+    let text = (l.view old).rest in
+    let begun = sym c.begins.ensures ∙ c.if-not-begins.false in
+    let w = taken_since l.view l.at l.view_at l.at_at old c.skip_class.new.stream c.position-at.result c.text_since.result.now (front in_word text) (after in_word text) c.skip_class.ensures c.position-at.ensures c.text_since.ensures ∙ encodes-front_word text in
+    ap is_identifier w ∙ is_identifier-front text begun
+
 pub returns-in-Ok : goal.returns-in-Ok
 returns-in-Ok g c =
     let l = lens_of g.world g.met.S.CharStream in
