@@ -1,5 +1,5 @@
 //! A piece of an operation after a region: it is parsed by the operation's next step, and what it gives is stored.
-ghost use Rattle.std.specs.Prelude.{◌≡◌, ◌≤◌, ◌<◌, ◌+◌, ◌∷◌, [], ℕ, None, IfErr, OnOk, IsSome, length, slice_get, false, true, IfSome};
+ghost use Rattle.std.specs.Prelude.{◌≡◌, ◌≤◌, ◌<◌, ◌+◌, ◌∷◌, [], ℕ, None, IfErr, IfOk, OnOk, IsSome, length, slice_get, false, true, IfSome};
 ghost use Rattle.irtext_base.specs.Faults.{id_of};
 ghost use Rattle.irtext_base.specs.Format.{sym_name_key};
 ghost use Rattle.irtext_context.specs.Context.{KeepsOlder, operation};
@@ -21,7 +21,7 @@ ghost use Rattle.irtext_parse_pieces.specs.Named.{NamesRead};
 ghost use Rattle.irtext_memory.specs.Rooms.{exhausted};
 ghost use Rattle.irtext_names.specs.declared.operation_parts.NotGathered.TheVariants.{Memory};
 ghost use Rattle.irtext_parse_nested.specs.Ends.{WritesAttributes};
-ghost use Rattle.irtext_names.specs.Gathering.{stored_of};
+ghost use Rattle.irtext_names.specs.Gathering.{stored_of, IsAllowed};
 ghost use Rattle.irtext_names.specs.Items.{IsSound, KeepsLive, KeepsDepths};
 ghost use Rattle.irtext_parse_nested.specs.Later.{given_by, IsFlatNext, ReadsNext, MayStore, RefusesStored, StoresPiece, NotStored, GoesOn};
 ghost use Rattle.irtext_parse_nested.specs.Read.{RefusesNext};
@@ -99,6 +99,7 @@ fn piece_stored<T: Drop, A: Drop>(
     attributes: &mut AttributeDict<A>,
     piece: ReadPiece<T, A>,
 ) -> Result<(), NotGathered>
+    requires { IsAllowed piece }
     ensures stored { OnOk result (entries_of attributes.new
         ≡ put_all (entries_of attributes.old) (stored_of piece)) }
     ensures may { OnOk result (MayStore piece) }
@@ -126,6 +127,7 @@ fn piece_read<T: IrText<A>, A: AttrText<A>>(
         names.new.names stream.old result stream.new }
     ensures names { NamesRead names.old names.new }
     ensures following { begun.new ≡ record begun.old { coming = None; step = begun.old.step + 1 } }
+    ensures allowed { IfOk result (λ piece. IsAllowed piece) }
 {
     skip_white_space(stream);
     let Some(info) = ctx.op_info(&begun.id) else {
@@ -154,6 +156,7 @@ fn piece_kept<T: IrText<A>, A: AttrText<A>>(
     piece: ReadPiece<T, A>,
 ) -> Result<(), NotGathered>
     requires alive { IsSome (operation ctx.old op) }
+    requires allowed { IsAllowed piece }
     ensures writes { WritesAttributes ctx.old ctx.new op }
     ensures stores { OnOk result (StoresPiece piece ctx.old ctx.new op) }
     ensures refused { IfErr result (RefusesStored piece) }
@@ -170,6 +173,7 @@ fn piece_done<T: IrText<A>, A: AttrText<A>, U>(
     piece: ReadPiece<T, A>,
 ) -> ParseResult<(), A>
     requires alive { IsSome (operation s.old.state.ctx.now op) }
+    requires allowed { IsAllowed piece }
     ensures lent { s.new.state.ctx.ghost_name ≡ s.old.state.ctx.ghost_name }
     ensures rest { KeepsRest s.old.state s.new.state }
     ensures marks { marks_of s.new.state ≡ marks_of s.old.state }

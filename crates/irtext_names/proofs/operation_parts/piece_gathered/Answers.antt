@@ -2,7 +2,7 @@ use Rattle.std.proofs.Common.{◌∷◌, [], refl, sym, subst}
 use Rattle.std.proofs.lemmas.Result.{IfErr-weaker}
 use Rattle.std.specs.Prelude.{IfErr}
 use Rattle.irtext_names.specs.Kinds.{NamesOf.{values, labels}}
-use Rattle.irtext_names.specs.Gathering.{RefusesGathering}
+use Rattle.irtext_names.specs.Gathering.{IsAllowed, RefusesGathering}
 use Rattle.irtext_names.proofs.Halves.{half_if}
 use Rattle.irtext_names.proofs.Pieces.{word_one, alone_at, alone_if}
 use Rattle.irtext_names.proofs.operation_parts.piece_gathered.Goals as goal
@@ -21,6 +21,9 @@ returns-in-Successor-clause-gathers g c = half_if c.args.names.now c.name_gather
 
 pub returns-in-Successors-clause-gathers : goal.returns-in-Successors-clause-gathers
 returns-in-Successors-clause-gathers g c = half_if c.args.names.now c.names_gathered-in-Successors.new.names c.args.graph.now c.names_gathered-in-Successors.new.graph labels c.names_gathered-in-Successors.result c.args.gathered.now c.names_gathered-in-Successors.new.placed c.args.piece _ c.in-Successors.is c.requires.can c.names_gathered-in-Successors.ensures.gathers
+
+pub attr_gathered-requires : goal.attr_gathered-requires
+attr_gathered-requires g c = subst (λ p. IsAllowed p) c.in-Attr.is c.requires.can.allowed.0
 
 pub returns-in-Attr-clause-gathers : goal.returns-in-Attr-clause-gathers
 returns-in-Attr-clause-gathers g c = alone_if c.args.names.now c.args.graph.now c.args.gathered.now _ c.attr_gathered.result c.args.piece _ c.in-Attr.is c.attr_gathered.ensures.gathers

@@ -3,7 +3,9 @@ use Rattle.irtext_grammar.specs.Heads.{piece_at, setting}
 use Rattle.irtext_grammar.specs.Readers.Streams.{itself, replaced}
 use Rattle.irtext_tokens.specs.AttrTexts.{attr_at}
 use Rattle.irtext_parse_pieces.specs.Pieces.{MustPiece}
+use Rattle.irtext_base.specs.FormatViews.{format_of}
 use Rattle.irtext_parse_nested.proofs.Faults.{some_same}
+use Rattle.irtext_parse_nested.proofs.FreeKeys.{read_allowed, step_free}
 use Rattle.irtext_parse_nested.proofs.BlockReady.{within}
 use Rattle.irtext_parse_nested.proofs.LaterPieces.{registered_steps, unregistered_ends, ended, piece_spaced}
 use Rattle.irtext_parse_nested.proofs.later.piece_read.Goals as goal
@@ -16,6 +18,11 @@ unreachable-requires-in_default-step_at g c = ended c.args.ctx.now.dialects c.ar
 
 pub step_after-begun-requires : goal.step_after-begun-requires
 step_after-begun-requires g c = within _ _ _ (sym c.in-Some-step_at.ensures)
+
+pub returns-clause-allowed : goal.returns-clause-allowed
+returns-clause-allowed g c =
+    read_allowed g.T.IrText.reading (attr_at g.A.IrText.reading) c.step_parse-answer.new.names.names _ c.skip_white_space.new.stream c.step_parse-answer.result c.step_parse-answer.new.stream
+    (step_free (format_of c.in-Some.info.now.format) c.in-Some.ensures.accepted c.args.begun.now.step _ (sym c.in-Some-step_at.ensures)) c.step_parse-answer.ensures.read
 
 pub returns-clause-read : goal.returns-clause-read
 returns-clause-read g c = λ step there.

@@ -1,10 +1,14 @@
-use Rattle.std.proofs.Common.{◌∙◌, ap}
+use Rattle.std.proofs.Common.{◌∙◌, ap, subst}
+use Rattle.irtext_names.specs.Gathering.{IsAllowed}
 use Rattle.irtext_grammar.specs.Contexts.Held.{entries_of}
 use Rattle.irtext_grammar.specs.Graphs.Build.{put_all}
 use Rattle.irtext_parse_nested.proofs.LaterPieces.{given_is}
 use Rattle.irtext_names.proofs.Outcomes.{on_ok}
 use Rattle.irtext_parse_nested.proofs.Marking.{always_ok}
 use Rattle.irtext_parse_nested.proofs.later.piece_stored.Goals as goal
+
+pub attr_stored-requires : goal.attr_stored-requires
+attr_stored-requires g c = subst (λ p. IsAllowed p) c.in-Attr.is c.requires
 
 pub returns-in-Attr : goal.returns-in-Attr
 returns-in-Attr g c = let e = c.attr_stored.ensures in record {
