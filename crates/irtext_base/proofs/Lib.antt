@@ -18,7 +18,6 @@ pub mod Waits
 pub mod Inside
 pub mod RowEnds
 pub mod SameEnds
-pub mod Messages
 pub mod Moves
 pub mod Walks
 pub mod Equality

@@ -1,5 +1,5 @@
 //! Errors: their kinds and causes, with the messages of these.
-ghost use Rattle.std.specs.Prelude.{◌≡◌, ◌++◌, ℕ, List, Option, IsTrue, Some, MatchResult, string_bytes};
+ghost use Rattle.std.specs.Prelude.{◌≡◌, IsTrue, Some, MatchResult, string_bytes};
 ghost use Rattle.std.specs.Fmt.{◌++?◌, DisplaysOnOk, WritesOnOk};
 ghost use Rattle.irtext_base.specs.Causes.{no_memory, IsMessageOf, kind_text, expected_text, mismatch_text, is_flat, heading, cause_text, error_text, cause_of};
 ghost use Rattle.irtext_base.specs.Locations.{out_of_memory};
@@ -12,7 +12,8 @@ use crate::format::FormatFault;
 use crate::location::{Location, out_of_memory};
 use crate::parsable::{ParserNameTrackerError, SourcePosition, UnresolvedReference};
 use arrayvec::ArrayString;
-use irtext_memory::{Exhausted, Full, NoRoom, OutOfMemory, Refused, string};
+use irtext_memory::string::NotWritten;
+use irtext_memory::{Exhausted, NoRoom, OutOfMemory, Refused, string};
 use std::alloc::Global;
 use std::fmt::{self, Display, Formatter, Write};
 
@@ -175,46 +176,10 @@ impl<A> Cause<A> {
     pub fn of_message<M: Display + Drop>(alloc: Global, message: M) -> Cause<A>
         ensures { IsMessageOf (M.output message) result }
     {
-        let mut message_text = MessageText {
-            text: String::new(alloc),
-            refused: None,
-        };
-        match message_text.write(message) {
-            Ok(()) => Cause::Text(StringError(message_text.text)),
-            Err(_) => message_text.cause(),
-        }
-    }
-}
-
-/// The text of a message, and the error of the allocation that was refused for it.
-#[derive(Drop)]
-struct MessageText {
-    text: String,
-    refused: Option<OutOfMemory>,
-}
-
-impl MessageText {
-    /// Returns why the message could not be printed.
-    fn cause<A>(self) -> Cause<A>
-        ensures { (said : Option (List ℕ)) → IsMessageOf said result }
-    {
-        match self.refused {
-            Some(error) => Cause::from(error),
-            None => Cause::Fmt,
-        }
-    }
-}
-
-impl Write for MessageText {
-    ghost write_str_gives = { λ old bytes new. string_bytes new.text ≡ string_bytes old.text ++ bytes };
-
-    fn write_str(&mut self, s: &str) -> fmt::Result {
-        match string::push_str(&mut self.text, s) {
-            Ok(()) => Ok(()),
-            Err(error) => {
-                self.refused = Some(error);
-                Err(fmt::Error)
-            }
+        match string::format(alloc, message) {
+            Ok(text) => Cause::Text(StringError(text)),
+            Err(NotWritten::Memory(error)) => Cause::from(error),
+            Err(NotWritten::Unprintable) => Cause::Fmt,
         }
     }
 }
@@ -389,42 +354,10 @@ impl<A> fmt::Debug for Error<A> {
     }
 }
 
-impl<A> From<Exhausted> for Cause<A> {
-    ghost from_gives = { λ _ cause. cause ≡ no_memory };
-
-    fn from(error: Exhausted) -> Cause<A> {
-        Cause::Memory(error)
-    }
-}
-
 impl<A> From<OutOfMemory> for Cause<A> {
     ghost from_gives = { λ _ cause. cause ≡ no_memory };
 
     fn from(error: OutOfMemory) -> Cause<A> {
-        Cause::Memory(Exhausted::from(error))
-    }
-}
-
-impl<A> From<Full> for Cause<A> {
-    ghost from_gives = { λ _ cause. cause ≡ no_memory };
-
-    fn from(error: Full) -> Cause<A> {
-        Cause::Memory(Exhausted::from(error))
-    }
-}
-
-impl<A> From<NoRoom> for Cause<A> {
-    ghost from_gives = { λ _ cause. cause ≡ no_memory };
-
-    fn from(error: NoRoom) -> Cause<A> {
-        Cause::Memory(Exhausted::from(error))
-    }
-}
-
-impl<X: Drop, A> From<Refused<X>> for Cause<A> {
-    ghost from_gives = { λ _ cause. cause ≡ no_memory };
-
-    fn from(error: Refused<X>) -> Cause<A> {
         Cause::Memory(Exhausted::from(error))
     }
 }
@@ -454,15 +387,6 @@ impl<A> From<OutOfMemory> for Error<A> {
     ghost from_gives = { λ _ error. error ≡ out_of_memory };
 
     fn from(error: OutOfMemory) -> Error<A> {
-        out_of_memory(Exhausted::from(error))
-    }
-}
-
-/// The same for a counter that is full. So `name.share()?` works in a function that returns `Error`.
-impl<A> From<Full> for Error<A> {
-    ghost from_gives = { λ _ error. error ≡ out_of_memory };
-
-    fn from(error: Full) -> Error<A> {
         out_of_memory(Exhausted::from(error))
     }
 }

@@ -15,7 +15,7 @@ use crate::attributes::{insert, insert_names};
 use crate::unfit;
 use irtext_base::base::{AttrObj, Identifier};
 use irtext_base::location::Location;
-use irtext_base::result::{Cause, ErrorKind, Result as Answer};
+use irtext_base::result::{Cause, Error, ErrorKind, Result as Answer};
 use irtext_base::text::{AttrText, IrText};
 use irtext_context::base::context::making::Making;
 use irtext_context::base::{AttributeDict, BasicBlock, Context, Ptr, Region};
@@ -127,7 +127,7 @@ impl<T: IrText<A>, A: AttrText<A>> BlockDraft<T, A> {
     {
         match ctx.make_block(self.label, self.attributes, self.loc, self.arg_types) {
             Ok(block) => Ok(block),
-            Err(room) => Err(invalid(Cause::from(room))),
+            Err(room) => Err(Error::from(room)),
         }
     }
 

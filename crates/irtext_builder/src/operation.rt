@@ -21,7 +21,7 @@ use crate::attributes::{insert, insert_names, insert_symbol};
 use crate::unfit;
 use irtext_base::base::{AttrObj, OpId};
 use irtext_base::location::Location;
-use irtext_base::result::{Cause, ErrorKind, Result as Answer};
+use irtext_base::result::{Cause, Error, ErrorKind, Result as Answer};
 use irtext_base::text::{AttrText, IrText};
 use irtext_checked::contains::ContainsParts;
 use irtext_checked::make::operation::add_regions;
@@ -250,7 +250,7 @@ fn make_registered<T: IrText<A>, A: AttrText<A>>(
         Ok(op) => Ok(op),
         Err(room) => {
             ctx.roll_back(mark);
-            Err(invalid(Cause::from(room)))
+            Err(Error::from(room))
         }
     }
 }

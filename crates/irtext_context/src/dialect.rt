@@ -78,7 +78,7 @@ impl DialectName {
     {
         match self.name.share() {
             Ok(name) => Ok(DialectName { name }),
-            Err(error) => Err(invalid(Cause::from(error))),
+            Err(full) => Err(invalid(Cause::Memory(Exhausted::from(full)))),
         }
     }
 
@@ -211,7 +211,7 @@ fn wrong_dialect<A>(id: OpId, name: &DialectName) -> Cause<A>
 {
     match name.name.share() {
         Ok(dialect) => Cause::WrongDialect { id, dialect },
-        Err(error) => Cause::from(error),
+        Err(full) => Cause::Memory(Exhausted::from(full)),
     }
 }
 

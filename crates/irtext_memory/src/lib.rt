@@ -11,7 +11,7 @@ pub mod set;
 pub mod string;
 pub mod vec;
 
-ghost use Rattle.std.specs.Prelude.{◌≡◌, ◌≤◌, Ok, IfOk, OnErr, IsErr};
+ghost use Rattle.std.specs.Prelude.{◌≡◌, ◌≤◌};
 ghost use Rattle.irtext_memory.specs.declared.NoRoom.TheVariants.{Memory, Full};
 ghost use Rattle.irtext_memory.specs.Rooms.{LacksMemory};
 
@@ -153,18 +153,6 @@ pub fn at_limit(count: u64) -> Full
     requires { 2147483648 ≤ count }
 {
     Full { made_here: () }
-}
-
-/// Returns the same with an error that anyone can make, for a caller whose own error is not sealed.
-#[inline(always)]
-pub fn unsealed<X>(sealed: Result<X, OutOfMemory>) -> Result<X, AllocError>
-    ensures ok { IfOk result (λ x. sealed ≡ Ok x) }
-    ensures err { OnErr result (IsErr sealed) }
-{
-    match sealed {
-        Ok(x) => Ok(x),
-        Err(_) => Err(AllocError),
-    }
 }
 
 // the error of a call of std that failed

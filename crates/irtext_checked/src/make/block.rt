@@ -8,7 +8,7 @@ ghost use Rattle.irtext_context.specs.Made.{bare_block};
 use irtext_base::base::Identifier;
 use irtext_base::location::Location;
 use irtext_base::result;
-use irtext_base::result::{Cause, ErrorKind};
+use irtext_base::result::{Error, ErrorKind};
 use irtext_base::text::{AttrText, IrText};
 use irtext_context::base::context::making::Making;
 use irtext_context::base::{AttributeDict, BasicBlock, Context, Ptr};
@@ -34,7 +34,7 @@ pub trait NewBlock {
         let attributes = AttributeDict::with_seed(ctx.allocator(), ctx.seed());
         match ctx.make_block(label, attributes, Location::Unknown, arg_types) {
             Ok(p) => Ok(p),
-            Err(room) => Err(invalid(Cause::from(room))),
+            Err(room) => Err(Error::from(room)),
         }
     }
 }

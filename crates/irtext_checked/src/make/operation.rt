@@ -13,7 +13,7 @@ use crate::unfit;
 use irtext_base::base::OpId;
 use irtext_base::location::Location;
 use irtext_base::result;
-use irtext_base::result::Cause;
+use irtext_base::result::Error;
 use irtext_base::text::{AttrText, IrText};
 use irtext_context::base::context::making::Making;
 use irtext_context::base::{AttributeDict, BasicBlock, Context, Operation, Ptr, Value};
@@ -98,7 +98,7 @@ pub trait NewOperation {
             Ok(op) => Ok(op),
             Err(room) => {
                 ctx.roll_back(made);
-                Err(invalid(Cause::from(room)))
+                Err(Error::from(room))
             }
         }
     }

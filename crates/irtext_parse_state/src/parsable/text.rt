@@ -12,7 +12,7 @@ use irtext_base::parsable::{ParseFault, ParseResult, TextStream};
 use irtext_base::result::{Cause, Error, ErrorKind, Result};
 use irtext_base::text::{AttrText, IrText};
 use irtext_context::base::Context;
-use irtext_memory::{OutOfMemory, boxed, string};
+use irtext_memory::{Exhausted, OutOfMemory, boxed, string};
 use std::alloc::Global;
 
 /// Returns the cause of the error for a parser that failed on a text in memory.
@@ -22,7 +22,7 @@ fn cause_of<A: Drop>(alloc: Global, fault: ParseFault<A>) -> Cause<A>
     let at = fault.pos;
     match boxed::new(alloc, fault.into_cause()) {
         Ok(cause) => Cause::Parse { at, cause },
-        Err(refused) => Cause::from(refused),
+        Err(refused) => Cause::Memory(Exhausted::from(refused)),
     }
 }
 

@@ -1,0 +1,2 @@
+-- The text of a message that was written call by call.
+pub mod Messages
