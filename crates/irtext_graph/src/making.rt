@@ -248,10 +248,10 @@ impl<O: Drop, B: Drop, T: Drop> Graph<O, B, T> {
     pub fn full_of_operations(&self, results: usize, operands: usize, successors: usize) -> Full
         requires { NoMoreOperations results operands successors self.now }
     {
-        if i32::MAX as usize < operands {
+        if (i32::MAX as usize) < operands {
             return at_limit(operands as u64);
         }
-        if i32::MAX as usize < successors {
+        if (i32::MAX as usize) < successors {
             return at_limit(successors as u64);
         }
         if u64::MAX - self.counters.values < results as u64 {

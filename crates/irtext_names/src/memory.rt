@@ -3,8 +3,8 @@ ghost use Rattle.std.specs.Prelude.{◌≡◌, Ok, IfOk, IfErr, OnOk};
 ghost use Rattle.irtext_grammar.specs.Promises.Section.{IsOutOfMemory};
 
 use irtext_base::parsable::{ParseResult, TextStream};
-use irtext_tokens::irfmt::faults::out_of_memory;
 use irtext_memory::Exhausted;
+use irtext_tokens::irfmt::faults::out_of_memory;
 
 /// Ends a value. What owns it proves nothing about its parts then.
 #[inline(always)]

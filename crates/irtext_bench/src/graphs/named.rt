@@ -1,6 +1,7 @@
 //! Calls on names and a graph together.
 ghost use Rattle.irtext_names.specs.Tied.{MatchesGraph};
 
+use super::interned::interned;
 use crate::graphs::names::texts;
 use irtext_few::Few;
 use irtext_graph::arena::Ptr;
@@ -11,7 +12,6 @@ use irtext_names::regions::{enter_region, exit_region, no_names};
 use irtext_names::uses;
 use irtext_scopes::tracker::NameTracker;
 use std::alloc::{AllocError, Global};
-use super::interned::interned;
 
 type Names = NameTracker<Value, Ptr<BasicBlock>>;
 

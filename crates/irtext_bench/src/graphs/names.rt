@@ -1,8 +1,8 @@
 //! Calls on the names of a parse.
 
+use super::interned::interned;
 use irtext_scopes::tracker::NameTracker;
 use std::alloc::{AllocError, Global};
-use super::interned::interned;
 
 type Measured = NameTracker<u32, u32>;
 

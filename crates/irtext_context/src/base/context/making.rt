@@ -206,7 +206,13 @@ impl<T: IrText<A>, A: AttrText<A>> Making<T, A> for Context<T, A> {
                     .make_operation(Some(held), types, operands, successors)
             }
             Err(error) => {
-                let room = no_operation(&self.graph, count, operands.len(), successors.len(), error);
+                let room = no_operation(
+                    &self.graph,
+                    count,
+                    operands.len(),
+                    successors.len(),
+                    error,
+                );
                 failed(held, room)
             }
         }
