@@ -37,6 +37,7 @@ use irtext_few::Few;
 use irtext_grammar::found::Pieces;
 use irtext_grammar::parsed::{ReadName, Setting};
 use irtext_graph::held::HasGraph;
+use irtext_memory::Exhausted;
 use irtext_names::errors::name_error;
 use irtext_names::gathered::{Gathered, attributes_of, nothing};
 use irtext_names::keys::kept_key;
@@ -53,7 +54,6 @@ use irtext_parse_pieces::ids::results_and_id_parse;
 use irtext_parse_pieces::keys::Keys;
 use irtext_parse_state::parsable::StateStream;
 use irtext_parse_state::parsable::state::StreamLocation;
-use irtext_memory::Exhausted;
 use irtext_tokens::irfmt::faults::{commit, out_of_memory, refuse_at};
 
 /// What precedes an operation's first region.

@@ -39,6 +39,7 @@ use irtext_context::base::{AttributeDict, BasicBlock, Context, Item, Ptr, Region
 use irtext_few::Few;
 use irtext_grammar::parsed::{ReadEntry, ReadMark, ReadName};
 use irtext_graph::held::HasGraph;
+use irtext_memory::Exhausted;
 use irtext_names::block_labels::label_block;
 use irtext_names::defining::{Definer, define_values, undefined_error};
 use irtext_names::dictionary::{arguments_split, block_attributes};
@@ -52,7 +53,6 @@ use irtext_parse_pieces::headers::{BlockHead, block_head_parse};
 use irtext_parse_pieces::keys::Keys;
 use irtext_parse_state::parsable::StateStream;
 use irtext_tokens::irfmt::faults::{out_of_memory, refuse_at};
-use irtext_memory::Exhausted;
 use std::alloc::Global;
 
 /// Parses the header of a block. Its names are stored, and no name has two numbers.

@@ -46,6 +46,7 @@ use irtext_context::base::{Context, Item};
 use irtext_grammar::parsed::ReadMark;
 use irtext_graph::graph::Graph;
 use irtext_graph::held::HasGraph;
+use irtext_memory::Exhausted;
 use irtext_names::defining::{Definer, define_values, undefined_error};
 use irtext_names::errors::name_error;
 use irtext_names::given::names_shared;
@@ -58,7 +59,6 @@ use irtext_parse_state::parsable::StateStream;
 use irtext_parse_state::parsable::state::Noting;
 use irtext_tokens::irfmt::faults::{out_of_memory, refuse_at};
 use irtext_tokens::irfmt::parsers::skip_white_space;
-use irtext_memory::Exhausted;
 use std::alloc::Global;
 
 /// Returns the error for an operation that does not have as many names as results, at the operation's beginning. Leaves the stream

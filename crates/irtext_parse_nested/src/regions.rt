@@ -25,6 +25,7 @@ use irtext_base::text::{AttrText, IrText};
 use irtext_context::base::{Operation, Ptr};
 use irtext_grammar::parsed::ReadName;
 use irtext_graph::graph::Graph;
+use irtext_memory::Exhausted;
 use irtext_names::entering::{brace_demanded, create, enter_here, graph_of};
 use irtext_names::errors::name_error;
 use irtext_names::kinds::Names;
@@ -32,7 +33,6 @@ use irtext_names::name_errors::NameFault;
 use irtext_names::regions::exit_region;
 use irtext_parse_state::parsable::StateStream;
 use irtext_tokens::irfmt::demanded::text_demanded;
-use irtext_memory::Exhausted;
 use irtext_tokens::irfmt::faults::out_of_memory;
 
 /// Begins a region: opens its scopes, creates it, and parses its `{` and the white space after it. It is the last of an operation, or has

@@ -11,10 +11,10 @@ use crate::names::used_parse;
 use irtext_base::parsable::{CharStream, ParseFault, ParseResult};
 use irtext_few::{Few, Items};
 use irtext_grammar::parsed::{NameKind, ReadName};
+use irtext_memory::{Exhausted, vec};
 use irtext_scopes::tracker::NameTracker;
 use irtext_tokens::irfmt::faults::{begins, committed, next_is, out_of_memory};
 use irtext_tokens::irfmt::parsers::{Class, skip_white_space, text_parse};
-use irtext_memory::{Exhausted, vec};
 use std::alloc::Global;
 
 /// Returns a list of three items.

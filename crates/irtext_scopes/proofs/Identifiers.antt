@@ -13,6 +13,7 @@ one_passes p names i name h e = by names i h e
     both : (a b : Bool) → (a && b) ≡ true → (a ≡ true) × (b ≡ true)
     both true b h = (refl, h)
     both false b h = cc
+
     by : (xs : List (List ℕ)) (k : ℕ) → list_all p xs ≡ true → slice_get xs k ≡ Some name → p name ≡ true
     by [] k h e = cc
     by (x ∷ xs) zero h e = ap p (cc) ∙ (both (p x) (list_all p xs) h).0

@@ -14,8 +14,8 @@ use irtext_base::parsable::{CharStream, Class, ParseResult, Place, SourcePositio
 use irtext_base::seed::Seed;
 use irtext_base::text::{AttrText, IrText};
 use irtext_context::base::{Context, Item};
-use irtext_tokens::parsable::OwnStream;
 use irtext_memory::OutOfMemory;
+use irtext_tokens::parsable::OwnStream;
 use std::alloc::Global;
 
 /// The state of a parse beside its text.
