@@ -11,16 +11,27 @@ use crate::defining::number_at;
 use crate::keys::{key_of, stored};
 use crate::kinds::Names;
 use crate::making::failed;
-use crate::name_errors::identifier_of;
-use irtext_base::base::{AttrObj, Identifier};
+use crate::name_errors::shared_identifier;
+use irtext_base::base::{AttrObj, Identifier, Listed};
 use irtext_context::base::AttributeDict;
 use irtext_few::Few;
 use irtext_grammar::parsed::ReadName;
 use std::alloc::{AllocError, Global};
 
-/// Returns the names with these numbers.
+/// Returns the only name of a row. Allocates nothing.
 #[inline(always)]
-fn given_names(
+fn only_given(names: &Names, read: &Few<ReadName>) -> Option<Listed<Option<Identifier>>>
+    requires one { length read.now ≡ 1 }
+    requires known { AreKnown (length names.now.names) (numbers_of read.now) }
+    ensures { IfSome result (λ given. given ≡ map (slice_get names.now.names) (numbers_of read.now)) }
+{
+    let name = shared_identifier(names, number_at(read, 0))?;
+    Some(Listed::one(Some(name)))
+}
+
+/// Returns the names with these numbers, in a vector.
+#[inline(never)]
+fn all_given(
     alloc: Global,
     names: &Names,
     read: &Few<ReadName>,
@@ -34,7 +45,7 @@ fn given_names(
     };
     for index in 0..read.len() {
         let number = number_at(read, index);
-        let Some(name) = identifier_of(alloc, names.name(number)) else {
+        let Some(name) = shared_identifier(names, number) else {
             return Err(AllocError);
         };
         let Ok(()) = given.push(Some(name)) else {
@@ -42,6 +53,28 @@ fn given_names(
         };
     }
     Ok(given)
+}
+
+/// Returns the names with these numbers. One name needs no allocation.
+#[inline(always)]
+fn given_names(
+    alloc: Global,
+    names: &Names,
+    read: &Few<ReadName>,
+) -> Result<Listed<Option<Identifier>>, AllocError>
+    requires { AreKnown (length names.now.names) (numbers_of read.now) }
+    ensures { IfOk result (λ given. given ≡ map (slice_get names.now.names) (numbers_of read.now)) }
+{
+    if read.len() == 1 {
+        return match only_given(names, read) {
+            Some(given) => Ok(given),
+            None => Err(AllocError),
+        };
+    }
+    match all_given(alloc, names, read) {
+        Ok(given) => Ok(Listed::many(given)),
+        Err(error) => Err(error),
+    }
 }
 
 /// Stores the names as given names, if there are any, under this key or a new one.

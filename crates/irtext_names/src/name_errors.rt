@@ -1,8 +1,9 @@
 //! What can be wrong with a name, as the cause of an error.
-ghost use Rattle.std.specs.Prelude.{◌≡◌, IfSome};
+ghost use Rattle.std.specs.Prelude.{◌≡◌, ◌<◌, Some, IfSome, length, slice_get};
 ghost use Rattle.irtext_base.specs.Faults.{fault_of};
 ghost use Rattle.irtext_names.specs.NameFaults.{fault_named};
 
+use crate::kinds::Names;
 use irtext_base::base::Identifier;
 use irtext_base::base::identifier::is_identifier;
 use irtext_base::parsable::{ParserNameTrackerError, UnresolvedReference};
@@ -18,6 +19,19 @@ pub fn identifier_of(alloc: Global, text: &str) -> Option<Identifier>
     }
     match Identifier::from_word(alloc, text) {
         Ok(name) => Some(name),
+        Err(_) => None,
+    }
+}
+
+/// Returns the stored name with this number as an identifier, which shares its text; `None` if it is no identifier, or if the counter of
+/// those that share the text is full. Allocates nothing.
+#[inline(always)]
+pub fn shared_identifier(names: &Names, number: usize) -> Option<Identifier>
+    requires { number < length names.now.names }
+    ensures { IfSome result (λ i. slice_get names.now.names number ≡ Some i) }
+{
+    match names.shared_name(number) {
+        Ok(text) => Identifier::from_shared(text),
         Err(_) => None,
     }
 }

@@ -14,8 +14,9 @@ ghost use Rattle.irtext_scopes.specs.Tracker.{EntersRegion, left, unresolved, ar
 use crate::scopes::{DefineFault, Entry, Scopes};
 use irtext_interner::Interner;
 use irtext_interner::seed::Seed;
+use irtext_interner::text::SharedText;
 use irtext_memory::{NoRoom, OutOfMemory};
-use std::alloc::Global;
+use std::alloc::{AllocError, Global};
 
 /// Why a region can't be entered.
 #[derive(PartialEq, Eq, Debug, Drop)]
@@ -145,6 +146,15 @@ impl<V: Copy, B: Copy> NameTracker<V, B> {
         ensures { slice_get self.now.names number ≡ Some result.now }
     {
         self.names.text(number)
+    }
+
+    /// Returns the name with this number, and shares its text. It allocates nothing. Fails only if the counter of those that share the text
+    /// is full.
+    pub fn shared_name(&self, number: usize) -> Result<SharedText, AllocError>
+        requires { number < length self.now.names }
+        ensures { IfOk result (λ name. slice_get self.now.names number ≡ Some name) }
+    {
+        self.names.shared(number)
     }
 
     /// Whether a scope of values is open, so that names of values can be used and defined.

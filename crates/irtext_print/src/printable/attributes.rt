@@ -49,7 +49,7 @@ pub fn fmt_attr<A: AttrText<A>>(attr: &AttrObj<A>, f: &mut String) -> fmt::Resul
     match attr {
         AttrObj::GivenNames(names) => {
             f.push_str("builtin.given_names [")?;
-            fmt_names(names, f)?;
+            fmt_names(names.as_slice(), f)?;
             f.push_str("]")?;
             Ok(())
         }

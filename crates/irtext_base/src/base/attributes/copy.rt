@@ -2,7 +2,7 @@
 ghost use Rattle.std.specs.Prelude.{◌≡◌, IfOk};
 ghost use Rattle.irtext_base.specs.Locations.{attr_view};
 
-use crate::base::{AttrObj, Identifier};
+use crate::base::{AttrObj, Identifier, Listed};
 use crate::text::AttrText;
 use std::alloc::{AllocError, Global};
 
@@ -17,15 +17,18 @@ fn copy_name(name: &Option<Identifier>) -> Result<Option<Identifier>, AllocError
 
 fn copy_names(
     alloc: Global,
-    names: &Vec<Option<Identifier>>,
-) -> Result<Vec<Option<Identifier>>, AllocError>
-    ensures { IfOk result (λ copies. copies.items ≡ names.now.items) }
+    names: &[Option<Identifier>],
+) -> Result<Listed<Option<Identifier>>, AllocError>
+    ensures { IfOk result (λ copies. copies ≡ names.now) }
 {
+    if names.len() == 1 {
+        return Ok(Listed::one(copy_name(&names[0])?));
+    }
     let mut copies = Vec::with_capacity(alloc, names.len())?;
     for name in names {
         copies.push(copy_name(name)?)?;
     }
-    Ok(copies)
+    Ok(Listed::many(copies))
 }
 
 impl<A: AttrText<A>> AttrObj<A> {
@@ -34,7 +37,7 @@ impl<A: AttrText<A>> AttrObj<A> {
         ensures { IfOk result (λ copy. attr_view copy ≡ attr_view self.now) }
     {
         match self {
-            AttrObj::GivenNames(names) => Ok(AttrObj::GivenNames(copy_names(alloc, names)?)),
+            AttrObj::GivenNames(names) => Ok(AttrObj::GivenNames(copy_names(alloc, names.as_slice())?)),
             AttrObj::Ident(name) => Ok(AttrObj::Ident(name.clone()?)),
             AttrObj::Own(attr) => Ok(AttrObj::Own(attr.try_clone()?)),
         }
