@@ -8,11 +8,11 @@ ghost use Rattle.irtext_names.specs.Rows.{AreKnown, AreNamed};
 ghost use Rattle.irtext_names.specs.Definitions.{numbers_of};
 
 use crate::defining::number_at;
-use crate::keys::{key_of, stored};
+use crate::keys::key_of;
 use crate::kinds::Names;
 use crate::making::failed;
 use crate::name_errors::shared_identifier;
-use irtext_base::base::{AttrObj, Identifier, Listed};
+use irtext_base::base::{Identifier, Listed};
 use irtext_context::base::AttributeDict;
 use irtext_few::Few;
 use irtext_grammar::parsed::ReadName;
@@ -97,10 +97,8 @@ pub fn names_shared<A: Drop>(
     }
     let given = given_names(alloc, names, read)?;
     let key = key_of(alloc, shared)?;
-    match stored(attributes, key, AttrObj::GivenNames(given)) {
-        Ok(()) => Ok(()),
-        Err(_) => Err(AllocError),
-    }
+    attributes.put_given_names(key, given);
+    Ok(())
 }
 
 /// Stores the names as given names, if there are any.
