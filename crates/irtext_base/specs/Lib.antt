@@ -1,5 +1,5 @@
 pub mod Text
-pub mod Words
+pub mod NameLists
 pub mod Reading
 pub mod Format
 pub mod FormatViews

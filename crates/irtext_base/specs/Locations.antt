@@ -26,7 +26,7 @@ pub data AttrView (A : Type 0) : Type 0 where
 
 -- the attribute, as the definitions see it
 abbrev pub attr_view : {A : Type 0} → AttrObj A → AttrView A
-attr_view (attr.GivenNames names) = given_names names.items
+attr_view (attr.GivenNames names) = given_names names
 attr_view (attr.Ident name) = ident name
 attr_view (attr.Own a) = own a
 

@@ -78,7 +78,7 @@ texts names = map (λ name. name.now) names
 
 -- the attribute gives these names
 abbrev pub Gives : {A : Type 0} → List Text → AttrObj A → Type 0
-Gives names (GivenNames given) = given.items ≡ map (λ name. Some name) names
+Gives names (GivenNames given) = given ≡ map (λ name. Some name) names
 Gives names _ = ⊥
 
 module _ {T A : Type 0} where

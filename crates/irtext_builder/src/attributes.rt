@@ -12,7 +12,7 @@ ghost use Rattle.irtext_builder.specs.Drafts.{texts, names_refused, symbol_key, 
 ghost use Rattle.irtext_context.specs.Dictionary.{is_reserved_for};
 
 use irtext_base::base::identifier::is_identifier;
-use irtext_base::base::{AttrObj, GIVEN_NAMES_KEY, Identifier, SYM_NAME_KEY};
+use irtext_base::base::{AttrObj, GIVEN_NAMES_KEY, Identifier, Listed, SYM_NAME_KEY};
 use irtext_base::result;
 use irtext_base::result::{Cause, Error, ErrorKind};
 use irtext_context::base::AttributeDict;
@@ -78,7 +78,7 @@ fn given_names<A>(alloc: Global, names: &[&str]) -> Result<AttrObj<A>, OutOfMemo
         let name = Identifier::from_word(alloc, *name)?;
         vec::push(&mut all, Some(name))?;
     }
-    Ok(AttrObj::GivenNames(all))
+    Ok(AttrObj::GivenNames(Listed::many(all)))
 }
 
 /// Puts an attribute under a key, which is an identifier and may have the attribute. Fails only when out of memory, and then the dictionary

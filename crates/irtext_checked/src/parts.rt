@@ -35,8 +35,8 @@ fn given_kept(name: &Option<Identifier>)
     }
 }
 
-fn names_kept(names: &Vec<Option<Identifier>>)
-    ensures { Each IsGiven names.now.items }
+fn names_kept(names: &[Option<Identifier>])
+    ensures { Each IsGiven names.now }
 {
     for name in names {
         given_kept(name);
@@ -49,7 +49,7 @@ fn attr_kept<A>(attr: &AttrObj<A>)
     ensures tree { IsSpellableAttribute (attribute_of attr.now) }
 {
     match attr {
-        AttrObj::GivenNames(names) => names_kept(names),
+        AttrObj::GivenNames(names) => names_kept(names.as_slice()),
         AttrObj::Ident(name) => identifier_kept(name),
         AttrObj::Own(_) => {}
     }

@@ -1,5 +1,5 @@
 -- What each edit of the two parts does to the whole.
-use Rattle.std.specs.Prelude.{◌≡◌, ℕ, zero, suc, ◌-◌, ◌<◌, ◌≤◌, true, false, List, length, Option, Some, None, Result, Ok, Err, OnOk, OnErr, refl}
+use Rattle.std.specs.Prelude.{◌≡◌, ℕ, zero, suc, ◌-◌, ◌<◌, ◌≤◌, true, false, List, length, Option, Some, None, Result, Ok, Err, OnOk, OnErr, IfSome, refl}
 use Rattle.std.specs.Map.{lookup, remove_entry}
 use Rattle.std.specs.Option.{option_map}
 use Rattle.std.specs.Cmp.Lexicographic.{nat_list_eq_equiv, bytes_decides}
@@ -37,6 +37,10 @@ module _ {A : Type 0} where
   pub absent : (g : Option (Given A)) (es : List (Text × AttrObj A)) → IsSound g es → IsAbsent (bytes_eq given_names_key) es
   absent None es s = s
   absent (Some g) es s = s.2
+
+  pub key-given : (g : Option (Given A)) (es : List (Text × AttrObj A)) → IsSound g es → IfSome (option_map (λ g. g.key) g) (λ k. k ≡ given_names_key)
+  key-given None es s = tt
+  key-given (Some g) es s = s.0
 
   pub get-hit : (k : Text) (g : Option (Given A)) (es : List (Text × AttrObj A)) → IsSound g es → bytes_eq given_names_key k ≡ true → option_map (λ g. g.attr) g ≡ lookup (bytes_eq k) (whole g es)
   get-hit k None es s h = sym (subst (λ x. lookup (bytes_eq x) es ≡ None) (key_is k h) (Spliced.lookup-absent (bytes_eq given_names_key) es s))

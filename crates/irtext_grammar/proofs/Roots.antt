@@ -135,7 +135,7 @@ module _ {A : Type 0} where
 
   name_of : (i : ℕ) (o : Option (AttrObj A)) → IsFineIf o → IsGiven (option_and_then (name_in i) o)
   name_of i None h = tt
-  name_of i (Some (GivenNames names)) h = name_at i names.items h
+  name_of i (Some (GivenNames names)) h = name_at i names h
   name_of i (Some (Ident n)) h = tt
   name_of i (Some (Own a)) h = tt
 

@@ -2,7 +2,7 @@
 #![tactic(auto)]
 
 pub mod seed;
-mod text;
+pub mod text;
 
 ghost use Rattle.std.specs.Prelude.{◌≡◌, ◌<◌, ◌++◌, ◌∷◌, [], Some, false, is_some, IfOk, OnOk, OnErr, length, position, slice_get, take};
 ghost use Rattle.std.specs.List.{list_any};
@@ -10,16 +10,16 @@ ghost use Rattle.std.specs.Str.{bytes_eq};
 ghost use Rattle.irtext_interner.specs.Interned.{texts_of, number_of, with_text, KeepsTexts, AreDistinct};
 
 use crate::seed::Seed;
-use crate::text::ShortText;
+use crate::text::SharedText;
 use indexmap::IndexSet;
-use irtext_memory::{OutOfMemory, set};
+use irtext_memory::{Full, OutOfMemory, set};
 use std::alloc::Global;
 use std::marker::Model;
 
 /// A set of texts. Each is kept once, with its index as its number.
 #[derive(Drop)]
 pub struct Interner {
-    texts: IndexSet<ShortText, Seed>,
+    texts: IndexSet<SharedText, Seed>,
     alloc: Global,
 }
 
@@ -37,7 +37,7 @@ impl Model for Interner {
     ghost invariant = { λ n. AreDistinct (texts_of n.texts) };
 }
 
-fn find(texts: &IndexSet<ShortText, Seed>, text: &str) -> Option<usize>
+fn find(texts: &IndexSet<SharedText, Seed>, text: &str) -> Option<usize>
     ensures index { result ≡ position (bytes_eq text.now) (texts_of texts.now) }
     ensures found { is_some result ≡ list_any (bytes_eq text.now) (texts_of texts.now) }
 {
@@ -45,7 +45,7 @@ fn find(texts: &IndexSet<ShortText, Seed>, text: &str) -> Option<usize>
 }
 
 fn put_last(
-    texts: &mut IndexSet<ShortText, Seed>,
+    texts: &mut IndexSet<SharedText, Seed>,
     alloc: Global,
     text: &str,
 ) -> Result<(), OutOfMemory>
@@ -53,13 +53,13 @@ fn put_last(
     ensures ok { OnOk result (texts_of texts.new ≡ texts_of texts.old ++ text.now ∷ []) }
     ensures err { OnErr result (texts_of texts.new ≡ texts_of texts.old) }
 {
-    let text = ShortText::of(alloc, text)?;
+    let text = SharedText::of(alloc, text)?;
     set::insert(texts, text)?;
     Ok(())
 }
 
 fn keep(
-    texts: &mut IndexSet<ShortText, Seed>,
+    texts: &mut IndexSet<SharedText, Seed>,
     alloc: Global,
     text: &str,
 ) -> Result<usize, OutOfMemory>
@@ -76,12 +76,25 @@ fn keep(
     Ok(number)
 }
 
-fn text_at(texts: &IndexSet<ShortText, Seed>, number: usize) -> &str
+fn text_at(texts: &IndexSet<SharedText, Seed>, number: usize) -> &str
     requires { number < length (texts_of texts.now) }
     ensures { slice_get (texts_of texts.now) number ≡ Some result.now }
 {
     match texts.get_index(number) {
         Some(text) => text.as_str(),
+        None => unreachable!(),
+    }
+}
+
+fn shared_at(
+    texts: &IndexSet<SharedText, Seed>,
+    number: usize,
+) -> Result<SharedText, Full>
+    requires { number < length (texts_of texts.now) }
+    ensures { IfOk result (λ text. slice_get (texts_of texts.now) number ≡ Some text) }
+{
+    match texts.get_index(number) {
+        Some(text) => text.share(),
         None => unreachable!(),
     }
 }
@@ -145,5 +158,14 @@ impl Interner {
         ensures { slice_get self.now number ≡ Some result.now }
     {
         text_at(&self.texts, number)
+    }
+
+    /// Returns the text with this number, and shares it. It allocates nothing. Fails only if the counter of those that share the text is
+    /// full.
+    pub fn shared(&self, number: usize) -> Result<SharedText, Full>
+        requires { number < length self.now }
+        ensures { IfOk result (λ text. slice_get self.now number ≡ Some text) }
+    {
+        shared_at(&self.texts, number)
     }
 }

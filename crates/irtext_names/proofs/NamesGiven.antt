@@ -36,10 +36,16 @@ none_taken (x ∷ xs) = refl
 pub given_none : (names : List Text) (ns : List ℕ) → [] ≡ map (slice_get names) (take 0 ns)
 given_none names ns = ap (map (slice_get names)) (none_taken ns)
 
+-- the only name
+pub one_given : (names : List Text) (read : List ReadName) (n : ℕ) (name : Text) → length read ≡ 1 → slice_get (numbers_of read) 0 ≡ Some n → slice_get names n ≡ Some name → Some name ∷ [] ≡ map (slice_get names) (numbers_of read)
+one_given names [] n name one at is = cc
+one_given names (r ∷ []) n name one at is = cc
+one_given names (r ∷ q ∷ more) n name one at is = cc
+
 -- one name more
-pub given_more : (names : List Text) (ns : List ℕ) (i n : ℕ) (name text : Text) (old new : List (Option Text)) → slice_get ns i ≡ Some n → slice_get names n ≡ Some text → name ≡ text → new ≡ old ++ Some name ∷ [] → old ≡ map (slice_get names) (take i ns)
+pub given_more : (names : List Text) (ns : List ℕ) (i n : ℕ) (name : Text) (old new : List (Option Text)) → slice_get ns i ≡ Some n → slice_get names n ≡ Some name → new ≡ old ++ Some name ∷ [] → old ≡ map (slice_get names) (take i ns)
     → new ≡ map (slice_get names) (take (i + 1) ns)
-given_more names ns i n name text old new at is same pushed so_far =
+given_more names ns i n name old new at is pushed so_far =
     pushed ∙ (ap (λ xs. xs ++ Some name ∷ []) so_far
-    ∙ (ap (λ z. map (slice_get names) (take i ns) ++ z ∷ []) (ap Some same ∙ sym is)
+    ∙ (ap (λ z. map (slice_get names) (take i ns) ++ z ∷ []) (sym is)
     ∙ (sym (map-through (slice_get names) (take i ns) n []) ∙ ap (map (slice_get names)) (sym (number_more ns i n at)))))

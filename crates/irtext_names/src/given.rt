@@ -8,10 +8,10 @@ ghost use Rattle.irtext_names.specs.Rows.{AreKnown, AreNamed};
 ghost use Rattle.irtext_names.specs.Definitions.{numbers_of};
 
 use crate::defining::number_at;
-use crate::keys::{key_of, stored_allowed};
+use crate::keys::key_of;
 use crate::kinds::Names;
 use crate::making::failed;
-use irtext_base::base::{AttrObj, Identifier};
+use irtext_base::base::{Identifier, Listed};
 use irtext_context::base::AttributeDict;
 use irtext_few::Few;
 use irtext_grammar::parsed::ReadName;
@@ -21,9 +21,20 @@ use std::alloc::Global;
 /// For how many names there is room at first.
 const ROOM: usize = 16;
 
-/// Returns the names with these numbers.
+/// Returns the only name of a row. Allocates nothing.
 #[inline(always)]
-fn given_names(
+fn only_given(names: &Names, read: &Few<ReadName>) -> Result<Listed<Option<Identifier>>, Exhausted>
+    requires one { length read.now ≡ 1 }
+    requires known { AreKnown (length names.now.names) (numbers_of read.now) }
+    ensures { IfOk result (λ given. given ≡ map (slice_get names.now.names) (numbers_of read.now)) }
+{
+    let name = names.identifier(number_at(read, 0))?;
+    Ok(Listed::one(Some(name)))
+}
+
+/// Returns the names with these numbers, in a vector.
+#[inline(never)]
+fn all_given(
     alloc: Global,
     names: &Names,
     read: &Few<ReadName>,
@@ -37,7 +48,7 @@ fn given_names(
     };
     for index in 0..read.len() {
         let number = number_at(read, index);
-        let name = match Identifier::from_word(alloc, names.name(number)) {
+        let name = match names.identifier(number) {
             Ok(name) => name,
             Err(error) => return failed(given, Exhausted::from(error)),
         };
@@ -46,6 +57,25 @@ fn given_names(
         }
     }
     Ok(given)
+}
+
+/// Returns the names with these numbers. One name needs no allocation.
+#[inline(always)]
+fn given_names(
+    alloc: Global,
+    names: &Names,
+    read: &Few<ReadName>,
+) -> Result<Listed<Option<Identifier>>, Exhausted>
+    requires { AreKnown (length names.now.names) (numbers_of read.now) }
+    ensures { IfOk result (λ given. given ≡ map (slice_get names.now.names) (numbers_of read.now)) }
+{
+    if read.len() == 1 {
+        return only_given(names, read);
+    }
+    match all_given(alloc, names, read) {
+        Ok(given) => Ok(Listed::many(given)),
+        Err(error) => Err(error),
+    }
 }
 
 /// Stores the names as given names, if there are any, under this key or a new one.
@@ -68,7 +98,8 @@ pub fn names_shared<A: Drop>(
     }
     let given = given_names(alloc, names, read)?;
     let key = key_of(alloc, shared)?;
-    stored_allowed(attributes, key, AttrObj::GivenNames(given))
+    attributes.put_given_names(key, given);
+    Ok(())
 }
 
 /// Stores the names as given names, if there are any.

@@ -69,23 +69,11 @@ pub fn kept_key(info: &OpInfo) -> Option<Identifier>
     }
 }
 
-/// Whether a text is the key of given names.
-fn is_given_key(text: &str) -> bool
-    ensures { result ≡ bytes_eq given_names_key text.now }
-{
-    GIVEN_NAMES_KEY == text
-}
-
-/// Returns the key of a dictionary's last entry, if that has the given names. Shares its text.
-fn last_key<A: Drop>(attributes: &AttributeDict<A>) -> Option<Identifier>
+/// Returns the key of a dictionary's given names, if it has some. Shares its text.
+fn stored_key<A: Drop>(attributes: &AttributeDict<A>) -> Option<Identifier>
     ensures { IfSome result (λ key. key ≡ given_names_key) }
 {
-    let last = attributes.len().checked_sub(1)?;
-    let (key, _) = attributes.get_index(last)?;
-    if !is_given_key(key.as_str()) {
-        return None;
-    }
-    match key.share() {
+    match attributes.given_names_key()?.share() {
         Ok(copy) => Some(copy),
         Err(_) => None,
     }
@@ -137,7 +125,7 @@ pub fn neighbour_key<T: IrText<A>, A: AttrText<A>>(
     ensures { IfSome result (λ key. key ≡ given_names_key) }
 {
     match neighbour(ctx, op) {
-        Some(before) => last_key(before.attributes(ctx)),
+        Some(before) => stored_key(before.attributes(ctx)),
         None => None,
     }
 }

@@ -1,5 +1,4 @@
 -- Why a printing fails.
-use Rattle.std.specs.Prelude.{⊥}
 use Rattle.irtext_print.specs.declared.printable.refusal.Refusal.{Refusal}
 use Rattle.irtext_print.specs.declared.printable.refusal.Refusal.TheVariants.{Memory, Depth, Misfit}
 

@@ -20,7 +20,7 @@ fn given_at<A: Drop>(attributes: &AttributeDict<A>, index: usize) -> Option<&Ide
     ensures { option_copied result ≡ given_at index attributes.now }
 {
     match attributes.given_names()? {
-        AttrObj::GivenNames(names) => match names.get(index)? {
+        AttrObj::GivenNames(names) => match names.as_slice().get(index)? {
             Some(name) => Some(name),
             None => None,
         },

@@ -13,9 +13,10 @@ ghost use Rattle.irtext_scopes.specs.Scopes.{LacksRoom, IsFull, innermost, outer
 ghost use Rattle.irtext_scopes.specs.Tracker.{EntersRegion, left, unresolved, are_known};
 
 use crate::scopes::{DefineFault, Entry, Scopes};
+use irtext_base::base::Identifier;
 use irtext_interner::Interner;
 use irtext_interner::seed::Seed;
-use irtext_memory::{NoRoom, OutOfMemory};
+use irtext_memory::{Full, NoRoom, OutOfMemory};
 use std::alloc::Global;
 
 /// Why a region can't be entered.
@@ -149,6 +150,16 @@ impl<V: Copy, B: Copy> NameTracker<V, B> {
         ensures fits { IsTrue (is_identifier result.now) }
     {
         self.names.text(number)
+    }
+
+    /// Returns the name with this number as an identifier, which shares its text. Allocates nothing. Fails only if the counter of those that
+    /// share the text is full.
+    pub fn identifier(&self, number: usize) -> Result<Identifier, Full>
+        requires { number < length self.now.names }
+        ensures { IfOk result (λ name. slice_get self.now.names number ≡ Some name) }
+    {
+        let text = self.names.shared(number)?;
+        Ok(Identifier::from_shared(text))
     }
 
     /// Whether a scope of values is open, so that names of values can be used and defined.

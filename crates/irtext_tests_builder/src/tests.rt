@@ -61,6 +61,7 @@ fn is_labelled(label: Option<&Identifier>, name: &str) -> bool {
 fn gives(attributes: &AttributeDict<DemoAttr>, names: (&str, &str)) -> bool {
     match attributes.get_str(GIVEN_NAMES_KEY) {
         Some(AttrObj::GivenNames(given)) => {
+            let given = given.as_slice();
             given.len() == 2 && is_named(&given[0], names.0) && is_named(&given[1], names.1)
         }
         _ => false,

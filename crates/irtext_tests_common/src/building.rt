@@ -5,7 +5,7 @@ ghost use Rattle.irtext_context.specs.Context.{operation};
 use crate::answers::{accepted, failed};
 use crate::contexts::{Ctx, named};
 use crate::formats::format_or_canonical;
-use irtext_base::base::{AttrObj, Identifier, OpId, SYM_NAME_KEY};
+use irtext_base::base::{AttrObj, Identifier, Listed, OpId, SYM_NAME_KEY};
 use irtext_base::format::OpFormat;
 use irtext_base::location::{Location, Source};
 use irtext_base::parsable::SourcePosition;
@@ -236,7 +236,7 @@ pub fn one_name(alloc: Global, name: &str) -> Result<AttrObj<DemoAttr>, Fail> {
     let name = named(alloc, name)?;
     let mut names = Vec::new(alloc);
     match names.push(Some(name)) {
-        Ok(()) => Ok(AttrObj::GivenNames(names)),
+        Ok(()) => Ok(AttrObj::GivenNames(Listed::many(names))),
         Err(error) => failed(names, Fail::from(error)),
     }
 }

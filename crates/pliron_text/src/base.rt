@@ -1,6 +1,6 @@
 //! The objects of a context, and access to them.
 
-pub use irtext_base::base::{AttrObj, GIVEN_NAMES_KEY, Identifier, OpId, Refusal, SYM_NAME_KEY};
+pub use irtext_base::base::{AttrObj, GIVEN_NAMES_KEY, Identifier, Listed, OpId, Refusal, SYM_NAME_KEY};
 pub use irtext_base::seed::Seed;
 pub use irtext_builder::block::BlockDraft;
 pub use irtext_builder::operation::OpDraft;

@@ -1,9 +1,11 @@
 //! Attributes, and the keys of those that have a meaning of their own.
 
 mod copy;
+mod names;
 
 use crate::base::Identifier;
 use irtext_memory::Exhausted;
+pub use names::Listed;
 
 /// The key of the attribute that holds a symbol's name.
 pub const SYM_NAME_KEY: &'static str = "builtin_sym_name";
@@ -24,7 +26,7 @@ pub enum Refusal {
 #[derive(PartialEq, Eq, Hash, Debug, Drop)]
 pub enum AttrObj<A> {
     /// The given names of results or arguments, as `builtin.given_names [x, ?]`. `None`, in the text `?`, is for one without a given name.
-    GivenNames(Vec<Option<Identifier>>),
+    GivenNames(Listed<Option<Identifier>>),
     /// An identifier, as `builtin.identifier outer`.
     Ident(Identifier),
     /// An attribute of the caller's own type.

@@ -10,24 +10,22 @@ ghost use Rattle.std.specs.Str.{bytes_eq, chars};
 ghost use Rattle.std.proofs.Common.{rules, ap};
 ghost use Rattle.irtext_base.specs.Faults.{fault_of, name_refused, id_refused};
 ghost use Rattle.irtext_base.specs.Text.{begins_word, in_word, is_identifier, stranger};
-ghost use Rattle.irtext_base.specs.Words.{word_bytes};
 ghost use Rattle.irtext_base.specs.declared.location.Location.{Unknown};
 
 use crate::result::{Cause, Error, ErrorKind, Expected, invalid};
-use arrayvec::ArrayString;
 use indexmap::Equivalent;
-use irtext_memory::{Full, OutOfMemory, rc, string};
+use irtext_interner::text::SharedText;
+use irtext_memory::{Full, OutOfMemory};
 use std::alloc::{AllocError, Global};
 use std::cmp::Ordering;
 use std::fmt;
 use std::hash::{Hash, Hasher};
 use std::marker::Model;
-use std::rc::Rc;
 
 /// A name: an ASCII letter or `_`, then ASCII letters, ASCII digits and `_`. A clone shares the text and allocates nothing. It fails only
 /// if the counter of those that share the text is full.
 pub struct Identifier {
-    text: Rc<Hinted>,
+    text: SharedText,
 }
 
 impl Drop for Identifier {
@@ -37,55 +35,18 @@ impl Drop for Identifier {
     }
 }
 
-/// The text of an identifier, and a hint of where a table may have it.
-#[derive(Drop)]
-struct Hinted {
-    word: Word,
-    hint: usize,
-}
-
-/// The text of an identifier. Up to 24 bytes are stored in place; only a longer text is allocated.
-#[derive(Drop)]
-enum Word {
-    Short(ArrayString<24>),
-    Long(String),
-}
-
 impl Model for Identifier {
     ghost use Rattle.std.specs.Prelude.{ℕ, List, IsTrue};
     ghost use Rattle.std.specs.Coded.{coded_list, coded_ℕ};
     ghost use Rattle.irtext_base.specs.Text.{is_identifier};
-    ghost use Rattle.irtext_base.specs.Words.{word_bytes};
 
     ghost Value = { List ℕ };
 
     ghost coded = { coded_list coded_ℕ };
 
-    ghost view = { λ i. word_bytes i.text.value.word };
+    ghost view = { λ i. i.text };
 
-    ghost invariant = { λ i. IsTrue (is_identifier (word_bytes i.text.value.word)) };
-}
-
-impl Word {
-    /// Returns the word with this text. Only a text of more than 24 bytes is allocated. Fails only if that allocation fails.
-    fn of(alloc: Global, text: &str) -> Result<Word, OutOfMemory>
-        ensures { IfOk result (λ word. word_bytes word ≡ text.now) }
-    {
-        if let Ok(short) = ArrayString::from(text) {
-            return Ok(Word::Short(short));
-        }
-        let long = string::from_str(alloc, text)?;
-        Ok(Word::Long(long))
-    }
-
-    fn as_str(&self) -> &str
-        ensures { result.now ≡ word_bytes self.now }
-    {
-        match self {
-            Word::Short(text) => text.as_str(),
-            Word::Long(text) => text.as_str(),
-        }
-    }
+    ghost invariant = { λ i. IsTrue (is_identifier i.text) };
 }
 
 fn begins_word(b: u8) -> bool
@@ -184,33 +145,31 @@ impl Identifier {
         requires { IsTrue (is_identifier text.now) }
         ensures { IfOk result (λ i. i ≡ text.now) }
     {
-        Identifier::with_hint(alloc, text, usize::MAX)
+        let text = SharedText::of(alloc, text)?;
+        Ok(Identifier { text })
     }
 
-    /// Returns the identifier with this text, which must be the text of one, and with a hint of where a table has it. Fails only when out
-    /// of memory.
-    fn with_hint(alloc: Global, text: &str, hint: usize) -> Result<Identifier, OutOfMemory>
-        requires { IsTrue (is_identifier text.now) }
-        ensures { IfOk result (λ i. i ≡ text.now) }
+    /// Returns the identifier with this text, which must be the text of one, and which it shares. Allocates nothing.
+    pub fn from_shared(text: SharedText) -> Identifier
+        requires { IsTrue (is_identifier text) }
+        ensures { result ≡ text }
     {
-        let word = Word::of(alloc, text)?;
-        Ok(Identifier {
-            text: rc::new(alloc, Hinted { word, hint })?,
-        })
+        Identifier { text }
     }
 
     /// Returns the same identifier with a text of its own, whose hint is the index at which a table has it. Fails only when out of memory.
     pub fn hinted(&self, alloc: Global, index: usize) -> Result<Identifier, OutOfMemory>
         ensures { IfOk result (λ i. i ≡ self.now) }
     {
-        Identifier::with_hint(alloc, self.as_str(), index)
+        let text = SharedText::with_hint(alloc, self.as_str(), index)?;
+        Ok(Identifier { text })
     }
 
     /// Returns the index at which a table may have the identifier: the one that was passed to `hinted`, for the identifier that it returned
     /// and for all that share its text, and otherwise `usize::MAX`. The hint is not proved to be right: a caller has to compare what it
     /// finds at the index.
     pub fn hint(&self) -> usize {
-        self.text.hint
+        self.text.hint()
     }
 
     /// Returns the same identifier, which shares the text and allocates nothing. Fails only if the counter of those that share the text is
@@ -218,7 +177,7 @@ impl Identifier {
     pub fn share(&self) -> Result<Identifier, Full>
         ensures { IfOk result (λ i. i ≡ self.now) }
     {
-        let text = rc::share(&self.text)?;
+        let text = self.text.share()?;
         Ok(Identifier { text })
     }
 
@@ -227,7 +186,7 @@ impl Identifier {
         ensures text { result.now ≡ self.now }
         ensures fits { IsTrue (is_identifier self.now) }
     {
-        self.text.word.as_str()
+        self.text.as_str()
     }
 }
 

@@ -1,5 +1,5 @@
 //! Dictionaries, which hold attributes under keys.
-ghost use Rattle.std.specs.Prelude.{◌≡◌, ◌≢◌, ◌<◌, [], true, false, not, Some, IfErr, OnOk, OnErr, option_copied, length, slice_get};
+ghost use Rattle.std.specs.Prelude.{◌≡◌, ◌≢◌, ◌<◌, [], true, false, not, Some, IfErr, IfSome, OnOk, OnErr, option_copied, length, slice_get};
 ghost use Rattle.std.specs.List.{list_all};
 ghost use Rattle.std.specs.Map.{lookup, keys_of};
 ghost use Rattle.std.specs.Map.Iter.{deref_pair};
@@ -10,6 +10,7 @@ ghost use Rattle.indexmap.specs.IndexMap.{insert_entry, shift_remove_entry};
 ghost use Rattle.irtext_base.specs.Format.{given_names_key, distinct};
 ghost use Rattle.irtext_context.specs.Dictionary.{are_given_names, placed, moved_up, is_reserved_for, RefusesEntry};
 ghost use Rattle.irtext_context.specs.Entries.{entries_left};
+ghost use Rattle.irtext_base.specs.declared.base.attributes.AttrObj.TheVariants.{GivenNames};
 ghost use Rattle.irtext_base.specs.declared.base.attributes.Refusal.TheVariants.{Memory};
 ghost use Rattle.irtext_memory.specs.Rooms.{exhausted};
 
@@ -17,7 +18,7 @@ mod copy;
 mod others;
 
 pub use copy::is_outlined;
-use irtext_base::base::{AttrObj, GIVEN_NAMES_KEY, Identifier, Refusal};
+use irtext_base::base::{AttrObj, GIVEN_NAMES_KEY, Identifier, Listed, Refusal};
 use irtext_base::seed::Seed;
 use irtext_memory::Exhausted;
 use others::Others;
@@ -87,6 +88,15 @@ fn given_attr<A>(given: &Option<Given<A>>) -> Option<&AttrObj<A>>
 {
     match given {
         Some(given) => Some(&given.attr),
+        None => None,
+    }
+}
+
+fn given_key<A>(given: &Option<Given<A>>) -> Option<&Identifier>
+    ensures { option_copied result ≡ option_map (λ g. g.key) given.now }
+{
+    match given {
+        Some(given) => Some(&given.key),
         None => None,
     }
 }
@@ -177,6 +187,23 @@ impl<A: Drop> AttributeDict<A> {
         ensures { option_copied result ≡ lookup (bytes_eq given_names_key) self.now }
     {
         given_attr(&self.given)
+    }
+
+    /// Returns the key of the given names, as it is stored for them, or `None` if there are none.
+    pub fn given_names_key(&self) -> Option<&Identifier>
+        ensures { IfSome (option_copied result) (λ key. key ≡ given_names_key) }
+    {
+        given_key(&self.given)
+    }
+
+    /// Puts given names under their key: in place of those that are there, or else as the last entry. It allocates nothing, and never fails.
+    #[inline(always)]
+    pub fn put_given_names(&mut self, key: Identifier, names: Listed<Option<Identifier>>)
+        requires { key ≡ given_names_key }
+        ensures { self.new ≡ insert_entry bytes_eq self.old key (GivenNames names) }
+    {
+        let at = self.others.len();
+        put_given(&mut self.given, at, key, AttrObj::GivenNames(names));
     }
 
     /// Puts an attribute under a key: in place of the one that is there, or else as the last entry. If the key is `builtin_given_names` and

@@ -16,7 +16,7 @@ location_over paths l = written_with paths (location_view l)
 
 -- an attribute, in the form that definitions use
 abbrev pub attribute_of : {A : Type 0} → AttrObj A → Attribute A
-attribute_of (GivenNames names) = given_names names.items
+attribute_of (GivenNames names) = given_names names
 attribute_of (Ident name) = ident name
 attribute_of (Own a) = own a
 

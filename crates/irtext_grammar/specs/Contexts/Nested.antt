@@ -65,7 +65,7 @@ pub record NamedValue (T : Type 0) : Type 0 where
 module _ {A : Type 0} where
   -- the names that an attribute has for the results of an operation or the arguments of a block
   abbrev pub names_in : AttrObj A → Option (List (Option Text))
-  names_in (GivenNames names) = Some names.items
+  names_in (GivenNames names) = Some names
   names_in _ = None
 
   -- the name that an attribute gives to the value with this index, if it does

@@ -49,7 +49,7 @@ pub fn fmt_attr<A: AttrText<A>>(attr: &AttrObj<A>, f: &mut String) -> Result<(),
     match attr {
         AttrObj::GivenNames(names) => {
             string::push_str(f, "builtin.given_names [")?;
-            fmt_names(names, f)?;
+            fmt_names(names.as_slice(), f)?;
             string::push_str(f, "]")?;
             Ok(())
         }

@@ -2,7 +2,7 @@
 use crate::tests::checks::{Check, counting};
 use crate::tests::locations::make;
 use crate::tests::must::{must, same};
-use irtext_base::base::{AttrObj, GIVEN_NAMES_KEY, Identifier};
+use irtext_base::base::{AttrObj, GIVEN_NAMES_KEY, Identifier, Listed};
 use irtext_context::base::{BasicBlock, Item, Operation, OperationData, Ptr};
 use irtext_demo::{DemoAttr, DemoType};
 use irtext_few::Few;
@@ -61,7 +61,7 @@ fn given(rt: &impl Abort, alloc: Global, texts: &[Option<&str>]) -> AttrObj<Demo
             .push(name_of(rt, alloc, *text))
             .expect(rt, "out of memory");
     }
-    AttrObj::GivenNames(names)
+    AttrObj::GivenNames(Listed::many(names))
 }
 
 /// Appends the names of the first four arguments of a block.

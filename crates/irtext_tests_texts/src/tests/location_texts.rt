@@ -1,7 +1,7 @@
 //! Locations of each kind as texts, and errors after theirs: files by the paths that the context keeps.
 use crate::tests::checks::{Check, in_demo};
 use crate::tests::must::same;
-use irtext_base::base::{AttrObj, Identifier};
+use irtext_base::base::{AttrObj, Identifier, Listed};
 use irtext_base::location::{Location, Source};
 use irtext_base::parsable::SourcePosition;
 use irtext_base::result::{Cause, Error, ErrorKind};
@@ -95,7 +95,7 @@ fn given(rt: &impl Abort, alloc: Global) -> AttrObj<DemoAttr> {
     let pushed = names.push(Some(word(rt, alloc)));
     pushed.expect(rt, "out of memory");
     names.push(None).expect(rt, "out of memory");
-    AttrObj::GivenNames(names)
+    AttrObj::GivenNames(Listed::many(names))
 }
 
 /// The identifier `m`.

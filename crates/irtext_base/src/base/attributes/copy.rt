@@ -2,7 +2,7 @@
 ghost use Rattle.std.specs.Prelude.{◌≡◌, IfOk};
 ghost use Rattle.irtext_base.specs.Locations.{attr_view};
 
-use crate::base::{AttrObj, Identifier};
+use crate::base::{AttrObj, Identifier, Listed};
 use crate::text::AttrText;
 use irtext_memory::{Exhausted, vec};
 use std::alloc::Global;
@@ -18,15 +18,18 @@ fn copy_name(name: &Option<Identifier>) -> Result<Option<Identifier>, Exhausted>
 
 fn copy_names(
     alloc: Global,
-    names: &Vec<Option<Identifier>>,
-) -> Result<Vec<Option<Identifier>>, Exhausted>
-    ensures { IfOk result (λ copies. copies.items ≡ names.now.items) }
+    names: &[Option<Identifier>],
+) -> Result<Listed<Option<Identifier>>, Exhausted>
+    ensures { IfOk result (λ copies. copies ≡ names.now) }
 {
+    if names.len() == 1 {
+        return Ok(Listed::one(copy_name(&names[0])?));
+    }
     let mut copies = vec::with_capacity_of(alloc, names.len(), names)?;
     for name in names {
         vec::push(&mut copies, copy_name(name)?)?;
     }
-    Ok(copies)
+    Ok(Listed::many(copies))
 }
 
 impl<A: AttrText<A>> AttrObj<A> {
@@ -35,7 +38,7 @@ impl<A: AttrText<A>> AttrObj<A> {
         ensures { IfOk result (λ copy. attr_view copy ≡ attr_view self.now) }
     {
         match self {
-            AttrObj::GivenNames(names) => Ok(AttrObj::GivenNames(copy_names(alloc, names)?)),
+            AttrObj::GivenNames(names) => Ok(AttrObj::GivenNames(copy_names(alloc, names.as_slice())?)),
             AttrObj::Ident(name) => Ok(AttrObj::Ident(name.share()?)),
             AttrObj::Own(attr) => Ok(AttrObj::Own(attr.try_clone()?)),
         }

@@ -2,7 +2,7 @@
 //! they were inserted. A copy without the outlined attributes keeps that order.
 use crate::tests::dict::pairs::put;
 use crate::tests::must::{must, same};
-use irtext_base::base::{AttrObj, GIVEN_NAMES_KEY, Identifier};
+use irtext_base::base::{AttrObj, GIVEN_NAMES_KEY, Identifier, Listed};
 use irtext_context::base::AttributeDict;
 use irtext_demo::DemoAttr;
 use irtext_tests_common::answers::named;
@@ -78,7 +78,7 @@ fn listed(rt: &impl Abort, alloc: Global, dictionary: &AttributeDict<()>) -> Str
 /// The attribute for a key: given names, or an identifier of this name.
 fn attr_for(rt: &impl Abort, alloc: Global, key: &str, name: &str) -> AttrObj<()> {
     if key == GIVEN_NAMES_KEY {
-        return AttrObj::GivenNames(Vec::new(alloc));
+        return AttrObj::GivenNames(Listed::many(Vec::new(alloc)));
     }
     AttrObj::Ident(must(rt, named(alloc, name)))
 }

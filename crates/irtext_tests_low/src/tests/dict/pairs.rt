@@ -1,6 +1,6 @@
 //! A dictionary with identifiers, one call of each kind.
 use crate::tests::must::must;
-use irtext_base::base::{AttrObj, GIVEN_NAMES_KEY, Identifier, Refusal};
+use irtext_base::base::{AttrObj, GIVEN_NAMES_KEY, Identifier, Listed, Refusal};
 use irtext_context::base::AttributeDict;
 use irtext_tests_common::answers::named;
 use std::alloc::Global;
@@ -43,7 +43,7 @@ fn insert_given(
     dictionary: &mut AttributeDict<()>,
 ) -> &'static str {
     let key = identifier(rt, alloc, GIVEN_NAMES_KEY);
-    put(dictionary, key, AttrObj::GivenNames(Vec::new(alloc)))
+    put(dictionary, key, AttrObj::GivenNames(Listed::many(Vec::new(alloc))))
 }
 
 /// Whether the identifier `y` is under `k`, and at index 1.

@@ -14,7 +14,7 @@ use crate::irfmt::parsers::fixed_text::text_parse;
 use crate::irfmt::parsers::identifier::identifier_parse;
 use crate::irfmt::parsers::lists::list_parser;
 use crate::parsable::OwnStream;
-use irtext_base::base::{AttrObj, Identifier};
+use irtext_base::base::{AttrObj, Identifier, Listed};
 use irtext_base::parsable::{CharStream, ParseResult};
 use irtext_base::result::Cause;
 use irtext_base::text::{AttrText, IrText};
@@ -112,7 +112,7 @@ fn led_parse<S: OwnStream, A: AttrText<A>>(stream: &mut S) -> ParseResult<AttrOb
         return Err(refuse(stream, Cause::StreamFailed));
     }
     match take_lead(stream) {
-        Lead::GivenNames => Ok(AttrObj::GivenNames(given_names(stream)?)),
+        Lead::GivenNames => Ok(AttrObj::GivenNames(Listed::many(given_names(stream)?))),
         Lead::Ident => Ok(AttrObj::Ident(ident(stream)?)),
         Lead::Own => Ok(AttrObj::Own(stream.read_own()?)),
     }

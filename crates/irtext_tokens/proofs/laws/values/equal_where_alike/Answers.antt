@@ -16,7 +16,7 @@ module _ (g : given.Over) (decides : (a b : g.row.A.Denot) → Decides (g.A.Part
   same_attr = (of_attr.ghosts g.row.A g.A.PartialEq g.A.PartialEq-dict).eq
 
   attr_decides : (x y : AttrObj g.row.A.Denot) → Decides (same_attr x y) (attr_view x ≡ attr_view y)
-  attr_decides (attr.GivenNames a) (attr.GivenNames b) = same_inside given_names (λ v w e. cc) (same_attr (attr.GivenNames a) (attr.GivenNames b)) a.items b.items (slice_eq-Decides (options_decide bytes_eq bytes_eq-Decides) a.items b.items _ refl)
+  attr_decides (attr.GivenNames a) (attr.GivenNames b) = same_inside given_names (λ v w e. cc) (same_attr (attr.GivenNames a) (attr.GivenNames b)) a b (slice_eq-Decides (options_decide bytes_eq bytes_eq-Decides) a b _ refl)
   attr_decides (attr.GivenNames a) (attr.Ident b) = never (λ e. cc)
   attr_decides (attr.GivenNames a) (attr.Own b) = never (λ e. cc)
   attr_decides (attr.Ident a) (attr.GivenNames b) = never (λ e. cc)

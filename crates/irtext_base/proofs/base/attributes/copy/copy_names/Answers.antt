@@ -7,4 +7,4 @@ loop-name-preserved c =
     let l = c.loop-name in
     let name = c.name-item.result in
     c.in_ok-push.ensures.items
-    ∙ (ap₂ (λ names n. names ++ n ∷ []) l.invariant (c.in_ok-copy_name.ensures ∙ c.name-item.is) ∙ sym (take_more c.deref-name-items.result.now l.name-index name c.loop-name-test.true))
+    ∙ (ap₂ (λ names n. names ++ n ∷ []) l.invariant (c.in_ok-copy_name-2.ensures ∙ c.name-item.is) ∙ sym (take_more c.args.names.now l.name-index name c.loop-name-test.true))

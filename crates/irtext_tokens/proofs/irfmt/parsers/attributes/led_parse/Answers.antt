@@ -1,4 +1,4 @@
-use Rattle.std.proofs.Common.{Ok, Err, refl, sym, ◌∙◌, subst}
+use Rattle.std.proofs.Common.{Ok, Err, refl, ap, sym, ◌∙◌, subst}
 use Rattle.irtext_base.specs.Locations.{attr_view, given_names, ident, own}
 use Rattle.irtext_tokens.specs.AttrTexts.{given_names_at, ident_at, attr_at}
 use Rattle.irtext_tokens.specs.MustRead.{MayRead}
@@ -27,7 +27,7 @@ pub returns-in_ok-given_names-in-GivenNames : goal.returns-in_ok-given_names-in-
 unfolding given_names_at
 returns-in_ok-given_names-in-GivenNames g c =
     let h = after_word (stream g) {sees = (λ names. names.items)} (sym c.has_failed.ensures ∙ c.if-has_failed.false) c.in-GivenNames.ensures.1 c.in_ok-given_names-in-GivenNames.ensures in
-    read_as (stream g) given_names (λ names. names.items) attr_view given_names_at (attr_at g.A.IrText.reading) c.args.stream.now c.given_names.new.stream c.in_ok-given_names-in-GivenNames.field-0 _ refl (names_lead g.A.IrText.reading _ (sym c.in-GivenNames.ensures.0)) h
+    read_as (stream g) given_names (λ names. names.items) attr_view given_names_at (attr_at g.A.IrText.reading) c.args.stream.now c.given_names.new.stream c.in_ok-given_names-in-GivenNames.field-0 _ (ap given_names c.many.ensures) (names_lead g.A.IrText.reading _ (sym c.in-GivenNames.ensures.0)) h
 
 pub returns-in_err-ident-in-Ident : goal.returns-in_err-ident-in-Ident
 unfolding ident_at
