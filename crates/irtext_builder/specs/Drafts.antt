@@ -1,5 +1,5 @@
 -- Drafts of operations and blocks: what they say, and what is made of them.
-use Rattle.std.specs.Prelude.{◌≡◌, ℕ, List, [], ◌∷◌, map, Option, Some, None, cond, IsSome, IsTrue, codes, false}
+use Rattle.std.specs.Prelude.{◌≡◌, ◌⊎◌, ℕ, List, [], ◌∷◌, map, Option, Some, None, cond, IsSome, IsTrue, codes, false, string_bytes}
 use Rattle.indexmap.specs.IndexMap.{insert_entry}
 use Rattle.std.specs.Str.{bytes_eq}
 use Rattle.std.specs.Borrow.{Bor}
@@ -12,7 +12,8 @@ use Rattle.irtext_base.specs.declared.location.Location.{Location, Unknown}
 use Rattle.irtext_base.specs.declared.result.Cause.{Cause, Memory, ReservedKey, Text as IsText}
 use Rattle.irtext_context.specs.Context.{ContextView, MakesOperation, MakesBlock, block, region}
 use Rattle.irtext_context.specs.Dictionary.{is_reserved_for}
-use Rattle.irtext_context.specs.Made.{AddsRegions, AreLiveBlocks, IsUnregistered}
+use Rattle.irtext_context.specs.Made.{AddsRegions, AreLiveBlocks}
+use Rattle.irtext_checked.specs.Checked.{RefusesRegistered}
 use Rattle.irtext_checked.specs.Types.{AreContainedValues}
 use Rattle.irtext_graph.specs.Graph.{Appends}
 use Rattle.irtext_graph.specs.declared.arena.Ptr.{Ptr}
@@ -72,6 +73,17 @@ abbrev pub names_refused : List Text → Fault
 names_refused [] = OutOfMemory
 names_refused (name ∷ names) = cond (is_identifier name) (names_refused names) (name_refused name)
 
+-- the cause is this text, or there was no memory for it
+abbrev pub Tells : {A : Type 0} → Text → Cause A → Type 0
+Tells words (IsText text) = string_bytes text.0 ≡ words
+Tells words Memory = Unit {0}
+Tells words _ = ⊥
+
+-- what a call asks for does not hold, and the cause tells it by this text
+pub record Lacks {A : Type 0} (words : Text) (Holds : Type 0) (cause : Cause A) : Type 0 where
+  pub lacks : Holds → ⊥
+  pub tells : Tells words cause
+
 -- these texts
 abbrev pub texts : List (Bor Text) → List Text
 texts names = map (λ name. name.now) names
@@ -114,14 +126,17 @@ module _ {T A : Type 0} where
     pub appends : Appends made.graph new.graph (TheRegion region) (TheBlock block)
     pub rest : new ≡ record made { graph = new.graph }
 
+  -- why an operation is not made: an operand is not in the context, else a successor is not, else the operation is not registered, or an
+  -- allocation failed or a counter is at its limit
+  abbrev pub RefusesDraft : ContextView T A → Draft T A → Cause A → Type 0
+  RefusesDraft c d cause = Lacks (codes "an operand is not in the context") (AreContainedValues c d.operands) cause
+      ⊎ (AreContainedValues c d.operands × Lacks (codes "a successor is not in the context") (AreLiveBlocks c d.successors) cause)
+      ⊎ (AreContainedValues c d.operands × AreLiveBlocks c d.successors × RefusesRegistered c d.id cause)
+
   -- why an operation is not made in a block: the block is not in the context, else as without one
   abbrev pub RefusesIn : ContextView T A → Draft T A → Ptr BasicBlock → Cause A → Type 0
-  RefusesIn c d b (IsText text) = IsSome (block c b) × AreContainedValues c d.operands × AreLiveBlocks c d.successors → ⊥
-  RefusesIn c d b Memory = Unit {0}
-  RefusesIn c d b cause = IsUnregistered c.dialects d.id cause
+  RefusesIn c d b cause = Lacks (codes "the block is not in the context") (IsSome (block c b)) cause ⊎ (IsSome (block c b) × RefusesDraft c d cause)
 
   -- why a block is not made in a region: the region is not in the context, or out of memory
   abbrev pub RefusesOutlineIn : ContextView T A → Ptr Region → Cause A → Type 0
-  RefusesOutlineIn c r (IsText text) = IsSome (region c r) → ⊥
-  RefusesOutlineIn c r Memory = Unit {0}
-  RefusesOutlineIn c r cause = ⊥
+  RefusesOutlineIn c r cause = Lacks (codes "the region is not in the context") (IsSome (region c r)) cause ⊎ (IsSome (region c r) × (cause ≡ Memory))

@@ -1,10 +1,11 @@
 //! Drafts of blocks.
-ghost use Rattle.std.specs.Prelude.{◌≡◌, ◌≤◌, ◌∷◌, ℕ, [], Some, false, IsSome, IfOk, IfErr, OnOk, OnErr};
+ghost use Rattle.std.specs.Prelude.{◌≡◌, ◌≤◌, ◌∷◌, ℕ, [], Some, false, IsSome, IsTrue, IfOk, IfErr, OnOk, OnErr};
 ghost use Rattle.irtext_base.specs.Faults.{fault_of, name_refused};
 ghost use Rattle.irtext_base.specs.Format.{given_names_key};
+ghost use Rattle.irtext_base.specs.Text.{is_identifier};
 ghost use Rattle.irtext_base.specs.declared.location.Location.{Unknown};
 ghost use Rattle.irtext_builder.specs.Drafts.{outlined, bare_outline, outlined_key, Gives, names_refused, texts, MakesOutline, AppendsOutline, RefusesKey, RefusesOutlineIn};
-ghost use Rattle.irtext_context.specs.Context.{block, KeepsOlder};
+ghost use Rattle.irtext_context.specs.Context.{block, region as region_at, KeepsOlder};
 ghost use Rattle.irtext_context.specs.Dictionary.{is_reserved_for};
 ghost use Rattle.irtext_context.specs.Made.{SameObjects};
 ghost use Rattle.irtext_graph.specs.Graph.{IsNew};
@@ -53,6 +54,7 @@ impl<T: IrText<A>, A: AttrText<A>> BlockDraft<T, A> {
     /// invalid argument and has no location.
     pub fn label(mut self, label: &str) -> Answer<BlockDraft<T, A>, A>
         ensures said { IfOk result (λ d. outlined d ≡ record (outlined self) { label = Some label.now }) }
+        ensures fits { OnOk result (IsTrue (is_identifier label.now)) }
         ensures refused { IfErr result (λ e. fault_of e.err ≡ name_refused label.now) }
         ensures kind { IfErr result (λ e. (e.kind ≡ ErrorKind.InvalidArgument) × (e.loc ≡ Unknown)) }
     {
@@ -82,6 +84,7 @@ impl<T: IrText<A>, A: AttrText<A>> BlockDraft<T, A> {
     /// `GivenNames`, and with `Memory` when out of memory. The error is of kind invalid argument and has no location.
     pub fn attribute(mut self, key: &str, attr: AttrObj<A>) -> Answer<BlockDraft<T, A>, A>
         ensures said { IfOk result (λ d. outlined d ≡ outlined_key key.now attr (outlined self)) }
+        ensures fits { OnOk result (IsTrue (is_identifier key.now)) }
         ensures allowed { OnOk result (is_reserved_for key.now attr ≡ false) }
         ensures refused { IfErr result (λ e. RefusesKey key.now attr e.err) }
         ensures kind { IfErr result (λ e. (e.kind ≡ ErrorKind.InvalidArgument) × (e.loc ≡ Unknown)) }
@@ -139,6 +142,7 @@ impl<T: IrText<A>, A: AttrText<A>> BlockDraft<T, A> {
     ) -> Answer<Ptr<BasicBlock>, A>
         ensures made { IfOk result (λ b. AppendsOutline (outlined self) ctx.old ctx.new region b) }
         ensures live { IfOk result (λ b. IsSome (block ctx.new b)) }
+        ensures stood { OnOk result (IsSome (region_at ctx.old region)) }
         ensures kept { (mark : ℕ) → mark ≤ ctx.old.graph.made → IsNew mark ctx.old.graph (TheRegion region)
             → KeepsOlder mark ctx.old ctx.new }
         ensures objects { OnErr result (SameObjects ctx.old ctx.new) }

@@ -13,7 +13,7 @@
 
 ghost use Rattle.std.specs.Prelude.{◌≡◌};
 ghost use Rattle.irtext_base.specs.declared.location.Location.{Unknown};
-ghost use Rattle.irtext_checked.specs.Checked.{IsMessage};
+ghost use Rattle.irtext_builder.specs.Drafts.{Tells};
 
 mod attributes;
 pub mod block;
@@ -25,7 +25,7 @@ use std::alloc::Global;
 
 /// An error with this text as its cause, or out of memory if there is no memory for the text.
 fn unfit<A>(alloc: Global, text: &str) -> Error<A>
-    ensures cause { IsMessage result.err }
+    ensures cause { Tells text.now result.err }
     ensures kind { (result.kind ≡ ErrorKind.InvalidArgument) × (result.loc ≡ Unknown) }
 {
     invalid(Cause::of_text(String::from_str(alloc, text)))

@@ -9,13 +9,13 @@ ghost use Rattle.irtext_base.specs.declared.base.attributes.AttrObj.TheVariants.
 ghost use Rattle.irtext_graph.specs.Graph.{IsNew};
 ghost use Rattle.irtext_graph.specs.declared.object.Object.TheVariants.{TheBlock};
 ghost use Rattle.irtext_base.specs.declared.location.Location.{Unknown};
-ghost use Rattle.irtext_checked.specs.Checked.{RefusesNew, RefusesRegistered};
+ghost use Rattle.irtext_checked.specs.Checked.{RefusesRegistered};
 ghost use Rattle.irtext_checked.specs.Types.{AreContainedValues};
-ghost use Rattle.irtext_context.specs.Context.{operation, KeepsOlder};
+ghost use Rattle.irtext_context.specs.Context.{operation, block as block_at, KeepsOlder};
 ghost use Rattle.irtext_context.specs.Dictionary.{is_reserved_for};
 ghost use Rattle.irtext_context.specs.Made.{AreLiveBlocks, AreDefinedValues, MakesRegistered, SameObjects};
 ghost use Rattle.irtext_context.specs.Named.{id_of_texts};
-ghost use Rattle.irtext_builder.specs.Drafts.{said, bare_draft, with_key, symbol_key, Gives, names_refused, texts, MakesDraft, AppendsDraft, RefusesKey, RefusesIn};
+ghost use Rattle.irtext_builder.specs.Drafts.{said, bare_draft, with_key, symbol_key, Gives, names_refused, texts, MakesDraft, AppendsDraft, RefusesKey, RefusesDraft, RefusesIn};
 
 use crate::attributes::{insert, insert_names, insert_symbol};
 use crate::unfit;
@@ -114,6 +114,7 @@ impl<'a, T: IrText<A>, A: AttrText<A>> OpDraft<'a, T, A> {
     /// `GivenNames`, and with `Memory` when out of memory. The error is of kind invalid argument and has no location.
     pub fn attribute(mut self, key: &str, attr: AttrObj<A>) -> Answer<OpDraft<'a, T, A>, A>
         ensures said { IfOk result (λ d. said d ≡ with_key key.now attr (said self.entry)) }
+        ensures fits { OnOk result (IsTrue (is_identifier key.now)) }
         ensures allowed { OnOk result (is_reserved_for key.now attr ≡ false) }
         ensures refused { IfErr result (λ e. RefusesKey key.now attr e.err) }
         ensures kind { IfErr result (λ e. (e.kind ≡ ErrorKind.InvalidArgument) × (e.loc ≡ Unknown)) }
@@ -157,23 +158,23 @@ impl<'a, T: IrText<A>, A: AttrText<A>> OpDraft<'a, T, A> {
         Ok(self)
     }
 
-    /// Makes the operation, without a parent. Fails with `Text` if an operand or a successor is not in the context, else with
-    /// `UnregisteredDialect` or `UnregisteredOp` if the operation is not registered, and with `Memory` if an allocation fails or a counter
-    /// is at its limit. The error is of kind invalid argument and has no location, and all objects are unchanged.
+    /// Makes the operation, without a parent. Fails with `Text` if an operand is not in the context, else if a successor is not, and the
+    /// text says which; else with `UnregisteredDialect` or `UnregisteredOp` if the operation is not registered. Fails with `Memory` if an
+    /// allocation fails, also that of the text, or a counter is at its limit. The error is of kind invalid argument and has no location,
+    /// and all objects are unchanged.
     pub fn build(self, ctx: &mut Context<T, A>) -> Answer<Ptr<Operation>, A>
         ensures made { IfOk result (λ op. MakesDraft (said self.entry) ctx.old ctx.new op) }
         ensures live { IfOk result (λ op. IsSome (operation ctx.new op)) }
         ensures used { OnOk result (AreContainedValues ctx.old self.entry.operands.now
             × AreLiveBlocks ctx.old self.entry.successors.now) }
         ensures registered { MakesRegistered self.entry.id result ctx.old ctx.new }
-        ensures refused { IfErr result (λ e. RefusesNew ctx.old self.entry.id self.entry.operands.now
-            self.entry.successors.now e.err) }
+        ensures refused { IfErr result (λ e. RefusesDraft ctx.old (said self.entry) e.err) }
     {
-        if !ctx.contains_values(self.operands) || !ctx.contains_blocks(self.successors) {
-            return Err(unfit(
-                ctx.allocator(),
-                "an operand or a successor is not in the context",
-            ));
+        if !ctx.contains_values(self.operands) {
+            return Err(unfit(ctx.allocator(), "an operand is not in the context"));
+        }
+        if !ctx.contains_blocks(self.successors) {
+            return Err(unfit(ctx.allocator(), "a successor is not in the context"));
         }
         make_registered(ctx, self)
     }
@@ -187,6 +188,9 @@ impl<'a, T: IrText<A>, A: AttrText<A>> OpDraft<'a, T, A> {
     ) -> Answer<Ptr<Operation>, A>
         ensures made { IfOk result (λ op. AppendsDraft (said self.entry) ctx.old ctx.new block op) }
         ensures live { IfOk result (λ op. IsSome (operation ctx.new op)) }
+        ensures stood { OnOk result (IsSome (block_at ctx.old block)) }
+        ensures used { OnOk result (AreContainedValues ctx.old self.entry.operands.now
+            × AreLiveBlocks ctx.old self.entry.successors.now) }
         ensures kept { (mark : ℕ) → mark ≤ ctx.old.graph.made → IsNew mark ctx.old.graph (TheBlock block)
             → KeepsOlder mark ctx.old ctx.new }
         ensures objects { OnErr result (SameObjects ctx.old ctx.new) }

@@ -66,14 +66,29 @@ digit_slice n l =
     chosen true x y e = refl
     chosen false x y e = absurd (true≢false (sym e))
 
+-- a place after the last one is a sixteenth of it
+next_place : (place : ℕ) → IsPower16 place → 1 < place → IsPower16 (place / 16) × (place / 16 * 16 ≡ place)
+next_place place (zero , is) more = absurd (omega (arith, is, more))
+next_place place (suc k , is) more =
+    let power : place ≡ 16 ^ k * 16 = is ∙ pow-suc 16 k in
+    ((k , omega (arith, power)), omega (arith, power))
+
+pub power_down : (place : ℕ) → IsPower16 place → 1 < place → IsPower16 (place / 16)
+power_down place power more = (next_place place power more).0
+
+pub some_down : (place : ℕ) → IsPower16 place → 1 < place → 0 < place / 16
+some_down place power more = omega (arith, (next_place place power more).1, more)
+
+front : (n place : ℕ) → IsPower16 place → 1 < place → n / (place / 16) / 16 ≡ n / place
+front n place power more = div-div-eq-div-mul n (place / 16) 16 ∙ ap (λ x. n / x) (next_place place power more).1
+
+pub led_down : (n place : ℕ) → IsPower16 place → 1 < place → 1 ≤ n / place → 1 ≤ n / (place / 16)
+led_down n place power more led = omega (arith, front n place power more, led)
+
 -- the digits up to a place, where the place before it had the others
 pub digits_to : (n place : ℕ) → IsPower16 place → 1 < place → 1 ≤ n / place → n < 2 ^ 64
-    → digits 16 true (n / (place / 16)) ≡ digits 16 true (n / place) ++ digits 16 true (n / (place / 16) % 16)
-digits_to n place (k , is) more led small = by k is
-  where
-    by : (k : ℕ) → place ≡ 16 ^ k → digits 16 true (n / (place / 16)) ≡ digits 16 true (n / place) ++ digits 16 true (n / (place / 16) % 16)
-    by zero e = absurd (omega arith)
-    by (suc j) e =
-        let same : place / 16 * 16 ≡ place = omega (arith, e, pow-suc 16 j) in
-        let front : n / (place / 16) / 16 ≡ n / place = div-div-eq-div-mul n (place / 16) 16 ∙ ap (λ x. n / x) same in
-        digits_next (n / (place / 16)) (omega (arith, front)) (omega (arith, div-le_self n (place / 16))) ∙ ap (λ x. digits 16 true x ++ digits 16 true (n / (place / 16) % 16)) front
+    → digits 16 true (n / place) ++ digits 16 true (n / (place / 16) % 16) ≡ digits 16 true (n / (place / 16))
+digits_to n place power more led small =
+    let at = front n place power more in
+    ap (λ x. digits 16 true x ++ digits 16 true (n / (place / 16) % 16)) (sym at)
+    ∙ sym (digits_next (n / (place / 16)) (omega (arith, at, led)) (omega (arith, div-le_self n (place / 16), small)))

@@ -122,6 +122,7 @@ fn digit(number: u64) -> &'static str
 
 /// Returns the power of 16 at which the first digit of a number stands.
 fn first_place(bits: u64) -> u64
+    ensures some { 0 < result }
     ensures power { IsPower16 result }
     ensures first { bits / result < 16 }
     ensures led { 1 < result → 1 ≤ bits / result }

@@ -1,4 +1,5 @@
-use Rattle.std.proofs.Common.{arith}
+use Rattle.std.proofs.Common.{◌∙◌, ap, arith, Err, inr}
+use Rattle.std.proofs.lemmas.Result.{err_from_is_err_and}
 use Rattle.irtext_graph.specs.declared.object.Object.TheVariants.{TheBlock, TheOperation}
 use Rattle.irtext_context.proofs.Contexts.{same-keeps}
 use Rattle.irtext_context.proofs.Kept.{kept_trans, kept_closed, rolled_back}
@@ -44,3 +45,8 @@ returns-in-Err-clause-objects g c =
     let kept = c.build.ensures.registered.kept c.made-mark.result (omega (arith, c.made-mark.ensures.made)) in
     let same = same-keeps c.made-mark.result c.build.new.ctx c.insert_at_back.new.ctx c.in-Err.ensures.err in
     rolled_back c.made-mark.ensures.older (kept_trans kept same) c.roll_back.ensures.back
+
+pub returns-in_err-op-clause-refused : goal.returns-in_err-op-clause-refused
+returns-in_err-op-clause-refused g c =
+    let p = err_from_is_err_and c.from_residual.result c.from_residual.ensures.1 in
+    rw (p.1 ∙ ap Err p.2) (inr (c.contains_block.ensures.alive.0 c.if-not-contains_block.false, c.in_err-op.ensures.refused))
