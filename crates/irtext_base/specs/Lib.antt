@@ -1,5 +1,4 @@
 pub mod Text
-pub mod NameLists
 pub mod Reading
 pub mod Format
 pub mod FormatViews

@@ -1,8 +1,9 @@
 //! Lists that are mostly short. `Few` stores up to two elements in place and `Lone` one; more are in a vector. `Rare` stores none in place.
-//! `Growing` is a list to which elements are added, with its first element stored in place.
+//! `Growing` is a list to which elements are added, with its first element stored in place, and `Listed` one that does not change.
 #![tactic(auto)]
 
 pub mod growing;
+pub mod listed;
 pub mod lone;
 pub mod rare;
 
@@ -10,6 +11,7 @@ ghost use Rattle.std.specs.Prelude.{◌≡◌, ◌<◌, ◌∷◌, [], length, s
 ghost use Rattle.std.specs.Borrow.{Lends, sem};
 
 pub use crate::growing::Growing;
+pub use crate::listed::Listed;
 pub use crate::lone::Lone;
 pub use crate::rare::Rare;
 use std::marker::Model;

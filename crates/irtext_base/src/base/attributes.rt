@@ -1,10 +1,9 @@
 //! Attributes, and the keys of those that have a meaning of their own.
 
 mod copy;
-mod names;
 
 use crate::base::Identifier;
-pub use names::Listed;
+use irtext_few::Listed;
 
 /// The key of the attribute that holds a symbol's name.
 pub const SYM_NAME_KEY: &'static str = "builtin_sym_name";

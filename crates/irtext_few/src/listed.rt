@@ -1,5 +1,5 @@
-//! Lists of given names.
-ghost use Rattle.std.specs.Prelude.{◌≡◌, ◌∷◌, [], IfOk};
+//! A list that does not change, of which one element is stored in place.
+ghost use Rattle.std.specs.Prelude.{◌≡◌, ◌∷◌, []};
 ghost use Rattle.std.specs.Cmp.{on_equiv, on_per};
 ghost use Rattle.std.specs.Cmp.Lexicographic.{pointwise, lists_equiv, lists_per};
 ghost use Rattle.std.specs.Hash as fed;
@@ -22,7 +22,7 @@ pub struct Listed<X> {
 
 impl<X> Model for Listed<X> {
     ghost use Rattle.std.specs.Prelude.{List};
-    ghost use Rattle.irtext_base.specs.NameLists.{items_of};
+    ghost use Rattle.irtext_few.specs.Listed.{items_of};
 
     ghost Value = { List X };
 
