@@ -1,0 +1,4 @@
+pub mod Entries
+pub mod Unchanged
+pub mod Growing
+pub mod Likes
