@@ -2,8 +2,11 @@
 use Rattle.std.proofs.Common.{◌≡◌, ◌≢◌, ◌∙◌, ◌<◌, ◌≤◌, ◌+◌, ℕ, zero, suc, refl, sym, ap, subst, arith, cond, Bool, true, false, List, [], ◌∷◌, ◌++◌, length, slice_get, Option, Some, None, IsSome, is_some, inl, inr, ◌⊎◌}
 use Rattle.std.proofs.lemmas.Option.{slice_get_within, slice_get_past}
 use Rattle.irtext_graph.specs.declared.object.Object.{Object}
+use Rattle.irtext_graph.specs.declared.object.Object.TheVariants.{TheOperation, TheBlock, TheRegion}
 use Rattle.irtext_graph.specs.Content.{Content, Content.{AnOperation, ABlock, ARegion}}
-use Rattle.irtext_graph.specs.Graph.{GraphView, IsLive, IsInside, KeepsOlder, parent, children, content}
+use Rattle.irtext_graph.specs.Graph.{GraphView, IsLive, IsNew, IsInside, KeepsOlder, parent, children, content}
+use Rattle.irtext_graph.specs.Objects.{Fits}
+use Rattle.irtext_graph.specs.Throughout.{SameObject}
 use Rattle.irtext_graph.specs.Nested.{Nested, climb}
 use Rattle.irtext_graph.proofs.Closed.{older_on}
 use Rattle.irtext_graph.proofs.Inside.{within_self, within_up, within_on}
@@ -14,7 +17,7 @@ use Rattle.irtext_graph.proofs.Same.{object_tells}
 use Rattle.irtext_walks.proofs.Forests.{child_not, holder_of, holder_inside}
 use Rattle.irtext_graph_copy.specs.Copying.{copy_in, SameKind, IsLike, AddsLike, IsSource, IsCopying, IsCopyingAt, IsOpenAt, IsAllCopied}
 use Rattle.irtext_graph_copy.proofs.Entries.{still_in, now_in, either_in, none_in}
-use Rattle.irtext_graph_copy.proofs.Unchanged.{same, was_none}
+use Rattle.irtext_graph_copy.proofs.Unchanged.{same, was_none, is_new}
 
 -- an item that is there is at an index, and the other way round
 pub item_at : {X : Type 0} (xs : List X) (i : ℕ) → i < length xs → (x : X) × (slice_get xs i ≡ Some x)
@@ -35,7 +38,7 @@ module _ {O B T : Type 0} where
   like_there (Some (ABlock n c)) None l e = l
   like_there (Some (ARegion n c)) None l e = l
 
-  live_or : (g : GraphView O B T) (q : Object) → (IsLive g q) ⊎ (content g q ≡ None)
+  pub live_or : (g : GraphView O B T) (q : Object) → (IsLive g q) ⊎ (content g q ≡ None)
   live_or g q = go (content g q) refl
     where
       go : (c : Option (Content O B T)) → content g q ≡ c → (IsLive g q) ⊎ (content g q ≡ None)
@@ -238,3 +241,83 @@ module _ {O B T : Type 0} (old g : GraphView O B T) (o c : Object) (es : List (O
           ap (λ z. length (children g z)) x_to ∙ few ∙ ap (λ z. length (children old z)) (sym q_at)
     ];
   }
+
+-- an object of the same kind can be the parent of the same
+pub fits_holder : (k l c : Object) → SameKind k l → Fits k c → Fits l c
+fits_holder (TheOperation p) (TheOperation q) (TheOperation r) s f = f
+fits_holder (TheOperation p) (TheOperation q) (TheBlock r) s f = f
+fits_holder (TheOperation p) (TheOperation q) (TheRegion r) s f = f
+fits_holder (TheBlock p) (TheBlock q) (TheOperation r) s f = f
+fits_holder (TheBlock p) (TheBlock q) (TheBlock r) s f = f
+fits_holder (TheBlock p) (TheBlock q) (TheRegion r) s f = f
+fits_holder (TheRegion p) (TheRegion q) (TheOperation r) s f = f
+fits_holder (TheRegion p) (TheRegion q) (TheBlock r) s f = f
+fits_holder (TheRegion p) (TheRegion q) (TheRegion r) s f = f
+fits_holder (TheOperation p) (TheBlock q) c s f = absurd s
+fits_holder (TheOperation p) (TheRegion q) c s f = absurd s
+fits_holder (TheBlock p) (TheOperation q) c s f = absurd s
+fits_holder (TheBlock p) (TheRegion q) c s f = absurd s
+fits_holder (TheRegion p) (TheOperation q) c s f = absurd s
+fits_holder (TheRegion p) (TheBlock q) c s f = absurd s
+
+-- the same in the words of the code, which looks at the graph as it is now
+module _ {O B T : Type 0} (old g : GraphView O B T) (o c : Object) (es : List (Object × Object)) (at to : Object) (s : IsCopyingAt old g o c es at to) where
+  at_lived : IsLive old at
+  at_lived = s.copying.source.alive at (s.copying.inside at to s.here)
+
+  at_same : SameObject old g at
+  at_same = same old.made old g s.copying.source.older s.copying.kept at at_lived
+
+  pub at_lives : IsLive g at
+  at_lives = ap is_some at_same.what ∙ at_lived
+
+  pub to_lives : IsLive g to
+  to_lives = elim (live_or g to) [ inl l ↦ l | inr none ↦ absurd (like_there (content old at) (content g to) (s.copying.like at to s.here) none) ]
+
+  pub to_new : IsNew old.made g to
+  to_new = is_new old.made old g s.copying.kept to (s.copying.fresh at to s.here)
+
+  pub up_there : Nested (children g) (parent g) → length (children g at) ≤ length (children g to) → at ≢ o → IsSome (parent g at) × IsSome (parent g to)
+  up_there n low ne =
+      let z = climbed old g o c es at to s (subst (λ ks. length ks ≤ length (children g to)) at_same.items low) n ne in
+      (ap is_some (at_same.holder ∙ z.2), ap is_some z.3)
+
+  pub climbed_to : Nested (children g) (parent g) → length (children g at) ≤ length (children g to) → at ≢ o → (k z : Object) → parent g at ≡ Some k → parent g to ≡ Some z
+      → IsCopyingAt old g o c es k z
+  climbed_to n low ne k z up_k up_z =
+      let w = climbed old g o c es at to s (subst (λ ks. length ks ≤ length (children g to)) at_same.items low) n ne in
+      let k_is : w.0 ≡ k = some_eq (sym w.2 ∙ sym at_same.holder ∙ up_k) in
+      let z_is : w.1 ≡ z = some_eq (sym w.3 ∙ up_z) in
+      subst (λ y. IsCopyingAt old g o c es y z) k_is (subst (λ y. IsCopyingAt old g o c es w.0 y) z_is w.4)
+
+  pub done : length (children g at) ≤ length (children g to) → at ≡ o → IsAllCopied old g o c es
+  done low is = all_copied old g o c es at to s (subst (λ ks. length ks ≤ length (children g to)) at_same.items low) is
+
+  pub opened : length (children g to) < length (children g at) → IsOpenAt old g o c es at to
+  opened low = record { standing = s; more = subst (λ ks. length (children g to) < length ks) at_same.items low }
+
+module _ {O B T : Type 0} (old g : GraphView O B T) (o c : Object) (es : List (Object × Object)) (at to : Object) (w : IsOpenAt old g o c es at to) where
+  pub few_more : length (children g to) < length (children g at)
+  few_more = subst (λ ks. length (children g to) < length ks) (sym (at_same old g o c es at to w.standing).items) w.more
+
+  module _ (child : Object) (f : slice_get (children g at) (length (children g to)) ≡ Some child) where
+    next_is : slice_get (children old at) (length (children g to)) ≡ Some child
+    next_is = sym (ap (λ ks. slice_get ks (length (children g to))) (at_same old g o c es at to w.standing).items) ∙ f
+
+    inside_too : IsInside old o child
+    inside_too = within_up (parent old) o child at (w.standing.copying.source.forest.down at (length (children g to)) child next_is) (w.standing.copying.inside at to w.standing.here)
+
+    pub child_lives : IsLive g child
+    child_lives =
+        let l = w.standing.copying.source.alive child inside_too in
+        ap is_some (same old.made old g w.standing.copying.source.older w.standing.copying.kept child l).what ∙ l
+
+    pub child_fits : Fits to child
+    child_fits = fits_holder at to child (w.standing.copying.kind at to w.standing.here) (w.standing.copying.source.kinds at child (length (children g to)) next_is)
+
+    pub child_free : copy_in es child ≡ None
+    child_free = next_free old g o c es at to child w.standing.copying w.standing.here next_is
+
+    pub next_at : (h : GraphView O B T) (x : Object) (fs : List (Object × Object)) → fs ≡ es ++ (child, x) ∷ [] → AddsLike g h to child x → KeepsOlder old.made g h → IsCopyingAt old h o c fs child x
+    next_at h x fs e a kept = subst (λ ds. IsCopyingAt old h o c ds child x) (sym e)
+        (grown_at old g o c es h at to child x w.standing.copying w.standing.here next_is a kept w.standing.complete w.more)

@@ -2,3 +2,5 @@ pub mod Entries
 pub mod Unchanged
 pub mod Growing
 pub mod Likes
+pub mod Lists
+pub mod Redirected

@@ -1,5 +1,5 @@
 -- A single object is made like another one.
-use Rattle.std.proofs.Common.{◌≡◌, ◌≢◌, ◌∙◌, ◌+◌, ◌==◌, ℕ, refl, sym, ap, subst, arith, cond, Bool, true, false, List, [], ◌∷◌, ◌++◌, map, slice_get, Option, Some, None, IsSome, is_some}
+use Rattle.std.proofs.Common.{◌≡◌, ◌≢◌, ◌∙◌, ◌+◌, ◌==◌, ℕ, refl, sym, ap, subst, arith, cond, Bool, true, false, List, [], ◌∷◌, ◌++◌, map, slice_get, Option, Some, None, IsSome, is_some, inl, inr}
 use Rattle.std.specs.Option.{option_map}
 use Rattle.std.proofs.lemmas.Bool.{eqb-true}
 use Rattle.irtext_graph.specs.declared.arena.Entry.{Entry}
@@ -11,16 +11,18 @@ use Rattle.irtext_graph.specs.declared.object.Operation.{Operation}
 use Rattle.irtext_graph.specs.declared.object.Region.{Region}
 use Rattle.irtext_graph.specs.declared.object.Value.{Value}
 use Rattle.irtext_graph.specs.Content.{Node, Typed, OperationContent, BlockContent, RegionContent, Content, Content.{AnOperation, ABlock, ARegion}}
-use Rattle.irtext_graph.specs.Graph.{GraphView, IsLive, IsInside, CanInsert, Appends, MakesOperation, MakesBlock, MakesRegion, numbered, parent, children, content, parent_of, children_of, content_of}
+use Rattle.irtext_graph.specs.Graph.{GraphView, IsLive, IsNew, IsInside, CanInsert, KeepsOlder, Appends, MakesOperation, MakesBlock, MakesRegion, numbered, parent, children, content, parent_of, children_of, content_of}
 use Rattle.irtext_graph.specs.Nested.{Nested}
-use Rattle.irtext_graph.specs.Objects.{Fits, operation_alike, block_alike, region_alike}
+use Rattle.irtext_graph.specs.Objects.{is_older, Fits, operation_alike, block_alike, region_alike}
 use Rattle.irtext_graph.specs.Parts.{operands_of, successors_of, results_of, arguments_of, operation_at, block_at, operands, successors, results, arguments}
 use Rattle.irtext_graph.specs.Store.{Store, Cell, Inserts, get, object_in, drawn}
 use Rattle.irtext_graph.specs.Throughout.{SameObject}
+use Rattle.irtext_graph.proofs.Closed.{older_on}
 use Rattle.irtext_graph.proofs.Inside.{alone}
 use Rattle.irtext_graph.proofs.Nests.{some_eq}
 use Rattle.irtext_graph_copy.specs.Copying.{SameKind, IsLike, MakesLike, AddsLike}
-use Rattle.irtext_graph_copy.proofs.Unchanged.{same_operation, same_block, same_region}
+use Rattle.irtext_graph_copy.proofs.Growing.{like_there, live_or}
+use Rattle.irtext_graph_copy.proofs.Unchanged.{is_new, same_operation, same_block, same_region}
 
 -- nothing was under the pointer that is given next
 fresh_slot : {X : Type 0} (s : Option (Cell X)) (n : ℕ) → n ≡ drawn s + 1 → object_in s n ≡ None
@@ -153,6 +155,16 @@ module _ {O B T : Type 0} where
   module _ (g h k : GraphView O B T) (holder q c : Object) (m : MakesLike g h q c) (l : IsLive g holder) where
     pub apart : holder ≢ c
     apart is = let k = ap (λ x. is_some (content g x)) is in let n = ap is_some m.was in cc
+
+    pub holder_lives : IsLive h holder
+    holder_lives = ap is_some (m.others holder apart).what ∙ l
+
+    pub made_lives : IsLive h c
+    made_lives = elim (live_or h c) [ inl live ↦ live | inr none ↦ absurd (like_there (content g q) (content h c) m.like none) ]
+
+    -- what is older is kept by both
+    pub both_keep : (n : ℕ) → KeepsOlder n g h → (IsNew n h holder → IsNew n h c → KeepsOlder n h k) → IsNew n g holder → KeepsOlder n g k
+    both_keep n first second new = older_on n g h k first (second (ap (is_older n) (m.others holder apart).what ∙ new) (is_new n g h first c m.was))
 
     -- what was made can be inserted
     pub can_insert : Nested (children h) (parent h) → CanInsert h holder c

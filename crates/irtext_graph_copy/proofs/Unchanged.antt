@@ -84,6 +84,7 @@ module _ {O B T : Type 0} (m : ℕ) (old now : GraphView O B T) (older : AllOlde
       go None f = f
       go (Some c) f = absurd (let l : IsLive old q = ap is_some f in let s = (same q l).what in let k : is_some (content now q) ≡ true = ap is_some s ∙ l in let n : is_some (content now q) ≡ false = ap is_some e in cc)
 
+module _ {O B T : Type 0} (m : ℕ) (old now : GraphView O B T) (kept : KeepsOlder m old now) where
   -- what was not live is no older than the mark
   pub is_new : (q : Object) → content old q ≡ None → IsNew m now q
   is_new (TheOperation p) e = aged m (λ d. AnOperation d.0 d.1) (λ d. refl) (get now.operations p)
@@ -92,3 +93,12 @@ module _ {O B T : Type 0} (m : ℕ) (old now : GraphView O B T) (older : AllOlde
       ∙ ap is_some (kept.blocks p ∙ ap (older_than m) (none_of (λ d. ABlock d.0 d.1) (get old.blocks p) e))
   is_new (TheRegion p) e = aged m (λ d. ARegion d.0 d.1) (λ d. refl) (get now.regions p)
       ∙ ap is_some (kept.regions p ∙ ap (older_than m) (none_of (λ d. ARegion d.0 d.1) (get old.regions p) e))
+
+  -- what is no older than the mark stays so
+  pub still_new : (q : Object) → IsNew m old q → IsNew m now q
+  still_new (TheOperation p) n = aged m (λ d. AnOperation d.0 d.1) (λ d. refl) (get now.operations p) ∙ ap is_some (kept.operations p)
+      ∙ sym (aged m (λ d. AnOperation d.0 d.1) (λ d. refl) (get old.operations p)) ∙ n
+  still_new (TheBlock p) n = aged m (λ d. ABlock d.0 d.1) (λ d. refl) (get now.blocks p) ∙ ap is_some (kept.blocks p)
+      ∙ sym (aged m (λ d. ABlock d.0 d.1) (λ d. refl) (get old.blocks p)) ∙ n
+  still_new (TheRegion p) n = aged m (λ d. ARegion d.0 d.1) (λ d. refl) (get now.regions p) ∙ ap is_some (kept.regions p)
+      ∙ sym (aged m (λ d. ARegion d.0 d.1) (λ d. refl) (get old.regions p)) ∙ n

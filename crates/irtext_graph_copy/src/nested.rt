@@ -53,8 +53,8 @@ fn copy_into<O: TryCopy + Drop, B: TryCopy + Drop, T: TryCopy + Drop>(
     ensures small { OnOk result (length copies.old < 18446744073709551616) }
     ensures kept { (m : ℕ) → m ≤ graph.old.made → IsNew m graph.old holder → KeepsOlder m graph.old graph.new }
 {
-    graph.keeps_nesting();
     let copy = copy_bare(graph, o)?;
+    graph.keeps_nesting();
     graph.insert_at_back(holder, copy)?;
     copies.put(o, copy)?;
     Ok(copy)
@@ -79,19 +79,17 @@ fn find_open<O: Drop, B: Drop, T: Drop>(
     graph.keeps_nesting();
     let mut at = from.source;
     let mut to = from.copy;
-    loop {
-        if graph.num_children(to) < graph.num_children(at) {
-            return Some(Pair {
-                source: at,
-                copy: to,
-            });
-        }
+    while graph.num_children(to) >= graph.num_children(at) {
         if is_same(at, root) {
             return None;
         }
         at = parent_of(graph, at);
         to = parent_of(graph, to);
     }
+    Some(Pair {
+        source: at,
+        copy: to,
+    })
 }
 
 /// Copies everything nested in `root`, in the order of the text, into its copy.

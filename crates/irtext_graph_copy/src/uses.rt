@@ -3,6 +3,7 @@ ghost use Rattle.std.specs.Prelude.{◌≡◌, ◌<◌, ℕ, List, length, Some,
 ghost use Rattle.irtext_graph.specs.Graph.{IsLive, IsNew, KeepsOlder};
 ghost use Rattle.irtext_graph.specs.Parts.{operands, successors};
 ghost use Rattle.irtext_graph.specs.Used.{user};
+ghost use Rattle.irtext_graph.specs.declared.object.Object.{Object};
 ghost use Rattle.irtext_graph.specs.declared.object.Object.TheVariants.{TheOperation};
 ghost use Rattle.irtext_graph.specs.declared.object.Site.{Site};
 ghost use Rattle.irtext_graph.specs.declared.object.Site.TheVariants.{AtOperand, AtSuccessor};
@@ -83,20 +84,39 @@ fn redirect_successors<O: Drop, B: Drop, T: Drop>(
     }
 }
 
-/// Makes what copies use of the source their own. What they use of anything else, and what anything else uses, is unchanged.
-pub(crate) fn redirect_uses<O: Drop, B: Drop, T: Drop>(graph: &mut Graph<O, B, T>, copies: &Copies)
+/// The same for a copied object: a block or a region uses nothing.
+fn redirect_object<O: Drop, B: Drop, T: Drop>(
+    graph: &mut Graph<O, B, T>,
+    copies: &Copies,
+    o: Object,
+)
+    requires alive { IsLive graph.old o }
     requires can { CanRedirect graph.old copies.now }
-    requires alive { (i : ℕ) → IfSome (slice_get copies.now i) (λ e. IsLive graph.old e.1) }
     ensures others { Redirecting (mapping_of copies.now) graph.old graph.new }
-    ensures here { (i : ℕ) → IfSome (slice_get copies.now i) (λ e. (u : Site) → TheOperation (user u) ≡ e.1
-        → IsRedirected (mapping_of copies.now) graph.new u) }
-    ensures kept { (m : ℕ) → ((i : ℕ) → IfSome (slice_get copies.now i) (λ e. IsNew m graph.old e.1))
-        → KeepsOlder m graph.old graph.new }
+    ensures here { (u : Site) → TheOperation (user u) ≡ o → IsRedirected (mapping_of copies.now) graph.new u }
+    ensures kept { (m : ℕ) → IsNew m graph.old o → KeepsOlder m graph.old graph.new }
 {
-    for i in 0..copies.len() {
-        if let Object::TheOperation(op) = copies.copy_at(i) {
+    match o {
+        Object::TheOperation(op) => {
             redirect_operands(graph, copies, op);
             redirect_successors(graph, copies, op);
         }
+        Object::TheBlock(_) => {}
+        Object::TheRegion(_) => {}
+    }
+}
+
+/// Makes what copies use of the source their own. What they use of anything else, and what anything else uses, is unchanged.
+pub(crate) fn redirect_uses<O: Drop, B: Drop, T: Drop>(graph: &mut Graph<O, B, T>, copies: &Copies)
+    requires can { CanRedirect graph.old copies.now }
+    requires alive { (i : ℕ) (e : Object × Object) → slice_get copies.now i ≡ Some e → IsLive graph.old e.1 }
+    ensures others { Redirecting (mapping_of copies.now) graph.old graph.new }
+    ensures here { (i : ℕ) (e : Object × Object) (u : Site) → slice_get copies.now i ≡ Some e → TheOperation (user u) ≡ e.1
+        → IsRedirected (mapping_of copies.now) graph.new u }
+    ensures kept { (m : ℕ) → ((i : ℕ) (e : Object × Object) → slice_get copies.now i ≡ Some e → IsNew m graph.old e.1)
+        → KeepsOlder m graph.old graph.new }
+{
+    for i in 0..copies.len() {
+        redirect_object(graph, copies, copies.copy_at(i));
     }
 }

@@ -1,0 +1,13 @@
+use Rattle.std.proofs.Common.{◌∙◌, sym, ap, map, Some}
+use Rattle.std.proofs.lemmas.Option.{slice_get-map}
+use Rattle.irtext_graph.specs.Parts.{arguments}
+use Rattle.irtext_graph_copy.proofs.Lists.{next_taken}
+use Rattle.irtext_graph_copy.proofs.made.argument_types.Goals as goal
+
+pub loop-i-preserved : goal.loop-i-preserved
+loop-i-preserved g c =
+    let all = arguments c.args.graph.now c.args.block in
+    record {
+      all = next_taken c.loop-i.types.items c.push.new.items.items (map (λ r. r.of_type) all) c.loop-i.i c.in_ok-try_copy.field-0 c.loop-i.invariant.all c.in_ok-push.ensures.items
+          (slice_get-map (λ r. r.of_type) all c.loop-i.i ∙ c.type_of.ensures ∙ ap Some (sym c.in_ok-try_copy.ensures));
+    }

@@ -1,0 +1,17 @@
+use Rattle.std.proofs.Common.{List, IfSome, IfNone}
+use Rattle.irtext_graph.specs.Graph.{GraphView, KeepsOlder}
+use Rattle.irtext_graph.specs.declared.object.Object.{Object}
+use Rattle.std.proofs.Common.{◌-◌, length}
+use Rattle.irtext_graph_copy.specs.Copying.{IsCopyingAt, IsOpenAt, IsAllCopied}
+use Rattle.irtext_graph_copy.proofs.nested.copy_nested.Given as goal
+
+abbrev pub invariant-loop-place : goal.invariant-loop-place
+invariant-loop-place g l = record {
+  open : (old : GraphView _ _ _) → IsCopyingAt old l.fn.graph l.root l.copy l.fn.copies l.root l.copy
+      → IfSome l.place (λ p. IsOpenAt old l.graph l.root l.copy l.copies p.source p.copy);
+  none : (old : GraphView _ _ _) → IsCopyingAt old l.fn.graph l.root l.copy l.fn.copies l.root l.copy → IfNone l.place (IsAllCopied old l.graph l.root l.copy l.copies);
+  kept : (old : GraphView _ _ _) → IsCopyingAt old l.fn.graph l.root l.copy l.fn.copies l.root l.copy → KeepsOlder old.made old l.graph;
+}
+
+abbrev pub decreases-loop-place : goal.decreases-loop-place
+decreases-loop-place g l = 18446744073709551616 - length l.copies
