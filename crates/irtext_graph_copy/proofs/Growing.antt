@@ -30,14 +30,6 @@ length_push [] x = refl
 length_push (y ∷ ys) x = ap suc (length_push ys x)
 
 module _ {O B T : Type 0} where
-  -- what is like another object is live, and so is that
-  pub like_there : (a b : Option (Content O B T)) → IsLike a b → b ≡ None → ⊥
-  like_there (Some a) (Some b) l e = absurd (cc)
-  like_there None b l e = l
-  like_there (Some (AnOperation n c)) None l e = l
-  like_there (Some (ABlock n c)) None l e = l
-  like_there (Some (ARegion n c)) None l e = l
-
   pub live_or : (g : GraphView O B T) (q : Object) → (IsLive g q) ⊎ (content g q ≡ None)
   live_or g q = go (content g q) refl
     where
@@ -45,9 +37,18 @@ module _ {O B T : Type 0} where
       go None e = inr e
       go (Some c) e = inl (ap is_some e)
 
-module _ {O B T : Type 0} (old g : GraphView O B T) (o c : Object) (es : List (Object × Object)) where
+module _ {O B T : Type 0} (AO : O → O → Type 0) (AB : B → B → Type 0) where
+  -- what is like another object is live, and so is that
+  pub like_there : (a b : Option (Content O B T)) → IsLike AO AB a b → b ≡ None → ⊥
+  like_there (Some a) (Some b) l e = absurd (cc)
+  like_there None b l e = l
+  like_there (Some (AnOperation n c)) None l e = l
+  like_there (Some (ABlock n c)) None l e = l
+  like_there (Some (ARegion n c)) None l e = l
+
+module _ {O B T : Type 0} (AO : O → O → Type 0) (AB : B → B → Type 0) (old g : GraphView O B T) (o c : Object) (es : List (Object × Object)) where
   -- a copy has no more children than its source
-  pub no_more : (q x : Object) → IsCopying old g o c es → copy_in es q ≡ Some x → length (children g x) ≤ length (children old q)
+  pub no_more : (q x : Object) → IsCopying AO AB old g o c es → copy_in es q ≡ Some x → length (children g x) ≤ length (children old q)
   no_more q x s e = elim (lower (length (children old q)) (length (children g x))) [
     | inl low ↦
         let y = item_at (children g x) (length (children old q)) low in
@@ -58,7 +59,7 @@ module _ {O B T : Type 0} (old g : GraphView O B T) (o c : Object) (es : List (O
   ]
 
   -- the next child has no copy yet
-  pub next_free : (at to child : Object) → IsCopying old g o c es → copy_in es at ≡ Some to → slice_get (children old at) (length (children g to)) ≡ Some child → copy_in es child ≡ None
+  pub next_free : (at to child : Object) → IsCopying AO AB old g o c es → copy_in es at ≡ Some to → slice_get (children old at) (length (children g to)) ≡ Some child → copy_in es child ≡ None
   next_free at to child s e f = none_in es child (λ y h. elim (same_or_other object_tells child o) [
     | inl is ↦ child_not old s.source.forest o at child (s.inside at to e) (s.source.forest.down at (length (children g to)) child f) is
     | inr ne ↦
@@ -68,8 +69,8 @@ module _ {O B T : Type 0} (old g : GraphView O B T) (o c : Object) (es : List (O
         omega (arith, low)
   ])
 
-  module _ (h : GraphView O B T) (at to child x : Object) (s : IsCopying old g o c es) (here : copy_in es at ≡ Some to)
-      (next : slice_get (children old at) (length (children g to)) ≡ Some child) (a : AddsLike g h to child x) (kept : KeepsOlder old.made g h) where
+  module _ (h : GraphView O B T) (at to child x : Object) (s : IsCopying AO AB old g o c es) (here : copy_in es at ≡ Some to)
+      (next : slice_get (children old at) (length (children g to)) ≡ Some child) (a : AddsLike AO AB g h to child x) (kept : KeepsOlder old.made g h) where
     free : copy_in es child ≡ None
     free = next_free at to child s here next
 
@@ -80,7 +81,7 @@ module _ {O B T : Type 0} (old g : GraphView O B T) (o c : Object) (es : List (O
     child_inside = within_up (parent old) o child at below (s.inside at to here)
 
     not_new : (q y : Object) → copy_in es q ≡ Some y → y ≢ x
-    not_new q y e is = like_there (content old q) (content g y) (s.like q y e) (ap (content g) is ∙ a.was)
+    not_new q y e is = like_there AO AB (content old q) (content g y) (s.like q y e) (ap (content g) is ∙ a.was)
 
     longer : (y : Object) → y ≢ x → (i : ℕ) → i < length (children g y) → i < length (children h y)
     longer y ne i low = elim (same_or_other object_tells y to) [
@@ -120,7 +121,7 @@ module _ {O B T : Type 0} (old g : GraphView O B T) (o c : Object) (es : List (O
     ]
 
     -- what was copied so far, with one more object
-    pub grown : IsCopying old h o c (es ++ (child, x) ∷ [])
+    pub grown : IsCopying AO AB old h o c (es ++ (child, x) ∷ [])
     grown = record {
       source = s.source;
       root = still_in es child x o c s.root;
@@ -141,10 +142,10 @@ module _ {O B T : Type 0} (old g : GraphView O B T) (o c : Object) (es : List (O
         | inr new ↦ subst (λ z. SameKind z y) (sym new.0) (subst (SameKind child) (sym new.1) a.kind)
       ];
       like = λ q y e. elim (either_in es child x q y e) [
-        | inl was ↦ subst (IsLike (content old q)) (sym (a.contents y (not_new q y was))) (s.like q y was)
+        | inl was ↦ subst (IsLike AO AB (content old q)) (sym (a.contents y (not_new q y was))) (s.like q y was)
         | inr new ↦
-            let it : IsLike (content old child) (content h x) = subst (λ z. IsLike z (content h x)) (same old.made old g s.source.older s.kept child (s.source.alive child child_inside)).what a.like in
-            subst (λ z. IsLike (content old z) (content h y)) (sym new.0) (subst (λ z. IsLike (content old child) (content h z)) (sym new.1) it)
+            let it : IsLike AO AB (content old child) (content h x) = subst (λ z. IsLike AO AB z (content h x)) (same old.made old g s.source.older s.kept child (s.source.alive child child_inside)).what a.like in
+            subst (λ z. IsLike AO AB (content old z) (content h y)) (sym new.0) (subst (λ z. IsLike AO AB (content old child) (content h z)) (sym new.1) it)
       ];
       nesting = grown_nesting;
       listed = grown_listed;
@@ -165,7 +166,7 @@ module _ {O B T : Type 0} (old g : GraphView O B T) (o c : Object) (es : List (O
 
     -- the new object is the next one whose children are copied
     pub grown_at : ((q y : Object) → copy_in es q ≡ Some y → (length (children g y) ≡ length (children old q)) ⊎ IsInside old q at)
-        → length (children g to) < length (children old at) → IsCopyingAt old h o c (es ++ (child, x) ∷ []) child x
+        → length (children g to) < length (children old at) → IsCopyingAt AO AB old h o c (es ++ (child, x) ∷ []) child x
     grown_at complete few = record {
       copying = grown;
       here = now_in es child x free;
@@ -197,13 +198,13 @@ inside_both g s a b w v = go w.0 w.1
         let z : suc n + v.0 ≡ suc (n + v.0) = omega arith in
         absurd (no_cycle (parent g) b (n + v.0) (subst (λ k. climb (parent g) k (Some b) ≡ Some b) z round) d.0 d.0 (omega arith) d.1)
 
-module _ {O B T : Type 0} (old g : GraphView O B T) (o c : Object) (es : List (Object × Object)) (at to : Object) (s : IsCopyingAt old g o c es at to)
+module _ {O B T : Type 0} (AO : O → O → Type 0) (AB : B → B → Type 0) (old g : GraphView O B T) (o c : Object) (es : List (Object × Object)) (at to : Object) (s : IsCopyingAt AO AB old g o c es at to)
     (full : length (children old at) ≤ length (children g to)) where
   few : length (children g to) ≡ length (children old at)
-  few = let k = no_more old g o c es at to s.copying s.here in omega (arith, k, full)
+  few = let k = no_more AO AB old g o c es at to s.copying s.here in omega (arith, k, full)
 
   -- where all children have copies, the one above is next
-  pub climbed : Nested (children g) (parent g) → at ≢ o → (k : Object) × (z : Object) × (parent old at ≡ Some k) × (parent g to ≡ Some z) × IsCopyingAt old g o c es k z
+  pub climbed : Nested (children g) (parent g) → at ≢ o → (k : Object) × (z : Object) × (parent old at ≡ Some k) × (parent g to ≡ Some z) × IsCopyingAt AO AB old g o c es k z
   climbed n ne =
       let p = holder_of old o at (s.copying.inside at to s.here) ne in
       let i = s.copying.source.forest.listed at p.0 p.1 in
@@ -230,7 +231,7 @@ module _ {O B T : Type 0} (old g : GraphView O B T) (o c : Object) (es : List (O
           ap (λ z. length (children g z)) x_to ∙ few ∙ ap (λ z. length (children old z)) is
 
   -- where that is so of the root, all is copied
-  pub all_copied : at ≡ o → IsAllCopied old g o c es
+  pub all_copied : at ≡ o → IsAllCopied AO AB old g o c es
   all_copied is = record {
     copying = s.copying;
     complete = λ q x e. elim (s.complete q x e) [
@@ -261,7 +262,7 @@ fits_holder (TheRegion p) (TheOperation q) c s f = absurd s
 fits_holder (TheRegion p) (TheBlock q) c s f = absurd s
 
 -- the same in the words of the code, which looks at the graph as it is now
-module _ {O B T : Type 0} (old g : GraphView O B T) (o c : Object) (es : List (Object × Object)) (at to : Object) (s : IsCopyingAt old g o c es at to) where
+module _ {O B T : Type 0} (AO : O → O → Type 0) (AB : B → B → Type 0) (old g : GraphView O B T) (o c : Object) (es : List (Object × Object)) (at to : Object) (s : IsCopyingAt AO AB old g o c es at to) where
   at_lived : IsLive old at
   at_lived = s.copying.source.alive at (s.copying.inside at to s.here)
 
@@ -272,37 +273,37 @@ module _ {O B T : Type 0} (old g : GraphView O B T) (o c : Object) (es : List (O
   at_lives = ap is_some at_same.what ∙ at_lived
 
   pub to_lives : IsLive g to
-  to_lives = elim (live_or g to) [ inl l ↦ l | inr none ↦ absurd (like_there (content old at) (content g to) (s.copying.like at to s.here) none) ]
+  to_lives = elim (live_or g to) [ inl l ↦ l | inr none ↦ absurd (like_there AO AB (content old at) (content g to) (s.copying.like at to s.here) none) ]
 
   pub to_new : IsNew old.made g to
   to_new = is_new old.made old g s.copying.kept to (s.copying.fresh at to s.here)
 
   pub up_there : Nested (children g) (parent g) → length (children g at) ≤ length (children g to) → at ≢ o → IsSome (parent g at) × IsSome (parent g to)
   up_there n low ne =
-      let z = climbed old g o c es at to s (subst (λ ks. length ks ≤ length (children g to)) at_same.items low) n ne in
+      let z = climbed AO AB old g o c es at to s (subst (λ ks. length ks ≤ length (children g to)) at_same.items low) n ne in
       (ap is_some (at_same.holder ∙ z.2), ap is_some z.3)
 
   pub climbed_to : Nested (children g) (parent g) → length (children g at) ≤ length (children g to) → at ≢ o → (k z : Object) → parent g at ≡ Some k → parent g to ≡ Some z
-      → IsCopyingAt old g o c es k z
+      → IsCopyingAt AO AB old g o c es k z
   climbed_to n low ne k z up_k up_z =
-      let w = climbed old g o c es at to s (subst (λ ks. length ks ≤ length (children g to)) at_same.items low) n ne in
+      let w = climbed AO AB old g o c es at to s (subst (λ ks. length ks ≤ length (children g to)) at_same.items low) n ne in
       let k_is : w.0 ≡ k = some_eq (sym w.2 ∙ sym at_same.holder ∙ up_k) in
       let z_is : w.1 ≡ z = some_eq (sym w.3 ∙ up_z) in
-      subst (λ y. IsCopyingAt old g o c es y z) k_is (subst (λ y. IsCopyingAt old g o c es w.0 y) z_is w.4)
+      subst (λ y. IsCopyingAt AO AB old g o c es y z) k_is (subst (λ y. IsCopyingAt AO AB old g o c es w.0 y) z_is w.4)
 
-  pub done : length (children g at) ≤ length (children g to) → at ≡ o → IsAllCopied old g o c es
-  done low is = all_copied old g o c es at to s (subst (λ ks. length ks ≤ length (children g to)) at_same.items low) is
+  pub done : length (children g at) ≤ length (children g to) → at ≡ o → IsAllCopied AO AB old g o c es
+  done low is = all_copied AO AB old g o c es at to s (subst (λ ks. length ks ≤ length (children g to)) at_same.items low) is
 
-  pub opened : length (children g to) < length (children g at) → IsOpenAt old g o c es at to
+  pub opened : length (children g to) < length (children g at) → IsOpenAt AO AB old g o c es at to
   opened low = record { standing = s; more = subst (λ ks. length (children g to) < length ks) at_same.items low }
 
-module _ {O B T : Type 0} (old g : GraphView O B T) (o c : Object) (es : List (Object × Object)) (at to : Object) (w : IsOpenAt old g o c es at to) where
+module _ {O B T : Type 0} (AO : O → O → Type 0) (AB : B → B → Type 0) (old g : GraphView O B T) (o c : Object) (es : List (Object × Object)) (at to : Object) (w : IsOpenAt AO AB old g o c es at to) where
   pub few_more : length (children g to) < length (children g at)
-  few_more = subst (λ ks. length (children g to) < length ks) (sym (at_same old g o c es at to w.standing).items) w.more
+  few_more = subst (λ ks. length (children g to) < length ks) (sym (at_same AO AB old g o c es at to w.standing).items) w.more
 
   module _ (child : Object) (f : slice_get (children g at) (length (children g to)) ≡ Some child) where
     next_is : slice_get (children old at) (length (children g to)) ≡ Some child
-    next_is = sym (ap (λ ks. slice_get ks (length (children g to))) (at_same old g o c es at to w.standing).items) ∙ f
+    next_is = sym (ap (λ ks. slice_get ks (length (children g to))) (at_same AO AB old g o c es at to w.standing).items) ∙ f
 
     inside_too : IsInside old o child
     inside_too = within_up (parent old) o child at (w.standing.copying.source.forest.down at (length (children g to)) child next_is) (w.standing.copying.inside at to w.standing.here)
@@ -316,8 +317,8 @@ module _ {O B T : Type 0} (old g : GraphView O B T) (o c : Object) (es : List (O
     child_fits = fits_holder at to child (w.standing.copying.kind at to w.standing.here) (w.standing.copying.source.kinds at child (length (children g to)) next_is)
 
     pub child_free : copy_in es child ≡ None
-    child_free = next_free old g o c es at to child w.standing.copying w.standing.here next_is
+    child_free = next_free AO AB old g o c es at to child w.standing.copying w.standing.here next_is
 
-    pub next_at : (h : GraphView O B T) (x : Object) (fs : List (Object × Object)) → fs ≡ es ++ (child, x) ∷ [] → AddsLike g h to child x → KeepsOlder old.made g h → IsCopyingAt old h o c fs child x
-    next_at h x fs e a kept = subst (λ ds. IsCopyingAt old h o c ds child x) (sym e)
-        (grown_at old g o c es h at to child x w.standing.copying w.standing.here next_is a kept w.standing.complete w.more)
+    pub next_at : (h : GraphView O B T) (x : Object) (fs : List (Object × Object)) → fs ≡ es ++ (child, x) ∷ [] → AddsLike AO AB g h to child x → KeepsOlder old.made g h → IsCopyingAt AO AB old h o c fs child x
+    next_at h x fs e a kept = subst (λ ds. IsCopyingAt AO AB old h o c ds child x) (sym e)
+        (grown_at AO AB old g o c es h at to child x w.standing.copying w.standing.here next_is a kept w.standing.complete w.more)

@@ -4,3 +4,4 @@ pub mod Growing
 pub mod Likes
 pub mod Lists
 pub mod Redirected
+pub mod Whole

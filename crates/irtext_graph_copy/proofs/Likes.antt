@@ -53,56 +53,57 @@ fits_kind (TheRegion p) (TheOperation r) k s f = absurd s
 fits_kind (TheRegion p) (TheBlock r) k s f = absurd s
 
 module _ (O B T : Type 0) where
-  abbrev an_operation : ℕ × OperationContent O T → Content O B T
+  abbrev pub an_operation : ℕ × OperationContent O T → Content O B T
   an_operation d = AnOperation d.0 d.1
 
-  abbrev a_block : ℕ × BlockContent B T → Content O B T
+  abbrev pub a_block : ℕ × BlockContent B T → Content O B T
   a_block d = ABlock d.0 d.1
 
-  abbrev a_region : ℕ × RegionContent → Content O B T
+  abbrev pub a_region : ℕ × RegionContent → Content O B T
   a_region d = ARegion d.0 d.1
 
-  like_operation : (e : Option (Entry (Node BasicBlock Region (OperationContent O T)))) (born values : ℕ) (value : O) (types : List T) (used : List Value) (led : List (Ptr BasicBlock))
-      → IsSome (option_map an_operation (content_of e))
-      → option_map (λ (c : OperationContent O T). c.data_of) (option_map (λ e. e.content.content) e) ≡ Some value
+module _ (O B T : Type 0) (AO : O → O → Type 0) (AB : B → B → Type 0) where
+  like_operation : (e : Option (Entry (Node BasicBlock Region (OperationContent O T)))) (born values : ℕ) (source value : O) (types : List T) (used : List Value) (led : List (Ptr BasicBlock))
+      → IsSome (option_map (an_operation O B T) (content_of e))
+      → option_map (λ (c : OperationContent O T). c.data_of) (option_map (λ e. e.content.content) e) ≡ Some source → AO source value
       → types ≡ map (λ r. r.of_type) (results_of (option_map (λ e. e.content.content) e))
       → used ≡ operands_of (option_map (λ e. e.content.content) e) → led ≡ successors_of (option_map (λ e. e.content.content) e)
-      → IsLike {O = O} {B = B} {T = T} (option_map (λ d. AnOperation d.0 d.1) (content_of e)) (Some (AnOperation born (record { data_of = value; operands = used; successors = led; results = numbered values types })))
-  like_operation None born values value types used led l d t u s = absurd (cc)
-  like_operation (Some x) born values value types used led l d t u s = record {
-    data_of = sym (some_eq d);
+      → IsLike {O = O} {B = B} {T = T} AO AB (option_map (λ d. AnOperation d.0 d.1) (content_of e)) (Some (AnOperation born (record { data_of = value; operands = used; successors = led; results = numbered values types })))
+  like_operation None born values source value types used led l d a t u s = absurd (cc)
+  like_operation (Some x) born values source value types used led l d a t u s = record {
+    data_of = subst (λ z. AO z value) (sym (some_eq d)) a;
     operands = u;
     successors = s;
     result_types = types_numbered values types ∙ t;
   }
 
-  like_block : (e : Option (Entry (Node Region Operation (BlockContent B T)))) (born values : ℕ) (value : B) (types : List T)
-      → IsSome (option_map a_block (content_of e))
-      → option_map (λ (c : BlockContent B T). c.data_of) (option_map (λ e. e.content.content) e) ≡ Some value
+  like_block : (e : Option (Entry (Node Region Operation (BlockContent B T)))) (born values : ℕ) (source value : B) (types : List T)
+      → IsSome (option_map (a_block O B T) (content_of e))
+      → option_map (λ (c : BlockContent B T). c.data_of) (option_map (λ e. e.content.content) e) ≡ Some source → AB source value
       → types ≡ map (λ r. r.of_type) (arguments_of (option_map (λ e. e.content.content) e))
-      → IsLike {O = O} {B = B} {T = T} (option_map (λ d. ABlock d.0 d.1) (content_of e)) (Some (ABlock born (record { data_of = value; arguments = numbered values types })))
-  like_block None born values value types l d t = absurd (cc)
-  like_block (Some x) born values value types l d t = record { data_of = sym (some_eq d); argument_types = types_numbered values types ∙ t }
+      → IsLike {O = O} {B = B} {T = T} AO AB (option_map (λ d. ABlock d.0 d.1) (content_of e)) (Some (ABlock born (record { data_of = value; arguments = numbered values types })))
+  like_block None born values source value types l d a t = absurd (cc)
+  like_block (Some x) born values source value types l d a t = record { data_of = subst (λ z. AB z value) (sym (some_eq d)) a; argument_types = types_numbered values types ∙ t }
 
   like_region : (e : Option (Entry (Node Operation BasicBlock RegionContent))) (born : ℕ)
-      → IsSome (option_map a_region (content_of e))
-      → IsLike {O = O} {B = B} {T = T} (option_map (λ d. ARegion d.0 d.1) (content_of e)) (Some (ARegion born (record {})))
+      → IsSome (option_map (a_region O B T) (content_of e))
+      → IsLike {O = O} {B = B} {T = T} AO AB (option_map (λ d. ARegion d.0 d.1) (content_of e)) (Some (ARegion born (record {})))
   like_region None born l = absurd (cc)
   like_region (Some x) born l = tt
 
-module _ {O B T : Type 0} where
+module _ {O B T : Type 0} (AO : O → O → Type 0) (AB : B → B → Type 0) where
   module _ (old new : GraphView O B T) where
     -- an operation was made of the parts of another one
-    pub operation_made : (op p : Ptr Operation) (value : O) (types : List T) (used : List Value) (led : List (Ptr BasicBlock)) → IsLive old (TheOperation op)
-        → option_map (λ c. c.data_of) (operation_at old op) ≡ Some value → types ≡ map (λ r. r.of_type) (results old op) → used ≡ operands old op → led ≡ successors old op
-        → MakesOperation old new p value types used led → MakesLike old new (TheOperation op) (TheOperation p)
-    operation_made op p value types used led l d t u s m =
+    pub operation_made : (op p : Ptr Operation) (source value : O) (types : List T) (used : List Value) (led : List (Ptr BasicBlock)) → IsLive old (TheOperation op)
+        → option_map (λ c. c.data_of) (operation_at old op) ≡ Some source → AO source value → types ≡ map (λ r. r.of_type) (results old op) → used ≡ operands old op → led ≡ successors old op
+        → MakesOperation old new p value types used led → MakesLike AO AB old new (TheOperation op) (TheOperation p)
+    operation_made op p source value types used led l d a t u s m =
         let at = m.operations.updates.changed in
         record {
           kind = tt;
           was = ap (λ e. option_map (λ d. AnOperation d.0 d.1) (content_of e)) (was_free old.operations new.operations p _ m.operations);
-          like = subst (IsLike (content old (TheOperation op))) (sym (ap (λ e. option_map (λ d. AnOperation d.0 d.1) (content_of e)) at))
-              (like_operation O B T (get old.operations op) old.made old.values value types used led l d t u s);
+          like = subst (IsLike AO AB (content old (TheOperation op))) (sym (ap (λ e. option_map (λ d. AnOperation d.0 d.1) (content_of e)) at))
+              (like_operation O B T AO AB (get old.operations op) old.made old.values source value types used led l d a t u s);
           free = ap (λ e. option_map TheBlock (parent_of e)) at;
           leaf = ap (λ e. map TheRegion (children_of e)) at;
           others = others;
@@ -114,16 +115,16 @@ module _ {O B T : Type 0} where
         others (TheRegion q) ne = same_region old new q (ap (λ (s : Store _). get s q) m.regions)
 
     -- a block was made of the parts of another one
-    pub block_made : (b p : Ptr BasicBlock) (value : B) (types : List T) → IsLive old (TheBlock b)
-        → option_map (λ c. c.data_of) (block_at old b) ≡ Some value → types ≡ map (λ r. r.of_type) (arguments old b)
-        → MakesBlock old new p value types → MakesLike old new (TheBlock b) (TheBlock p)
-    block_made b p value types l d t m =
+    pub block_made : (b p : Ptr BasicBlock) (source value : B) (types : List T) → IsLive old (TheBlock b)
+        → option_map (λ c. c.data_of) (block_at old b) ≡ Some source → AB source value → types ≡ map (λ r. r.of_type) (arguments old b)
+        → MakesBlock old new p value types → MakesLike AO AB old new (TheBlock b) (TheBlock p)
+    block_made b p source value types l d a t m =
         let at = m.blocks.updates.changed in
         record {
           kind = tt;
           was = ap (λ e. option_map (λ d. ABlock d.0 d.1) (content_of e)) (was_free old.blocks new.blocks p _ m.blocks);
-          like = subst (IsLike (content old (TheBlock b))) (sym (ap (λ e. option_map (λ d. ABlock d.0 d.1) (content_of e)) at))
-              (like_block O B T (get old.blocks b) old.made old.values value types l d t);
+          like = subst (IsLike AO AB (content old (TheBlock b))) (sym (ap (λ e. option_map (λ d. ABlock d.0 d.1) (content_of e)) at))
+              (like_block O B T AO AB (get old.blocks b) old.made old.values source value types l d a t);
           free = ap (λ e. option_map TheRegion (parent_of e)) at;
           leaf = ap (λ e. map TheOperation (children_of e)) at;
           others = others;
@@ -135,13 +136,13 @@ module _ {O B T : Type 0} where
         others (TheRegion q) ne = same_region old new q (ap (λ (s : Store _). get s q) m.regions)
 
     -- a region was made
-    pub region_made : (r p : Ptr Region) → IsLive old (TheRegion r) → MakesRegion old new p → MakesLike old new (TheRegion r) (TheRegion p)
+    pub region_made : (r p : Ptr Region) → IsLive old (TheRegion r) → MakesRegion old new p → MakesLike AO AB old new (TheRegion r) (TheRegion p)
     region_made r p l m =
         let at = m.regions.updates.changed in
         record {
           kind = tt;
           was = ap (λ e. option_map (λ d. ARegion d.0 d.1) (content_of e)) (was_free old.regions new.regions p _ m.regions);
-          like = subst (IsLike (content old (TheRegion r))) (sym (ap (λ e. option_map (λ d. ARegion d.0 d.1) (content_of e)) at)) (like_region O B T (get old.regions r) old.made l);
+          like = subst (IsLike AO AB (content old (TheRegion r))) (sym (ap (λ e. option_map (λ d. ARegion d.0 d.1) (content_of e)) at)) (like_region O B T AO AB (get old.regions r) old.made l);
           free = ap (λ e. option_map TheOperation (parent_of e)) at;
           leaf = ap (λ e. map TheBlock (children_of e)) at;
           others = others;
@@ -152,7 +153,7 @@ module _ {O B T : Type 0} where
         others (TheBlock q) ne = same_block old new q (ap (λ (s : Store _). get s q) m.blocks)
         others (TheRegion q) ne = same_region old new q (m.regions.updates.others q (λ e. ne (ap TheRegion e)))
 
-  module _ (g h k : GraphView O B T) (holder q c : Object) (m : MakesLike g h q c) (l : IsLive g holder) where
+  module _ (g h k : GraphView O B T) (holder q c : Object) (m : MakesLike AO AB g h q c) (l : IsLive g holder) where
     pub apart : holder ≢ c
     apart is = let k = ap (λ x. is_some (content g x)) is in let n = ap is_some m.was in cc
 
@@ -160,7 +161,7 @@ module _ {O B T : Type 0} where
     holder_lives = ap is_some (m.others holder apart).what ∙ l
 
     pub made_lives : IsLive h c
-    made_lives = elim (live_or h c) [ inl live ↦ live | inr none ↦ absurd (like_there (content g q) (content h c) m.like none) ]
+    made_lives = elim (live_or h c) [ inl live ↦ live | inr none ↦ absurd (like_there AO AB (content g q) (content h c) m.like none) ]
 
     -- what is older is kept by both
     pub both_keep : (n : ℕ) → KeepsOlder n g h → (IsNew n h holder → IsNew n h c → KeepsOlder n h k) → IsNew n g holder → KeepsOlder n g k
@@ -171,11 +172,11 @@ module _ {O B T : Type 0} where
     can_insert n = record { free = m.free; apart = λ w. apart (alone n c holder m.leaf w) }
 
     -- and is then added
-    pub inserted : Appends h k holder c → AddsLike g k holder q c
+    pub inserted : Appends h k holder c → AddsLike AO AB g k holder q c
     inserted a = record {
       kind = m.kind;
       was = m.was;
-      like = subst (IsLike (content g q)) (sym (a.objects.contents c)) m.like;
+      like = subst (IsLike AO AB (content g q)) (sym (a.objects.contents c)) m.like;
       leaf = a.others c (λ e. apart (sym e)) ∙ m.leaf;
       here = a.here ∙ ap (λ cs. cs ++ c ∷ []) (m.others holder apart).items;
       contents = λ x ne. a.objects.contents x ∙ (m.others x ne).what;

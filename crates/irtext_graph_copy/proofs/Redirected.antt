@@ -16,18 +16,20 @@ use Rattle.irtext_graph.specs.declared.object.Site.TheVariants.{AtOperand, AtSuc
 use Rattle.irtext_graph.specs.Content.{Node, OperationContent, Content, Content.{AnOperation, ABlock, ARegion}}
 use Rattle.irtext_graph.specs.Edits.{Redirects}
 use Rattle.irtext_graph.specs.Graph.{GraphView, IsLive, IsNew, KeepsOlder, parent, children, content, parent_of, children_of, content_of}
-use Rattle.irtext_graph.specs.Parts.{operands, successors, results}
+use Rattle.irtext_graph.specs.Parts.{operands, successors, operands_of, successors_of}
 use Rattle.irtext_graph.specs.Store.{get, object_of}
 use Rattle.irtext_graph.specs.Used.{used_at, user, without_uses, without_uses_in, IsDefined}
 use Rattle.irtext_graph.proofs.Closed.{older_on}
 use Rattle.irtext_graph.proofs.Linked.{site_tells}
 use Rattle.irtext_graph.proofs.Nests.{some_eq, same_or_other, seen}
 use Rattle.irtext_graph.proofs.Moves.{lower}
+use Rattle.irtext_graph.proofs.Once.{gives_itself}
 use Rattle.irtext_graph.proofs.Stores.{get_mapped}
 use Rattle.irtext_graph.proofs.UsesSeen.{defined_bare}
 use Rattle.irtext_graph_copy.specs.Copies.{Mapping, copied_value}
 use Rattle.irtext_graph_copy.specs.Copying.{mapping_of, copied_use, CanRedirect, Redirecting, IsRedirected}
 use Rattle.irtext_graph_copy.proofs.Growing.{item_at}
+use Rattle.irtext_graph_copy.proofs.Likes.{an_operation, a_block, a_region}
 use Rattle.irtext_graph_copy.proofs.Unchanged.{still_new}
 
 -- what there is in no place
@@ -54,7 +56,7 @@ item_within xs i l = elim (seen (slice_get xs i)) [
 
 module _ {O B T : Type 0} where
   module _ (g h : GraphView O B T) (rest : without_uses h ≡ without_uses g) where
-    bare_entry : (p : Ptr Operation) → option_map (object_of without_uses_in) (get h.operations p) ≡ option_map (object_of without_uses_in) (get g.operations p)
+    pub bare_entry : (p : Ptr Operation) → option_map (object_of without_uses_in) (get h.operations p) ≡ option_map (object_of without_uses_in) (get g.operations p)
     bare_entry p = sym (get_mapped without_uses_in h.operations p) ∙ ap (λ (v : GraphView O B T). get v.operations p) rest ∙ get_mapped without_uses_in g.operations p
 
     sees : {V : Type 0} (F : Option (Entry (Node BasicBlock Region (OperationContent O T))) → V) → ((e : Entry (Node BasicBlock Region (OperationContent O T))) → F (Some (object_of without_uses_in e)) ≡ F (Some e))
@@ -78,9 +80,9 @@ module _ {O B T : Type 0} where
 
     -- the same objects are live
     pub lives_bare : (q : Object) → is_some (content h q) ≡ is_some (content g q)
-    lives_bare (TheOperation p) = bare_sees (λ e. is_some (option_map (λ d. AnOperation {O = O} {B = B} {T = T} d.0 d.1) (content_of e))) (λ e. refl) p
-    lives_bare (TheBlock p) = ap (λ (v : GraphView O B T). is_some (option_map (λ d. ABlock {O = O} {B = B} {T = T} d.0 d.1) (content_of (get v.blocks p)))) rest
-    lives_bare (TheRegion p) = ap (λ (v : GraphView O B T). is_some (option_map (λ d. ARegion {O = O} {B = B} {T = T} d.0 d.1) (content_of (get v.regions p)))) rest
+    lives_bare (TheOperation p) = bare_sees (λ e. is_some (option_map (an_operation O B T) (content_of e))) (λ e. refl) p
+    lives_bare (TheBlock p) = ap (λ (v : GraphView O B T). is_some (option_map (a_block O B T) (content_of (get v.blocks p)))) rest
+    lives_bare (TheRegion p) = ap (λ (v : GraphView O B T). is_some (option_map (a_region O B T) (content_of (get v.regions p)))) rest
 
     pub block_bare : (p : Ptr BasicBlock) → content h (TheBlock p) ≡ content g (TheBlock p)
     block_bare p = ap (λ (v : GraphView O B T). content v (TheBlock p)) rest
@@ -170,3 +172,49 @@ module _ {O B T : Type 0} where
   -- what is older is kept by one step after others
   pub keeps_next : (n : ℕ) (g h k : GraphView O B T) (op : Ptr Operation) → (IsNew n g (TheOperation op) → KeepsOlder n g h) → (IsNew n h (TheOperation op) → KeepsOlder n h k) → IsNew n g (TheOperation op) → KeepsOlder n g k
   keeps_next n g h k op a b new = let first = a new in older_on n g h k first (b (still_new n g h first (TheOperation op) new))
+
+  pub keeps_itself : (n : ℕ) (g : GraphView O B T) → KeepsOlder n g g
+  keeps_itself n g = record {
+    operations = λ p. refl;
+    blocks = λ p. refl;
+    regions = λ p. refl;
+    made = omega arith;
+    values = omega arith;
+    first_place = refl;
+    pointers = gives_itself g;
+  }
+
+  -- an operation that has operands or successors is live
+  pub operand_lives : (g : GraphView O B T) (op : Ptr Operation) (i : ℕ) → i < length (operands g op) → IsLive g (TheOperation op)
+  operand_lives g op i low = go (get g.operations op) low
+    where
+      go : (e : Option (Entry (Node BasicBlock Region (OperationContent O T)))) → i < length (operands_of (option_map (λ x. x.content.content) e)) → IsSome (option_map (an_operation O B T) (content_of e))
+      go None l = absurd (omega (arith, l))
+      go (Some x) l = refl
+
+  pub successor_lives : (g : GraphView O B T) (op : Ptr Operation) (i : ℕ) → i < length (successors g op) → IsLive g (TheOperation op)
+  successor_lives g op i low = go (get g.operations op) low
+    where
+      go : (e : Option (Entry (Node BasicBlock Region (OperationContent O T)))) → i < length (successors_of (option_map (λ x. x.content.content) e)) → IsSome (option_map (an_operation O B T) (content_of e))
+      go None l = absurd (omega (arith, l))
+      go (Some x) l = refl
+
+  -- all that an operation uses is redirected
+  pub all_redirected : (m : Mapping) (h : GraphView O B T) (op : Ptr Operation) → ((i : ℕ) → IsRedirected m h (AtOperand op i)) → ((i : ℕ) → IsRedirected m h (AtSuccessor op i))
+      → (o : Object) → o ≡ TheOperation op → (u : Site) → TheOperation (user u) ≡ o → IsRedirected m h u
+  all_redirected m h op a b o is (AtOperand p i) e = subst (λ z. IsRedirected m h (AtOperand z i)) (sym (one p op (e ∙ is))) (a i)
+    where
+      one : (p q : Ptr Operation) → TheOperation p ≡ TheOperation q → p ≡ q
+      one p q e = cc
+  all_redirected m h op a b o is (AtSuccessor p i) e = subst (λ z. IsRedirected m h (AtSuccessor z i)) (sym (one p op (e ∙ is))) (b i)
+    where
+      one : (p q : Ptr Operation) → TheOperation p ≡ TheOperation q → p ≡ q
+      one p q e = cc
+
+-- the entry of a copy
+pub entry_at : (es : List (Object × Object)) (i : ℕ) (x : Object) → option_map (λ (e : Object × Object). e.1) (slice_get es i) ≡ Some x → (e : Object × Object) × (slice_get es i ≡ Some e) × (e.1 ≡ x)
+entry_at es i x f = go (slice_get es i) refl f
+  where
+    go : (o : Option (Object × Object)) → slice_get es i ≡ o → option_map (λ (e : Object × Object). e.1) o ≡ Some x → (e : Object × Object) × (slice_get es i ≡ Some e) × (e.1 ≡ x)
+    go None e f = absurd (cc)
+    go (Some e) at f = (e, at, some_eq f)

@@ -52,9 +52,9 @@ abbrev pub copied_use : Mapping → Defined → Defined
 copied_use m (OfValue v) = OfValue (copied_value m v)
 copied_use m (OfBlock b) = OfBlock (m.block b)
 
--- an operation with equal data and result types, which uses the same
-pub record LikeOperation {O T : Type 0} (c d : OperationContent O T) : Type 0 where
-  pub data_of : d.data_of ≡ c.data_of
+-- the second operation has data that agree with those of the first, equal result types, and uses the same
+pub record LikeOperation {O T : Type 0} (agree : O → O → Type 0) (c d : OperationContent O T) : Type 0 where
+  pub data_of : agree c.data_of d.data_of
   pub operands : d.operands ≡ c.operands
   pub successors : d.successors ≡ c.successors
   pub result_types : map (λ r. r.of_type) d.results ≡ map (λ r. r.of_type) c.results
@@ -67,18 +67,26 @@ SameKind (TheRegion _) (TheRegion _) = Unit {0}
 SameKind _ _ = ⊥
 
 -- the second object is like the first
-abbrev pub IsLike : {O B T : Type 0} → Option (Content O B T) → Option (Content O B T) → Type 0
-IsLike (Some (AnOperation n c)) (Some (AnOperation k d)) = LikeOperation c d
-IsLike (Some (ABlock n c)) (Some (ABlock k d)) = CopiesBlock c d
-IsLike (Some (ARegion n c)) (Some (ARegion k d)) = Unit {0}
-IsLike _ _ = ⊥
+abbrev pub IsLike : {O B T : Type 0} → (O → O → Type 0) → (B → B → Type 0) → Option (Content O B T) → Option (Content O B T) → Type 0
+IsLike AO AB (Some (AnOperation n c)) (Some (AnOperation k d)) = LikeOperation AO c d
+IsLike AO AB (Some (ABlock n c)) (Some (ABlock k d)) = CopiesBlock AB c d
+IsLike AO AB (Some (ARegion n c)) (Some (ARegion k d)) = Unit {0}
+IsLike AO AB _ _ = ⊥
 
 module _ {O B T : Type 0} where
+  -- the graph is a forest in which o and what is nested in it are live, and it is the graph at a mark
+  pub record IsSource (g : GraphView O B T) (o : Object) : Type 0 where
+    pub forest : Nested (children g) (parent g)
+    pub alive : (q : Object) → IsInside g o q → IsLive g q
+    pub kinds : (k q : Object) (i : ℕ) → slice_get (children g k) i ≡ Some q → Fits k q
+    pub older : AllOlder g.made g
+
+module _ {O B T : Type 0} (AO : O → O → Type 0) (AB : B → B → Type 0) where
   -- c, which was not live, is detached, has no children, and is like q; all else is unchanged
   pub record MakesLike (old new : GraphView O B T) (q c : Object) : Type 0 where
     pub kind : SameKind q c
     pub was : content old c ≡ None
-    pub like : IsLike (content old q) (content new c)
+    pub like : IsLike AO AB (content old q) (content new c)
     pub free : parent new c ≡ None
     pub leaf : children new c ≡ []
     pub others : (x : Object) → x ≢ c → SameObject old new x
@@ -87,19 +95,12 @@ module _ {O B T : Type 0} where
   pub record AddsLike (old new : GraphView O B T) (k q c : Object) : Type 0 where
     pub kind : SameKind q c
     pub was : content old c ≡ None
-    pub like : IsLike (content old q) (content new c)
+    pub like : IsLike AO AB (content old q) (content new c)
     pub leaf : children new c ≡ []
     pub here : children new k ≡ children old k ++ c ∷ []
     pub contents : (x : Object) → x ≢ c → content new x ≡ content old x
     pub parents : (x : Object) → x ≢ c → parent new x ≡ parent old x
     pub lists : (x : Object) → x ≢ c → x ≢ k → children new x ≡ children old x
-
-  -- the graph is a forest in which o and what is nested in it are live, and it is the graph at a mark
-  pub record IsSource (g : GraphView O B T) (o : Object) : Type 0 where
-    pub forest : Nested (children g) (parent g)
-    pub alive : (q : Object) → IsInside g o q → IsLive g q
-    pub kinds : (k q : Object) (i : ℕ) → slice_get (children g k) i ≡ Some q → Fits k q
-    pub older : AllOlder g.made g
 
   -- the objects in o with copies so far, of which c is that of o: each is new and like its source, and its children are the copies of the
   -- first children of its source
@@ -110,7 +111,7 @@ module _ {O B T : Type 0} where
     pub fresh : (q x : Object) → copy_in es q ≡ Some x → content old x ≡ None
     pub differ : (q r x : Object) → copy_in es q ≡ Some x → copy_in es r ≡ Some x → q ≡ r
     pub kind : (q x : Object) → copy_in es q ≡ Some x → SameKind q x
-    pub like : (q x : Object) → copy_in es q ≡ Some x → IsLike (content old q) (content now x)
+    pub like : (q x : Object) → copy_in es q ≡ Some x → IsLike AO AB (content old q) (content now x)
     pub nesting : (q x y : Object) (i : ℕ) → copy_in es q ≡ Some x → slice_get (children now x) i ≡ Some y
         → (r : Object) × (slice_get (children old q) i ≡ Some r) × (copy_in es r ≡ Some y)
     pub listed : (q x k : Object) (i : ℕ) → copy_in es q ≡ Some x → q ≢ o → slice_get (children old k) i ≡ Some q
@@ -136,6 +137,7 @@ module _ {O B T : Type 0} where
     pub copying : IsCopying old now o c es
     pub complete : (q x : Object) → copy_in es q ≡ Some x → length (children now x) ≡ length (children old q)
 
+module _ {O B T : Type 0} where
   -- uses were redirected to copies, some or all; all else is unchanged
   pub record Redirecting (m : Mapping) (old new : GraphView O B T) : Type 0 where
     pub moved : (u : Site) → option_map (copied_use m) (used_at new u) ≡ option_map (copied_use m) (used_at old u)

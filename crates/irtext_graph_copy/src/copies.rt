@@ -3,7 +3,7 @@ ghost use Rattle.std.specs.Prelude.{◌≡◌, ◌<◌, ◌++◌, ◌∷◌, [],
 ghost use Rattle.irtext_graph_copy.specs.Copies.{copied_value};
 ghost use Rattle.irtext_graph_copy.specs.Copying.{copy_in, mapping_of};
 
-use crate::try_copy::NotCopied;
+use crate::parts::NotCopied;
 use indexmap::IndexMap;
 use irtext_graph::arena::Ptr;
 use irtext_graph::object::{BasicBlock, Object, Value};
@@ -76,7 +76,7 @@ impl Copies {
     }
 
     /// Returns what stands for a value in the copy: the value that the copy of its operation or block defines, or the value itself.
-    pub(crate) fn value(&self, v: Value) -> Value
+    pub(crate) fn find_value(&self, v: Value) -> Value
         ensures { result ≡ copied_value (mapping_of self.now) v }
     {
         match v {
@@ -84,12 +84,12 @@ impl Copies {
                 Some(Object::TheOperation(copy)) => Value::Result(copy, i),
                 _ => v,
             },
-            Value::Argument(b, i) => Value::Argument(self.block(b), i),
+            Value::Argument(b, i) => Value::Argument(self.find_block(b), i),
         }
     }
 
     /// Returns what stands for a block in the copy: its copy, or the block itself.
-    pub(crate) fn block(&self, b: Ptr<BasicBlock>) -> Ptr<BasicBlock>
+    pub(crate) fn find_block(&self, b: Ptr<BasicBlock>) -> Ptr<BasicBlock>
         ensures { result ≡ (mapping_of self.now).block b }
     {
         match self.find(Object::TheBlock(b)) {

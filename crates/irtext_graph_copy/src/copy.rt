@@ -7,50 +7,56 @@ ghost use Rattle.irtext_graph_copy.specs.Copies.{Copies as IsCopy, SameGraph};
 use crate::copies::Copies;
 use crate::made::copy_bare_operation;
 use crate::nested::copy_nested;
-use crate::try_copy::{NotCopied, TryCopy};
+use crate::parts::{CopyParts, NotCopied};
 use crate::uses::redirect_uses;
 use irtext_graph::arena::Ptr;
 use irtext_graph::graph::Graph;
 use irtext_graph::object::{Object, Operation};
 
 /// Copies an operation with everything nested in it. An error may leave a part of the copy.
-fn copy_all<O: TryCopy + Drop, B: TryCopy + Drop, T: TryCopy + Drop>(
+fn copy_all<O: Drop, B: Drop, T: Drop, P: CopyParts<O, B, T>>(
+    parts: &P,
     graph: &mut Graph<O, B, T>,
     op: Ptr<Operation>,
 ) -> Result<Ptr<Operation>, NotCopied>
     requires { IsLive graph.old (TheOperation op) }
-    ensures copied { IfOk result (λ copy. IsCopy graph.old graph.new (TheOperation op) (TheOperation copy)) }
+    ensures copied { IfOk result (λ copy. IsCopy P.operations_agree P.blocks_agree graph.old graph.new (TheOperation op) (TheOperation copy)) }
     ensures kept { KeepsOlder graph.old.made graph.old graph.new }
 {
+    let _mark = graph.made();
     graph.keeps_nesting();
-    let copy = copy_bare_operation(graph, op)?;
+    let copy = copy_bare_operation(parts, graph, op)?;
     let (source, target) = (Object::TheOperation(op), Object::TheOperation(copy));
     let mut copies = Copies::new(graph.allocator());
     copies.put(source, target)?;
-    copy_nested(graph, &mut copies, source, target)?;
+    copy_nested(parts, graph, &mut copies, source, target)?;
     redirect_uses(graph, &copies);
+    graph.keeps_nesting();
     Ok(copy)
 }
 
-/// Copies an operation with everything nested in it, at any depth. The copy is in no block. Data and types are copied by `try_copy`; the
+/// Copies an operation with everything nested in it, at any depth. The copy is in no block. Data and types are copied by `parts`; the
 /// values get new numbers. What the operation uses of itself, the copy uses of itself: an operand that is defined in the operation, or a
 /// block in it that is a successor, becomes its own copy, also where it is used before it is defined. Anything else that it uses, the copy
 /// uses too. On an error no object is there that was not there before, and all are as they were.
 ///
 /// It does not recurse, and takes time in proportion to what is copied, to which the table of copies is in proportion as well.
-pub fn copy_operation<O: TryCopy + Drop, B: TryCopy + Drop, T: TryCopy + Drop>(
+pub fn copy_operation<O: Drop, B: Drop, T: Drop, P: CopyParts<O, B, T>>(
+    parts: &P,
     graph: &mut Graph<O, B, T>,
     op: Ptr<Operation>,
 ) -> Result<Ptr<Operation>, NotCopied>
     requires { IsLive graph.old (TheOperation op) }
-    ensures copied { IfOk result (λ copy. IsCopy graph.old graph.new (TheOperation op) (TheOperation copy)) }
+    ensures copied { IfOk result (λ copy. IsCopy P.operations_agree P.blocks_agree graph.old graph.new (TheOperation op) (TheOperation copy)) }
     ensures err { OnErr result (SameGraph graph.old graph.new) }
     ensures kept { KeepsOlder graph.old.made graph.old graph.new }
 {
     let mark = graph.made();
-    let answer = copy_all(graph, op);
-    if answer.is_err() {
-        graph.roll_back(mark);
+    match copy_all(parts, graph, op) {
+        Ok(copy) => Ok(copy),
+        Err(error) => {
+            graph.roll_back(mark);
+            Err(error)
+        }
     }
-    answer
 }

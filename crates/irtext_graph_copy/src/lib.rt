@@ -5,5 +5,5 @@ mod copies;
 pub mod copy;
 mod made;
 mod nested;
-pub mod try_copy;
+pub mod parts;
 mod uses;

@@ -6,7 +6,7 @@ ghost use Rattle.irtext_graph.specs.declared.object.Object.TheVariants.{TheOpera
 ghost use Rattle.irtext_graph_copy.specs.Copying.{MakesLike, AddsLike};
 
 use crate::copies::Copies;
-use crate::try_copy::{NotCopied, TryCopy};
+use crate::parts::{CopyParts, NotCopied};
 use irtext_few::Few;
 use irtext_graph::arena::Ptr;
 use irtext_graph::graph::Graph;
@@ -15,7 +15,8 @@ use irtext_memory::vec;
 use std::alloc::AllocError;
 
 /// Returns copies of the types of an operation's results.
-fn result_types<O: Drop, B: Drop, T: TryCopy + Drop>(
+fn result_types<O: Drop, B: Drop, T: Drop, P: CopyParts<O, B, T>>(
+    parts: &P,
     graph: &Graph<O, B, T>,
     op: Ptr<Operation>,
 ) -> Result<Few<T>, NotCopied>
@@ -24,13 +25,14 @@ fn result_types<O: Drop, B: Drop, T: TryCopy + Drop>(
 {
     let mut types = Vec::new(graph.allocator());
     for i in 0..graph.num_results(op) {
-        vec::push(&mut types, graph.type_of(Value::Result(op, i)).try_copy()?)?;
+        vec::push(&mut types, parts.value_type(graph.type_of(Value::Result(op, i)))?)?;
     }
     Ok(Few::from_vec(types))
 }
 
 /// Returns copies of the types of a block's arguments.
-fn argument_types<O: Drop, B: Drop, T: TryCopy + Drop>(
+fn argument_types<O: Drop, B: Drop, T: Drop, P: CopyParts<O, B, T>>(
+    parts: &P,
     graph: &Graph<O, B, T>,
     block: Ptr<BasicBlock>,
 ) -> Result<Few<T>, NotCopied>
@@ -41,7 +43,7 @@ fn argument_types<O: Drop, B: Drop, T: TryCopy + Drop>(
     for i in 0..graph.num_arguments(block) {
         vec::push(
             &mut types,
-            graph.type_of(Value::Argument(block, i)).try_copy()?,
+            parts.value_type(graph.type_of(Value::Argument(block, i)))?,
         )?;
     }
     Ok(Few::from_vec(types))
@@ -78,45 +80,48 @@ fn used_blocks<O: Drop, B: Drop, T: Drop>(
 }
 
 /// Makes an operation like another one, without regions, which uses the same values and blocks.
-pub(crate) fn copy_bare_operation<O: TryCopy + Drop, B: Drop, T: TryCopy + Drop>(
+pub(crate) fn copy_bare_operation<O: Drop, B: Drop, T: Drop, P: CopyParts<O, B, T>>(
+    parts: &P,
     graph: &mut Graph<O, B, T>,
     op: Ptr<Operation>,
 ) -> Result<Ptr<Operation>, NotCopied>
     requires { IsLive graph.old (TheOperation op) }
-    ensures made { IfOk result (λ p. MakesLike graph.old graph.new (TheOperation op) (TheOperation p)) }
+    ensures made { IfOk result (λ p. MakesLike P.operations_agree P.blocks_agree graph.old graph.new (TheOperation op) (TheOperation p)) }
     ensures err { OnErr result (graph.new ≡ graph.old) }
     ensures kept { (m : ℕ) → m ≤ graph.old.made → KeepsOlder m graph.old graph.new }
 {
     graph.keeps_nesting();
-    let value = graph.operation(op).try_copy()?;
-    let types = result_types(graph, op)?;
+    let value = parts.operation_data(graph.operation(op))?;
+    let types = result_types(parts, graph, op)?;
     let used = used_values(graph, op)?;
     let led_to = used_blocks(graph, op)?;
     Ok(graph.make_operation(value, types, &used, &led_to)?)
 }
 
 /// Makes a block like another one, without operations.
-fn copy_bare_block<O: Drop, B: TryCopy + Drop, T: TryCopy + Drop>(
+fn copy_bare_block<O: Drop, B: Drop, T: Drop, P: CopyParts<O, B, T>>(
+    parts: &P,
     graph: &mut Graph<O, B, T>,
     block: Ptr<BasicBlock>,
 ) -> Result<Ptr<BasicBlock>, NotCopied>
     requires { IsLive graph.old (TheBlock block) }
-    ensures made { IfOk result (λ p. MakesLike graph.old graph.new (TheBlock block) (TheBlock p)) }
+    ensures made { IfOk result (λ p. MakesLike P.operations_agree P.blocks_agree graph.old graph.new (TheBlock block) (TheBlock p)) }
     ensures err { OnErr result (graph.new ≡ graph.old) }
     ensures kept { (m : ℕ) → m ≤ graph.old.made → KeepsOlder m graph.old graph.new }
 {
-    let value = graph.block(block).try_copy()?;
-    let types = argument_types(graph, block)?;
+    let value = parts.block_data(graph.block(block))?;
+    let types = argument_types(parts, graph, block)?;
     Ok(graph.make_block(value, types)?)
 }
 
 /// Makes a region without blocks.
-fn make_bare_region<O: Drop, B: Drop, T: Drop>(
+fn make_bare_region<O: Drop, B: Drop, T: Drop, P: CopyParts<O, B, T>>(
+    _parts: &P,
     graph: &mut Graph<O, B, T>,
     region: Ptr<Region>,
 ) -> Result<Ptr<Region>, NotCopied>
     requires { IsLive graph.old (TheRegion region) }
-    ensures made { IfOk result (λ p. MakesLike graph.old graph.new (TheRegion region) (TheRegion p)) }
+    ensures made { IfOk result (λ p. MakesLike P.operations_agree P.blocks_agree graph.old graph.new (TheRegion region) (TheRegion p)) }
     ensures err { OnErr result (graph.new ≡ graph.old) }
     ensures kept { (m : ℕ) → m ≤ graph.old.made → KeepsOlder m graph.old graph.new }
 {
@@ -124,18 +129,19 @@ fn make_bare_region<O: Drop, B: Drop, T: Drop>(
 }
 
 /// Makes an object like another one, without children, which uses the same values and blocks.
-pub(crate) fn copy_bare<O: TryCopy + Drop, B: TryCopy + Drop, T: TryCopy + Drop>(
+pub(crate) fn copy_bare<O: Drop, B: Drop, T: Drop, P: CopyParts<O, B, T>>(
+    parts: &P,
     graph: &mut Graph<O, B, T>,
     o: Object,
 ) -> Result<Object, NotCopied>
     requires { IsLive graph.old o }
-    ensures made { IfOk result (λ c. MakesLike graph.old graph.new o c) }
+    ensures made { IfOk result (λ c. MakesLike P.operations_agree P.blocks_agree graph.old graph.new o c) }
     ensures err { OnErr result (graph.new ≡ graph.old) }
     ensures kept { (m : ℕ) → m ≤ graph.old.made → KeepsOlder m graph.old graph.new }
 {
     match o {
-        Object::TheOperation(p) => Ok(Object::TheOperation(copy_bare_operation(graph, p)?)),
-        Object::TheBlock(b) => Ok(Object::TheBlock(copy_bare_block(graph, b)?)),
-        Object::TheRegion(r) => Ok(Object::TheRegion(make_bare_region(graph, r)?)),
+        Object::TheOperation(p) => Ok(Object::TheOperation(copy_bare_operation(parts, graph, p)?)),
+        Object::TheBlock(b) => Ok(Object::TheBlock(copy_bare_block(parts, graph, b)?)),
+        Object::TheRegion(r) => Ok(Object::TheRegion(make_bare_region(parts, graph, r)?)),
     }
 }

@@ -7,7 +7,7 @@ ghost use Rattle.irtext_graph_copy.specs.Copying.{copy_in, AddsLike, IsCopyingAt
 
 use crate::copies::Copies;
 use crate::made::copy_bare;
-use crate::try_copy::{NotCopied, TryCopy};
+use crate::parts::{CopyParts, NotCopied};
 use irtext_graph::graph::Graph;
 use irtext_graph::object::Object;
 
@@ -38,7 +38,8 @@ fn parent_of<O: Drop, B: Drop, T: Drop>(graph: &Graph<O, B, T>, o: Object) -> Ob
 }
 
 /// Makes an object like another one the last child of an object, and notes it as the copy of the other one.
-fn copy_into<O: TryCopy + Drop, B: TryCopy + Drop, T: TryCopy + Drop>(
+fn copy_into<O: Drop, B: Drop, T: Drop, P: CopyParts<O, B, T>>(
+    parts: &P,
     graph: &mut Graph<O, B, T>,
     copies: &mut Copies,
     holder: Object,
@@ -48,12 +49,12 @@ fn copy_into<O: TryCopy + Drop, B: TryCopy + Drop, T: TryCopy + Drop>(
     requires alive { IsLive graph.old o }
     requires fits { Fits holder o }
     requires new { copy_in copies.old o ≡ None }
-    ensures added { IfOk result (λ c. AddsLike graph.old graph.new holder o c) }
+    ensures added { IfOk result (λ c. AddsLike P.operations_agree P.blocks_agree graph.old graph.new holder o c) }
     ensures noted { IfOk result (λ c. copies.new ≡ copies.old ++ (o, c) ∷ []) }
     ensures small { OnOk result (length copies.old < 18446744073709551616) }
     ensures kept { (m : ℕ) → m ≤ graph.old.made → IsNew m graph.old holder → KeepsOlder m graph.old graph.new }
 {
-    let copy = copy_bare(graph, o)?;
+    let copy = copy_bare(parts, graph, o)?;
     graph.keeps_nesting();
     graph.insert_at_back(holder, copy)?;
     copies.put(o, copy)?;
@@ -62,19 +63,20 @@ fn copy_into<O: TryCopy + Drop, B: TryCopy + Drop, T: TryCopy + Drop>(
 
 /// Returns the nearest object at or around a copied one with a child that has no copy yet. The children of a copy are the copies of the
 /// first children of its source, so their numbers tell.
-fn find_open<O: Drop, B: Drop, T: Drop>(
+fn find_open<O: Drop, B: Drop, T: Drop, P: CopyParts<O, B, T>>(
+    _parts: &P,
     graph: &Graph<O, B, T>,
     root: Object,
     from: Pair,
 ) -> Option<Pair>
     requires { (old : GraphView O B T) × (c : Object) × (es : List (Object × Object))
-        × IsCopyingAt old graph.now root c es from.source from.copy }
+        × IsCopyingAt P.operations_agree P.blocks_agree old graph.now root c es from.source from.copy }
     ensures found { (old : GraphView O B T) (c : Object) (es : List (Object × Object))
-        → IsCopyingAt old graph.now root c es from.source from.copy
-        → IfSome result (λ open. IsOpenAt old graph.now root c es open.source open.copy) }
+        → IsCopyingAt P.operations_agree P.blocks_agree old graph.now root c es from.source from.copy
+        → IfSome result (λ open. IsOpenAt P.operations_agree P.blocks_agree old graph.now root c es open.source open.copy) }
     ensures none { (old : GraphView O B T) (c : Object) (es : List (Object × Object))
-        → IsCopyingAt old graph.now root c es from.source from.copy
-        → IfNone result (IsAllCopied old graph.now root c es) }
+        → IsCopyingAt P.operations_agree P.blocks_agree old graph.now root c es from.source from.copy
+        → IfNone result (IsAllCopied P.operations_agree P.blocks_agree old graph.now root c es) }
 {
     graph.keeps_nesting();
     let mut at = from.source;
@@ -93,24 +95,26 @@ fn find_open<O: Drop, B: Drop, T: Drop>(
 }
 
 /// Copies everything nested in `root`, in the order of the text, into its copy.
-pub(crate) fn copy_nested<O: TryCopy + Drop, B: TryCopy + Drop, T: TryCopy + Drop>(
+pub(crate) fn copy_nested<O: Drop, B: Drop, T: Drop, P: CopyParts<O, B, T>>(
+    parts: &P,
     graph: &mut Graph<O, B, T>,
     copies: &mut Copies,
     root: Object,
     copy: Object,
 ) -> Result<(), NotCopied>
-    requires { (old : GraphView O B T) × IsCopyingAt old graph.old root copy copies.old root copy }
-    ensures copied { (old : GraphView O B T) → IsCopyingAt old graph.old root copy copies.old root copy
-        → OnOk result (IsAllCopied old graph.new root copy copies.new) }
-    ensures kept { (old : GraphView O B T) → IsCopyingAt old graph.old root copy copies.old root copy
+    requires { (old : GraphView O B T) × IsCopyingAt P.operations_agree P.blocks_agree old graph.old root copy copies.old root copy }
+    ensures copied { (old : GraphView O B T) → IsCopyingAt P.operations_agree P.blocks_agree old graph.old root copy copies.old root copy
+        → OnOk result (IsAllCopied P.operations_agree P.blocks_agree old graph.new root copy copies.new) }
+    ensures kept { (old : GraphView O B T) → IsCopyingAt P.operations_agree P.blocks_agree old graph.old root copy copies.old root copy
         → KeepsOlder old.made old graph.new }
 {
-    let mut place = find_open(graph, root, Pair { source: root, copy });
+    let mut place = find_open(parts, graph, root, Pair { source: root, copy });
     while let Some(open) = place {
         let done = graph.num_children(open.copy);
         let child = graph.get_child(open.source, done);
-        let made = copy_into(graph, copies, open.copy, child)?;
+        let made = copy_into(parts, graph, copies, open.copy, child)?;
         place = find_open(
+            parts,
             graph,
             root,
             Pair {

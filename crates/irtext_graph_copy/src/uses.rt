@@ -28,8 +28,8 @@ fn redirect_operand<O: Drop, B: Drop, T: Drop>(
     ensures kept { (m : ℕ) → IsNew m graph.old (TheOperation op) → KeepsOlder m graph.old graph.new }
 {
     graph.keeps_nesting();
-    let value = copies.value(graph.get_operand(op, index));
-    graph.set_use(Site::AtOperand(op, index), Defined::OfValue(value));
+    let own = copies.find_value(graph.get_operand(op, index));
+    graph.set_use(Site::AtOperand(op, index), Defined::OfValue(own));
 }
 
 /// Makes the successor of a copy at an index its own block, if it is a block of the source.
@@ -46,8 +46,8 @@ fn redirect_successor<O: Drop, B: Drop, T: Drop>(
     ensures kept { (m : ℕ) → IsNew m graph.old (TheOperation op) → KeepsOlder m graph.old graph.new }
 {
     graph.keeps_nesting();
-    let block = copies.block(graph.get_successor(op, index));
-    graph.set_use(Site::AtSuccessor(op, index), Defined::OfBlock(block));
+    let own = copies.find_block(graph.get_successor(op, index));
+    graph.set_use(Site::AtSuccessor(op, index), Defined::OfBlock(own));
 }
 
 /// The same for all operands of a copy.

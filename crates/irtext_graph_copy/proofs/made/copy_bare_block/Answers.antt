@@ -1,7 +1,6 @@
-use Rattle.std.proofs.Common.{◌∙◌, sym, ap, Some}
 use Rattle.irtext_graph_copy.proofs.Likes.{block_made}
 use Rattle.irtext_graph_copy.proofs.made.copy_bare_block.Goals as goal
 
 pub returns-clause-made : goal.returns-clause-made
-returns-clause-made g c = block_made c.args.graph.now c.make_block.new.self c.args.block c.in_ok-make_block.field-0 c.in_ok-value.value c.in_ok-types.types
-    c.requires (c.block.ensures ∙ ap Some (sym c.in_ok-value.ensures)) c.in_ok-types.ensures c.in_ok-make_block.ensures.made
+returns-clause-made g c = block_made g.P.operations_agree g.P.blocks_agree c.args.graph.now c.make_block.new.self c.args.block c.in_ok-make_block.field-0 c.block.result.now c.in_ok-value.value c.in_ok-types.types
+    c.requires c.block.ensures c.in_ok-value.ensures c.in_ok-types.ensures c.in_ok-make_block.ensures.made

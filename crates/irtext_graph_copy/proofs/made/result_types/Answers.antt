@@ -8,6 +8,6 @@ pub loop-i-preserved : goal.loop-i-preserved
 loop-i-preserved g c =
     let all = results c.args.graph.now c.args.op in
     record {
-      all = next_taken c.loop-i.types.items c.push.new.items.items (map (λ r. r.of_type) all) c.loop-i.i c.in_ok-try_copy.field-0 c.loop-i.invariant.all c.in_ok-push.ensures.items
-          (slice_get-map (λ r. r.of_type) all c.loop-i.i ∙ c.type_of.ensures ∙ ap Some (sym c.in_ok-try_copy.ensures));
+      all = next_taken c.loop-i.types.items c.push.new.items.items (map (λ r. r.of_type) all) c.loop-i.i c.in_ok-value_type.field-0 c.loop-i.invariant.all c.in_ok-push.ensures.items
+          (slice_get-map (λ r. r.of_type) all c.loop-i.i ∙ c.type_of.ensures ∙ ap Some (sym c.in_ok-value_type.ensures));
     }

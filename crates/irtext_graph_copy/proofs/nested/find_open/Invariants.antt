@@ -7,7 +7,7 @@ use Rattle.irtext_graph_copy.proofs.nested.find_open.Given as goal
 
 abbrev pub invariant-loop-to : goal.invariant-loop-to
 invariant-loop-to g l = record {
-  copying : (old : GraphView _ _ _) (c : Object) (es : List (Object × Object)) → IsCopyingAt old l.graph l.root c es l.from.source l.from.copy → IsCopyingAt old l.graph l.root c es l.at l.to;
+  copying : (old : GraphView _ _ _) (c : Object) (es : List (Object × Object)) → IsCopyingAt g.P.operations_agree g.P.blocks_agree old l.graph l.root c es l.from.source l.from.copy → IsCopyingAt g.P.operations_agree g.P.blocks_agree old l.graph l.root c es l.at l.to;
 }
 
 abbrev pub decreases-loop-to : goal.decreases-loop-to

@@ -1,1 +1,0 @@
-use Rattle.irtext_graph_copy.proofs.Redirected.{keeps_next}
