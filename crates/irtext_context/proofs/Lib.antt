@@ -16,3 +16,4 @@ pub mod DialectTables
 pub mod Locations
 pub mod RefusedOps
 pub mod Listed
+pub mod Cloned

@@ -10,3 +10,4 @@ pub mod AttributeLends
 pub mod Made
 pub mod Locations
 pub mod Registers
+pub mod Copies

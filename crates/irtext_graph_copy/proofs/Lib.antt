@@ -5,3 +5,4 @@ pub mod Likes
 pub mod Lists
 pub mod Redirected
 pub mod Whole
+pub mod Begun

@@ -1,5 +1,6 @@
 //! Copies of operations with everything nested in them.
-ghost use Rattle.std.specs.Prelude.{◌≡◌, ◌≤◌, ℕ, Some, IfOk, OnErr};
+ghost use Rattle.std.specs.Prelude.{IfOk, OnErr};
+ghost use Rattle.irtext_graph.specs.Back.{AllOlder};
 ghost use Rattle.irtext_graph.specs.Graph.{IsLive, KeepsOlder};
 ghost use Rattle.irtext_graph.specs.declared.object.Object.TheVariants.{TheOperation};
 ghost use Rattle.irtext_graph_copy.specs.Copies.{Copies as IsCopy, SameGraph};
@@ -19,14 +20,15 @@ fn copy_all<O: Drop, B: Drop, T: Drop, P: CopyParts<O, B, T>>(
     graph: &mut Graph<O, B, T>,
     op: Ptr<Operation>,
 ) -> Result<Ptr<Operation>, NotCopied>
-    requires { IsLive graph.old (TheOperation op) }
+    requires alive { IsLive graph.old (TheOperation op) }
+    requires older { AllOlder graph.old.made graph.old }
     ensures copied { IfOk result (λ copy. IsCopy P.operations_agree P.blocks_agree graph.old graph.new (TheOperation op) (TheOperation copy)) }
     ensures kept { KeepsOlder graph.old.made graph.old graph.new }
 {
-    let _mark = graph.made();
     graph.keeps_nesting();
     let copy = copy_bare_operation(parts, graph, op)?;
-    let (source, target) = (Object::TheOperation(op), Object::TheOperation(copy));
+    let source = Object::TheOperation(op);
+    let target = Object::TheOperation(copy);
     let mut copies = Copies::new(graph.allocator());
     copies.put(source, target)?;
     copy_nested(parts, graph, &mut copies, source, target)?;

@@ -1,17 +1,19 @@
 //! Blocks: the data that a context keeps of a block, and the calls that read and change it.
-ghost use Rattle.std.specs.Prelude.{◌≡◌, ◌≤◌, ℕ, List, [], Some, None, false, IsSome, IfErr, OnOk, OnErr, option_map, option_copied};
+ghost use Rattle.std.specs.Prelude.{◌≡◌, ◌≤◌, ℕ, List, [], Some, None, false, IsSome, IfOk, IfErr, OnOk, OnErr, option_map, option_copied};
 ghost use Rattle.std.specs.Borrow.{sem};
 ghost use Rattle.irtext_base.specs.Text.{Text};
+ghost use Rattle.irtext_context.specs.Copies.{SameBlockData};
 ghost use Rattle.irtext_context.specs.Dictionary.{is_reserved_for, RefusesEntry};
 ghost use Rattle.irtext_graph.specs.Parts.{block_at};
 ghost use Rattle.irtext_graph.specs.Store.{before};
 ghost use Rattle.irtext_context.specs.Context.{block, with_label, with_block_attribute, with_block_attributes, with_block_loc, with_changed_block, EditsBlock, KeepsOlder};
 
+use crate::base::operation::copied_location;
 use crate::base::{AttributeDict, BasicBlock, Context, Ptr};
 use irtext_base::base::{AttrObj, Identifier, Refusal};
 use irtext_base::location::Location;
 use irtext_base::text::{AttrText, IrText};
-use std::alloc::Global;
+use std::alloc::{AllocError, Global};
 
 /// A block's label, if it has one, its attributes and its location.
 #[derive(Drop)]
@@ -33,6 +35,32 @@ impl<A: Drop> BlockData<A> {
             attributes: AttributeDict::new(alloc),
             loc: Location::Unknown,
         }
+    }
+}
+
+impl<A: AttrText<A>> BlockData<A> {
+    /// Returns a copy: the same label, equal attributes and an equal location. Fails only when out of memory.
+    pub fn try_clone(&self, alloc: Global) -> Result<BlockData<A>, AllocError>
+        ensures { IfOk result (λ copy. SameBlockData self.now copy) }
+    {
+        let label = copied_label(&self.label)?;
+        let attributes = self.attributes.try_clone()?;
+        let loc = copied_location(alloc, &self.loc)?;
+        Ok(BlockData {
+            label,
+            attributes,
+            loc,
+        })
+    }
+}
+
+/// Returns a copy of a label, if there is one.
+fn copied_label(label: &Option<Identifier>) -> Result<Option<Identifier>, AllocError>
+    ensures { IfOk result (λ copy. copy ≡ label.now) }
+{
+    match label {
+        Some(label) => Ok(Some(label.clone()?)),
+        None => Ok(None),
     }
 }
 

@@ -1,7 +1,9 @@
 //! Operations: the data that a context keeps of an operation, and the calls that read and change it.
 ghost use Rattle.std.specs.Prelude.{◌≡◌, ◌≤◌, ◌↔◌, ℕ, List, Some, None, Err, false, IsSome, IfOk, IfErr, OnOk, OnErr, option_map, option_and_then};
 ghost use Rattle.std.specs.Borrow.{sem};
+ghost use Rattle.irtext_base.specs.Locations.{location_view};
 ghost use Rattle.irtext_base.specs.Text.{Text};
+ghost use Rattle.irtext_context.specs.Copies.{SameData};
 ghost use Rattle.irtext_context.specs.Dictionary.{is_reserved_for, RefusesEntry};
 ghost use Rattle.irtext_graph.specs.Limits.{NoMoreRegions};
 ghost use Rattle.irtext_graph.specs.Parts.{operation_at};
@@ -16,6 +18,7 @@ use irtext_base::base::{AttrObj, Identifier, OpId, Refusal};
 use irtext_base::location::Location;
 use irtext_base::text::{AttrText, IrText};
 use irtext_memory::NoRoom;
+use std::alloc::{AllocError, Global};
 
 /// An operation's id, attributes and location. Its operands, successors, results and regions are kept by the graph.
 #[derive(Drop)]
@@ -23,6 +26,44 @@ pub struct OperationData<A> {
     pub(crate) id: OpId,
     pub(crate) attributes: AttributeDict<A>,
     pub(crate) loc: Location<A>,
+}
+
+impl<A: AttrText<A>> OperationData<A> {
+    /// Returns a copy: the same id, equal attributes and an equal location. Fails only when out of memory.
+    pub fn try_clone(&self, alloc: Global) -> Result<OperationData<A>, AllocError>
+        ensures { IfOk result (λ copy. SameData self.now copy) }
+    {
+        let id = copied_id(&self.id)?;
+        let attributes = self.attributes.try_clone()?;
+        let loc = copied_location(alloc, &self.loc)?;
+        Ok(OperationData {
+            id,
+            attributes,
+            loc,
+        })
+    }
+}
+
+/// Returns a copy of an id.
+fn copied_id(id: &OpId) -> Result<OpId, AllocError>
+    ensures { IfOk result (λ copy. copy ≡ id.now) }
+{
+    let dialect = id.dialect.clone()?;
+    let name = id.name.clone()?;
+    Ok(OpId { dialect, name })
+}
+
+/// Returns a copy of a location. Fails only when out of memory.
+pub(crate) fn copied_location<A: AttrText<A>>(
+    alloc: Global,
+    loc: &Location<A>,
+) -> Result<Location<A>, AllocError>
+    ensures { IfOk result (λ copy. location_view copy ≡ location_view loc.now) }
+{
+    match loc.try_clone(alloc) {
+        Ok(copy) => Ok(copy),
+        Err(_) => Err(AllocError),
+    }
 }
 
 /// The data of an operation that is no placeholder.
