@@ -25,7 +25,7 @@ item_at [] i l = absurd (omega (arith, l))
 item_at (x ∷ xs) zero l = (x, refl)
 item_at (x ∷ xs) (suc i) l = item_at xs i (omega (arith, l))
 
-length_push : {X : Type 0} (xs : List X) (x : X) → length (xs ++ x ∷ []) ≡ suc (length xs)
+pub length_push : {X : Type 0} (xs : List X) (x : X) → length (xs ++ x ∷ []) ≡ suc (length xs)
 length_push [] x = refl
 length_push (y ∷ ys) x = ap suc (length_push ys x)
 

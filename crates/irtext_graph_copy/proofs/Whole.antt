@@ -80,8 +80,6 @@ module _ {O B T : Type 0} (AO : O → O → Type 0) (AB : B → B → Type 0) (o
             (z.0, ap (copy_in es) (sym r_is) ∙ r.2)
       ]
 
-  cp : Object → Object
-  cp q = copy_of (mapping_of es) q
 
   pub copy_is : (q x : Object) → copy_in es q ≡ Some x → copy_of (mapping_of es) q ≡ x
   copy_is q x e = found es q x e (s.copying.kind q x e)
