@@ -6,3 +6,4 @@ pub mod Lists
 pub mod Redirected
 pub mod Whole
 pub mod Begun
+pub mod Keys

@@ -1,5 +1,5 @@
 //! Copies of everything nested in an object.
-ghost use Rattle.std.specs.Prelude.{◌≡◌, ◌≤◌, ◌<◌, ◌↔◌, ◌++◌, ◌∷◌, ℕ, List, Some, None, IfOk, IfSome, IfNone, IsSome, IsTrue, OnOk, length};
+ghost use Rattle.std.specs.Prelude.{◌≡◌, ◌≤◌, ◌<◌, ◌↔◌, ◌++◌, ◌∷◌, [], ℕ, List, Some, None, IfOk, IfSome, IfNone, IsSome, IsTrue, OnOk, length};
 ghost use Rattle.irtext_graph.specs.Graph.{GraphView, IsLive, IsNew, KeepsOlder, parent};
 ghost use Rattle.irtext_graph.specs.Objects.{Fits};
 ghost use Rattle.irtext_graph.specs.declared.object.Object.{Object};
@@ -73,7 +73,7 @@ fn find_open<O: Drop, B: Drop, T: Drop, P: CopyParts<O, B, T>>(
         × IsCopyingAt P.operations_agree P.blocks_agree old graph.now root c es from.source from.copy }
     ensures found { (old : GraphView O B T) (c : Object) (es : List (Object × Object))
         → IsCopyingAt P.operations_agree P.blocks_agree old graph.now root c es from.source from.copy
-        → IfSome result (λ open. IsOpenAt P.operations_agree P.blocks_agree old graph.now root c es open.source open.copy) }
+        → IfSome result (λ next. IsOpenAt P.operations_agree P.blocks_agree old graph.now root c es next.source next.copy) }
     ensures none { (old : GraphView O B T) (c : Object) (es : List (Object × Object))
         → IsCopyingAt P.operations_agree P.blocks_agree old graph.now root c es from.source from.copy
         → IfNone result (IsAllCopied P.operations_agree P.blocks_agree old graph.now root c es) }
@@ -109,10 +109,10 @@ pub(crate) fn copy_nested<O: Drop, B: Drop, T: Drop, P: CopyParts<O, B, T>>(
         → KeepsOlder old.made old graph.new }
 {
     let mut place = find_open(parts, graph, root, Pair { source: root, copy });
-    while let Some(open) = place {
-        let done = graph.num_children(open.copy);
-        let child = graph.get_child(open.source, done);
-        let made = copy_into(parts, graph, copies, open.copy, child)?;
+    while let Some(next) = place {
+        let done = graph.num_children(next.copy);
+        let child = graph.get_child(next.source, done);
+        let made = copy_into(parts, graph, copies, next.copy, child)?;
         place = find_open(
             parts,
             graph,

@@ -14,6 +14,6 @@ make_operation-requires-clause-successors g c = λ i b e. c.keeps_nesting.ensure
     (ap (option_map OfBlock) (ap (λ bs. slice_get bs i) (sym (c.deref-2.ensures.value ∙ c.in_ok-led_to.ensures)) ∙ e))
 
 pub returns-clause-made : goal.returns-clause-made
-returns-clause-made g c = operation_made g.P.operations_agree g.P.blocks_agree c.args.graph.now c.make_operation.new.self c.args.op c.in_ok-make_operation.field-0 c.operation.result.now c.in_ok-value.value c.in_ok-types.types
+returns-clause-made g c = operation_made g.P.CopyParts.operations_agree g.P.CopyParts.blocks_agree c.args.graph.now c.make_operation.new.self c.args.op c.in_ok-make_operation.field-0 c.operation.result.now c.in_ok-value.value c.in_ok-types.types
     c.deref.result.now c.deref-2.result.now c.requires c.operation.ensures c.in_ok-value.ensures c.in_ok-types.ensures
     (c.deref.ensures.value ∙ c.in_ok-used.ensures) (c.deref-2.ensures.value ∙ c.in_ok-led_to.ensures) c.in_ok-make_operation.ensures.made
