@@ -32,8 +32,8 @@ module _ {A : Type 0} where
       → insert_all bytes_eq (seen_entries new) (seen_entries rest) ≡ insert_all bytes_eq [] (seen_entries all)
   copied_next copy new left rest all k j a b e n same view h =
       let now : seen_entries new ≡ insert_entry bytes_eq (seen_entries copy) k (attr_view a) =
-          ap seen_entries n ∙ seen_insert copy j b ∙ ap (λ (i : Text). insert_entry bytes_eq (seen_entries copy) i (attr_view b)) same
-          ∙ ap (λ (v : AttrView A). insert_entry bytes_eq (seen_entries copy) k v) view in
+      ap seen_entries n ∙ seen_insert copy j b ∙ ap (λ (i : Text). insert_entry bytes_eq (seen_entries copy) i (attr_view b)) same
+      ∙ ap (λ (v : AttrView A). insert_entry bytes_eq (seen_entries copy) k v) view in
       ap (λ es. insert_all bytes_eq es (seen_entries rest)) now
       ∙ ap (λ es. insert_all bytes_eq (seen_entries copy) (seen_entries es)) (sym e)
       ∙ h

@@ -11,8 +11,8 @@ use crate::parts::ContextParts;
 use irtext_base::text::{AttrText, IrText};
 use irtext_context::base::{Context, Operation, Ptr};
 use irtext_graph::held::HasGraph;
-pub use irtext_graph_copy::parts::NotCopied;
 use irtext_graph_copy::copy::copy_operation;
+pub use irtext_graph_copy::parts::NotCopied;
 use irtext_syntax::part::TryClone;
 
 /// Copies an operation through its pointer.

@@ -21,9 +21,11 @@ impl ContextParts {
     }
 }
 
-impl<T: IrText<A> + TryClone, A: AttrText<A>> CopyParts<Option<OperationData<A>>, BlockData<A>, Option<T>>
-    for ContextParts
-{
+impl<T: IrText<A> + TryClone, A: AttrText<A>> CopyParts<
+    Option<OperationData<A>>,
+    BlockData<A>,
+    Option<T>,
+> for ContextParts {
     ghost operations_agree = { SameDatum };
 
     ghost blocks_agree = { SameBlockData };

@@ -212,18 +212,23 @@ module _ {O B T : Type 0} (AO : O → O → Type 0) (AB : B → B → Type 0) (o
       let z = item_at (children g l.0) i.0 l.2 in
       let r = s.copying.nesting p.0 l.0 z.0 i.0 l.1 z.1 in
       let r_at : r.0 ≡ at = some_eq (sym r.1 ∙ i.1) in
-      let z_to : z.0 ≡ to = some_eq (sym r.2 ∙ ap (copy_in es) r_at ∙ s.here) in
-      (p.0, l.0, p.1, ap (parent g) (sym z_to) ∙ n.down l.0 i.0 z.0 z.1, record {
-        copying = s.copying;
-        here = l.1;
-        complete = λ q x e. elim (s.complete q x e) [
-          | inl f ↦ inl f
-          | inr around ↦ elim (same_or_other object_tells at q) [
-            | inl is ↦ inl (same_length q x e is)
-            | inr apart ↦ inr (holder_inside old q at p.0 around apart p.1)
-          ]
-        ];
-      })
+      let z_to : z.0 ≡ to = some_eq (sym r.2 ∙ ap (copy_in es) r_at ∙ s.here) in (
+        p.0,
+        l.0,
+        p.1,
+        ap (parent g) (sym z_to) ∙ n.down l.0 i.0 z.0 z.1,
+        record {
+          copying = s.copying;
+          here = l.1;
+          complete = λ q x e. elim (s.complete q x e) [
+            | inl f ↦ inl f
+            | inr around ↦ elim (same_or_other object_tells at q) [
+              | inl is ↦ inl (same_length q x e is)
+              | inr apart ↦ inr (holder_inside old q at p.0 around apart p.1)
+            ]
+          ];
+        },
+      )
     where
       same_length : (q x : Object) → copy_in es q ≡ Some x → at ≡ q → length (children g x) ≡ length (children old q)
       same_length q x e is =

@@ -80,7 +80,6 @@ module _ {O B T : Type 0} (AO : O → O → Type 0) (AB : B → B → Type 0) (o
             (z.0, ap (copy_in es) (sym r_is) ∙ r.2)
       ]
 
-
   pub copy_is : (q x : Object) → copy_in es q ≡ Some x → copy_of (mapping_of es) q ≡ x
   copy_is q x e = found es q x e (s.copying.kind q x e)
 
@@ -217,12 +216,12 @@ module _ {O B T : Type 0} (AO : O → O → Type 0) (AB : B → B → Type 0) (o
     operands_moved : (q : Object) (p : Ptr Operation) → copy_in es q ≡ Some (TheOperation p) → operands h p ≡ map (copied_value (mapping_of es)) (operands g p)
     operands_moved q p e = same_items (operands h p) (map (copied_value (mapping_of es)) (operands g p))
         (λ i. value_moved (mapping_of es) (slice_get (operands h p) i) (slice_get (operands g p) i) (used_moved q p e (AtOperand p i) refl)
-            ∙ sym (slice_get-map (copied_value (mapping_of es)) (operands g p) i))
+        ∙ sym (slice_get-map (copied_value (mapping_of es)) (operands g p) i))
 
     successors_moved : (q : Object) (p : Ptr Operation) → copy_in es q ≡ Some (TheOperation p) → successors h p ≡ map (mapping_of es).block (successors g p)
     successors_moved q p e = same_items (successors h p) (map (mapping_of es).block (successors g p))
         (λ i. label_moved (mapping_of es) (slice_get (successors h p) i) (slice_get (successors g p) i) (used_moved q p e (AtSuccessor p i) refl)
-            ∙ sym (slice_get-map (mapping_of es).block (successors g p) i))
+        ∙ sym (slice_get-map (mapping_of es).block (successors g p) i))
 
     contents_at : (q x : Object) → copy_in es q ≡ Some x → IsCopied AO AB (mapping_of es) (content old q) (content h x)
     contents_at (TheOperation p) (TheOperation y) e = operation_copied O B T AO AB (mapping_of es) (get old.operations p) (get g.operations y) (get h.operations y)

@@ -25,7 +25,10 @@ fn result_types<O: Drop, B: Drop, T: Drop, P: CopyParts<O, B, T>>(
 {
     let mut types = Vec::new(graph.allocator());
     for i in 0..graph.num_results(op) {
-        vec::push(&mut types, parts.value_type(graph.type_of(Value::Result(op, i)))?)?;
+        vec::push(
+            &mut types,
+            parts.value_type(graph.type_of(Value::Result(op, i)))?,
+        )?;
     }
     Ok(Few::from_vec(types))
 }

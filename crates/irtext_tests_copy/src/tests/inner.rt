@@ -28,7 +28,14 @@ fn make(alloc: Global, ctx: &mut Ctx) -> Result<Ptr<Operation>, Fail> {
 fn check_outside(alloc: Global, ctx: &mut Ctx) -> Result<(), Fail> {
     let made = make(alloc, ctx)?;
     let value = Value::Result(made, 0);
-    let user = operation(ctx, id(alloc, ("test", "use"))?, Few::none(), &[value], &[], 0)?;
+    let user = operation(
+        ctx,
+        id(alloc, ("test", "use"))?,
+        Few::none(),
+        &[value],
+        &[],
+        0,
+    )?;
     live(ctx, user)?;
     let Ok(copy) = user.try_clone(ctx) else {
         return Err(Fail::from("no copy"));
@@ -36,7 +43,10 @@ fn check_outside(alloc: Global, ctx: &mut Ctx) -> Result<(), Fail> {
     let graph = ctx.graph();
     must(graph.contains(Object::TheOperation(copy)), "no operation")?;
     must(copy != user, "no other operation")?;
-    must(graph.get_parent(Object::TheOperation(copy)).is_none(), "in a block")?;
+    must(
+        graph.get_parent(Object::TheOperation(copy)).is_none(),
+        "in a block",
+    )?;
     must(graph.num_operands(copy) == 1, "other operands")?;
     must(graph.get_operand(copy, 0) == value, "another value")?;
     must(graph.contains_value(value), "no value")?;

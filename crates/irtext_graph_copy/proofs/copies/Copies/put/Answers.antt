@@ -8,5 +8,5 @@ pub returns-clause-ok : goal.returns-clause-ok
 returns-clause-ok c =
     c.in_ok-insert.ensures.entries
     ∙ insert_entry-new key_eq c.self.inside.pairs c.args.o c.args.copy
-        (lookup_is c.self.inside.pairs.entries c.args.o ∙ ap (λ es. copy_in es c.args.o) c.self.view_is ∙ c.requires)
+    (lookup_is c.self.inside.pairs.entries c.args.o ∙ ap (λ es. copy_in es c.args.o) c.self.view_is ∙ c.requires)
     ∙ ap (λ es. es ++ (c.args.o, c.args.copy) ∷ []) c.self.view_is
