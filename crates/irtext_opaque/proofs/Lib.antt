@@ -1,0 +1,2 @@
+-- What the laws are proved with
+pub mod Skipped
