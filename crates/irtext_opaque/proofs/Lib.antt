@@ -1,2 +1,3 @@
 -- What the laws are proved with
 pub mod Skipped
+pub mod OpaqueRead

@@ -1,7 +1,9 @@
 -- What was consumed on the way to the bracket that closes the outermost ones.
-use Rattle.std.proofs.Common.{◌≡◌, ◌∙◌, ◌+◌, ◌-◌, ◌≤◌, ◌==◌, ◌&&◌, ℕ, Bool, true, false, cond, None, Some, Option, [], ◌∷◌, ◌++◌, length, refl, sym, ap, subst, append_assoc, append-nil, arith}
+use Rattle.std.proofs.Common.{◌≡◌, ◌∙◌, ◌+◌, ◌-◌, ◌≤◌, ◌==◌, ◌&&◌, ℕ, Bool, true, false, cond, None, Some, Option, [], ◌∷◌, ◌++◌, length, refl, sym, ap, subst, append-nil, arith, true≢false}
 use Rattle.std.proofs.lemmas.List.{length-append}
-use Rattle.std.specs.Prelude.{⊤}
+use Rattle.std.proofs.lemmas.Str.{encodes-append, length-le-encodes}
+use Rattle.std.specs.Prelude.{⊤, ◌<◌}
+use Rattle.std.specs.Str.{encode_utf8_all}
 use Rattle.irtext_base.specs.Text.{Text}
 use Rattle.irtext_base.specs.Answers.{Takes}
 use Rattle.irtext_base.specs.Stream.{StreamView, first_of, advanced, advanced_by, after_taken}
@@ -91,3 +93,19 @@ all_passed begun at old now new taken w e n =
     let still : new ≡ now = n ∙ (ap (λ z. advanced_by now.passed z now.failed) none ∙ ap (λ (z : Text). let v : StreamView = record { passed = now.passed; rest = z; failed = now.failed } in v) (sym none)) in
     let is : new ≡ after_taken old old.rest [] = still ∙ (w.along.is ∙ (ap (after_taken old taken) none ∙ ap (λ z. after_taken old z []) whole)) in
     subst (λ o. Skips o old false new) (sym lost) (refl, record { is = is; same = append-nil old.rest })
+
+-- ---- what was consumed, by what was found
+pub skips_none : (o : Option (Text × Text)) (old new : StreamView) (r : Bool) → r ≡ false → Skips o old r new → (o ≡ None) × Takes (λ s. s) (λ s v. v) old.rest [] old new
+skips_none None old new r e s = (refl, s.1)
+skips_none (Some taken) old new r e s = absurd (true≢false (sym s.0 ∙ e))
+
+pub skips_some : (o : Option (Text × Text)) (old new : StreamView) (r : Bool) → r ≡ true → Skips o old r new → (taken : Text × Text) × (o ≡ Some taken) × Takes (λ s. s) (λ s v. v) taken.0 taken.1 old new
+skips_some None old new r e s = absurd (true≢false (sym e ∙ s.0))
+skips_some (Some taken) old new r e s = (taken, refl, s.1)
+
+-- a character was consumed since the position before it
+pub some_since : (passed rest before : Text) (c : ℕ) → passed ++ rest ≡ before ++ (c ∷ []) → length (encode_utf8_all before) ≡ length (encode_utf8_all passed) → 0 < length rest
+some_since passed [] before c e p =
+    let same : passed ≡ before ++ (c ∷ []) = sym (append-nil passed) ∙ e in
+    absurd (omega (arith, p, ap (λ t. length (encode_utf8_all t)) same, ap length (encodes-append before (c ∷ [])), length-append (encode_utf8_all before) (encode_utf8_all (c ∷ [])), length-le-encodes (c ∷ [])))
+some_since passed (d ∷ rest) before c e p = omega arith

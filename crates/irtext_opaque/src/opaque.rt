@@ -85,7 +85,8 @@ impl<F: Worded> Opaque<F> {
 
     /// Returns the text, as it was parsed.
     pub fn as_str(&self) -> &str
-        ensures { chars result.now ≡ self.now.text.characters }
+        ensures characters { chars result.now ≡ self.now.text.characters }
+        ensures bytes { result.now ≡ encode_utf8_all self.now.text.characters }
     {
         self.text.as_str()
     }
