@@ -46,7 +46,7 @@ fn put<T: IrText<A>, A: AttrText<A>>(
     } = declared;
     match ctx.register_op(dialect, name.as_str(), format, isolated) {
         Ok(()) => Ok(()),
-        Err(error) => Err(refuse_at(stream, format_at, error.err)),
+        Err(error) => Err(refuse_at(stream, format_at, error.into_cause())),
     }
 }
 

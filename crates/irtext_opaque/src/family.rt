@@ -101,3 +101,12 @@ impl<B, F: AttrText<B> + Family<B>> AttrText<B> for OrOpaque<F> {
         }
     }
 }
+
+impl<F: Worded + TryClone> TryClone for OrOpaque<F> {
+    fn try_clone(&self) -> Result<OrOpaque<F>, AllocError> {
+        match self {
+            OrOpaque::Known(x) => Ok(OrOpaque::Known(x.try_clone()?)),
+            OrOpaque::Opaque(x) => Ok(OrOpaque::Opaque(x.try_clone()?)),
+        }
+    }
+}

@@ -70,6 +70,40 @@ pub fn main<T: IrText<A>, A: AttrText<A>, D: Dialects<T, A>>(
         Ok(owned) => run_words::<T, A, D>(rt, name, version, &owned),
         Err(error) => Err(error),
     };
+    code_of(rt, name, status)
+}
+
+/// Runs the program as [`main`] does, but with the types `U`, the attributes `B` and the dialects `E` if a word is `--dialect`: with those
+/// of `D` and what files declare, where other types and attributes are kept as their texts.
+pub fn main_with_files<
+    T: IrText<A>,
+    A: AttrText<A>,
+    D: Dialects<T, A>,
+    U: IrText<B>,
+    B: AttrText<B>,
+    E: Dialects<U, B>,
+>(
+    rt: &HostRuntime,
+    name: &str,
+    version: &str,
+) -> ExitCode {
+    let status = match words_of(rt) {
+        Ok(owned) if names_dialects(&owned) => run_words::<U, B, E>(rt, name, version, &owned),
+        Ok(owned) => run_words::<T, A, D>(rt, name, version, &owned),
+        Err(error) => Err(error),
+    };
+    code_of(rt, name, status)
+}
+
+/// Whether a word is `--dialect`, perhaps with `=` and a file.
+fn names_dialects(owned: &Vec<String>) -> bool {
+    owned
+        .iter()
+        .any(|word| word.as_str() == "--dialect" || word.as_str().starts_with("--dialect="))
+}
+
+/// Returns the exit code for how a run ended, and says why, if it did not begin.
+fn code_of(rt: &HostRuntime, name: &str, status: io::Result<u8>) -> ExitCode {
     match status {
         Ok(status) => ExitCode::from(status),
         Err(error) if error.kind() == io::ErrorKind::OutOfMemory => {

@@ -3,6 +3,7 @@
 #![tactic(auto)]
 
 pub mod about;
+pub mod dialect_files;
 pub mod files;
 pub mod hints;
 pub mod host;

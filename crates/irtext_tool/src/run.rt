@@ -8,6 +8,7 @@ ghost use Rattle.irtext_tool.specs.Told.{Writes, IsAbout, HasDetail, IsQuiet, Is
 ghost use Rattle.irtext_tool.specs.declared.about.Form.TheVariants as form;
 
 use crate::about::{About, Form, STANDARD_INPUT, style_of};
+use crate::dialect_files::context_with;
 use crate::files::Files;
 use crate::recovery::{report_alone, report_rejections};
 use crate::report::{
@@ -21,12 +22,16 @@ use crate::status::{
 use crate::words::{Answer, Request, Target, Task, parse_words};
 use irtext_base::parsable::ParseFault;
 use irtext_base::result;
+use irtext_base::result::Cause;
 use irtext_base::seed::Seed;
 use irtext_base::text::{AttrText, IrText};
+use irtext_context::base::Context;
+use irtext_declared::declare;
 use irtext_diff::write_unified;
-use irtext_formatter::dialects::{Dialects, new_context};
+use irtext_formatter::dialects::Dialects;
 use irtext_formatter::fault::{Failure, Fault};
-use irtext_formatter::formatted::{check_new, format_input, format_new};
+use irtext_formatter::format::{check_text, format_text};
+use irtext_formatter::formatted::format_input;
 use irtext_formatter::input::{InputFault, read_text};
 use irtext_formatter::layout::Layout;
 use irtext_formatter::output::write_text;
@@ -57,6 +62,7 @@ fn report_dialects<A, E: Write>(
 fn report_roots<T: IrText<A>, A: AttrText<A>, D: Dialects<T, A>, E: Write>(
     alloc: Global,
     seed: Seed,
+    declared: &[String],
     errors: &mut E,
     scene: Scene<'_>,
     text: &str,
@@ -65,7 +71,7 @@ fn report_roots<T: IrText<A>, A: AttrText<A>, D: Dialects<T, A>, E: Write>(
     ensures { OnOk result (Writes (E.contents errors.old) (E.contents errors.new)
         (TellsRejected scene.entry.form scene.entry.path.now text.now fault.now)) }
 {
-    match new_context::<T, A, D>(alloc, seed) {
+    match context_with::<T, A, D>(alloc, seed, declared) {
         Ok(mut ctx) => report_rejections(&mut ctx, errors, scene, text, fault),
         Err(error) => {
             report_alone(alloc, errors, scene, text, fault)?;
@@ -78,6 +84,7 @@ fn report_roots<T: IrText<A>, A: AttrText<A>, D: Dialects<T, A>, E: Write>(
 fn report_text<T: IrText<A>, A: AttrText<A>, D: Dialects<T, A>, E: Write>(
     alloc: Global,
     seed: Seed,
+    declared: &[String],
     errors: &mut E,
     scene: Scene<'_>,
     text: &str,
@@ -89,7 +96,7 @@ fn report_text<T: IrText<A>, A: AttrText<A>, D: Dialects<T, A>, E: Write>(
     match fault {
         Fault::Memory => report_memory(alloc, errors, scene),
         Fault::Rejected(fault) => report_roots::<T, A, D, E>(
-            alloc, seed, errors, scene, text, fault,
+            alloc, seed, declared, errors, scene, text, fault,
         ),
         Fault::Misfit(misfit) => report_misfit(alloc, errors, scene, text, misfit),
         Fault::TooDeep => {
@@ -103,6 +110,7 @@ fn report_text<T: IrText<A>, A: AttrText<A>, D: Dialects<T, A>, E: Write>(
 fn report_failure<T: IrText<A>, A: AttrText<A>, D: Dialects<T, A>, E: Write>(
     alloc: Global,
     seed: Seed,
+    declared: &[String],
     errors: &mut E,
     scene: Scene<'_>,
     text: &str,
@@ -115,7 +123,9 @@ fn report_failure<T: IrText<A>, A: AttrText<A>, D: Dialects<T, A>, E: Write>(
     match failure {
         Failure::Input(fault) => report_input(alloc, errors, scene, fault),
         Failure::Dialects(error) => report_dialects(alloc, errors, scene, error),
-        Failure::Text(fault) => report_text::<T, A, D, E>(alloc, seed, errors, scene, text, fault),
+        Failure::Text(fault) => report_text::<T, A, D, E>(
+            alloc, seed, declared, errors, scene, text, fault,
+        ),
         Failure::Unwritable(error) => report_output(alloc, errors, scene.form, error),
     }
 }
@@ -124,6 +134,7 @@ fn report_failure<T: IrText<A>, A: AttrText<A>, D: Dialects<T, A>, E: Write>(
 fn report_answer<T: IrText<A>, A: AttrText<A>, D: Dialects<T, A>, E: Write>(
     alloc: Global,
     seed: Seed,
+    declared: &[String],
     errors: &mut E,
     scene: Scene<'_>,
     text: &str,
@@ -135,7 +146,9 @@ fn report_answer<T: IrText<A>, A: AttrText<A>, D: Dialects<T, A>, E: Write>(
 {
     match answer {
         Ok(()) => Ok(()),
-        Err(failure) => report_failure::<T, A, D, E>(alloc, seed, errors, scene, text, failure),
+        Err(failure) => report_failure::<T, A, D, E>(
+            alloc, seed, declared, errors, scene, text, failure,
+        ),
     }
 }
 
@@ -167,7 +180,10 @@ fn format_standard<T: IrText<A>, A: AttrText<A>, D: Dialects<T, A>, R: Read, W: 
         path: STANDARD_INPUT,
         form,
     };
-    let said = report_answer::<T, A, D, E>(alloc, seed, errors, scene, text.as_str(), &answer);
+    let none: [String; 0] = [];
+    let said = report_answer::<T, A, D, E>(
+        alloc, seed, none.as_slice(), errors, scene, text.as_str(), &answer,
+    );
     Ended {
         status: status_of_answer(&answer),
         took: said.is_ok(),
@@ -301,10 +317,11 @@ fn deliver<F: Files, W: Write, E: Write>(
 fn count_new<T: IrText<A>, A: AttrText<A>, D: Dialects<T, A>>(
     alloc: Global,
     seed: Seed,
+    declared: &[String],
     path: &str,
     text: &str,
 ) -> Result<String, Failure<A>> {
-    let mut ctx = new_context::<T, A, D>(alloc, seed).map_err(Failure::Dialects)?;
+    let mut ctx = context_with::<T, A, D>(alloc, seed, declared).map_err(Failure::Dialects)?;
     let counts = count_text(&mut ctx, text).map_err(Failure::Text)?;
     counts_text(alloc, path, &counts).map_err(|_| Failure::Text(Fault::Memory))
 }
@@ -313,14 +330,22 @@ fn count_new<T: IrText<A>, A: AttrText<A>, D: Dialects<T, A>>(
 fn result_of<T: IrText<A>, A: AttrText<A>, D: Dialects<T, A>>(
     alloc: Global,
     seed: Seed,
+    declared: &[String],
     path: &str,
     text: &str,
     task: Task<'_>,
 ) -> Result<String, Failure<A>> {
     match task {
-        Task::Format(layout, _) => format_new::<T, A, D>(alloc, seed, text, layout),
-        Task::Check => check_new::<T, A, D>(alloc, seed, text, WHOLE).map(|()| String::new(alloc)),
-        Task::Stats => count_new::<T, A, D>(alloc, seed, path, text),
+        Task::Format(layout, _) => {
+            let mut ctx = context_with::<T, A, D>(alloc, seed, declared).map_err(Failure::Dialects)?;
+            format_text(&mut ctx, text, layout).map_err(Failure::Text)
+        }
+        Task::Check => {
+            let mut ctx = context_with::<T, A, D>(alloc, seed, declared).map_err(Failure::Dialects)?;
+            check_text(&mut ctx, text, WHOLE).map_err(Failure::Text)?;
+            Ok(String::new(alloc))
+        }
+        Task::Stats => count_new::<T, A, D>(alloc, seed, declared, path, text),
     }
 }
 
@@ -328,6 +353,7 @@ fn result_of<T: IrText<A>, A: AttrText<A>, D: Dialects<T, A>>(
 fn work_on_text<T: IrText<A>, A: AttrText<A>, D: Dialects<T, A>, F: Files, W: Write, E: Write>(
     alloc: Global,
     seed: Seed,
+    declared: &[String],
     scene: Scene<'_>,
     task: Task<'_>,
     text: &str,
@@ -337,10 +363,12 @@ fn work_on_text<T: IrText<A>, A: AttrText<A>, D: Dialects<T, A>, F: Files, W: Wr
 ) -> Done
     ensures { IsStatus result }
 {
-    let made = match result_of::<T, A, D>(alloc, seed, scene.path, text, task) {
+    let made = match result_of::<T, A, D>(alloc, seed, declared, scene.path, text, task) {
         Ok(made) => made,
         Err(failure) => {
-            let said = report_failure::<T, A, D, E>(alloc, seed, errors, scene, text, &failure);
+            let said = report_failure::<T, A, D, E>(
+                alloc, seed, declared, errors, scene, text, &failure,
+            );
             return finished(status_of(&failure), said);
         }
     };
@@ -381,6 +409,7 @@ fn work_on_file<
 >(
     alloc: Global,
     seed: Seed,
+    declared: &[String],
     request: &Request<'_>,
     path: &str,
     files: &F,
@@ -405,6 +434,7 @@ fn work_on_file<
             work_on_text::<T, A, D, F, W, E>(
                 alloc,
                 seed,
+                declared,
                 scene,
                 task,
                 text.as_str(),
@@ -424,6 +454,7 @@ fn work_on_file<
 fn work<T: IrText<A>, A: AttrText<A>, D: Dialects<T, A>, F: Files, R: Read, W: Write, E: Write>(
     alloc: Global,
     seed: Seed,
+    declared: &[String],
     request: &Request<'_>,
     files: &F,
     input: &mut R,
@@ -435,7 +466,7 @@ fn work<T: IrText<A>, A: AttrText<A>, D: Dialects<T, A>, F: Files, R: Read, W: W
     let (mut status, mut took) = (DONE, true);
     for path in request.files.iter() {
         match work_on_file::<T, A, D, F, R, W, E>(
-            alloc, seed, request, *path, files, input, output, errors,
+            alloc, seed, declared, request, *path, files, input, output, errors,
         ) {
             Done::Ended(one) => {
                 status = status.max(one.status);
@@ -450,6 +481,93 @@ fn work<T: IrText<A>, A: AttrText<A>, D: Dialects<T, A>, F: Files, R: Read, W: W
         }
     }
     Ended { status, took }
+}
+
+/// Writes why a file does not declare dialects.
+fn report_declared<A, E: Write>(
+    alloc: Global,
+    errors: &mut E,
+    scene: Scene<'_>,
+    text: &str,
+    fault: &ParseFault<A>,
+) -> Ended
+    ensures { result.status ≤ 3 }
+{
+    let status = match fault.cause {
+        Cause::Memory => FAILED,
+        _ => REJECTED,
+    };
+    Ended {
+        status,
+        took: report_alone(alloc, errors, scene, text, fault).is_ok(),
+    }
+}
+
+/// Reads the files that declare dialects, and tries each with the program's dialects and those of the files before it. The error is how
+/// the program ends if one cannot be read, or declares none: that is written.
+fn declared_by<T: IrText<A>, A: AttrText<A>, D: Dialects<T, A>, F: Files, E: Write>(
+    alloc: Global,
+    seed: Seed,
+    request: &Request<'_>,
+    files: &F,
+    errors: &mut E,
+) -> Result<Vec<String>, Ended>
+    ensures { IfErr result (λ ended. ended.status ≤ 3) }
+{
+    let mut texts = Vec::new(alloc);
+    let mut ctx = Context::<T, A>::with_seed(alloc, seed);
+    let ready = D::register(&mut ctx);
+    for path in request.dialects.iter() {
+        let scene = Scene {
+            path: *path,
+            form: request.form,
+        };
+        if let Err(error) = &ready {
+            return Err(Ended {
+                status: FAILED,
+                took: report_dialects(alloc, errors, scene, error).is_ok(),
+            });
+        }
+        let text = match read_file(alloc, files, *path) {
+            Ok(text) => text,
+            Err(fault) => {
+                return Err(Ended {
+                    status: status_of_input(&fault),
+                    took: report_input(alloc, errors, scene, &fault).is_ok(),
+                });
+            }
+        };
+        if let Err(fault) = declare(&mut ctx, text.as_str()) {
+            return Err(report_declared(alloc, errors, scene, text.as_str(), &fault));
+        }
+        if texts.push(text).is_err() {
+            return Err(Ended {
+                status: FAILED,
+                took: report_memory(alloc, errors, scene).is_ok(),
+            });
+        }
+    }
+    Ok(texts)
+}
+
+/// Does what is asked for with each file, with the dialects that files declare besides those of the program.
+fn work_with<T: IrText<A>, A: AttrText<A>, D: Dialects<T, A>, F: Files, R: Read, W: Write, E: Write>(
+    alloc: Global,
+    seed: Seed,
+    request: &Request<'_>,
+    files: &F,
+    input: &mut R,
+    output: &mut W,
+    errors: &mut E,
+) -> Ended
+    ensures { result.status ≤ 3 }
+{
+    match declared_by::<T, A, D, F, E>(alloc, seed, request, files, errors) {
+        Ok(texts) => work::<T, A, D, F, R, W, E>(
+            alloc, seed, texts.as_slice(), request, files, input, output, errors,
+        ),
+        Err(ended) => ended,
+    }
 }
 
 /// Says why nothing is done: help or the version to the output, and what is wrong with the words to the errors.
@@ -517,7 +635,7 @@ pub fn run_to_end<
         return format_standard::<T, A, D, R, W, E>(alloc, seed, form, input, output, errors);
     }
     match parse_words(alloc, about, words) {
-        Ok(request) => work::<T, A, D, F, R, W, E>(
+        Ok(request) => work_with::<T, A, D, F, R, W, E>(
             alloc, seed, &request, files, input, output, errors,
         ),
         Err(other) => say(alloc, about, &other, output, errors),

@@ -40,6 +40,8 @@ pub struct Request<'a> {
     pub task: Task<'a>,
     /// How errors are written.
     pub form: Form,
+    /// The files that declare dialects, in the order in which they were named.
+    pub dialects: Vec<&'a str>,
     /// The files, each once, in the order in which they were named; `-` is standard input. There is at least one.
     pub files: Vec<&'a str>,
 }
@@ -137,10 +139,16 @@ fn subcommand<'a>(
         COLOURS.as_slice(),
         "When errors are coloured",
     );
+    let dialect = Arg::new(alloc, "dialect")
+        .long("dialect")
+        .value_name("FILE")
+        .action(ArgAction::Append)
+        .help("A file that declares dialects; may stand several times");
     Command::new(alloc, name)
         .about(about)
         .after_help(more)
         .arg(files)?
+        .arg(dialect)?
         .arg(form)?
         .arg(colour)
 }
@@ -273,6 +281,18 @@ fn files_of<'a>(alloc: Global, matches: &ArgMatches<'a>) -> Result<Vec<&'a str>,
     Ok(files)
 }
 
+/// Returns the files of a subcommand that declare dialects, each once.
+fn dialects_of<'a>(alloc: Global, matches: &ArgMatches<'a>) -> Result<Vec<&'a str>, AllocError> {
+    let mut files = Vec::new(alloc);
+    let mut seen = BTreeSet::new(alloc);
+    for path in matches.get_strs("dialect").unwrap_or(&[]) {
+        if seen.insert(*path)? {
+            files.push(*path)?;
+        }
+    }
+    Ok(files)
+}
+
 /// Returns what is wrong with a request that `clap` takes, if anything: standard input cannot be formatted in place, and one output file
 /// takes one text.
 fn mistake(request: &Request<'_>) -> Option<&'static str> {
@@ -304,6 +324,7 @@ pub fn parse_words<'a>(
     let request = Request {
         task: task_of(name, matches),
         form: form_of(about, matches),
+        dialects: dialects_of(alloc, matches)?,
         files: files_of(alloc, matches)?,
     };
     match mistake(&request) {
