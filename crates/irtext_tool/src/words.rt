@@ -73,6 +73,7 @@ const FORMAT_HELP: &'static str = "Examples:
   fmt --check *.ir             status 1 if a file is not formatted, and its name
   fmt --diff a.ir              show the lines that would change
   fmt --no-locations < a.ir    leave out the locations of operations
+  fmt --dialect my.dialect a.ir    know the operations that my.dialect declares, too
 
 A file has any number of roots. With no FILE, or for -, standard input is read.
 Status: 0; 1 a text is rejected or would change; 2 wrong words; 3 input or output failed.";
