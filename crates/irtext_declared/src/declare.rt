@@ -2,7 +2,9 @@
 
 use crate::items::{Declared, Item, item_parse, wrong};
 use irtext_base::base::Identifier;
-use irtext_base::parsable::{CharStream, ParseFault, ParseResult, Place, SourcePosition, TextStream};
+use irtext_base::parsable::{
+    CharStream, ParseFault, ParseResult, Place, SourcePosition, TextStream,
+};
 use irtext_base::result::Cause;
 use irtext_base::text::{AttrText, IrText};
 use irtext_context::base::Context;
@@ -59,7 +61,11 @@ fn add<T: IrText<A>, A: AttrText<A>>(
     declared: Declared,
 ) -> ParseResult<(), A> {
     let Some(dialect) = dialect else {
-        return Err(wrong(stream, declared.name_at, "An operation comes after `dialect` and a name"));
+        return Err(wrong(
+            stream,
+            declared.name_at,
+            "An operation comes after `dialect` and a name",
+        ));
     };
     let (dialect, name) = (dialect.as_str(), declared.name.as_str());
     let is_known = match known {
@@ -90,7 +96,10 @@ fn add_all<T: IrText<A>, A: AttrText<A>>(
 }
 
 /// Returns a stream over a text.
-fn stream_over<T: IrText<A>, A: AttrText<A>>(ctx: &Context<T, A>, text: &str) -> ParseResult<TextStream, A> {
+fn stream_over<T: IrText<A>, A: AttrText<A>>(
+    ctx: &Context<T, A>,
+    text: &str,
+) -> ParseResult<TextStream, A> {
     match TextStream::new(ctx.allocator(), text) {
         Ok(stream) => Ok(stream),
         Err(_) => Err(ParseFault {

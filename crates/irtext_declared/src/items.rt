@@ -3,9 +3,13 @@
 use irtext_base::base::Identifier;
 use irtext_base::format::OpFormat;
 use irtext_base::format::notation::{NotationFault, NotationPart};
-use irtext_base::parsable::{CharStream, ParseFault, ParseResult, Place, SourcePosition, TextStream};
+use irtext_base::parsable::{
+    CharStream, ParseFault, ParseResult, Place, SourcePosition, TextStream,
+};
 use irtext_base::result::{Cause, Expected};
-use irtext_tokens::irfmt::faults::{commit_unexpected, committed, fail_at, next_is, out_of_memory, refuse_at};
+use irtext_tokens::irfmt::faults::{
+    commit_unexpected, committed, fail_at, next_is, out_of_memory, refuse_at,
+};
 use irtext_tokens::irfmt::parsers::{identifier_parse, skip_identifier, skip_white_space};
 
 /// An operation that is declared.

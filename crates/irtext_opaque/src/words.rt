@@ -8,6 +8,7 @@ use irtext_base::text::Worded;
 
 /// The words of attributes that every context has.
 const GIVEN_NAMES: &'static str = "builtin.given_names";
+
 const IDENTIFIER: &'static str = "builtin.identifier";
 
 /// Whether the word begins as a word does.

@@ -1,8 +1,8 @@
 //! Files that declare dialects besides those of the program.
 
+use irtext_base::location::Location;
 use irtext_base::result;
 use irtext_base::result::ErrorKind;
-use irtext_base::location::Location;
 use irtext_base::seed::Seed;
 use irtext_base::text::{AttrText, IrText};
 use irtext_context::base::Context;

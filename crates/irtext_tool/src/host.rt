@@ -82,11 +82,7 @@ pub fn main_with_files<
     U: IrText<B>,
     B: AttrText<B>,
     E: Dialects<U, B>,
->(
-    rt: &HostRuntime,
-    name: &str,
-    version: &str,
-) -> ExitCode {
+>(rt: &HostRuntime, name: &str, version: &str) -> ExitCode {
     let status = match words_of(rt) {
         Ok(owned) if names_dialects(&owned) => run_words::<U, B, E>(rt, name, version, &owned),
         Ok(owned) => run_words::<T, A, D>(rt, name, version, &owned),
@@ -97,9 +93,7 @@ pub fn main_with_files<
 
 /// Whether a word is `--dialect`, perhaps with `=` and a file.
 fn names_dialects(owned: &Vec<String>) -> bool {
-    owned
-        .iter()
-        .any(|word| word.as_str() == "--dialect" || word.as_str().starts_with("--dialect="))
+    owned.iter().any(|word| word.as_str() == "--dialect" || word.as_str().starts_with("--dialect="))
 }
 
 /// Returns the exit code for how a run ended, and says why, if it did not begin.

@@ -182,7 +182,13 @@ fn format_standard<T: IrText<A>, A: AttrText<A>, D: Dialects<T, A>, R: Read, W: 
     };
     let none: [String; 0] = [];
     let said = report_answer::<T, A, D, E>(
-        alloc, seed, none.as_slice(), errors, scene, text.as_str(), &answer,
+        alloc,
+        seed,
+        none.as_slice(),
+        errors,
+        scene,
+        text.as_str(),
+        &answer,
     );
     Ended {
         status: status_of_answer(&answer),
@@ -337,11 +343,15 @@ fn result_of<T: IrText<A>, A: AttrText<A>, D: Dialects<T, A>>(
 ) -> Result<String, Failure<A>> {
     match task {
         Task::Format(layout, _) => {
-            let mut ctx = context_with::<T, A, D>(alloc, seed, declared).map_err(Failure::Dialects)?;
+            let mut ctx = context_with::<T, A, D>(alloc, seed, declared).map_err(
+                Failure::Dialects,
+            )?;
             format_text(&mut ctx, text, layout).map_err(Failure::Text)
         }
         Task::Check => {
-            let mut ctx = context_with::<T, A, D>(alloc, seed, declared).map_err(Failure::Dialects)?;
+            let mut ctx = context_with::<T, A, D>(alloc, seed, declared).map_err(
+                Failure::Dialects,
+            )?;
             check_text(&mut ctx, text, WHOLE).map_err(Failure::Text)?;
             Ok(String::new(alloc))
         }
@@ -551,7 +561,15 @@ fn declared_by<T: IrText<A>, A: AttrText<A>, D: Dialects<T, A>, F: Files, E: Wri
 }
 
 /// Does what is asked for with each file, with the dialects that files declare besides those of the program.
-fn work_with<T: IrText<A>, A: AttrText<A>, D: Dialects<T, A>, F: Files, R: Read, W: Write, E: Write>(
+fn work_with<
+    T: IrText<A>,
+    A: AttrText<A>,
+    D: Dialects<T, A>,
+    F: Files,
+    R: Read,
+    W: Write,
+    E: Write,
+>(
     alloc: Global,
     seed: Seed,
     request: &Request<'_>,
@@ -564,7 +582,14 @@ fn work_with<T: IrText<A>, A: AttrText<A>, D: Dialects<T, A>, F: Files, R: Read,
 {
     match declared_by::<T, A, D, F, E>(alloc, seed, request, files, errors) {
         Ok(texts) => work::<T, A, D, F, R, W, E>(
-            alloc, seed, texts.as_slice(), request, files, input, output, errors,
+            alloc,
+            seed,
+            texts.as_slice(),
+            request,
+            files,
+            input,
+            output,
+            errors,
         ),
         Err(ended) => ended,
     }

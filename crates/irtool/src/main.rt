@@ -8,5 +8,7 @@ use crate::dialects::{All, AnyAttr, AnyType, OpenAttr, OpenType};
 use std::process::ExitCode;
 
 fn main(rt: HostRuntime) -> ExitCode {
-    irtext_tool::host::main_with_files::<AnyType, AnyAttr, All, OpenType, OpenAttr, All>(&rt, "irtool", "0.1.0")
+    irtext_tool::host::main_with_files::<AnyType, AnyAttr, All, OpenType, OpenAttr, All>(
+        &rt, "irtool", "0.1.0",
+    )
 }
