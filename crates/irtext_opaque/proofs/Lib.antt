@@ -1,0 +1,3 @@
+-- What the laws are proved with
+pub mod Skipped
+pub mod OpaqueRead
