@@ -2,8 +2,8 @@
 use irtext_base::parsable::{CharStream, ParseFault, TextStream};
 use irtext_base::text::{AttrText, IrText};
 use irtext_demo::{DemoAttr, DemoType};
-use irtext_opaque::words::is_foreign;
 use irtext_opaque::OrOpaque;
+use irtext_opaque::words::is_foreign;
 use irtext_syntax::part::TryClone;
 use std::alloc::Global;
 use std::process::Abort;
@@ -36,8 +36,13 @@ fn said(alloc: Global, stream: &mut TextStream) -> Result<String, Fail> {
             let mut text = String::new(alloc);
             let copy = TryClone::try_clone(&of)?;
             IrText::<AnyAttr>::write_text(&copy, &mut text)?;
-            let same = copy == of && (opaque_text(&of) == "known" || opaque_text(&of) == text.as_str());
-            let kind = if opaque_text(&of) == "known" { "known" } else { "opaque" };
+            let same = copy == of
+                && (opaque_text(&of) == "known" || opaque_text(&of) == text.as_str());
+            let kind = if opaque_text(&of) == "known" {
+                "known"
+            } else {
+                "opaque"
+            };
             Ok(format!(in alloc; "{text}|{kind}|{same}|{:?}", stream.peek())?)
         }
         Err(fault) => fault_said(alloc, &fault),
@@ -67,31 +72,67 @@ const TYPES: &[(&str, &str)] = &[
     ("my.ptr, x", "my.ptr|opaque|true|Some(',')"),
     ("my.vec<4 x f32>)", "my.vec<4 x f32>|opaque|true|Some(')')"),
     ("my.vec <4>", "my.vec|opaque|true|Some(' ')"),
-    ("my.tag[\"a ] \\\" b\"];", "my.tag[\"a ] \\\" b\"]|opaque|true|Some(';')"),
-    ("my.f((i32) -> i32) -", "my.f((i32) -> i32)|opaque|true|Some(' ')"),
-    ("my.f<(i32) -> my.g<8>>", "my.f<(i32) -> my.g<8>>|opaque|true|None"),
+    (
+        "my.tag[\"a ] \\\" b\"];",
+        "my.tag[\"a ] \\\" b\"]|opaque|true|Some(';')",
+    ),
+    (
+        "my.f((i32) -> i32) -",
+        "my.f((i32) -> i32)|opaque|true|Some(' ')",
+    ),
+    (
+        "my.f<(i32) -> my.g<8>>",
+        "my.f<(i32) -> my.g<8>>|opaque|true|None",
+    ),
     ("my.range<[0, 5)>", "my.range<[0, 5)>|opaque|true|None"),
-    ("my.text[\u{4e2d}\n]", "my.text[\u{4e2d}\n]|opaque|true|None"),
+    (
+        "my.text[\u{4e2d}\n]",
+        "my.text[\u{4e2d}\n]|opaque|true|None",
+    ),
     ("my.empty{}", "my.empty{}|opaque|true|None"),
     ("a.b.c_1<>", "a.b.c_1<>|opaque|true|None"),
-    ("builtin.integer si32", "builtin.integer si32|known|true|None"),
+    (
+        "builtin.integer si32",
+        "builtin.integer si32|known|true|None",
+    ),
     ("test.ptr", "test.ptr|known|true|None"),
     ("builtin.fp32", "builtin.fp32|opaque|true|None"),
-    ("my.vec<4 x (f32", "line: 1, column: 7: This bracket is not closed!"),
-    ("my.vec<\"a>", "line: 1, column: 7: This bracket is not closed!"),
-    ("my.vec<a ->", "line: 1, column: 7: This bracket is not closed!"),
+    (
+        "my.vec<4 x (f32",
+        "line: 1, column: 7: This bracket is not closed!",
+    ),
+    (
+        "my.vec<\"a>",
+        "line: 1, column: 7: This bracket is not closed!",
+    ),
+    (
+        "my.vec<a ->",
+        "line: 1, column: 7: This bracket is not closed!",
+    ),
     ("i32", "line: 1, column: 1: Unregistered Type i32!"),
-    ("builtin.given_names [x]", "line: 1, column: 1: Unregistered Type builtin.given_names!"),
-    ("builtin.", "line: 1, column: 1: Unregistered Type builtin.!"),
+    (
+        "builtin.given_names [x]",
+        "line: 1, column: 1: Unregistered Type builtin.given_names!",
+    ),
+    (
+        "builtin.",
+        "line: 1, column: 1: Unregistered Type builtin.!",
+    ),
     ("<4>", "line: 1, column: 1: Unexpected `<`, expected type"),
-    ("", "line: 1, column: 1: Unexpected end of input, expected type"),
+    (
+        "",
+        "line: 1, column: 1: Unexpected end of input, expected type",
+    ),
 ];
 
 /// Texts, and what is said of each as an attribute.
 const ATTRIBUTES: &[(&str, &str)] = &[
     ("my.tag[a]", "my.tag[a]|false|false|true|None"),
     ("test.dbg \"s\"", "test.dbg \"s\"|true|true|true|None"),
-    ("my.tag[a", "line: 1, column: 7: This bracket is not closed!"),
+    (
+        "my.tag[a",
+        "line: 1, column: 7: This bracket is not closed!",
+    ),
 ];
 
 /// Words, and whether an opaque text beside the demo types can begin with each.
