@@ -15,7 +15,7 @@ from dialects.values import Values, keys_of, keys_source, values_source
 from dialects.words import Words
 from repository import text_of
 
-BELOW = "irtext_syntax irtext_tokens irtext_base irtext_stream irtext_context irtext_format_check"
+BELOW = "irtext_memory irtext_syntax irtext_tokens irtext_base irtext_stream irtext_context irtext_format_check"
 
 
 def files_of(dialect):

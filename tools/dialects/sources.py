@@ -115,7 +115,7 @@ class Sources:
             "    }",
             "",
         ]
-        lines += ["    fn write_text(&self, f: &mut String) -> fmt::Result {", "        match self {"]
+        lines += ["    fn write_text(&self, f: &mut String) -> Result<(), OutOfMemory> {", "        match self {"]
         for row in family.rows:
             made = f"{family.enum}::{row.variant}"
             if row.part:
@@ -203,11 +203,11 @@ class Sources:
         ]
         syntax += [("table", "Table after_word table_parse word_alone write_row write_word")]
         modules = own + [("irtext_base::parsable", "ParseResult TextStream"), ("irtext_base::result", "Expected")]
-        modules += [("irtext_base::text", "AttrText Family IrText Worded"), ("irtext_syntax", "Characters ListOf Name Number match_text matches_text")]
+        modules += [("irtext_base::text", "AttrText Family IrText Worded"), ("irtext_memory", "OutOfMemory"), ("irtext_syntax", "Characters ListOf Name Number match_text matches_text")]
         modules += [(f"irtext_syntax::{module}", names) for module, names in syntax]
         modules += [*more_uses(), ("std::alloc", "AllocError")]
         shown_names = text + ("TryClone" if clones else "")
-        head += rust_uses(modules, shown_names) + ["use std::fmt;"]
+        head += rust_uses(modules, shown_names)
         if " Hash + " in text:
             head += ["use std::hash::Hash;"]
         return "\n".join(head) + "\n\n" + text

@@ -645,7 +645,7 @@ class TreeSources:
         lines += ["", f"    fn read(self, stream: &mut TextStream) -> ParseResult<{g.head}, A> {{", "        match self {"]
         lines += [f'            {g.place}::{g.start} => table_parse::<{family.words}, {g.head}, A>(stream, "Unregistered {family.noun} ", Expected::{expected}),']
         lines += [f"            {g.place}::{it} => {self.read(it)}," for it in g.places[1:]]
-        lines += ["        }", "    }", "", f"    fn write_head(head: &{g.head}, f: &mut String) -> fmt::Result {{", "        match head {"]
+        lines += ["        }", "    }", "", f"    fn write_head(head: &{g.head}, f: &mut String) -> Result<(), OutOfMemory> {{", "        match head {"]
         return lines + [f"            {self.write(it)}," for it in g.heads] + ["        }", "    }", "}"]
 
     def worded(self):
@@ -676,12 +676,13 @@ class TreeSources:
         text = "\n".join(body) + "\n"
         own = [*self.dialect.own_modules(), ("crate::fixed", " ".join([*self.dialect.fixed, *self.dialect.ranges])), ("crate::brackets", " ".join(self.grammar.brackets))]
         modules = own + [("irtext_base::parsable", "ParseResult TextStream"), ("irtext_base::result", "Expected"), ("irtext_base::text", "Worded")]
+        modules += [("irtext_memory", "OutOfMemory")]
         modules += [("irtext_syntax", "Characters ListOf Name Number match_text matches_text"), ("irtext_syntax::keyword", "Flag Keyword"), ("irtext_syntax::part", "TryClone")]
         modules += [("irtext_syntax::range", "Ranged"), ("irtext_syntax::ready", " ".join([*BRACKETS, "Arrow Colon Comma SpacedArrow"])), ("irtext_syntax::sequence", "Then Within")]
         modules += [("irtext_syntax::table", "Table after_word table_parse word_alone write_row write_word")]
         modules += [("irtext_tree", "AttrGrammar Grammar Grows LedGrammar Tree Waits"), ("irtext_tree::marks", "mark_parse more_parse opened_parse opening_parse write_spaced_row")]
         modules += [*more_uses(), ("std::alloc", "AllocError")]
-        head = [f"//! The heads of the {self.family.noun}s of the dialect `{self.dialect.name}`, which hold {self.family.noun}s of the context.", *rust_uses(modules, text), "use std::fmt;"]
+        head = [f"//! The heads of the {self.family.noun}s of the dialect `{self.dialect.name}`, which hold {self.family.noun}s of the context.", *rust_uses(modules, text)]
         return "\n".join(head) + "\n\n" + text
 
 

@@ -4,6 +4,7 @@ use crate::predicate::Predicate;
 use irtext_base::parsable::{ParseResult, TextStream};
 use irtext_base::result::Expected;
 use irtext_base::text::{AttrText, Family, IrText, Worded};
+use irtext_memory::OutOfMemory;
 use irtext_syntax::keyword::Flag;
 use irtext_syntax::own::Own;
 use irtext_syntax::part::TryClone;
@@ -13,7 +14,6 @@ use irtext_syntax::sequence::{Then, Within};
 use irtext_syntax::table::{Table, after_word, table_parse, write_row};
 use irtext_syntax::{Characters, Number, match_text, matches_text};
 use std::alloc::AllocError;
-use std::fmt;
 use std::hash::Hash;
 
 /// What comes after `arith.value`: `<N: T>`.
@@ -101,7 +101,7 @@ impl<B, T: IrText<B>> IrText<B> for ArithAttr<T> {
         )
     }
 
-    fn write_text(&self, f: &mut String) -> fmt::Result {
+    fn write_text(&self, f: &mut String) -> Result<(), OutOfMemory> {
         match self {
             ArithAttr::Value(part) => write_row::<ValueText<T>, B>("arith.value", part, f),
             ArithAttr::Compares(part) => write_row::<Predicate, B>("arith.predicate", part, f),

@@ -4,10 +4,10 @@ ghost use Rattle.irtext_syntax.specs.Owns.{ends_text};
 
 use irtext_base::parsable::{ParseResult, TextStream};
 use irtext_base::result::Expected;
+use irtext_memory::OutOfMemory;
 use irtext_syntax::match_text;
 use irtext_syntax::part::{Item, Last, Part, Plain};
 use irtext_syntax::table::{Choice, table_parse, write_word};
-use std::fmt;
 
 /// One of the words `eq`, `ne`, `lt` or `le`. Another word is an error with the text `Unknown predicate ` and the word, at its beginning.
 #[derive(Clone, Copy, PartialEq, Eq, Hash, Debug)]
@@ -45,7 +45,7 @@ impl<A> Part<A> for Predicate {
         table_parse::<Predicate, Predicate, A>(stream, "Unknown predicate ", Expected::Attribute)
     }
 
-    fn write_text(&self, f: &mut String) -> fmt::Result {
+    fn write_text(&self, f: &mut String) -> Result<(), OutOfMemory> {
         match self {
             Predicate::Equal => write_word("eq", f),
             Predicate::Different => write_word("ne", f),

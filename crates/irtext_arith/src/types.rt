@@ -2,11 +2,11 @@
 use irtext_base::parsable::{ParseResult, TextStream};
 use irtext_base::result::Expected;
 use irtext_base::text::{Family, IrText, Worded};
+use irtext_memory::OutOfMemory;
 use irtext_syntax::part::TryClone;
 use irtext_syntax::table::{Table, after_word, table_parse, word_alone, write_row, write_word};
 use irtext_syntax::{Number, match_text, matches_text};
 use std::alloc::AllocError;
-use std::fmt;
 
 /// A type of the dialect `arith`.
 #[derive(PartialEq, Eq, Hash, Debug, Drop)]
@@ -63,7 +63,7 @@ impl<A> IrText<A> for ArithType {
         table_parse::<TypeWord, ArithType, A>(stream, "Unregistered type ", Expected::Type)
     }
 
-    fn write_text(&self, f: &mut String) -> fmt::Result {
+    fn write_text(&self, f: &mut String) -> Result<(), OutOfMemory> {
         match self {
             ArithType::Int(part) => write_row::<Number<u32>, A>("arith.int", part, f),
             ArithType::Index => write_word("arith.index", f),

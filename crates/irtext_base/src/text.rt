@@ -7,8 +7,8 @@ ghost use Rattle.irtext_base.specs.Own.{Lawful, Sincere, Unreserved, texts_of};
 ghost use Rattle.irtext_base.specs.Families.{BeginsWithWord, AreApart, is_one_of};
 
 use crate::parsable::{ParseResult, TextStream};
+use irtext_memory::OutOfMemory;
 use std::alloc::AllocError;
-use std::fmt;
 use std::hash::Hash;
 
 /// A type or an attribute of the caller, with its texts. Each impl proves the laws of these: how a text begins, and that a printed text is
@@ -28,7 +28,7 @@ pub trait IrText<A>: Sized + Drop + Eq {
 
     /// Appends the text of the value. Fails only when out of memory. The text that was there before stands then too, and what was appended
     /// up to the error remains.
-    fn write_text(&self, f: &mut String) -> fmt::Result
+    fn write_text(&self, f: &mut String) -> Result<(), OutOfMemory>
         ensures text { IfOk result (λ _. string_bytes f.new ≡ string_bytes f.old
             ++ encode_utf8_all (written self.now)) }
         ensures appended { OnErr result (OnlyAppends f.old f.new) };

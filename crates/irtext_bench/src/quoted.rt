@@ -1,6 +1,5 @@
 //! A text between quotation marks, and for comparison a plain copy of the same bytes.
 
-use crate::said::written;
 use pliron_text::printable::fmt_quoted;
 use std::alloc::{AllocError, Global};
 use std::fmt::Write;
@@ -17,7 +16,7 @@ pub enum Way {
 /// Writes the text into an empty one. Returns the number of bytes.
 fn write_by(way: Way, text: &str, out: &mut String) -> Result<usize, AllocError> {
     match way {
-        Way::Quoted => written(fmt_quoted(text, out))?,
+        Way::Quoted => fmt_quoted(text, out)?,
         Way::Copied => out.push_str(text)?,
     }
     Ok(out.len())

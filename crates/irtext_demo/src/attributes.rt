@@ -8,13 +8,13 @@ use crate::attributes::integer::IntegerAttr;
 use irtext_base::parsable::{ParseResult, TextStream};
 use irtext_base::result::Expected;
 use irtext_base::text::{AttrText, Family, IrText, Worded};
+use irtext_memory::OutOfMemory;
 use irtext_syntax::boxed::Boxed;
 use irtext_syntax::characters::Characters;
 use irtext_syntax::part::TryClone;
 use irtext_syntax::table::{Table, after_word, table_parse, write_row};
 use irtext_syntax::{match_text, matches_text};
 use std::alloc::AllocError;
-use std::fmt;
 
 /// A demo attribute.
 #[derive(PartialEq, Eq, Hash, Debug, Drop)]
@@ -82,7 +82,7 @@ impl<B: Drop> IrText<B> for DemoAttr {
         table_parse::<AttrWord, DemoAttr, B>(stream, "Unregistered attribute ", Expected::Attribute)
     }
 
-    fn write_text(&self, f: &mut String) -> fmt::Result {
+    fn write_text(&self, f: &mut String) -> Result<(), OutOfMemory> {
         match self {
             DemoAttr::Integer(attr) => write_row::<IntegerAttr, B>("builtin.integer", attr, f),
             DemoAttr::String(text) => write_row::<Characters, B>("builtin.string", text, f),

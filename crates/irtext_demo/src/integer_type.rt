@@ -9,6 +9,7 @@ ghost use Rattle.irtext_demo.specs.IntegerTypes.{integer_type_text, signedness_t
 use crate::width::Width;
 use irtext_base::parsable::{CharStream, ParseResult, TextStream};
 use irtext_base::result::{Cause, Expected};
+use irtext_memory::{OutOfMemory, string};
 use irtext_syntax::part::{Last, Part, Plain};
 use irtext_syntax::range::{FromDigits, digits_parse, write_decimal};
 use irtext_tokens::irfmt::faults::{begins, committed, next_is, refuse, unexpected};
@@ -181,52 +182,52 @@ fn integer_type_there(stream: &mut TextStream) -> Option<IntegerType>
 
 /// Appends a sign.
 #[inline(always)]
-fn write_sign(kind: Signedness, f: &mut String) -> fmt::Result
+fn write_sign(kind: Signedness, f: &mut String) -> Result<(), OutOfMemory>
     ensures text { OnOk result (string_bytes f.new ≡ string_bytes f.old ++ signedness_text kind) }
     ensures appended { OnErr result (OnlyAppends f.old f.new) }
 {
     match kind {
-        Signedness::Signed => f.push_str("si")?,
-        Signedness::Unsigned => f.push_str("ui")?,
-        Signedness::Signless => f.push_str("i")?,
+        Signedness::Signed => string::push_str(f, "si")?,
+        Signedness::Unsigned => string::push_str(f, "ui")?,
+        Signedness::Signless => string::push_str(f, "i")?,
     }
     Ok(())
 }
 
 /// Appends `builtin.integer`, a space and a sign.
 #[inline(always)]
-fn write_front(kind: Signedness, f: &mut String) -> fmt::Result
+fn write_front(kind: Signedness, f: &mut String) -> Result<(), OutOfMemory>
     ensures text { OnOk result (string_bytes f.new ≡ string_bytes f.old
         ++ (codes "builtin.integer " ++ signedness_text kind)) }
     ensures appended { OnErr result (OnlyAppends f.old f.new) }
 {
     match kind {
-        Signedness::Signed => f.push_str("builtin.integer si")?,
-        Signedness::Unsigned => f.push_str("builtin.integer ui")?,
-        Signedness::Signless => f.push_str("builtin.integer i")?,
+        Signedness::Signed => string::push_str(f, "builtin.integer si")?,
+        Signedness::Unsigned => string::push_str(f, "builtin.integer ui")?,
+        Signedness::Signless => string::push_str(f, "builtin.integer i")?,
     }
     Ok(())
 }
 
 /// Appends a number of bits. Those that most types have are fixed texts.
 #[inline(always)]
-fn write_width(bits: u16, f: &mut String) -> fmt::Result
+fn write_width(bits: u16, f: &mut String) -> Result<(), OutOfMemory>
     ensures text { OnOk result (string_bytes f.new ≡ string_bytes f.old ++ decimal bits) }
     ensures appended { OnErr result (OnlyAppends f.old f.new) }
 {
     match bits {
-        1 => f.push_str("1")?,
-        8 => f.push_str("8")?,
-        16 => f.push_str("16")?,
-        32 => f.push_str("32")?,
-        64 => f.push_str("64")?,
+        1 => string::push_str(f, "1")?,
+        8 => string::push_str(f, "8")?,
+        16 => string::push_str(f, "16")?,
+        32 => string::push_str(f, "32")?,
+        64 => string::push_str(f, "64")?,
         _ => return write_decimal(bits as u64, f),
     }
     Ok(())
 }
 
 /// Appends an integer type as a type of its dialect: `builtin.integer si32`.
-pub(crate) fn write_integer_type(ty: &IntegerType, f: &mut String) -> fmt::Result
+pub(crate) fn write_integer_type(ty: &IntegerType, f: &mut String) -> Result<(), OutOfMemory>
     ensures text { OnOk result (string_bytes f.new ≡ string_bytes f.old
         ++ (codes "builtin.integer " ++ integer_type_text ty.now)) }
     ensures appended { OnErr result (OnlyAppends f.old f.new) }
@@ -260,7 +261,7 @@ impl<A> Part<A> for IntegerType {
         integer_type_there(stream)
     }
 
-    fn write_text(&self, f: &mut String) -> fmt::Result {
+    fn write_text(&self, f: &mut String) -> Result<(), OutOfMemory> {
         write_sign(self.kind, f)?;
         write_width(self.width.bits(), f)
     }

@@ -3,6 +3,7 @@ use crate::integer_type::{IntegerType, write_integer_type};
 use irtext_base::parsable::{ParseResult, TextStream};
 use irtext_base::result::Expected;
 use irtext_base::text::{Family, IrText, Worded};
+use irtext_memory::OutOfMemory;
 use irtext_syntax::part::{Item, Part, Plain};
 use irtext_syntax::table::{
     Table, after_known, after_word, alone_known, table_parse, word_alone, write_word,
@@ -90,7 +91,7 @@ impl<A> IrText<A> for DemoType {
         table_parse::<TypeWord, DemoType, A>(stream, "Unregistered type ", Expected::Type)
     }
 
-    fn write_text(&self, f: &mut String) -> fmt::Result {
+    fn write_text(&self, f: &mut String) -> Result<(), OutOfMemory> {
         match self {
             DemoType::Integer(ty) => write_integer_type(ty, f),
             DemoType::Pointer => write_word("test.ptr ", f),
@@ -128,7 +129,7 @@ impl<A> Part<A> for DemoType {
         <DemoType as IrText<A>>::read(stream)
     }
 
-    fn write_text(&self, f: &mut String) -> fmt::Result {
+    fn write_text(&self, f: &mut String) -> Result<(), OutOfMemory> {
         <DemoType as IrText<A>>::write_text(self, f)
     }
 }

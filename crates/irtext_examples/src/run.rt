@@ -158,7 +158,7 @@ fn printed<T: IrText<A>, A: AttrText<A>>(
     match root {
         Ok(root) => match root.to_text(ctx) {
             Ok(text) => Ok(text),
-            Err(PrintError::Memory) => Err(Fault::Memory(AllocError)),
+            Err(PrintError::Memory(_)) => Err(Fault::Memory(AllocError)),
             Err(error) => Err(refusal(alloc, ctx, input, &Error::from(error))),
         },
         Err(error) => Err(refusal(alloc, ctx, input, &error)),

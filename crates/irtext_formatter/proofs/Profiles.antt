@@ -137,12 +137,12 @@ module _ {T A : Type 0} where
   -- ---- what is a reason to fail is one of the profiles, and the other way round
   module _ (C D : Printing T A) (isolated : Id → Bool) (outlines : (a : A) → C.own_outlined a ≡ D.own_outlined a) (formats : (id : Id) → C.format_of id ≡ D.format_of id) (width : ℕ) where
     pub operation_in : (e : Refusal) (o : GraphOp T A) (rs : Regions (GraphOp T A) (GraphBlock T A) ⊤) → OperationFault C isolated width e o rs → OperationFault D isolated width e (profile o) (region_profiles profile rs)
-    operation_in Memory o rs h = h
+    operation_in (Memory m) o rs h = h
     operation_in Depth o rs h = h
     operation_in Misfit o rs h = λ f. h (fits_own D C isolated (λ a. sym (outlines a)) (λ id. sym (formats id)) (profile o) o (length (regions_list (region_profiles profile rs))) (length (regions_list rs)) (unprofiled o _ _ (as_many_regions profile rs)) f)
 
     pub operation_out : (e : Refusal) (o : GraphOp T A) (rs : Regions (GraphOp T A) (GraphBlock T A) ⊤) → OperationFault C isolated width e (profile o) (region_profiles profile rs) → OperationFault D isolated width e o rs
-    operation_out Memory o rs h = h
+    operation_out (Memory m) o rs h = h
     operation_out Depth o rs h = h
     operation_out Misfit o rs h = λ f. h (fits_own D C isolated (λ a. sym (outlines a)) (λ id. sym (formats id)) o (profile o) (length (regions_list rs)) (length (regions_list (region_profiles profile rs))) (profiled o _ _ (sym (as_many_regions profile rs))) f)
 

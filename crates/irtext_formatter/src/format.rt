@@ -20,8 +20,9 @@ use irtext_base::parsable::{ParseFault, TextStream};
 use irtext_base::result::Cause;
 use irtext_base::text::{AttrText, IrText};
 use irtext_context::base::{Context, Operation, Ptr};
+use irtext_memory::{OutOfMemory, string};
 use irtext_print::printable::Refusal;
-use std::alloc::{AllocError, Global};
+use std::alloc::Global;
 
 /// Whether a cause is that memory ran out.
 fn is_memory<A>(cause: &Cause<A>) -> bool
@@ -54,7 +55,7 @@ fn unprinted<T: IrText<A>, A: AttrText<A>>(
     ensures { IsReason T.IrText.own A.IrText.own A.AttrText.own A.eq ctx.now root refusal result }
 {
     match refusal {
-        Refusal::Memory => Fault::Memory,
+        Refusal::Memory(_) => Fault::Memory,
         Refusal::Depth => Fault::TooDeep,
         Refusal::Misfit => match described_misfit(ctx, root) {
             Ok(misfit) => Fault::Misfit(misfit),
@@ -64,23 +65,23 @@ fn unprinted<T: IrText<A>, A: AttrText<A>>(
 }
 
 /// Appends a newline unless the text is empty.
-fn separate(text: &mut String) -> Result<(), AllocError>
+fn separate(text: &mut String) -> Result<(), OutOfMemory>
     ensures { OnOk result (string_bytes text.new ≡ with_gap (string_bytes text.old)) }
 {
     if text.is_empty() {
         return Ok(());
     }
-    text.push('\n')
+    string::push(text, '\n')
 }
 
 /// Appends a newline if the text does not end with one.
-fn end_line(text: &mut String) -> Result<(), AllocError>
+fn end_line(text: &mut String) -> Result<(), OutOfMemory>
     ensures { OnOk result (string_bytes text.new ≡ lined (string_bytes text.old)) }
 {
     if ends_line(text.as_str()) {
         return Ok(());
     }
-    text.push('\n')
+    string::push(text, '\n')
 }
 
 /// Appends the text of a root, after an empty line if there is a text before it, and ended by a newline.

@@ -11,6 +11,7 @@ use crate::wrapping::Wrapping;
 use irtext_base::parsable::{ParseResult, TextStream};
 use irtext_base::result::Expected;
 use irtext_base::text::{AttrText, Family, IrText, Worded};
+use irtext_memory::OutOfMemory;
 use irtext_parts::{Decimal, Digits, Hexadecimal, Symbol, Truth};
 use irtext_syntax::own::Own;
 use irtext_syntax::part::TryClone;
@@ -20,7 +21,6 @@ use irtext_syntax::sequence::{Then, Within};
 use irtext_syntax::table::{Table, after_word, table_parse, word_alone, write_row, write_word};
 use irtext_syntax::{Characters, ListOf, Name, Number, match_text};
 use std::alloc::AllocError;
-use std::fmt;
 use std::hash::Hash;
 
 /// What comes after `llvm.block`: `<@S, I>`.
@@ -333,7 +333,7 @@ impl<B: Drop, T: IrText<B>> IrText<B> for LlvmAttr<T> {
         )
     }
 
-    fn write_text(&self, f: &mut String) -> fmt::Result {
+    fn write_text(&self, f: &mut String) -> Result<(), OutOfMemory> {
         match self {
             LlvmAttr::Integer(part) => write_row::<Digits, B>("llvm.int", part, f),
             LlvmAttr::Bool(part) => write_row::<Truth, B>("llvm.bool", part, f),

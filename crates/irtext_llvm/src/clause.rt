@@ -4,10 +4,10 @@ ghost use Rattle.irtext_syntax.specs.Owns.{ends_text};
 
 use irtext_base::parsable::{ParseResult, TextStream};
 use irtext_base::result::Expected;
+use irtext_memory::OutOfMemory;
 use irtext_syntax::match_text;
 use irtext_syntax::part::{Item, Last, Part, Plain};
 use irtext_syntax::table::{Choice, table_parse, write_word};
-use std::fmt;
 
 /// One of the words `cleanup`, `catch` or `filter`. Another word is an error with the text `Unknown clause ` and the word, at its
 /// beginning.
@@ -44,7 +44,7 @@ impl<A> Part<A> for Clause {
         table_parse::<Clause, Clause, A>(stream, "Unknown clause ", Expected::Attribute)
     }
 
-    fn write_text(&self, f: &mut String) -> fmt::Result {
+    fn write_text(&self, f: &mut String) -> Result<(), OutOfMemory> {
         match self {
             Clause::Cleanup => write_word("cleanup", f),
             Clause::Catch => write_word("catch", f),

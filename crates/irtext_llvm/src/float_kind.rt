@@ -4,10 +4,10 @@ ghost use Rattle.irtext_syntax.specs.Owns.{ends_text};
 
 use irtext_base::parsable::{ParseResult, TextStream};
 use irtext_base::result::Expected;
+use irtext_memory::OutOfMemory;
 use irtext_syntax::match_text;
 use irtext_syntax::part::{Item, Last, Part, Plain};
 use irtext_syntax::table::{Choice, table_parse, write_word};
-use std::fmt;
 
 /// One of the words `half`, `bfloat`, `float`, `double`, `x86_fp80`, `fp128` or `ppc_fp128`. Another word is an error with the text
 /// `Unknown float kind ` and the word, at its beginning.
@@ -54,7 +54,7 @@ impl<A> Part<A> for FloatKind {
         table_parse::<FloatKind, FloatKind, A>(stream, "Unknown float kind ", Expected::Type)
     }
 
-    fn write_text(&self, f: &mut String) -> fmt::Result {
+    fn write_text(&self, f: &mut String) -> Result<(), OutOfMemory> {
         match self {
             FloatKind::Half => write_word("half", f),
             FloatKind::Bfloat => write_word("bfloat", f),

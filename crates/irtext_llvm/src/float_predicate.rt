@@ -4,10 +4,10 @@ ghost use Rattle.irtext_syntax.specs.Owns.{ends_text};
 
 use irtext_base::parsable::{ParseResult, TextStream};
 use irtext_base::result::Expected;
+use irtext_memory::OutOfMemory;
 use irtext_syntax::match_text;
 use irtext_syntax::part::{Item, Last, Part, Plain};
 use irtext_syntax::table::{Choice, table_parse, write_word};
-use std::fmt;
 
 /// One of the words `false`, `oeq`, `ogt`, `oge`, `olt`, `ole`, `one`, `ord`, `ueq`, `ugt`, `uge`, `ult`, `ule`, `une`, `uno` or `true`.
 /// Another word is an error with the text `Unknown float predicate ` and the word, at its beginning.
@@ -80,7 +80,7 @@ impl<A> Part<A> for FloatPredicate {
         )
     }
 
-    fn write_text(&self, f: &mut String) -> fmt::Result {
+    fn write_text(&self, f: &mut String) -> Result<(), OutOfMemory> {
         match self {
             FloatPredicate::False => write_word("false", f),
             FloatPredicate::Oeq => write_word("oeq", f),

@@ -4,10 +4,10 @@ ghost use Rattle.irtext_syntax.specs.Owns.{ends_text};
 
 use irtext_base::parsable::{ParseResult, TextStream};
 use irtext_base::result::Expected;
+use irtext_memory::OutOfMemory;
 use irtext_syntax::match_text;
 use irtext_syntax::part::{Item, Last, Part, Plain};
 use irtext_syntax::table::{Choice, table_parse, write_word};
-use std::fmt;
 
 /// One of the words `nnan`, `ninf`, `nsz`, `arcp`, `contract`, `afn` or `reassoc`. Another word is an error with the text `Unknown freedom
 /// ` and the word, at its beginning.
@@ -53,7 +53,7 @@ impl<A> Part<A> for Freedom {
         table_parse::<Freedom, Freedom, A>(stream, "Unknown freedom ", Expected::Attribute)
     }
 
-    fn write_text(&self, f: &mut String) -> fmt::Result {
+    fn write_text(&self, f: &mut String) -> Result<(), OutOfMemory> {
         match self {
             Freedom::Nnan => write_word("nnan", f),
             Freedom::Ninf => write_word("ninf", f),

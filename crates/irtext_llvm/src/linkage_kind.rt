@@ -4,10 +4,10 @@ ghost use Rattle.irtext_syntax.specs.Owns.{ends_text};
 
 use irtext_base::parsable::{ParseResult, TextStream};
 use irtext_base::result::Expected;
+use irtext_memory::OutOfMemory;
 use irtext_syntax::match_text;
 use irtext_syntax::part::{Item, Last, Part, Plain};
 use irtext_syntax::table::{Choice, table_parse, write_word};
-use std::fmt;
 
 /// One of the words `external`, `private`, `internal`, `available_externally`, `linkonce`, `linkonce_odr`, `weak`, `weak_odr`, `common`,
 /// `appending` or `extern_weak`. Another word is an error with the text `Unknown linkage kind ` and the word, at its beginning.
@@ -69,7 +69,7 @@ impl<A> Part<A> for LinkageKind {
         )
     }
 
-    fn write_text(&self, f: &mut String) -> fmt::Result {
+    fn write_text(&self, f: &mut String) -> Result<(), OutOfMemory> {
         match self {
             LinkageKind::External => write_word("external", f),
             LinkageKind::Private => write_word("private", f),

@@ -4,10 +4,10 @@ ghost use Rattle.irtext_syntax.specs.Owns.{ends_text};
 
 use irtext_base::parsable::{ParseResult, TextStream};
 use irtext_base::result::Expected;
+use irtext_memory::OutOfMemory;
 use irtext_syntax::match_text;
 use irtext_syntax::part::{Item, Last, Part, Plain};
 use irtext_syntax::table::{Choice, table_parse, write_word};
-use std::fmt;
 
 /// One of the words `unordered`, `monotonic`, `acquire`, `release`, `acq_rel` or `seq_cst`. Another word is an error with the text `Unknown
 /// memory order ` and the word, at its beginning.
@@ -56,7 +56,7 @@ impl<A> Part<A> for MemoryOrder {
         )
     }
 
-    fn write_text(&self, f: &mut String) -> fmt::Result {
+    fn write_text(&self, f: &mut String) -> Result<(), OutOfMemory> {
         match self {
             MemoryOrder::Unordered => write_word("unordered", f),
             MemoryOrder::Monotonic => write_word("monotonic", f),

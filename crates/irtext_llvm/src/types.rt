@@ -5,6 +5,7 @@ use crate::float_kind::FloatKind;
 use irtext_base::parsable::{ParseResult, TextStream};
 use irtext_base::result::Expected;
 use irtext_base::text::Worded;
+use irtext_memory::OutOfMemory;
 use irtext_syntax::part::TryClone;
 use irtext_syntax::range::Ranged;
 use irtext_syntax::ready::Angle;
@@ -14,7 +15,6 @@ use irtext_syntax::{Characters, Number, match_text, matches_text};
 use irtext_tree::marks::{mark_parse, more_parse, opened_parse, write_spaced_row};
 use irtext_tree::{Grammar, Grows, LedGrammar, Tree, Waits};
 use std::alloc::AllocError;
-use std::fmt;
 
 /// What comes after `llvm.ptr_in`: `<N>`.
 pub type PointerInText = Within<Angle, Number<u32>>;
@@ -303,7 +303,7 @@ impl<A> Grammar<LlvmTypeHead, A> for LlvmTypePlace {
         }
     }
 
-    fn write_head(head: &LlvmTypeHead, f: &mut String) -> fmt::Result {
+    fn write_head(head: &LlvmTypeHead, f: &mut String) -> Result<(), OutOfMemory> {
         match head {
             LlvmTypeHead::Void => write_word("llvm.void", f),
             LlvmTypeHead::Label => write_word("llvm.label", f),

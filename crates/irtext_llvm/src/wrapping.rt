@@ -4,10 +4,10 @@ ghost use Rattle.irtext_syntax.specs.Owns.{ends_text};
 
 use irtext_base::parsable::{ParseResult, TextStream};
 use irtext_base::result::Expected;
+use irtext_memory::OutOfMemory;
 use irtext_syntax::match_text;
 use irtext_syntax::part::{Item, Last, Part, Plain};
 use irtext_syntax::table::{Choice, table_parse, write_word};
-use std::fmt;
 
 /// One of the words `wraps`, `nsw`, `nuw` or `nuw_nsw`. Another word is an error with the text `Unknown wrapping ` and the word, at its
 /// beginning.
@@ -46,7 +46,7 @@ impl<A> Part<A> for Wrapping {
         table_parse::<Wrapping, Wrapping, A>(stream, "Unknown wrapping ", Expected::Attribute)
     }
 
-    fn write_text(&self, f: &mut String) -> fmt::Result {
+    fn write_text(&self, f: &mut String) -> Result<(), OutOfMemory> {
         match self {
             Wrapping::Wraps => write_word("wraps", f),
             Wrapping::Nsw => write_word("nsw", f),

@@ -14,6 +14,7 @@ ghost use Rattle.irtext_memory.specs.declared.NoRoom.TheVariants.{Memory};
 ghost use Rattle.irtext_memory.specs.Rooms.{LacksMemory};
 
 use std::alloc::{AllocError, AllocFailed};
+use std::fmt;
 
 /// An allocation was refused.
 #[derive(PartialEq, Eq, Debug, Drop)]
@@ -52,6 +53,13 @@ impl From<OutOfMemory> for AllocError {
     #[inline(always)]
     fn from(_: OutOfMemory) -> AllocError {
         AllocError
+    }
+}
+
+impl From<OutOfMemory> for fmt::Error {
+    #[inline(always)]
+    fn from(_: OutOfMemory) -> fmt::Error {
+        fmt::Error
     }
 }
 

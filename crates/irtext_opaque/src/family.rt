@@ -7,10 +7,10 @@ use crate::opaque::Opaque;
 use crate::words::is_foreign;
 use irtext_base::parsable::{CharStream, ParseResult, TextStream};
 use irtext_base::text::{AttrText, Family, IrText, Worded};
+use irtext_memory::OutOfMemory;
 use irtext_syntax::part::TryClone;
 use irtext_tokens::irfmt::parsers::{Class, skip_class};
 use std::alloc::AllocError;
-use std::fmt;
 
 /// A type or an attribute of the family, or one that the family does not have, as its text. A text whose first word can begin an opaque text
 /// (`is_foreign`) is parsed as one, and any other text by the family, which rejects other words as it does alone. What is opaque is neither
@@ -62,7 +62,7 @@ impl<B, F: Family<B>> IrText<B> for OrOpaque<F> {
         }
     }
 
-    fn write_text(&self, f: &mut String) -> fmt::Result {
+    fn write_text(&self, f: &mut String) -> Result<(), OutOfMemory> {
         match self {
             OrOpaque::Known(x) => x.write_text(f),
             OrOpaque::Opaque(x) => x.write_text(f),

@@ -13,12 +13,12 @@ use crate::brackets::skip_brackets;
 use irtext_base::parsable::{CharStream, ParseFault, ParseResult, Place, TextStream};
 use irtext_base::result::Cause;
 use irtext_base::text::Worded;
+use irtext_memory::{OutOfMemory, string};
 use irtext_syntax::Characters;
 use irtext_syntax::part::TryClone;
 use irtext_tokens::irfmt::faults::{out_of_memory, refuse_at};
 use irtext_tokens::irfmt::parsers::{Class, skip_class};
 use std::alloc::AllocError;
-use std::fmt;
 use std::marker::PhantomData;
 
 /// The text of a type or an attribute that the family `F` does not have, as `my.ptr` or `my.vec<4 x f32>`: a dotted word, and then, with no
@@ -92,12 +92,12 @@ impl<F: Worded> Opaque<F> {
     }
 
     /// Appends the text. Fails only when out of memory.
-    pub fn write_text(&self, f: &mut String) -> fmt::Result
+    pub fn write_text(&self, f: &mut String) -> Result<(), OutOfMemory>
         ensures text { OnOk result (string_bytes f.new ≡ string_bytes f.old
             ++ encode_utf8_all self.now.text.characters) }
         ensures appended { OnErr result (OnlyAppends f.old f.new) }
     {
-        f.push_str(self.as_str())?;
+        string::push_str(f, self.as_str())?;
         Ok(())
     }
 }

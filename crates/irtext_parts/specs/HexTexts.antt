@@ -1,5 +1,5 @@
 -- Numbers in hexadecimal digits, as parts of a text.
-use Rattle.std.specs.Prelude.{ℕ, ℤ, Bool, true, not, ◌++◌, codes}
+use Rattle.std.specs.Prelude.{ℕ, ℤ, Bool, true, not, ◌++◌, ◌≡◌, ◌^◌, codes}
 use Rattle.std.specs.Char.{is_ascii_hexdigit}
 use Rattle.std.specs.Fmt.{digits}
 use Rattle.irtext_base.specs.Text.{Text, begins}
@@ -13,6 +13,10 @@ use Rattle.irtext_syntax.specs.declared.number.Number.{Number}
 -- `0x` and the digits of a number, in capital letters and without leading zeros
 abbrev pub hex_text : ℕ → Text
 hex_text n = codes "0x" ++ digits 16 true n
+
+-- a power of 16, as the place of a hexadecimal digit
+abbrev pub IsPower16 : ℕ → Type 0
+IsPower16 n = (k : ℕ) × (n ≡ 16 ^ k)
 
 -- no hexadecimal digit comes next
 abbrev pub ends_hex : Text → Bool

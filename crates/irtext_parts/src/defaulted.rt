@@ -2,10 +2,10 @@
 ghost use Rattle.std.specs.Prelude.{◌≡◌, IfOk, IsTrue};
 
 use irtext_base::parsable::{CharStream, ParseResult, TextStream};
+use irtext_memory::OutOfMemory;
 use irtext_syntax::part::{Item, Part, TryClone};
 use irtext_tokens::irfmt::faults::out_of_memory;
 use std::alloc::{AllocError, Global};
-use std::fmt;
 use std::marker::PhantomData;
 
 /// The default value of a part.
@@ -86,7 +86,7 @@ impl<A: Drop, P: Item<A>, D: DefaultOf<P>> Part<A> for Defaulted<P, D> {
         }
     }
 
-    fn write_text(&self, f: &mut String) -> fmt::Result {
+    fn write_text(&self, f: &mut String) -> Result<(), OutOfMemory> {
         if D::is_it(&self.value) {
             return Ok(());
         }

@@ -1,18 +1,18 @@
 //! Numbers in hexadecimal digits.
-ghost use Rattle.std.specs.Prelude.{◌≡◌, ℕ, pos, true, refl, OnOk, OnErr, ◌++◌, string_bytes};
+ghost use Rattle.std.specs.Prelude.{◌≡◌, ◌<◌, ◌≤◌, ◌/◌, ℕ, pos, true, refl, OnOk, OnErr, ◌++◌, string_bytes};
 ghost use Rattle.std.specs.Cmp.{on_equiv, on_per};
 ghost use Rattle.irtext_base.specs.Appending.{OnlyAppends};
-ghost use Rattle.irtext_parts.specs.HexTexts.{hex_text};
+ghost use Rattle.std.specs.Fmt.{digits};
+ghost use Rattle.irtext_parts.specs.HexTexts.{IsPower16, hex_text};
 
-use arrayvec::ArrayString;
 use irtext_base::parsable::{ParseResult, TextStream};
+use irtext_memory::{OutOfMemory, string};
 use irtext_syntax::Number;
 use irtext_syntax::number::Integer;
 use irtext_syntax::part::{Item, Last, Part, Plain};
 use irtext_tokens::irfmt::parsers::{FromStrRadix, hex_int_parse};
 use std::alloc::AllocError;
 use std::fmt;
-use std::fmt::Write;
 use std::hash::{Hash, Hasher};
 
 /// An unsigned integer type whose numbers can be printed as bits.
@@ -108,15 +108,53 @@ impl<N: Bits> Hex<N> {
     }
 }
 
-/// Appends `0x` and the digits of a number, in capital letters. They are put together in place, and appended at once.
-fn write_hex(bits: u64, f: &mut String) -> fmt::Result
+/// The digits of hexadecimal numbers.
+const DIGITS: &str = "0123456789ABCDEF";
+
+/// Returns a number below 16 as one hexadecimal digit.
+fn digit(number: u64) -> &'static str
+    requires { number < 16 }
+    ensures { result.now ≡ digits 16 true number }
+{
+    let from = number as usize;
+    &DIGITS[from..from + 1]
+}
+
+/// Returns the power of 16 at which the first digit of a number stands.
+fn first_place(bits: u64) -> u64
+    ensures some { 0 < result }
+    ensures power { IsPower16 result }
+    ensures first { bits / result < 16 }
+    ensures led { 1 < result → 1 ≤ bits / result }
+{
+    let mut place = 1;
+    while bits / place >= 16 {
+        place *= 16;
+    }
+    place
+}
+
+/// Appends the digits of a number, in capital letters, without leading zeros.
+fn write_digits(bits: u64, f: &mut String) -> Result<(), OutOfMemory>
+    ensures text { OnOk result (string_bytes f.new ≡ string_bytes f.old ++ digits 16 true bits) }
+    ensures appended { OnErr result (OnlyAppends f.old f.new) }
+{
+    let mut place = first_place(bits);
+    string::push_str(f, digit(bits / place))?;
+    while place > 1 {
+        place /= 16;
+        string::push_str(f, digit(bits / place % 16))?;
+    }
+    Ok(())
+}
+
+/// Appends `0x` and the digits of a number, in capital letters.
+fn write_hex(bits: u64, f: &mut String) -> Result<(), OutOfMemory>
     ensures text { OnOk result (string_bytes f.new ≡ string_bytes f.old ++ hex_text bits) }
     ensures appended { OnErr result (OnlyAppends f.old f.new) }
 {
-    let mut digits: ArrayString<20> = ArrayString::new();
-    write!(digits, "0x{bits:X}")?;
-    f.push_str(digits.as_str())?;
-    Ok(())
+    string::push_str(f, "0x")?;
+    write_digits(bits, f)
 }
 
 impl<A, N: Bits> Part<A> for Hex<N> {
@@ -142,7 +180,7 @@ impl<A, N: Bits> Part<A> for Hex<N> {
         }
     }
 
-    fn write_text(&self, f: &mut String) -> fmt::Result {
+    fn write_text(&self, f: &mut String) -> Result<(), OutOfMemory> {
         write_hex(self.get().bits(), f)
     }
 }

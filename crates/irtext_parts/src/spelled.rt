@@ -5,11 +5,11 @@ ghost use Rattle.irtext_parts.specs.Spellings.{is_spelled};
 use crate::spelling::{Spelling, begins_here, is_spelled, misspelled, skip_spelled};
 use irtext_base::parsable::{CharStream, ParseResult, TextStream};
 use irtext_base::result::Cause;
+use irtext_memory::{OutOfMemory, string};
 use irtext_syntax::Characters;
 use irtext_syntax::part::{Item, Last, Part, TryClone};
 use irtext_tokens::irfmt::faults::{out_of_memory, refuse, unexpected};
 use std::alloc::AllocError;
-use std::fmt;
 use std::marker::PhantomData;
 
 /// A text that is kept as it is spelled, such as `1.50`. Two are equal if they are spelled alike: `1.5` and `1.50` differ. As many of its
@@ -108,8 +108,8 @@ impl<A, K: Spelling> Part<A> for Spelled<K> {
         }
     }
 
-    fn write_text(&self, f: &mut String) -> fmt::Result {
-        f.push_str(self.as_str())?;
+    fn write_text(&self, f: &mut String) -> Result<(), OutOfMemory> {
+        string::push_str(f, self.as_str())?;
         Ok(())
     }
 }

@@ -9,13 +9,13 @@ ghost use Rattle.irtext_parts.specs.SymbolTexts.{bare_at, symbol_name_at, symbol
 use irtext_base::base::identifier::is_identifier;
 use irtext_base::parsable::{CharStream, ParseResult, TextStream};
 use irtext_base::result::{Cause, Expected};
+use irtext_memory::{OutOfMemory, string};
 use irtext_syntax::Characters;
 use irtext_syntax::part::{Item, Last, Part, TryClone};
 use irtext_tokens::irfmt::faults::{begins, committed, next_is, out_of_memory, refuse, unexpected};
 use irtext_tokens::irfmt::parsers::{Class, skip_class, text_parse};
 use irtext_tokens::printable::fmt_quoted;
 use std::alloc::AllocError;
-use std::fmt;
 
 /// A symbol, as a part of a text such as `@main` or `@".str.1"`: `@` and an identifier, or `@` and a quoted text, which may be any. It is
 /// printed with an identifier if its name is one, and otherwise with a quoted text. If `@` does not come next, parsing fails with
@@ -88,14 +88,14 @@ fn at_name_parse<A>(stream: &mut TextStream) -> ParseResult<Characters, A>
 }
 
 /// Appends a name as it is, if it is an identifier, and otherwise quoted.
-fn write_name(name: &Characters, f: &mut String) -> fmt::Result
+fn write_name(name: &Characters, f: &mut String) -> Result<(), OutOfMemory>
     ensures text { OnOk result (string_bytes f.new ≡ string_bytes f.old ++ encode_utf8_all
         (symbol_name name.now.characters)) }
     ensures appended { OnErr result (OnlyAppends f.old f.new) }
 {
     let text = name.as_str();
     if is_identifier(text) {
-        f.push_str(text)?;
+        string::push_str(f, text)?;
         return Ok(());
     }
     fmt_quoted(text, f)
@@ -117,8 +117,8 @@ impl<A> Part<A> for Symbol {
         }
     }
 
-    fn write_text(&self, f: &mut String) -> fmt::Result {
-        f.push_str("@")?;
+    fn write_text(&self, f: &mut String) -> Result<(), OutOfMemory> {
+        string::push_str(f, "@")?;
         write_name(&self.name, f)
     }
 }

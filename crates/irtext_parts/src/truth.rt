@@ -1,9 +1,9 @@
 //! Truth values.
 use irtext_base::parsable::{ParseResult, TextStream};
+use irtext_memory::OutOfMemory;
 use irtext_syntax::part::{Closed, Item, Last, Part, Plain};
 use irtext_syntax::table::write_word;
 use irtext_tokens::irfmt::parsers::bool_parse;
-use std::fmt;
 
 /// A truth value, as a part whose text is `true` or `false`. If the next character begins neither, parsing fails with `Unexpected`,
 /// uncommitted. If a later one differs, it fails with `Unexpected` there, committed.
@@ -30,7 +30,7 @@ impl<A> Part<A> for Truth {
         }
     }
 
-    fn write_text(&self, f: &mut String) -> fmt::Result {
+    fn write_text(&self, f: &mut String) -> Result<(), OutOfMemory> {
         if self.value {
             return write_word("true", f);
         }

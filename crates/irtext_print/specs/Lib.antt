@@ -5,3 +5,4 @@ pub mod Given
 pub mod Items
 pub mod Mentions
 pub mod Printers
+pub mod Refusals

@@ -23,11 +23,11 @@ use irtext_base::location::{Location, Source};
 use irtext_base::parsable::SourcePosition;
 use irtext_base::text::{AttrText, IrText};
 use irtext_context::base::Context;
-use std::fmt;
+use irtext_memory::{OutOfMemory, string};
 
 /// Appends `!` and an index.
 #[inline(never)]
-fn fmt_index(index: usize, f: &mut String) -> fmt::Result
+fn fmt_index(index: usize, f: &mut String) -> Result<(), OutOfMemory>
     ensures text { OnOk result (AppendsText f.old (codes "!" ++ decimal index) f.new) }
     ensures appended { OnErr result (OnlyAppends f.old f.new) }
 {
@@ -35,22 +35,22 @@ fn fmt_index(index: usize, f: &mut String) -> fmt::Result
 }
 
 /// Appends a label under the key of labels.
-fn fmt_label(label: &Identifier, f: &mut String) -> fmt::Result
+fn fmt_label(label: &Identifier, f: &mut String) -> Result<(), OutOfMemory>
     ensures text { OnOk result (AppendsText f.old (texts.label_text label.now) f.new) }
     ensures appended { OnErr result (OnlyAppends f.old f.new) }
 {
-    f.push_str("builtin_block_label = builtin.identifier ")?;
-    f.push_str(label.as_str())?;
+    string::push_str(f, "builtin_block_label = builtin.identifier ")?;
+    string::push_str(f, label.as_str())?;
     Ok(())
 }
 
 /// Appends `, `, except before the first attribute.
-fn fmt_comma(first: bool, f: &mut String) -> fmt::Result
+fn fmt_comma(first: bool, f: &mut String) -> Result<(), OutOfMemory>
     ensures text { OnOk result (string_bytes f.new ≡ string_bytes f.old ++ cond first [] comma) }
     ensures appended { OnErr result (OnlyAppends f.old f.new) }
 {
     if !first {
-        f.push_str(", ")?;
+        string::push_str(f, ", ")?;
     }
     Ok(())
 }
@@ -64,7 +64,7 @@ pub(crate) fn is_in_memory(src: Source) -> bool
 
 /// Appends what is before an entry's attributes for a position in memory, in one piece. The numbers have at most six digits.
 #[inline(always)]
-fn fmt_memory(index: usize, line: usize, column: usize, f: &mut String) -> fmt::Result
+fn fmt_memory(index: usize, line: usize, column: usize, f: &mut String) -> Result<(), OutOfMemory>
     requires index { index < 1000000 }
     requires line { line < 1000000 }
     requires column { column < 1000000 }
@@ -79,27 +79,27 @@ fn fmt_memory(index: usize, line: usize, column: usize, f: &mut String) -> fmt::
     front.push_str(", column: ");
     put_number(column, &mut front);
     front.push_str("], [");
-    f.push_str(front.as_str())?;
+    string::push_str(f, front.as_str())?;
     Ok(())
 }
 
 /// Appends what is before an entry's attributes for a position in memory, piece by piece.
 #[cold]
 #[inline(never)]
-fn fmt_memory_slowly(index: usize, pos: &SourcePosition, f: &mut String) -> fmt::Result
+fn fmt_memory_slowly(index: usize, pos: &SourcePosition, f: &mut String) -> Result<(), OutOfMemory>
     ensures text { OnOk result (string_bytes f.new ≡ texts.memory_front (string_bytes f.old) index pos.now) }
     ensures appended { OnErr result (OnlyAppends f.old f.new) }
 {
     fmt_index(index, f)?;
-    f.push_str(" = @[<in-memory>: line: ")?;
+    string::push_str(f, " = @[<in-memory>: line: ")?;
     fmt_numbers(pos, f)?;
-    f.push_str("], [")?;
+    string::push_str(f, "], [")?;
     Ok(())
 }
 
 /// Appends what is before an entry's attributes for a position in memory.
 #[inline(always)]
-fn fmt_memory_front(index: usize, pos: &SourcePosition, f: &mut String) -> fmt::Result
+fn fmt_memory_front(index: usize, pos: &SourcePosition, f: &mut String) -> Result<(), OutOfMemory>
     ensures text { OnOk result (string_bytes f.new ≡ texts.memory_front (string_bytes f.old) index pos.now) }
     ensures appended { OnErr result (OnlyAppends f.old f.new) }
 {
@@ -121,13 +121,13 @@ fn fmt_entry_location<T: IrText<A>, A: AttrText<A>>(
     location: &Location<A>,
     ctx: &Context<T, A>,
     f: &mut String,
-) -> fmt::Result
+) -> Result<(), OutOfMemory>
     ensures text { OnOk result (string_bytes f.new ≡ texts.location_front A.written ctx.now.paths location.now
         (string_bytes f.old)) }
     ensures appended { OnErr result (OnlyAppends f.old f.new) }
 {
     if let Location::Unknown = location {
-        f.push_str(" = [")?;
+        string::push_str(f, " = [")?;
         return Ok(());
     }
     fmt_known(location, " = @[", "], [", ctx, f)
@@ -141,7 +141,7 @@ fn fmt_front<T: IrText<A>, A: AttrText<A>>(
     location: &Location<A>,
     ctx: &Context<T, A>,
     f: &mut String,
-) -> fmt::Result
+) -> Result<(), OutOfMemory>
     ensures text { OnOk result (string_bytes f.new ≡ texts.location_front A.written ctx.now.paths location.now
         (string_bytes f.old ++ encode_utf8_all (codes "!" ++ decimal index))) }
     ensures appended { OnErr result (OnlyAppends f.old f.new) }
@@ -158,7 +158,7 @@ fn fmt_front<T: IrText<A>, A: AttrText<A>>(
 impl<'c, A: AttrText<A>> Mentions<'c, A> {
     /// Appends the reference to a print-once attribute: `!` and its index, which comes after those of all items. The attribute is known
     /// from then on.
-    fn fmt_reference(&mut self, attr: &'c A, f: &mut String) -> fmt::Result
+    fn fmt_reference(&mut self, attr: &'c A, f: &mut String) -> Result<(), OutOfMemory>
         requires { self.old.items < 2 ^ 63 }
         ensures writes { OnOk result (texts.WritesReference A.IrText.own A.AttrText.own A.eq self.old self.new
             f.old f.new attr.now) }
@@ -170,7 +170,7 @@ impl<'c, A: AttrText<A>> Mentions<'c, A> {
     }
 
     /// Appends an attribute of the caller, or the reference to a print-once one.
-    fn fmt_own(&mut self, attr: &'c A, f: &mut String) -> fmt::Result
+    fn fmt_own(&mut self, attr: &'c A, f: &mut String) -> Result<(), OutOfMemory>
         requires { self.old.items < 2 ^ 63 }
         ensures writes { OnOk result (texts.WritesItem A.IrText.own A.AttrText.own A.eq self.old self.new f.old
             f.new (own attr.now)) }
@@ -184,7 +184,7 @@ impl<'c, A: AttrText<A>> Mentions<'c, A> {
 
     /// Appends an attribute, or the reference to a print-once one.
     #[inline(always)]
-    fn fmt_attribute(&mut self, attr: &'c AttrObj<A>, f: &mut String) -> fmt::Result
+    fn fmt_attribute(&mut self, attr: &'c AttrObj<A>, f: &mut String) -> Result<(), OutOfMemory>
         requires { self.old.items < 2 ^ 63 }
         ensures writes { OnOk result (texts.WritesItem A.IrText.own A.AttrText.own A.eq self.old self.new f.old
             f.new (attribute_of attr.now)) }
@@ -198,7 +198,7 @@ impl<'c, A: AttrText<A>> Mentions<'c, A> {
 
     /// Appends what the section contains for an item under one key.
     #[inline(always)]
-    fn fmt_pair(&mut self, pair: GivenAttribute<'c, A>, f: &mut String) -> fmt::Result
+    fn fmt_pair(&mut self, pair: GivenAttribute<'c, A>, f: &mut String) -> Result<(), OutOfMemory>
         requires { self.old.items < 2 ^ 63 }
         ensures writes { OnOk result (texts.WritesPair A.IrText.own A.AttrText.own A.eq self.old self.new f.old
             f.new (given_pair pair.entry)) }
@@ -207,8 +207,8 @@ impl<'c, A: AttrText<A>> Mentions<'c, A> {
         match pair {
             GivenAttribute::Label(label) => fmt_label(label, f),
             GivenAttribute::Outlined(key, attr) => {
-                f.push_str(key.as_str())?;
-                f.push_str(" = ")?;
+                string::push_str(f, key.as_str())?;
+                string::push_str(f, " = ")?;
                 self.fmt_attribute(attr, f)
             }
         }
@@ -216,7 +216,7 @@ impl<'c, A: AttrText<A>> Mentions<'c, A> {
 
     /// Appends what the section contains for an item besides its location, with `, ` between.
     #[inline(always)]
-    fn fmt_pairs(&mut self, given: &Given<'c, A>, f: &mut String) -> fmt::Result
+    fn fmt_pairs(&mut self, given: &Given<'c, A>, f: &mut String) -> Result<(), OutOfMemory>
         requires { self.old.items < 2 ^ 63 }
         ensures writes { OnOk result (texts.WritesPairs A.IrText.own A.AttrText.own A.eq self.old self.new f.old
             f.new
@@ -239,7 +239,7 @@ impl<'c, A: AttrText<A>> Mentions<'c, A> {
         index: usize,
         given: &Given<'c, A>,
         f: &mut String,
-    ) -> fmt::Result
+    ) -> Result<(), OutOfMemory>
         requires { self.old.items < 2 ^ 63 }
         ensures writes { OnOk result (texts.WritesEntry A.IrText.own A.AttrText.own A.eq self.old self.new f.old
             f.new index
@@ -249,7 +249,7 @@ impl<'c, A: AttrText<A>> Mentions<'c, A> {
     {
         fmt_front(index, given.location, ctx, f)?;
         self.fmt_pairs(given, f)?;
-        f.push_str("]\n")?;
+        string::push_str(f, "]\n")?;
         Ok(())
     }
 }

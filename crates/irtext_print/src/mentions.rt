@@ -6,7 +6,7 @@ ghost use Rattle.irtext_print.specs.Mentions as mentions;
 use indexmap::IndexSet;
 use irtext_base::seed::Seed;
 use irtext_base::text::AttrText;
-use std::fmt;
+use irtext_memory::{OutOfMemory, set};
 
 /// The print-once attributes that are known so far. They are numbered on after the section's items.
 #[derive(Drop)]
@@ -20,7 +20,7 @@ pub(crate) struct Mentions<'c, A: AttrText<A>> {
 impl<'c, A: AttrText<A>> Mentions<'c, A> {
     /// Records a print-once attribute, and returns its place among those that are known. The place does not change as more are recorded.
     /// Allocates if the attribute is new; fails only if out of memory.
-    pub(crate) fn note(&mut self, attr: &'c A) -> Result<usize, fmt::Error>
+    pub(crate) fn note(&mut self, attr: &'c A) -> Result<usize, OutOfMemory>
         ensures items { OnOk result (self.new.items ≡ self.old.items) }
         ensures known { OnOk result (mentions.known_in self.new.known ≡
             mentions.with_mention (mentions.asking A.print_once A.eq)
@@ -30,12 +30,12 @@ impl<'c, A: AttrText<A>> Mentions<'c, A> {
             (mentions.known_in self.new.known ++ more) attr.now) }
         ensures small { IfOk result (λ place. place < 2 ^ 63) }
     {
-        match self.known.insert_full(attr) {
+        match set::insert_full(&mut self.known, attr) {
             Ok((place, _)) => {
                 let _count = self.known.len();
                 Ok(place)
             }
-            Err(_) => Err(fmt::Error),
+            Err(refused) => Err(refused.into()),
         }
     }
 }

@@ -9,7 +9,7 @@ ghost use Rattle.irtext_print.specs.Items as section;
 ghost use Rattle.irtext_print.specs.Mentions as mentions;
 ghost use Rattle.irtext_print.specs.Printers.Appended.{AppendsText};
 ghost use Rattle.irtext_print.specs.Printers.PieceText.{words};
-ghost use Rattle.irtext_print.specs.declared.printable.refusal.Refusal.TheVariants as refusal;
+ghost use Rattle.irtext_print.specs.Refusals.{IsMemory};
 
 use crate::entries::is_in_memory;
 use crate::given::given_of;
@@ -22,18 +22,18 @@ use indexmap::IndexSet;
 use irtext_base::location::Location;
 use irtext_base::text::{AttrText, IrText};
 use irtext_context::base::{Context, Item};
-use std::fmt;
+use irtext_memory::{OutOfMemory, string};
 
 /// Appends a print-once attribute, after its index.
-fn fmt_once<A: AttrText<A>>(index: usize, attr: &A, f: &mut String) -> fmt::Result
+fn fmt_once<A: AttrText<A>>(index: usize, attr: &A, f: &mut String) -> Result<(), OutOfMemory>
     ensures text { OnOk result (AppendsText f.old (texts.once_text A.IrText.written index attr.now) f.new) }
     ensures appended { OnErr result (OnlyAppends f.old f.new) }
 {
-    f.push_str("!")?;
+    string::push_str(f, "!")?;
     fmt_number(index as u64, f)?;
-    f.push_str(" = ")?;
+    string::push_str(f, " = ")?;
     attr.write_text(f)?;
-    f.push_str("\n")?;
+    string::push_str(f, "\n")?;
     Ok(())
 }
 
@@ -45,7 +45,7 @@ impl<'c, A: AttrText<A>> Mentions<'c, A> {
         index: usize,
         item: Item,
         f: &mut String,
-    ) -> fmt::Result
+    ) -> Result<(), OutOfMemory>
         requires { self.old.items < 2 ^ 63 }
         ensures writes { OnOk result (section.WritesItemEntry T.IrText.own A.IrText.own A.AttrText.own A.eq ctx.now
             self.old self.new f.old f.new index item) }
@@ -63,7 +63,7 @@ impl<'c, A: AttrText<A>> Mentions<'c, A> {
         ctx: &'c Context<T, A>,
         items: &[Item],
         f: &mut String,
-    ) -> fmt::Result
+    ) -> Result<(), OutOfMemory>
         requires { self.old.items < 2 ^ 63 }
         ensures writes { OnOk result (section.WritesEntries T.IrText.own A.IrText.own A.AttrText.own A.eq ctx.now
             self.old self.new f.old f.new items.now) }
@@ -76,7 +76,7 @@ impl<'c, A: AttrText<A>> Mentions<'c, A> {
     }
 
     /// Appends the print-once attributes, numbered on after all items.
-    fn fmt_all_once(&self, f: &mut String) -> fmt::Result
+    fn fmt_all_once(&self, f: &mut String) -> Result<(), OutOfMemory>
         requires { self.now.items < 2 ^ 63 }
         ensures text { OnOk result (AppendsText f.old (once_texts (words A.IrText.written) (mentions.asking
             A.print_once A.eq)
@@ -96,7 +96,7 @@ fn fmt_section<T: IrText<A>, A: AttrText<A>>(
     ctx: &Context<T, A>,
     items: &[Item],
     f: &mut String,
-) -> fmt::Result
+) -> Result<(), OutOfMemory>
     ensures text { OnOk result (AppendsText f.old (section.section_at T.IrText.own A.IrText.own A.AttrText.own A.eq
         ctx.now items.now) f.new) }
     ensures appended { OnErr result (OnlyAppends f.old f.new) }
@@ -104,7 +104,7 @@ fn fmt_section<T: IrText<A>, A: AttrText<A>>(
     if items.is_empty() {
         return Ok(());
     }
-    f.push_str("\n\noutlined_attributes:\n")?;
+    string::push_str(f, "\n\noutlined_attributes:\n")?;
     let mut mentions = Mentions {
         items: items.len(),
         known: IndexSet::with_hasher(ctx.allocator(), ctx.seed()),
@@ -131,7 +131,7 @@ pub fn print_section<T: IrText<A>, A: AttrText<A>>(
 ) -> Result<(), Refusal>
     ensures text { OnOk result (AppendsText f.old
         (section.section_at T.IrText.own A.IrText.own A.AttrText.own A.eq ctx.now items.now) f.new) }
-    ensures refused { IfErr result (λ e. e ≡ refusal.Memory) }
+    ensures refused { IfErr result (λ e. IsMemory e) }
     ensures appended { OnErr result (OnlyAppends f.old f.new) }
 {
     memory_alone(fmt_section(ctx, items, f))
@@ -143,7 +143,7 @@ fn fmt_located<T: IrText<A>, A: AttrText<A>>(
     location: &Location<A>,
     ctx: &Context<T, A>,
     f: &mut String,
-) -> fmt::Result
+) -> Result<(), OutOfMemory>
     ensures text { OnOk result (string_bytes f.new ≡ string_bytes f.old
         ++ framed (codes " !0\n\noutlined_attributes:\n!0 = @[") (codes "], []\n")
         (known_text A.written ctx.now.paths location.now)) }
@@ -151,9 +151,9 @@ fn fmt_located<T: IrText<A>, A: AttrText<A>>(
 {
     if let Location::SrcPos { src, pos } = location {
         if is_in_memory(*src) {
-            f.push_str(" !0\n\noutlined_attributes:\n!0 = @[<in-memory>: line: ")?;
+            string::push_str(f, " !0\n\noutlined_attributes:\n!0 = @[<in-memory>: line: ")?;
             fmt_numbers(pos, f)?;
-            f.push_str("], []\n")?;
+            string::push_str(f, "], []\n")?;
             return Ok(());
         }
     }
@@ -171,7 +171,7 @@ fn fmt_alone<T: IrText<A>, A: AttrText<A>>(
     ctx: &Context<T, A>,
     item: Item,
     f: &mut String,
-) -> fmt::Result
+) -> Result<(), OutOfMemory>
     ensures text { OnOk result (AppendsText f.old (section.alone_at T.IrText.own A.IrText.own A.AttrText.own A.eq
         ctx.now item) f.new) }
     ensures appended { OnErr result (OnlyAppends f.old f.new) }
@@ -180,7 +180,7 @@ fn fmt_alone<T: IrText<A>, A: AttrText<A>>(
         return Ok(());
     };
     if given.has_attributes() {
-        f.push_str(" !0")?;
+        string::push_str(f, " !0")?;
         return fmt_section(ctx, &[item], f);
     }
     fmt_located(given.location, ctx, f)
@@ -197,7 +197,7 @@ pub fn print_alone<T: IrText<A>, A: AttrText<A>>(
 ) -> Result<(), Refusal>
     ensures text { OnOk result (AppendsText f.old (section.alone_at T.IrText.own A.IrText.own A.AttrText.own
         A.eq ctx.now item) f.new) }
-    ensures refused { IfErr result (λ e. e ≡ refusal.Memory) }
+    ensures refused { IfErr result (λ e. IsMemory e) }
     ensures appended { OnErr result (OnlyAppends f.old f.new) }
 {
     memory_alone(fmt_alone(ctx, item, f))

@@ -21,7 +21,8 @@ impl<T: IrText<A>, A: AttrText<A>, U> Printable<U, T, A> for Source {
     ghost refuses = { λ _ _. HasAppended };
 
     fn fmt(&self, ctx: &Context<T, A>, _state: &mut State<U>, f: &mut String) -> fmt::Result {
-        fmt_source(*self, ctx, f)
+        fmt_source(*self, ctx, f)?;
+        Ok(())
     }
 }
 
@@ -47,6 +48,7 @@ impl<T: IrText<A>, A: AttrText<A>, U> Printable<U, T, A> for Location<A> {
     ghost refuses = { λ _ _. HasAppended };
 
     fn fmt(&self, ctx: &Context<T, A>, _state: &mut State<U>, f: &mut String) -> fmt::Result {
-        fmt_location(self, ctx, f)
+        fmt_location(self, ctx, f)?;
+        Ok(())
     }
 }

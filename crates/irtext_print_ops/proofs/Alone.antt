@@ -1,6 +1,6 @@
 -- A region and a block that are printed alone: what was written before the open frames, with the text that is left, is their text.
 use Rattle.std.proofs.Common.{◌≡◌, ◌+◌, ◌∙◌, ◌⊎◌, inl, inr, ℕ, zero, suc, List, [], ◌∷◌, ◌++◌, length, map, true, true≢false, Option, Some, None, option_map, refl, sym, ap, subst, append_assoc, length-append}
-use Rattle.std.specs.Prelude.{⊤, cond, codes, ◌≤◌, ◌^◌, ◌≢◌, IsSome}
+use Rattle.std.specs.Prelude.{⊤, cond, codes, ◌≤◌, ◌^◌, IsSome}
 use Rattle.std.specs.Str.{encode_utf8_all}
 use Rattle.irtext_base.specs.Own.{Language}
 use Rattle.irtext_base.specs.Text.{Text}
@@ -26,8 +26,9 @@ use Rattle.irtext_grammar.specs.Graphs.Graph.{GraphOp, GraphBlock, Printing, is_
 use Rattle.irtext_grammar.specs.Spelling.Spell.{newline, joined, comma, label, argument, dictionary_if, mark_if, region_text, block_texts, block_text, operation_texts}
 use Rattle.irtext_print.proofs.Printers.Locations.{more}
 use Rattle.irtext_print.specs.Printers.PrintedOperation.{levels}
+use Rattle.irtext_print.specs.Refusals.{IsOther}
 use Rattle.irtext_print.specs.declared.printable.refusal.Refusal.{Refusal}
-use Rattle.irtext_print.specs.declared.printable.refusal.Refusal.TheVariants.{Memory, Depth, Misfit}
+use Rattle.irtext_print.specs.declared.printable.refusal.Refusal.TheVariants.{Depth, Misfit}
 use Rattle.irtext_print.specs.declared.printable.state.RegionPrintDepthLimit.{RegionPrintDepthLimit}
 use Rattle.irtext_print.specs.declared.printable.state.RegionPrintDepthLimit.TheVariants.{Unlimited, Max}
 use Rattle.irtext_print_ops.proofs.Opens.{alone}
@@ -121,7 +122,7 @@ module _ {T A : Type 0} (C : Printing T A) (L : Language ⊤ T A) (ctx : Context
     deep_region (Max zero) h = absurd (true≢false (sym h.0))
     deep_region (Max (suc m)) h = inl (refl, inl h.1)
 
-    pub region_refused : (limit : RegionPrintDepthLimit) (e : Refusal) → (e ≢ Memory → (e ≡ Depth) × IsTooDeep width i limit) → e ≢ Memory → Fault limit e
+    pub region_refused : (limit : RegionPrintDepthLimit) (e : Refusal) → (IsOther e → (e ≡ Depth) × IsTooDeep width i limit) → IsOther e → Fault limit e
     region_refused limit e h other = let is = h other in subst (Fault limit) (sym is.0) (deep_region limit is.1)
 
   -- ---- a block

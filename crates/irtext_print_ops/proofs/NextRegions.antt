@@ -1,12 +1,13 @@
 -- What a turn of an operation prints of its next region, and what is open after that.
-use Rattle.std.proofs.Common.{◌≡◌, ◌≢◌, ◌++◌, ◌∷◌, ◌∙◌, [], ℕ, List, Option, Some, None, append-nil, ap, sym, cond, codes, false, ◌+◌, slice_get, is_some}
+use Rattle.std.proofs.Common.{◌≡◌, ◌++◌, ◌∷◌, ◌∙◌, [], ℕ, List, Option, Some, None, append-nil, ap, sym, cond, codes, false, ◌+◌, slice_get, is_some}
 use Rattle.std.specs.Str.{encode_utf8_all}
 use Rattle.irtext_context.specs.Context.{ContextView}
 use Rattle.irtext_graph.specs.declared.arena.Ptr.{Ptr}
 use Rattle.irtext_graph.specs.declared.object.Region.{Region}
 use Rattle.irtext_graph.specs.Parts.{regions}
+use Rattle.irtext_print.specs.Refusals.{IsOther}
 use Rattle.irtext_print.specs.declared.printable.refusal.Refusal.{Refusal}
-use Rattle.irtext_print.specs.declared.printable.refusal.Refusal.TheVariants.{Memory, Depth}
+use Rattle.irtext_print.specs.declared.printable.refusal.Refusal.TheVariants.{Depth}
 use Rattle.irtext_print_ops.specs.Steps.{IsTooDeep, NextTooDeep, begun_frames, region_frames, region_front, region_turn_frames, region_turn_text}
 use Rattle.irtext_print_ops.specs.declared.frame.Frame.TheVariants as frame
 use Rattle.irtext_print_ops.specs.declared.frame.OperationFrame.{OperationFrame}
@@ -36,5 +37,5 @@ module _ {T A : Type 0} (ctx : ContextView T A) (width : ℕ) (f : OperationFram
         ∙ ap (λ z. elim z [ None ↦ frame.Operation (record f { repeats = false }) ∷ [] | Some r ↦ frame.Operation (record f { region = f.region + 1 }) ∷ region_frames r f.indent f.limit ]) (sym next)
 
     -- a region that is too deep is the next one
-    pub too_deep : (e : Refusal) → (e ≢ Memory → (e ≡ Depth) × IsTooDeep width f.indent f.limit) → e ≢ Memory → (e ≡ Depth) × NextTooDeep ctx width f
+    pub too_deep : (e : Refusal) → (IsOther e → (e ≡ Depth) × IsTooDeep width f.indent f.limit) → IsOther e → (e ≡ Depth) × NextTooDeep ctx width f
     too_deep e refused other = let is = refused other in (is.0, (ap is_some next, is.1))

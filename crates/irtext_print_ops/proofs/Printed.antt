@@ -1,6 +1,6 @@
 -- What printing something promises, and what it gives of what was printed before: an operation, a region or a block as a whole.
 use Rattle.std.proofs.Common.{◌≡◌, ◌∙◌, ◌++◌, ◌∷◌, [], ℕ, List, Result, Ok, OnOk, IfErr, IsSome, Bool, true, refl, sym, ap, subst, length, append-nil, inl, inr}
-use Rattle.std.specs.Prelude.{⊤, ◌+◌, ◌≢◌, ◌≤◌, ◌^◌}
+use Rattle.std.specs.Prelude.{⊤, ◌+◌, ◌≤◌, ◌^◌}
 use Rattle.std.specs.Str.{encode_utf8_all}
 use Rattle.irtext_base.specs.Own.{Language}
 use Rattle.irtext_base.specs.declared.text.AttrText as attr_text
@@ -18,8 +18,9 @@ use Rattle.irtext_grammar.specs.Graphs.Graph.{Printing}
 use Rattle.irtext_print.proofs.Printers.Appended.{then, then-err}
 use Rattle.irtext_print.proofs.Printers.Locations.{more}
 use Rattle.irtext_print.specs.Printers.Shown.{Shown}
+use Rattle.irtext_print.specs.Refusals.{IsOther}
 use Rattle.irtext_print.specs.declared.printable.refusal.Refusal.{Refusal}
-use Rattle.irtext_print.specs.declared.printable.refusal.Refusal.TheVariants.{Memory, Depth, Misfit}
+use Rattle.irtext_print.specs.declared.printable.refusal.Refusal.TheVariants.{Depth, Misfit}
 use Rattle.irtext_print.specs.declared.printable.state.RegionPrintDepthLimit.{RegionPrintDepthLimit}
 use Rattle.irtext_print_ops.specs.Heads as heads
 use Rattle.irtext_print_ops.specs.Opened.{open_rest}
@@ -56,7 +57,7 @@ prints_as text text' mine mine' Bad Bad' Why Why' items items1 items' old mid ne
 module _ {T A : Type 0} (C : Printing T A) (L : Language ⊤ T A) (ctx : ContextView T A) (width : ℕ) where
   -- frames are printed
   abbrev pub PrintsFrames : {X : Type 0} → List Frame → List Item → List Item → List ℕ → List ℕ → Result X Refusal → Type 0
-  PrintsFrames frames items items' old new r = Prints (frames_text C L ctx width frames items) (items_left C L ctx frames) (FramesFault C L ctx width Misfit frames) (λ e. e ≢ Memory → FramesFault C L ctx width e frames) items items' old new r
+  PrintsFrames frames items items' old new r = Prints (frames_text C L ctx width frames items) (items_left C L ctx frames) (FramesFault C L ctx width Misfit frames) (λ e. IsOther e → FramesFault C L ctx width e frames) items items' old new r
 
   module _ (here : Frame) (items items1 : List Item) (pushed : List Frame) (old mid : List ℕ) (s : Steps C L ctx width here items items1 [] pushed old mid) where
     -- steps from a frame, and what they leave, print the frame
@@ -147,7 +148,7 @@ module _ {T A : Type 0} (types : ir_text.Ghosts T A) (owns : ir_text.Ghosts A A)
 
   module _ {U : Type 0} (s : Shown U) (w i : ℕ) (l : RegionPrintDepthLimit) (width_is : w ≡ s.width) (indent_is : i ≡ s.indent) (limit_is : l ≡ s.limit) where
     -- a region, or a block, that is too deep is not printed
-    pub region_unprinted : (p : Ptr Region) (e : Refusal) → (e ≢ Memory → (e ≡ Depth) × IsTooDeep w i l) → heads.RefusesRegionUnder types owns attributes same ctx p s e
+    pub region_unprinted : (p : Ptr Region) (e : Refusal) → (IsOther e → (e ≡ Depth) × IsTooDeep w i l) → heads.RefusesRegionUnder types owns attributes same ctx p s e
     region_unprinted p e deep = at_state s w i l width_is indent_is limit_is (λ z. heads.RefusesRegionUnder types owns attributes same ctx p z e) (lone.region_refused C L ctx w i p l e deep)
 
     pub block_unprinted : (p : Ptr BasicBlock) (e : Refusal) → (e ≡ Depth) × (2 ^ 16 ≤ i + w) → heads.RefusesBlockUnder types owns attributes same ctx p s e

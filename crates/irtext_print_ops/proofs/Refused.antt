@@ -1,5 +1,5 @@
 -- Why a turn fails: the reason that a call returns is a reason of what was open.
-use Rattle.std.proofs.Common.{◌≡◌, ◌≢◌, ◌≤◌, ◌+◌, ◌^◌, inl, inr, ℕ, zero, suc, List, length, drop, Some, None, IsSome, Bool, false, refl, ap, sym, subst, ◌∙◌, true≢false}
+use Rattle.std.proofs.Common.{◌≡◌, ◌≤◌, ◌+◌, ◌^◌, inl, inr, ℕ, zero, suc, List, length, drop, Some, None, IsSome, Bool, false, refl, ap, sym, subst, ◌∙◌, true≢false}
 use Rattle.std.specs.Prelude.{⊤, slice_get, option_map, Result, Err, IfErr, IsErrAnd}
 use Rattle.std.proofs.lemmas.Result.{err_from_is_err_and}
 use Rattle.irtext_base.specs.Own.{Language}
@@ -23,6 +23,7 @@ use Rattle.irtext_grammar.specs.Graphs.Closed.{FitsFormat, FitsOp}
 use Rattle.irtext_grammar.specs.Graphs.Graph.{Printing, is_elided}
 use Rattle.irtext_print.specs.Printers.PrintedOperation.{levels}
 use Rattle.irtext_print.specs.Printers.Printing.{lowered}
+use Rattle.irtext_print.specs.Refusals.{IsOther}
 use Rattle.irtext_print.specs.declared.printable.refusal.Refusal.{Refusal}
 use Rattle.irtext_print.specs.declared.printable.refusal.Refusal.TheVariants.{Memory, Depth, Misfit}
 use Rattle.irtext_print.specs.declared.printable.state.RegionPrintDepthLimit.{RegionPrintDepthLimit}
@@ -46,10 +47,10 @@ propagated P r e h p = let q = err_from_is_err_and r h in subst (λ z. IfErr z P
 
 module _ {T A : Type 0} (types : ir_text.Ghosts T A) (owns : ir_text.Ghosts A A) (attributes : attr_text.Ghosts A A) (same : A → A → Bool) (ctx : ContextView T A) where
   -- what an error says, from the reason that it has
-  pub under_refuses : {U : Type 0} (p : Ptr Operation) (s : Shown U) (e : Refusal) → (e ≢ Memory → heads.FaultUnder types owns attributes same ctx p s e) → heads.RefusesUnder types owns attributes same ctx p s e
-  under_refuses p s Memory h = tt
-  under_refuses p s Depth h = elim (h (λ k. cc)) [ inl x ↦ absurd x | inr x ↦ x ]
-  under_refuses p s Misfit h = h (λ k. cc)
+  pub under_refuses : {U : Type 0} (p : Ptr Operation) (s : Shown U) (e : Refusal) → (IsOther e → heads.FaultUnder types owns attributes same ctx p s e) → heads.RefusesUnder types owns attributes same ctx p s e
+  under_refuses p s (Memory e) h = tt
+  under_refuses p s Depth h = elim (h (λ k. k)) [ inl x ↦ absurd x | inr x ↦ x ]
+  under_refuses p s Misfit h = h (λ k. k)
 
 module _ {T A : Type 0} (C : Printing T A) (L : Language ⊤ T A) (ctx : ContextView T A) (width : ℕ) where
   -- a region that is not elided
@@ -66,7 +67,7 @@ module _ {T A : Type 0} (C : Printing T A) (L : Language ⊤ T A) (ctx : Context
       subst (λ z. RegionsFault C (isolated ctx.dialects) width Depth f.indent (levels f.limit) (here z)) (sym (one_left (regions ctx.graph f.op) f.region r.0 (sym r.1))) (inl (shown f.limit h.1.0, inl h.1.1))
 
   -- the error of a turn that writes a region
-  pub region_turn_refused : (f : OperationFrame) (e : Refusal) → (e ≢ Memory → (e ≡ Depth) × NextTooDeep ctx width f) → e ≢ Memory → OpenFault C (isolated ctx.dialects) width e (open_of C L ctx (frame.Operation f))
+  pub region_turn_refused : (f : OperationFrame) (e : Refusal) → (IsOther e → (e ≡ Depth) × NextTooDeep ctx width f) → IsOther e → OpenFault C (isolated ctx.dialects) width e (open_of C L ctx (frame.Operation f))
   region_turn_refused f e h other = let is = h other in subst (λ z. OpenFault C (isolated ctx.dialects) width z (open_of C L ctx (frame.Operation f))) (sym is.0) (next_too_deep f is.1)
 
   -- the next block of a region is too deep
@@ -85,7 +86,7 @@ module _ {T A : Type 0} (C : Printing T A) (L : Language ⊤ T A) (ctx : Context
 
   -- the error of a turn that writes a block's head
   pub block_refused : (f : RegionFrame) (b : Ptr BasicBlock) (e : Refusal) → Nested (children ctx.graph) (parent ctx.graph) → slice_get (blocks ctx.graph f.region) f.block ≡ Some b →
-      e ≡ Depth → 2 ^ 16 ≤ (f.indent + width) + width → e ≢ Memory → OpenFault C (isolated ctx.dialects) width e (open_of C L ctx (frame.Region f))
+      e ≡ Depth → 2 ^ 16 ≤ (f.indent + width) + width → IsOther e → OpenFault C (isolated ctx.dialects) width e (open_of C L ctx (frame.Region f))
   block_refused f b e nested got is deep other = subst (λ z. OpenFault C (isolated ctx.dialects) width z (open_of C L ctx (frame.Region f))) (sym is) (block_too_deep f b nested got deep)
 
   -- an operation that fits its format does with the regions that are seen of it
@@ -94,7 +95,7 @@ module _ {T A : Type 0} (C : Printing T A) (L : Language ⊤ T A) (ctx : Context
   fits_seen p fits = subst (FitsFormat C (isolated ctx.dialects) (C.format_of (seen_at C L ctx p).id) (seen_at C L ctx p)) (regions_seen C L ctx width (inside_of C L ctx) (regions ctx.graph p)) fits
 
   -- the operation doesn't fit its format
-  pub misfits : (p : Ptr Operation) (e : Refusal) → (e ≢ Memory → (e ≡ Misfit) × (FitsFormat C (isolated ctx.dialects) (C.format_of (seen_at C L ctx p).id) (seen_at C L ctx p) (length (regions ctx.graph p)) → ⊥)) → e ≢ Memory →
+  pub misfits : (p : Ptr Operation) (e : Refusal) → (IsOther e → (e ≡ Misfit) × (FitsFormat C (isolated ctx.dialects) (C.format_of (seen_at C L ctx p).id) (seen_at C L ctx p) (length (regions ctx.graph p)) → ⊥)) → IsOther e →
       OperationFault C (isolated ctx.dialects) width e (seen_at C L ctx p) (seen_regions L.owns.written ctx (regions_left C L ctx p 0))
   misfits p e h other =
       let is = h other in
@@ -105,7 +106,7 @@ module _ {T A : Type 0} (C : Printing T A) (L : Language ⊤ T A) (ctx : Context
 
   -- the next operation of a block doesn't fit its format
   pub operation_refused : (f : BlockFrame) (p : Ptr Operation) (op : OperationView T A) (e : Refusal) → Nested (children ctx.graph) (parent ctx.graph) → slice_get (operations_in ctx.graph f.block) f.operation ≡ Some p → operation ctx p ≡ Some op →
-      (e ≢ Memory → (e ≡ Misfit) × (FitsFormat C (isolated ctx.dialects) (C.format_of (seen_at C L ctx p).id) (seen_at C L ctx p) (length (regions ctx.graph p)) → ⊥)) → e ≢ Memory →
+      (IsOther e → (e ≡ Misfit) × (FitsFormat C (isolated ctx.dialects) (C.format_of (seen_at C L ctx p).id) (seen_at C L ctx p) (length (regions ctx.graph p)) → ⊥)) → IsOther e →
       OpenFault C (isolated ctx.dialects) width e (open_of C L ctx (frame.Block f))
   operation_refused f p op e nested got is h other =
       let o = seen_at C L ctx p in

@@ -1,7 +1,7 @@
 -- For callers: what is printed of an operation itself and of a block's head, by the formats of a context and the texts of the caller's
 -- types and attributes; and the text of everything nested in an operation, or why printing fails. An item is an operation or a block
 -- that carries a mark.
-use Rattle.std.specs.Prelude.{◌≢◌, ◌+◌, ◌⊎◌, ℕ, Bool, cond, List, [], ◌++◌, length, map, Option, Some, None, codes, ⊤}
+use Rattle.std.specs.Prelude.{◌+◌, ◌⊎◌, ℕ, Bool, cond, List, [], ◌++◌, length, map, Option, Some, None, codes, ⊤}
 use Rattle.std.specs.Borrow.{Bor}
 use Rattle.irtext_base.specs.Format.{Directive}
 use Rattle.irtext_base.specs.Own.{Language}
@@ -24,6 +24,7 @@ use Rattle.irtext_grammar.specs.Graphs.Graph.{GraphOp, GraphBlock, Printing, is_
 use Rattle.irtext_grammar.specs.Spelling.Spell.{concrete, mark_if, region_texts, region_text, block_texts, block_text, operation_texts}
 use Rattle.irtext_print.specs.Printers.PrintedOperation.{language_in, levels}
 use Rattle.irtext_print.specs.Printers.Shown.{Shown}
+use Rattle.irtext_print.specs.Refusals.{IsOther}
 use Rattle.irtext_print.specs.declared.printable.refusal.Refusal.{Refusal}
 use Rattle.irtext_print.specs.declared.printable.refusal.Refusal.TheVariants.{Memory, Depth, Misfit}
 use Rattle.irtext_print.specs.declared.printable.state.RegionPrintDepthLimit.{RegionPrintDepthLimit}
@@ -146,7 +147,7 @@ module _ {T A : Type 0} (types : ir_text.Ghosts T A) (owns : ir_text.Ghosts A A)
 
   -- the reason of an error in a frame: out of memory is possible at any time; any other only if the rest of the frame gives it
   abbrev pub RefusesFrame : ℕ → Frame → Refusal → Type 0
-  RefusesFrame width f e = e ≢ Memory → OpenFault printing_of (isolated ctx.dialects) width e (open_of printing_of language_of ctx f)
+  RefusesFrame width f e = IsOther e → OpenFault printing_of (isolated ctx.dialects) width e (open_of printing_of language_of ctx f)
 
   -- the regions of an operation, with everything nested in them, as printing sees them
   abbrev pub regions_under : Ptr Operation → Regions (GraphOp T A) (GraphBlock T A) ⊤
@@ -166,7 +167,7 @@ module _ {T A : Type 0} (types : ir_text.Ghosts T A) (owns : ir_text.Ghosts A A)
 
   -- the reason of an error: out of memory is possible at any time; any other only if the operation gives it
   abbrev pub RefusesUnder : {U : Type 0} → Ptr Operation → Shown U → Refusal → Type 0
-  RefusesUnder p s Memory = ⊤
+  RefusesUnder p s (Memory e) = ⊤
   RefusesUnder p s Depth = IsTooDeepUnder p s
   RefusesUnder p s Misfit = MisfitsUnder p s
 
@@ -220,7 +221,7 @@ module _ {T A : Type 0} (types : ir_text.Ghosts T A) (owns : ir_text.Ghosts A A)
 
   -- the reason of an error when a region is printed: out of memory is possible at any time; any other only if the region gives it
   abbrev pub RefusesRegionUnder : {U : Type 0} → Ptr Region → Shown U → Refusal → Type 0
-  RefusesRegionUnder r s e = e ≢ Memory → RegionFaultUnder r s e
+  RefusesRegionUnder r s e = IsOther e → RegionFaultUnder r s e
 
   -- ---- a block
 
@@ -243,4 +244,4 @@ module _ {T A : Type 0} (types : ir_text.Ghosts T A) (owns : ir_text.Ghosts A A)
 
   -- the reason of an error when a block is printed: out of memory is possible at any time; any other only if the block gives it
   abbrev pub RefusesBlockUnder : {U : Type 0} → Ptr BasicBlock → Shown U → Refusal → Type 0
-  RefusesBlockUnder b s e = e ≢ Memory → BlockFaultUnder b s e
+  RefusesBlockUnder b s e = IsOther e → BlockFaultUnder b s e

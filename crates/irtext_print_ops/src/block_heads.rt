@@ -6,7 +6,7 @@ ghost use Rattle.irtext_graph.specs.Graph.{IsLive};
 ghost use Rattle.irtext_graph.specs.declared.object.Object.TheVariants.{TheBlock};
 ghost use Rattle.irtext_grammar.specs.Contexts.Held.{entries_of};
 ghost use Rattle.irtext_print.specs.Printers.Appended.{AppendsText};
-ghost use Rattle.irtext_print.specs.declared.printable.refusal.Refusal.TheVariants as refusal;
+ghost use Rattle.irtext_print.specs.Refusals.{IsMemory};
 ghost use Rattle.irtext_print_ops.specs.Heads as heads;
 ghost use Rattle.irtext_print_ops.specs.Inline.{has_inline, inline_text};
 ghost use Rattle.irtext_print_ops.specs.Listed.{list_text};
@@ -17,10 +17,10 @@ use crate::names::fmt_block_label;
 use crate::printer::Printer;
 use irtext_base::text::{AttrText, IrText};
 use irtext_context::base::{AttributeDict, BasicBlock, BlockAccess, Context, Ptr};
+use irtext_memory::OutOfMemory;
 use irtext_print::ir::print::pieces::{DictPrinter, is_outlined};
 use irtext_print::printable::Refusal;
 use irtext_print::printable::refusal::memory_alone;
-use std::fmt;
 
 /// Whether some attribute is printed in place, and not in the section.
 fn has_inline<A: AttrText<A>>(attributes: &AttributeDict<A>) -> bool
@@ -35,7 +35,10 @@ fn has_inline<A: AttrText<A>>(attributes: &AttributeDict<A>) -> bool
 }
 
 /// Appends the dictionary of the attributes that are not outlined, after a space, if there are such attributes.
-fn fmt_inline<A: AttrText<A>>(attributes: &AttributeDict<A>, f: &mut String) -> fmt::Result
+fn fmt_inline<A: AttrText<A>>(
+    attributes: &AttributeDict<A>,
+    f: &mut String,
+) -> Result<(), OutOfMemory>
     ensures text { OnOk result (AppendsText f.old (inline_text A.outlined A.IrText.written
         (entries_of attributes.now)) f.new) }
     ensures appended { OnErr result (OnlyAppends f.old f.new) }
@@ -52,7 +55,7 @@ fn fmt_inline<A: AttrText<A>>(attributes: &AttributeDict<A>, f: &mut String) -> 
 
 impl<'c, T: IrText<A>, A: AttrText<A>> Printer<'c, T, A> {
     /// Appends the arguments with their types, in parentheses.
-    fn fmt_arguments(self, block: Ptr<BasicBlock>, f: &mut String) -> fmt::Result
+    fn fmt_arguments(self, block: Ptr<BasicBlock>, f: &mut String) -> Result<(), OutOfMemory>
         requires { IsLive self.ctx.now.graph (TheBlock block) }
         ensures text { OnOk result (AppendsText f.old
             (codes "(" ++ (list_text T.IrText.written self.entry.ctx.now (Arguments block) 0 ++ codes ")"))
@@ -63,7 +66,7 @@ impl<'c, T: IrText<A>, A: AttrText<A>> Printer<'c, T, A> {
     }
 
     /// Appends a block's label, its arguments and its dictionary, as [`fmt_block_head`] does.
-    fn fmt_head(self, block: Ptr<BasicBlock>, f: &mut String) -> fmt::Result
+    fn fmt_head(self, block: Ptr<BasicBlock>, f: &mut String) -> Result<(), OutOfMemory>
         requires live { IsSome (context.block self.ctx.now block) }
         ensures text { OnOk result (AppendsText f.old (heads.block_head_at T.IrText.own A.IrText.own
             A.AttrText.own A.eq self.entry.ctx.now block) f.new) }
@@ -86,7 +89,7 @@ pub fn fmt_block_head<T: IrText<A>, A: AttrText<A>>(
     requires live { IsSome (context.block ctx.now block) }
     ensures text { OnOk result (AppendsText f.old
         (heads.block_head_at T.IrText.own A.IrText.own A.AttrText.own A.eq ctx.now block) f.new) }
-    ensures refused { IfErr result (λ e. e ≡ refusal.Memory) }
+    ensures refused { IfErr result (λ e. IsMemory e) }
     ensures appended { OnErr result (OnlyAppends f.old f.new) }
 {
     memory_alone(Printer { ctx }.fmt_head(block, f))

@@ -1,10 +1,11 @@
 //! The frames of what is open while an operation is printed: an operation, a region or a block that was begun, and how far it was
 //! printed.
 ghost use Rattle.std.specs.Prelude.{◌≡◌, ◌++◌, ◌∷◌, [], OnOk, IfOk, IfErr, length};
-ghost use Rattle.irtext_print.specs.declared.printable.refusal.Refusal.TheVariants as refusal;
+ghost use Rattle.irtext_print.specs.Refusals.{IsMemory};
 
 use irtext_base::format::Directive;
 use irtext_context::base::{BasicBlock, Item, Operation, Ptr, Region};
+use irtext_memory::vec;
 use irtext_print::printable::{Refusal, RegionPrintDepthLimit};
 
 /// An operation whose results and id were printed.
@@ -95,11 +96,11 @@ pub(crate) enum BlockTurn {
 #[inline(always)]
 pub(crate) fn open<'c>(frames: &mut Vec<Frame<'c>>, frame: Frame<'c>) -> Result<(), Refusal>
     ensures ok { OnOk result (frames.new.items ≡ frames.old.items ++ frame.entry ∷ []) }
-    ensures refused { IfErr result (λ e. e ≡ refusal.Memory) }
+    ensures refused { IfErr result (λ e. IsMemory e) }
 {
-    match frames.push(frame) {
+    match vec::push(frames, frame) {
         Ok(()) => Ok(()),
-        Err(_) => Err(Refusal::Memory),
+        Err(refused) => Err(Refusal::Memory(refused.into())),
     }
 }
 
@@ -108,11 +109,11 @@ pub(crate) fn open<'c>(frames: &mut Vec<Frame<'c>>, frame: Frame<'c>) -> Result<
 pub(crate) fn gather(items: &mut Vec<Item>, item: Item) -> Result<usize, Refusal>
     ensures ok { OnOk result (items.new.items ≡ items.old.items ++ item ∷ []) }
     ensures place { IfOk result (λ index. index ≡ length items.old.items) }
-    ensures refused { IfErr result (λ e. e ≡ refusal.Memory) }
+    ensures refused { IfErr result (λ e. IsMemory e) }
 {
     let index = items.len();
-    match items.push(item) {
+    match vec::push(items, item) {
         Ok(()) => Ok(index),
-        Err(_) => Err(Refusal::Memory),
+        Err(refused) => Err(Refusal::Memory(refused.into())),
     }
 }

@@ -1,8 +1,9 @@
 //! What is printed of an operation before its parts, by its format.
-ghost use Rattle.std.specs.Prelude.{◌≡◌, ◌≢◌, OnOk, OnErr, IfOk, IfErr, IsSome, is_none};
+ghost use Rattle.std.specs.Prelude.{◌≡◌, OnOk, OnErr, IfOk, IfErr, IsSome, is_none};
 ghost use Rattle.irtext_base.specs.Appending.{OnlyAppends};
 ghost use Rattle.irtext_context.specs.Context.{operation};
 ghost use Rattle.irtext_print.specs.Printers.Appended.{AppendsText};
+ghost use Rattle.irtext_print.specs.Refusals.{IsMemory, IsOther};
 ghost use Rattle.irtext_print.specs.declared.printable.refusal.Refusal.TheVariants as refusal;
 ghost use Rattle.irtext_print_ops.specs.Heads as heads;
 
@@ -27,7 +28,7 @@ fn fmt_front<T: IrText<A>, A: AttrText<A>>(
     ensures text { OnOk result
         (AppendsText f.old (heads.operation_front_at T.IrText.own A.IrText.own A.AttrText.own A.eq ctx.now op)
         f.new) }
-    ensures refused { IfErr result (λ e. e ≡ refusal.Memory) }
+    ensures refused { IfErr result (λ e. IsMemory e) }
     ensures appended { OnErr result (OnlyAppends f.old f.new) }
 {
     let printer = Printer { ctx };
@@ -75,7 +76,7 @@ pub fn begin_front<'c, T: IrText<A>, A: AttrText<A>>(
     ensures found { IfOk result (λ found. heads.AreDirectivesAt T.IrText.own A.IrText.own A.AttrText.own A.eq
         ctx.now op found) }
     ensures fits { OnOk result (heads.FitsAt T.IrText.own A.IrText.own A.AttrText.own A.eq ctx.now op) }
-    ensures refused { IfErr result (λ e. e ≢ refusal.Memory →
+    ensures refused { IfErr result (λ e. IsOther e →
         (e ≡ refusal.Misfit) × (heads.FitsAt T.IrText.own A.IrText.own A.AttrText.own A.eq ctx.now op → ⊥)) }
     ensures appended { OnErr result (OnlyAppends f.old f.new) }
 {

@@ -19,7 +19,7 @@ use crate::printer::Printer;
 use irtext_base::text::{AttrText, IrText};
 use irtext_context::base::{BasicBlock, Context, Operation, Ptr, Value};
 use irtext_graph::held::HasGraph;
-use std::fmt;
+use irtext_memory::{OutOfMemory, string};
 
 /// A list of an operation or a block.
 #[derive(Clone, Copy)]
@@ -47,16 +47,16 @@ enum Facet {
 }
 
 /// Whether still nothing of a list was printed.
-pub(crate) type StillFirst = Result<bool, fmt::Error>;
+pub(crate) type StillFirst = Result<bool, OutOfMemory>;
 
 /// Appends `, `, except before the first item.
 #[inline(always)]
-fn fmt_between(first: bool, f: &mut String) -> fmt::Result
+fn fmt_between(first: bool, f: &mut String) -> Result<(), OutOfMemory>
     ensures text { OnOk result (AppendsText f.old (texts.gap first) f.new) }
     ensures appended { OnErr result (OnlyAppends f.old f.new) }
 {
     if !first {
-        f.push_str(", ")?;
+        string::push_str(f, ", ")?;
     }
     Ok(())
 }
@@ -90,7 +90,7 @@ impl<'c, T: IrText<A>, A: AttrText<A>> Printer<'c, T, A> {
 
     /// Appends the name of a value, after `, ` if it is not the first.
     #[inline(always)]
-    fn fmt_operand(self, value: Value, first: bool, f: &mut String) -> fmt::Result
+    fn fmt_operand(self, value: Value, first: bool, f: &mut String) -> Result<(), OutOfMemory>
         requires { IsDefinedValue self.ctx.now.graph value }
         ensures text { OnOk result (AppendsText f.old
             (texts.next_text first (operand_text self.entry.ctx.now value)) f.new) }
@@ -102,7 +102,12 @@ impl<'c, T: IrText<A>, A: AttrText<A>> Printer<'c, T, A> {
 
     /// Appends the label of a block, after `, ` if it is not the first.
     #[inline(always)]
-    fn fmt_successor(self, p: Ptr<BasicBlock>, first: bool, f: &mut String) -> fmt::Result
+    fn fmt_successor(
+        self,
+        p: Ptr<BasicBlock>,
+        first: bool,
+        f: &mut String,
+    ) -> Result<(), OutOfMemory>
         requires { IsSome (block self.ctx.now p) }
         ensures text { OnOk result (AppendsText f.old
             (texts.next_text first (Some (label_text self.entry.ctx.now p))) f.new) }
@@ -114,7 +119,13 @@ impl<'c, T: IrText<A>, A: AttrText<A>> Printer<'c, T, A> {
 
     /// Appends this facet of a value of this type.
     #[inline(always)]
-    fn fmt_facet(self, value: Value, of_type: &T, facet: Facet, f: &mut String) -> fmt::Result
+    fn fmt_facet(
+        self,
+        value: Value,
+        of_type: &T,
+        facet: Facet,
+        f: &mut String,
+    ) -> Result<(), OutOfMemory>
         requires { IsDefinedValue self.ctx.now.graph value }
         ensures text { OnOk result (IfSome (number_of self.entry.ctx.now value) (λ n. AppendsText f.old
             (texts.facet_text T.IrText.written self.entry.ctx.now facet (n, of_type.now)) f.new)) }
@@ -125,7 +136,7 @@ impl<'c, T: IrText<A>, A: AttrText<A>> Printer<'c, T, A> {
             Facet::Type => of_type.write_text(f),
             Facet::Both => {
                 fmt_value_name(self.ctx, value, f)?;
-                f.push_str(": ")?;
+                string::push_str(f, ": ")?;
                 of_type.write_text(f)
             }
         }
@@ -246,7 +257,7 @@ impl<'c, T: IrText<A>, A: AttrText<A>> Printer<'c, T, A> {
         after: &str,
         both: &str,
         f: &mut String,
-    ) -> fmt::Result
+    ) -> Result<(), OutOfMemory>
         requires alive { IsLive self.ctx.now.graph (texts.owner listed) }
         requires joined { both.now ≡ before.now ++ after.now }
         requires before { list_all is_ascii before.now ≡ true }
@@ -257,12 +268,12 @@ impl<'c, T: IrText<A>, A: AttrText<A>> Printer<'c, T, A> {
         ensures appended { OnErr result (OnlyAppends f.old f.new) }
     {
         if self.count(listed) == 0 {
-            f.push_str(both)?;
+            string::push_str(f, both)?;
             return Ok(());
         }
-        f.push_str(before)?;
+        string::push_str(f, before)?;
         self.fmt_listed(listed, 0, f)?;
-        f.push_str(after)?;
+        string::push_str(f, after)?;
         Ok(())
     }
 }

@@ -13,9 +13,9 @@ use irtext_base::base::Identifier;
 use irtext_base::text::{AttrText, IrText};
 use irtext_context::base::{BasicBlock, BlockAccess, Context, Ptr, Value};
 use irtext_graph::held::HasGraph;
+use irtext_memory::{OutOfMemory, string};
 use irtext_print::name::given_name;
 use irtext_print::printable::numbers::{fmt_led_number, fmt_number};
-use std::fmt;
 
 /// What printing finds in a context by a value's number belongs to that value: its given name, and its type. Does nothing: the contract
 /// hands that out.
@@ -29,7 +29,7 @@ pub(crate) fn keeps_values<T: IrText<A>, A: AttrText<A>>(ctx: &Context<T, A>, va
 
 /// Appends what follows a given name in the name of a value with this number: `_v1`.
 #[inline(never)]
-fn fmt_suffix(number: u64, f: &mut String) -> fmt::Result
+fn fmt_suffix(number: u64, f: &mut String) -> Result<(), OutOfMemory>
     ensures text { OnOk result (AppendsText f.old (codes "_v" ++ decimal number) f.new) }
     ensures appended { OnErr result (OnlyAppends f.old f.new) }
 {
@@ -38,13 +38,13 @@ fn fmt_suffix(number: u64, f: &mut String) -> fmt::Result
 
 /// Appends the name of a value with this given name or none, and this number: `x_v1` or `v1`.
 #[inline(always)]
-fn fmt_numbered(given: Option<&Identifier>, number: u64, f: &mut String) -> fmt::Result
+fn fmt_numbered(given: Option<&Identifier>, number: u64, f: &mut String) -> Result<(), OutOfMemory>
     ensures text { OnOk result (AppendsText f.old (printed.value_name (option_copied given.entry) number) f.new) }
     ensures appended { OnErr result (OnlyAppends f.old f.new) }
 {
     match given {
         Some(name) => {
-            f.push_str(name.as_str())?;
+            string::push_str(f, name.as_str())?;
             fmt_suffix(number, f)
         }
         None => fmt_led_number("v", number, f),
@@ -53,20 +53,20 @@ fn fmt_numbered(given: Option<&Identifier>, number: u64, f: &mut String) -> fmt:
 
 /// Appends `^` and what comes before the place in the name of a block with this label or none: `^a_block` or `^block`.
 #[inline(always)]
-fn fmt_block_front(label: Option<&Identifier>, f: &mut String) -> fmt::Result
+fn fmt_block_front(label: Option<&Identifier>, f: &mut String) -> Result<(), OutOfMemory>
     ensures text { OnOk result (AppendsText f.old
         (codes "^" ++ printed.prefixed (option_copied label.entry) (codes "block")) f.new) }
     ensures appended { OnErr result (OnlyAppends f.old f.new) }
 {
     match label {
         Some(label) => {
-            f.push_str("^")?;
-            f.push_str(label.as_str())?;
-            f.push_str("_block")?;
+            string::push_str(f, "^")?;
+            string::push_str(f, label.as_str())?;
+            string::push_str(f, "_block")?;
             Ok(())
         }
         None => {
-            f.push_str("^block")?;
+            string::push_str(f, "^block")?;
             Ok(())
         }
     }
@@ -79,7 +79,7 @@ fn fmt_placed(
     place: u64,
     generation: u32,
     f: &mut String,
-) -> fmt::Result
+) -> Result<(), OutOfMemory>
     ensures text { OnOk result (AppendsText f.old
         (codes "^" ++ printed.block_name (option_copied label.entry) (place, generation)) f.new) }
     ensures appended { OnErr result (OnlyAppends f.old f.new) }
@@ -87,10 +87,10 @@ fn fmt_placed(
     fmt_block_front(label, f)?;
     fmt_number(place, f)?;
     if generation == 1 {
-        f.push_str("v1")?;
+        string::push_str(f, "v1")?;
         return Ok(());
     }
-    f.push_str("v")?;
+    string::push_str(f, "v")?;
     fmt_number(generation as u64, f)
 }
 
@@ -99,7 +99,7 @@ pub fn fmt_value_name<T: IrText<A>, A: AttrText<A>>(
     ctx: &Context<T, A>,
     value: Value,
     f: &mut String,
-) -> fmt::Result
+) -> Result<(), OutOfMemory>
     requires { IsDefinedValue ctx.now.graph value }
     ensures text { OnOk result (AppendsText f.old (or_nothing (operand_text ctx.now value)) f.new) }
     ensures appended { OnErr result (OnlyAppends f.old f.new) }
@@ -113,7 +113,7 @@ pub fn fmt_block_label<T: IrText<A>, A: AttrText<A>>(
     ctx: &Context<T, A>,
     p: Ptr<BasicBlock>,
     f: &mut String,
-) -> fmt::Result
+) -> Result<(), OutOfMemory>
     requires { IsSome (block ctx.now p) }
     ensures text { OnOk result (AppendsText f.old (label_text ctx.now p) f.new) }
     ensures appended { OnErr result (OnlyAppends f.old f.new) }

@@ -1,15 +1,17 @@
 //! What comes before regions, blocks and operations, and after them.
-ghost use Rattle.std.specs.Prelude.{◌≡◌, ◌≢◌, ◌+◌, ◌≤◌, ◌^◌, ◌++◌, [], OnOk, OnErr, IfOk, IfErr, codes, cond, decimal};
+ghost use Rattle.std.specs.Prelude.{◌≡◌, ◌+◌, ◌≤◌, ◌^◌, ◌++◌, [], OnOk, OnErr, IfOk, IfErr, codes, cond, decimal};
 ghost use Rattle.irtext_base.specs.Appending.{OnlyAppends};
 ghost use Rattle.irtext_grammar.specs.Spelling.Spell.{newline};
 ghost use Rattle.irtext_print.specs.Printers.Appended.{AppendsText};
 ghost use Rattle.irtext_print.specs.Printers.Printing.{lowered};
+ghost use Rattle.irtext_print.specs.Refusals.{IsMemory, IsOther};
 ghost use Rattle.irtext_print.specs.declared.printable.refusal.Refusal.TheVariants as refusal;
 ghost use Rattle.irtext_print_ops.specs.Opened.{closing, between_blocks, between_operations, unless_first};
 ghost use Rattle.irtext_print_ops.specs.Steps.{IsTooDeep, begun_frames, region_front, region_frames};
 
 use crate::frame::RegionFrame;
 use irtext_context::base::{Ptr, Region};
+use irtext_memory::string;
 use irtext_print::printable;
 use irtext_print::printable::numbers::fmt_led_number;
 use irtext_print::printable::refusal::memory_alone;
@@ -50,12 +52,12 @@ pub(crate) fn inside(limit: RegionPrintDepthLimit) -> Option<RegionPrintDepthLim
 #[inline(always)]
 fn fmt_line(indent: u16, f: &mut String) -> Result<(), Refusal>
     ensures text { OnOk result (AppendsText f.old (newline indent) f.new) }
-    ensures refused { IfErr result (λ e. e ≡ refusal.Memory) }
+    ensures refused { IfErr result (λ e. IsMemory e) }
     ensures appended { OnErr result (OnlyAppends f.old f.new) }
 {
     match fmt_newline(indent, f) {
         Ok(()) => Ok(()),
-        Err(_) => Err(Refusal::Memory),
+        Err(e) => Err(Refusal::Memory(e)),
     }
 }
 
@@ -66,7 +68,7 @@ pub(crate) fn fmt_between_operations(
     f: &mut String,
 ) -> Result<(), Refusal>
     ensures text { OnOk result (AppendsText f.old (unless_first first (between_operations indent)) f.new) }
-    ensures refused { IfErr result (λ e. e ≡ refusal.Memory) }
+    ensures refused { IfErr result (λ e. IsMemory e) }
     ensures appended { OnErr result (OnlyAppends f.old f.new) }
 {
     if first {
@@ -78,20 +80,20 @@ pub(crate) fn fmt_between_operations(
 /// Appends what comes before the next block of a region.
 pub(crate) fn fmt_between_blocks(first: bool, indent: u16, f: &mut String) -> Result<(), Refusal>
     ensures text { OnOk result (AppendsText f.old (unless_first first (between_blocks indent)) f.new) }
-    ensures refused { IfErr result (λ e. e ≡ refusal.Memory) }
+    ensures refused { IfErr result (λ e. IsMemory e) }
     ensures appended { OnErr result (OnlyAppends f.old f.new) }
 {
     if first {
         return Ok(());
     }
-    f.push_str("\n")?;
+    string::push_str(f, "\n")?;
     fmt_line(indent, f)
 }
 
 /// Appends what comes after a block's mark.
 pub(crate) fn fmt_colon(indent: u16, f: &mut String) -> Result<(), Refusal>
     ensures text { OnOk result (AppendsText f.old (codes ":" ++ newline indent) f.new) }
-    ensures refused { IfErr result (λ e. e ≡ refusal.Memory) }
+    ensures refused { IfErr result (λ e. IsMemory e) }
     ensures appended { OnErr result (OnlyAppends f.old f.new) }
 {
     memory_alone(fmt_colon_newline(indent, f))
@@ -100,7 +102,7 @@ pub(crate) fn fmt_colon(indent: u16, f: &mut String) -> Result<(), Refusal>
 /// Appends what comes after a region's blocks.
 pub(crate) fn fmt_closing(indent: u16, f: &mut String) -> Result<(), Refusal>
     ensures text { OnOk result (AppendsText f.old (closing indent) f.new) }
-    ensures refused { IfErr result (λ e. e ≡ refusal.Memory) }
+    ensures refused { IfErr result (λ e. IsMemory e) }
     ensures appended { OnErr result (OnlyAppends f.old f.new) }
 {
     memory_alone(printable::fmt_closing(indent, f))
@@ -110,26 +112,26 @@ pub(crate) fn fmt_closing(indent: u16, f: &mut String) -> Result<(), Refusal>
 #[inline(never)]
 pub(crate) fn fmt_index(index: usize, f: &mut String) -> Result<(), Refusal>
     ensures text { OnOk result (AppendsText f.old (codes " !" ++ decimal index) f.new) }
-    ensures refused { IfErr result (λ e. e ≡ refusal.Memory) }
+    ensures refused { IfErr result (λ e. IsMemory e) }
     ensures appended { OnErr result (OnlyAppends f.old f.new) }
 {
     match fmt_led_number(" !", index as u64, f) {
         Ok(()) => Ok(()),
-        Err(_) => Err(Refusal::Memory),
+        Err(e) => Err(Refusal::Memory(e)),
     }
 }
 
 /// Appends `{..}` for an elided region, after a space unless the region joins what is before it.
 fn fmt_elided(joins: bool, f: &mut String) -> Result<(), Refusal>
     ensures text { OnOk result (AppendsText f.old (cond joins [] (codes " ") ++ codes "{..}") f.new) }
-    ensures refused { IfErr result (λ e. e ≡ refusal.Memory) }
+    ensures refused { IfErr result (λ e. IsMemory e) }
     ensures appended { OnErr result (OnlyAppends f.old f.new) }
 {
     if joins {
-        f.push_str("{..}")?;
+        string::push_str(f, "{..}")?;
         return Ok(());
     }
-    f.push_str(" {..}")?;
+    string::push_str(f, " {..}")?;
     Ok(())
 }
 
@@ -137,12 +139,12 @@ fn fmt_elided(joins: bool, f: &mut String) -> Result<(), Refusal>
 fn fmt_begun(joins: bool, indent: u16, inner: u16, f: &mut String) -> Result<(), Refusal>
     ensures text { OnOk result (AppendsText f.old
         (cond joins [] (codes " ") ++ (newline indent ++ (codes "{" ++ newline inner))) f.new) }
-    ensures refused { IfErr result (λ e. e ≡ refusal.Memory) }
+    ensures refused { IfErr result (λ e. IsMemory e) }
     ensures appended { OnErr result (OnlyAppends f.old f.new) }
 {
     match fmt_opening(joins, indent, inner, f) {
         Ok(()) => Ok(()),
-        Err(_) => Err(Refusal::Memory),
+        Err(e) => Err(Refusal::Memory(e)),
     }
 }
 
@@ -160,7 +162,7 @@ pub(crate) fn begin_region(
     ensures text { OnOk result (AppendsText f.old
         (cond joins [] (codes " ") ++ region_front width indent limit) f.new) }
     ensures opens { IfOk result (λ begun. begun_frames begun ≡ region_frames region indent limit) }
-    ensures refused { IfErr result (λ e. e ≢ refusal.Memory → (e ≡ refusal.Depth)
+    ensures refused { IfErr result (λ e. IsOther e → (e ≡ refusal.Depth)
         × IsTooDeep width indent limit) }
     ensures appended { OnErr result (OnlyAppends f.old f.new) }
 {

@@ -15,7 +15,7 @@ ghost use Rattle.irtext_grammar.specs.Graphs.Graph.{part_of};
 ghost use Rattle.irtext_print.specs.Printers.Appended.{AppendsText};
 ghost use Rattle.irtext_print.specs.Printers.PieceText.{spaced, spaced_if};
 ghost use Rattle.irtext_print.specs.Printers.PrintedOperation.{language_in};
-ghost use Rattle.irtext_print.specs.declared.printable.refusal.Refusal.TheVariants as refusal;
+ghost use Rattle.irtext_print.specs.Refusals.{IsMemory};
 ghost use Rattle.irtext_print_ops.specs.Listed as texts;
 ghost use Rattle.irtext_print_ops.specs.Listed.{owner};
 ghost use Rattle.irtext_print_ops.specs.Names.{printing_by};
@@ -29,10 +29,10 @@ use irtext_base::format::Directive;
 use irtext_base::text::{AttrText, IrText};
 use irtext_context::base::{Context, Operation, OperationAccess, Ptr, Value};
 use irtext_graph::held::HasGraph;
+use irtext_memory::{OutOfMemory, string};
 use irtext_print::ir::print::pieces::{DictPrinter, fmt_keyed, fmt_symbol, fmt_word};
 use irtext_print::printable::Refusal;
 use irtext_print::printable::refusal::memory_alone;
-use std::fmt;
 
 impl<'c, T: IrText<A>, A: AttrText<A>> Printer<'c, T, A> {
     /// What an operation uses is live. Does nothing: the contract hands that out.
@@ -44,7 +44,7 @@ impl<'c, T: IrText<A>, A: AttrText<A>> Printer<'c, T, A> {
     }
 
     /// Appends the item at an index, after a space, if there is one; it has a text.
-    fn fmt_item_at(self, list: Listed, index: usize, f: &mut String) -> fmt::Result
+    fn fmt_item_at(self, list: Listed, index: usize, f: &mut String) -> Result<(), OutOfMemory>
         requires live { IsLive self.ctx.now.graph (owner list) }
         requires text { index < length (texts.texts_of T.IrText.written self.ctx.now list)
             → IsSome (texts.text_at T.IrText.written self.ctx.now list index) }
@@ -55,7 +55,7 @@ impl<'c, T: IrText<A>, A: AttrText<A>> Printer<'c, T, A> {
         if index >= self.count(list) {
             return Ok(());
         }
-        f.push_str(" ")?;
+        string::push_str(f, " ")?;
         self.fmt_item(list, index, true, f)?;
         Ok(())
     }
@@ -74,7 +74,12 @@ impl<'c, T: IrText<A>, A: AttrText<A>> Printer<'c, T, A> {
     }
 
     /// Appends the type at an index among the known types of the results, after a space, if there is one.
-    fn fmt_result_type_at(self, op: Ptr<Operation>, index: usize, f: &mut String) -> fmt::Result
+    fn fmt_result_type_at(
+        self,
+        op: Ptr<Operation>,
+        index: usize,
+        f: &mut String,
+    ) -> Result<(), OutOfMemory>
         requires { IsLive self.ctx.now.graph (TheOperation op) }
         ensures text { OnOk result (AppendsText f.old (spaced_if (slice_get
             (known_types (texts.texts_of T.IrText.written self.entry.ctx.now (listed.ResultTypes op))) index))
@@ -87,7 +92,7 @@ impl<'c, T: IrText<A>, A: AttrText<A>> Printer<'c, T, A> {
                 continue;
             };
             if left == 0 {
-                f.push_str(" ")?;
+                string::push_str(f, " ")?;
                 return of_type.write_text(f);
             }
             left -= 1;
@@ -96,13 +101,13 @@ impl<'c, T: IrText<A>, A: AttrText<A>> Printer<'c, T, A> {
     }
 
     /// Appends the items of a list from an index on, after a space.
-    fn fmt_spaced(self, list: Listed, from: usize, f: &mut String) -> fmt::Result
+    fn fmt_spaced(self, list: Listed, from: usize, f: &mut String) -> Result<(), OutOfMemory>
         requires { IsLive self.ctx.now.graph (owner list) }
         ensures text { OnOk result (AppendsText f.old
             (spaced (texts.list_text T.IrText.written self.entry.ctx.now list from)) f.new) }
         ensures appended { OnErr result (OnlyAppends f.old f.new) }
     {
-        f.push_str(" ")?;
+        string::push_str(f, " ")?;
         self.fmt_listed(list, from, f)?;
         Ok(())
     }
@@ -114,7 +119,7 @@ impl<'c, T: IrText<A>, A: AttrText<A>> Printer<'c, T, A> {
         directives: &[Directive],
         directive: &Directive,
         f: &mut String,
-    ) -> fmt::Result
+    ) -> Result<(), OutOfMemory>
         requires live { IsSome (operation self.ctx.now op) }
         ensures text { OnOk result (IfSome (seen_own A.IrText.written self.entry.ctx.now op) (λ o. AppendsText
             f.old
@@ -193,7 +198,7 @@ pub fn fmt_piece<T: IrText<A>, A: AttrText<A>>(
         (part_of (printing_by A.AttrText.own A.eq ctx.now) (directives_of directives.now) o
         (directive_of directive.now)))
         f.new)) }
-    ensures refused { IfErr result (λ e. e ≡ refusal.Memory) }
+    ensures refused { IfErr result (λ e. IsMemory e) }
     ensures appended { OnErr result (OnlyAppends f.old f.new) }
 {
     memory_alone(Printer { ctx }.fmt_part(op, directives, directive, f))

@@ -10,7 +10,7 @@ ghost use Rattle.irtext_grammar.specs.Graphs.Graph.{value};
 ghost use Rattle.irtext_grammar.specs.Spelling.Spell.{results};
 ghost use Rattle.irtext_print.specs.Printers.Appended.{AppendsText};
 ghost use Rattle.irtext_print.specs.Printers.PrintedOperation.{language_in};
-ghost use Rattle.irtext_print.specs.declared.printable.refusal.Refusal.TheVariants as refusal;
+ghost use Rattle.irtext_print.specs.Refusals.{IsMemory};
 ghost use Rattle.irtext_print_ops.specs.Listed.{defined_text, texts_of};
 ghost use Rattle.irtext_print_ops.specs.Names.{printing_by};
 ghost use Rattle.irtext_print_ops.specs.declared.lists.Listed.TheVariants.{Results};
@@ -19,13 +19,13 @@ use crate::lists::Listed;
 use crate::printer::Printer;
 use irtext_base::text::{AttrText, IrText};
 use irtext_context::base::{Operation, Ptr};
+use irtext_memory::{OutOfMemory, string};
 use irtext_print::printable::Refusal;
 use irtext_print::printable::refusal::memory_alone;
-use std::fmt;
 
 impl<'c, T: IrText<A>, A: AttrText<A>> Printer<'c, T, A> {
     /// Appends the names of an operation's results and ` = `, or nothing if there are none.
-    fn fmt_defined(self, op: Ptr<Operation>, f: &mut String) -> fmt::Result
+    fn fmt_defined(self, op: Ptr<Operation>, f: &mut String) -> Result<(), OutOfMemory>
         requires { IsLive self.ctx.now.graph (TheOperation op) }
         ensures text { OnOk result (AppendsText f.old
             (defined_text (known_types (texts_of T.IrText.written self.entry.ctx.now (Results op)))) f.new) }
@@ -35,7 +35,7 @@ impl<'c, T: IrText<A>, A: AttrText<A>> Printer<'c, T, A> {
         if none {
             return Ok(());
         }
-        f.push_str(" = ")?;
+        string::push_str(f, " = ")?;
         Ok(())
     }
 
@@ -46,7 +46,7 @@ impl<'c, T: IrText<A>, A: AttrText<A>> Printer<'c, T, A> {
         ensures text { OnOk result (IfSome (seen_own A.IrText.written self.entry.ctx.now op) (λ o.
             AppendsText f.old (results (language_in T.IrText.own A.IrText.own self.entry.ctx.now)
             (map (λ r. value (printing_by A.AttrText.own A.eq self.entry.ctx.now) r.0) o.results)) f.new)) }
-        ensures refused { IfErr result (λ e. e ≡ refusal.Memory) }
+        ensures refused { IfErr result (λ e. IsMemory e) }
         ensures appended { OnErr result (OnlyAppends f.old f.new) }
     {
         memory_alone(self.fmt_defined(op, f))

@@ -1,11 +1,12 @@
 //! The steps of the walk: what is printed next of the innermost open frame, and what is open after that.
-ghost use Rattle.std.specs.Prelude.{◌≡◌, ◌≢◌, ◌++◌, ◌∷◌, [], OnOk, OnErr, IfOk, IfErr, IsSome, length, option_map};
+ghost use Rattle.std.specs.Prelude.{◌≡◌, ◌++◌, ◌∷◌, [], OnOk, OnErr, IfOk, IfErr, IsSome, length, option_map};
 ghost use Rattle.irtext_base.specs.Appending.{OnlyAppends};
 ghost use Rattle.irtext_context.specs.Context.{operation};
 ghost use Rattle.irtext_context.specs.Context as context;
 ghost use Rattle.irtext_graph.specs.Graph.{IsLive};
 ghost use Rattle.irtext_graph.specs.declared.object.Object.TheVariants.{TheBlock, TheRegion};
 ghost use Rattle.irtext_print.specs.Printers.Appended.{AppendsText};
+ghost use Rattle.irtext_print.specs.Refusals.{IsMemory, IsOther};
 ghost use Rattle.irtext_print.specs.declared.printable.refusal.Refusal.TheVariants as refusal;
 ghost use Rattle.irtext_print_ops.specs.Heads as heads;
 ghost use Rattle.irtext_print_ops.specs.Steps as steps;
@@ -26,6 +27,7 @@ use irtext_base::format::Directive;
 use irtext_base::text::{AttrText, IrText};
 use irtext_context::base::{BasicBlock, Context, Item, Operation, OperationAccess, Ptr};
 use irtext_graph::held::HasGraph;
+use irtext_memory::string;
 use irtext_print::printable::{Refusal, RegionPrintDepthLimit};
 
 /// Where the pieces of an operation end.
@@ -54,7 +56,7 @@ fn fmt_pieces<T: IrText<A>, A: AttrText<A>>(
         A.eq ctx.now op from) f.new) }
     ensures stop { IfOk result (λ stop. heads.StopsAt T.IrText.own A.IrText.own A.AttrText.own A.eq ctx.now op
         from stop) }
-    ensures refused { IfErr result (λ e. e ≡ refusal.Memory) }
+    ensures refused { IfErr result (λ e. IsMemory e) }
     ensures appended { OnErr result (OnlyAppends f.old f.new) }
 {
     let Some(directives) = found else {
@@ -93,7 +95,7 @@ pub(crate) fn begin_operation<'c, T: IrText<A>, A: AttrText<A>>(
     ensures found { IfOk result (λ begun. heads.AreDirectivesAt T.IrText.own A.IrText.own A.AttrText.own A.eq
         ctx.now op begun.directives) }
     ensures fits { OnOk result (heads.FitsAt T.IrText.own A.IrText.own A.AttrText.own A.eq ctx.now op) }
-    ensures refused { IfErr result (λ e. e ≢ refusal.Memory →
+    ensures refused { IfErr result (λ e. IsOther e →
         (e ≡ refusal.Misfit) × (heads.FitsAt T.IrText.own A.IrText.own A.AttrText.own A.eq ctx.now op → ⊥)) }
     ensures appended { OnErr result (OnlyAppends f.old f.new) }
 {
@@ -122,7 +124,7 @@ fn region_turn<'c, T: IrText<A>, A: AttrText<A>>(
     ensures text { OnOk result (AppendsText f.old (steps.region_turn_text ctx.now width frame.old) f.new) }
     ensures left { IfOk result (λ begun. framed.Operation frame.new ∷ steps.begun_frames begun ≡
         steps.region_turn_frames ctx.now frame.old) }
-    ensures refused { IfErr result (λ e. e ≢ refusal.Memory → (e ≡ refusal.Depth) × steps.NextTooDeep ctx.now
+    ensures refused { IfErr result (λ e. IsOther e → (e ≡ refusal.Depth) × steps.NextTooDeep ctx.now
         width frame.old) }
     ensures appended { OnErr result (OnlyAppends f.old f.new) }
 {
@@ -146,7 +148,7 @@ fn entered<T: IrText<A>, A: AttrText<A>>(
         (steps.begun_frames begun) }
     ensures text { OnOk result (AppendsText f.old (steps.ended_text ctx.now begun) f.new) }
     ensures left { IfOk result (λ turn. turn ≡ steps.ended_turn ctx.now begun) }
-    ensures refused { IfErr result (λ e. e ≡ refusal.Memory) }
+    ensures refused { IfErr result (λ e. IsMemory e) }
     ensures appended { OnErr result (OnlyAppends f.old f.new) }
 {
     let Some(inside) = begun else {
@@ -176,7 +178,7 @@ impl<'c, T: IrText<A>, A: AttrText<A>> Printer<'c, T, A> {
             A.eq self.entry.ctx.now op marked (length items.old.items)) f.new) }
         ensures items { OnOk result (items.new.items ≡ items.old.items ++
             heads.own_items_at T.IrText.own A.IrText.own A.AttrText.own A.eq self.entry.ctx.now op marked) }
-        ensures refused { IfErr result (λ e. e ≡ refusal.Memory) }
+        ensures refused { IfErr result (λ e. IsMemory e) }
         ensures appended { OnErr result (OnlyAppends f.old f.new) }
     {
         if !marked {
@@ -202,7 +204,7 @@ impl<'c, T: IrText<A>, A: AttrText<A>> Printer<'c, T, A> {
             A.AttrText.own A.eq self.entry.ctx.now block (length items.old.items)) f.new) }
         ensures items { OnOk result (items.new.items ≡ items.old.items ++
             heads.block_items_at T.IrText.own A.IrText.own A.AttrText.own A.eq self.entry.ctx.now block) }
-        ensures refused { IfErr result (λ e. e ≡ refusal.Memory) }
+        ensures refused { IfErr result (λ e. IsMemory e) }
         ensures appended { OnErr result (OnlyAppends f.old f.new) }
     {
         if !is_block_marked(self.ctx, block) {
@@ -248,7 +250,7 @@ fn operation_turn<'c, T: IrText<A>, A: AttrText<A>>(
             entered(ctx, begun, f)
         }
         Stop::Regions(directive) => {
-            f.push_str(" ")?;
+            string::push_str(f, " ")?;
             frame.directive = directive;
             frame.repeats = true;
             Ok(Turn::Stays)

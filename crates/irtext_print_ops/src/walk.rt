@@ -1,7 +1,8 @@
 //! The loop over the open frames, which prints what is left of them. An item is an operation or a block that carries a mark.
-ghost use Rattle.std.specs.Prelude.{◌≡◌, ◌≢◌, ◌++◌, ◌∷◌, [], OnOk, OnErr, IfErr, IfNone, length};
+ghost use Rattle.std.specs.Prelude.{◌≡◌, ◌++◌, ◌∷◌, [], OnOk, OnErr, IfErr, IfNone, length};
 ghost use Rattle.irtext_base.specs.Appending.{OnlyAppends};
 ghost use Rattle.irtext_print.specs.Printers.Appended.{AppendsText};
+ghost use Rattle.irtext_print.specs.Refusals.{IsMemory, IsOther};
 ghost use Rattle.irtext_print.specs.declared.printable.refusal.Refusal.TheVariants as refusal;
 ghost use Rattle.irtext_print_ops.specs.Heads as heads;
 ghost use Rattle.irtext_print_ops.specs.Steps.{listed};
@@ -17,7 +18,7 @@ use irtext_print::printable::Refusal;
 #[inline(always)]
 fn open_first<'c>(first: Option<Frame<'c>>, frames: &mut Vec<Frame<'c>>) -> Result<(), Refusal>
     ensures ok { OnOk result (frames.new.items ≡ frames.old.items ++ listed first.entry) }
-    ensures refused { IfErr result (λ e. e ≡ refusal.Memory) }
+    ensures refused { IfErr result (λ e. IsMemory e) }
 {
     match first {
         Some(frame) => open(frames, frame),
@@ -56,7 +57,7 @@ pub(crate) fn print_frames<'c, T: IrText<A>, A: AttrText<A>>(
     ensures fits { OnOk result (
         heads.FramesFault T.IrText.own A.IrText.own A.AttrText.own A.eq ctx.now width
         refusal.Misfit (frames.old.items ++ listed first.entry) → ⊥) }
-    ensures refused { IfErr result (λ e. e ≢ refusal.Memory →
+    ensures refused { IfErr result (λ e. IsOther e →
         heads.FramesFault T.IrText.own A.IrText.own A.AttrText.own A.eq ctx.now width e
         (frames.old.items ++ listed first.entry)) }
     ensures appended { OnErr result (OnlyAppends f.old f.new) }
@@ -88,7 +89,7 @@ pub(crate) fn print_operation<'c, T: IrText<A>, A: AttrText<A>>(
     ensures fits { OnOk result (
         heads.FramesFault T.IrText.own A.IrText.own A.AttrText.own A.eq ctx.now width
         refusal.Misfit (framed.Operation frame.entry ∷ []) → ⊥) }
-    ensures refused { IfErr result (λ e. e ≢ refusal.Memory →
+    ensures refused { IfErr result (λ e. IsOther e →
         heads.FramesFault T.IrText.own A.IrText.own A.AttrText.own A.eq ctx.now width e
         (framed.Operation frame.entry ∷ [])) }
     ensures appended { OnErr result (OnlyAppends f.old f.new) }

@@ -4,6 +4,7 @@ ghost use Rattle.std.specs.Cmp.{on_equiv, on_per};
 
 use crate::part::{Closed, Item, Last, Part, TryClone};
 use irtext_base::parsable::{CharStream, ParseResult, TextStream};
+use irtext_memory::OutOfMemory;
 use irtext_tokens::irfmt::faults::out_of_memory;
 use std::alloc::{AllocError, Global};
 use std::fmt;
@@ -98,7 +99,7 @@ impl<A, P: Part<A>> Part<A> for Boxed<P> {
         }
     }
 
-    fn write_text(&self, f: &mut String) -> fmt::Result {
+    fn write_text(&self, f: &mut String) -> Result<(), OutOfMemory> {
         self.get().write_text(f)
     }
 }

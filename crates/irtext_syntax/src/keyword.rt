@@ -15,6 +15,7 @@ ghost use Rattle.irtext_syntax.specs.NameTexts.{WordText, ends_word};
 use crate::part::{Item, Last, Part, TryClone};
 use irtext_base::parsable::{CharStream, ParseResult, TextStream};
 use irtext_base::result::Cause;
+use irtext_memory::{OutOfMemory, string};
 use irtext_tokens::irfmt::faults::{out_of_memory, refuse, unexpected};
 use irtext_tokens::irfmt::parsers::{Class, held, skip_class};
 use std::alloc::AllocError;
@@ -201,11 +202,11 @@ fn flag_parse<W: Word, A>(stream: &mut TextStream) -> ParseResult<bool, A>
 }
 
 /// Appends the word.
-fn write_word<W: Word>(f: &mut String) -> fmt::Result
+fn write_word<W: Word>(f: &mut String) -> Result<(), OutOfMemory>
     ensures text { OnOk result (string_bytes f.new ≡ string_bytes f.old ++ encode_utf8_all W.word.characters) }
     ensures appended { OnErr result (OnlyAppends f.old f.new) }
 {
-    f.push_str(W::word())?;
+    string::push_str(f, W::word())?;
     Ok(())
 }
 
@@ -223,7 +224,7 @@ impl<A, W: Word> Part<A> for Keyword<W> {
         }
     }
 
-    fn write_text(&self, f: &mut String) -> fmt::Result {
+    fn write_text(&self, f: &mut String) -> Result<(), OutOfMemory> {
         write_word::<W>(f)
     }
 }
@@ -255,7 +256,7 @@ impl<A, W: Word> Part<A> for Flag<W> {
         }
     }
 
-    fn write_text(&self, f: &mut String) -> fmt::Result {
+    fn write_text(&self, f: &mut String) -> Result<(), OutOfMemory> {
         if self.is_set() {
             return write_word::<W>(f);
         }

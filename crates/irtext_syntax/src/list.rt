@@ -12,6 +12,7 @@ ghost use Rattle.irtext_syntax.specs.ListParts.{SeparatorLaw, tail_text, joined_
 use crate::fixed::{Brackets, close_demanded, open_parse};
 use crate::part::{Closed, Item, Last, Part, TryClone};
 use irtext_base::parsable::{ParseResult, TextStream};
+use irtext_memory::{OutOfMemory, string};
 use irtext_tokens::irfmt::parsers::list_parser;
 use std::alloc::{AllocError, Global};
 use std::fmt;
@@ -148,21 +149,29 @@ fn items_parse<B: Separated, P: Part<A>, A: Drop>(stream: &mut TextStream) -> Pa
 }
 
 /// Appends the separator, a space and the item, for each item.
-fn write_tail<P: Part<A>, A>(separator: char, items: &[P], f: &mut String) -> fmt::Result
+fn write_tail<P: Part<A>, A>(
+    separator: char,
+    items: &[P],
+    f: &mut String,
+) -> Result<(), OutOfMemory>
     ensures text { OnOk result (string_bytes f.new ≡ string_bytes f.old ++ encode_utf8_all
         (tail_text separator P.text.written items.now)) }
     ensures appended { OnErr result (OnlyAppends f.old f.new) }
 {
     for item in items {
-        f.push(separator)?;
-        f.push_str(" ")?;
+        string::push(f, separator)?;
+        string::push_str(f, " ")?;
         item.write_text(f)?;
     }
     Ok(())
 }
 
 /// Appends the items, with the separator and a space between two.
-fn write_joined<P: Part<A>, A>(separator: char, items: &[P], f: &mut String) -> fmt::Result
+fn write_joined<P: Part<A>, A>(
+    separator: char,
+    items: &[P],
+    f: &mut String,
+) -> Result<(), OutOfMemory>
     ensures text { OnOk result (string_bytes f.new ≡ string_bytes f.old ++ encode_utf8_all (joined_text separator
         P.text.written items.now)) }
     ensures appended { OnErr result (OnlyAppends f.old f.new) }
@@ -175,15 +184,15 @@ fn write_joined<P: Part<A>, A>(separator: char, items: &[P], f: &mut String) -> 
 }
 
 /// Appends the items in brackets.
-fn write_list<B: Separated, P: Part<A>, A>(items: &[P], f: &mut String) -> fmt::Result
+fn write_list<B: Separated, P: Part<A>, A>(items: &[P], f: &mut String) -> Result<(), OutOfMemory>
     ensures text { OnOk result (string_bytes f.new ≡
         string_bytes f.old ++ encode_utf8_all (list_text B.opener_printed B.separator P.text.written
         B.closer_printed items.now)) }
     ensures appended { OnErr result (OnlyAppends f.old f.new) }
 {
-    f.push_str(B::printed_opening())?;
+    string::push_str(f, B::printed_opening())?;
     write_joined(B::separator(), items, f)?;
-    f.push_str(B::printed_closing())?;
+    string::push_str(f, B::printed_closing())?;
     Ok(())
 }
 
@@ -215,7 +224,7 @@ impl<A: Drop, B: Separated, P: Item<A>> Part<A> for ListOf<B, P> {
         }
     }
 
-    fn write_text(&self, f: &mut String) -> fmt::Result {
+    fn write_text(&self, f: &mut String) -> Result<(), OutOfMemory> {
         write_list::<B, P, A>(self.as_slice(), f)
     }
 }

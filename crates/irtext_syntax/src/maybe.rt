@@ -1,9 +1,9 @@
 //! Parts that may be left out.
 use crate::part::{Item, Part, TryClone};
 use irtext_base::parsable::{ParseResult, TextStream};
+use irtext_memory::OutOfMemory;
 use irtext_tokens::irfmt::faults::unless_committed;
 use std::alloc::AllocError;
-use std::fmt;
 
 /// A part that may be left out. It is missing if no value of `P` begins, and nothing is then printed. So that this is seen, a closing
 /// character has to come after it, as `>` or `,`, with or without white space before it.
@@ -31,7 +31,7 @@ impl<A: Drop, P: Item<A>> Part<A> for Option<P> {
         }
     }
 
-    fn write_text(&self, f: &mut String) -> fmt::Result {
+    fn write_text(&self, f: &mut String) -> Result<(), OutOfMemory> {
         match self {
             Some(value) => value.write_text(f),
             None => Ok(()),

@@ -12,6 +12,7 @@ ghost use Rattle.irtext_syntax.specs.NameLaws.{name_law, name_decides, name_miss
 use crate::part::{Item, Last, Part, TryClone};
 use irtext_base::base::Identifier;
 use irtext_base::parsable::{ParseResult, TextStream};
+use irtext_memory::{OutOfMemory, string};
 use irtext_tokens::irfmt::parsers::identifier_parse;
 use std::alloc::AllocError;
 use std::fmt;
@@ -107,8 +108,8 @@ impl<A> Part<A> for Name {
         Ok(Name::new(identifier))
     }
 
-    fn write_text(&self, f: &mut String) -> fmt::Result {
-        f.push_str(self.as_identifier().as_str())?;
+    fn write_text(&self, f: &mut String) -> Result<(), OutOfMemory> {
+        string::push_str(f, self.as_identifier().as_str())?;
         Ok(())
     }
 }

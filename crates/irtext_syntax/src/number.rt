@@ -1,5 +1,5 @@
 //! Decimal numbers of every integer type.
-ghost use Rattle.std.specs.Prelude.{◌≡◌, ◌↔◌, ℤ, pos, Some, IsTrue, OnOk, OnErr, ◌++◌, string_bytes, true, refl};
+ghost use Rattle.std.specs.Prelude.{◌≡◌, ◌↔◌, ℤ, pos, IsTrue, OnOk, OnErr, ◌++◌, string_bytes, true, refl};
 ghost use Rattle.std.specs.Cmp.{on_equiv, on_per, unsigned_Decides, signed_Decides};
 ghost use Rattle.std.specs.Fmt.{signed_decimal};
 ghost use Rattle.irtext_base.specs.Appending.{OnlyAppends};
@@ -7,16 +7,16 @@ ghost use Rattle.irtext_tokens.specs.Integers.{itself};
 ghost use Rattle.irtext_syntax.specs.Numbers.{fits, natural};
 
 use crate::part::{Item, Last, Part, Plain};
-use arrayvec::ArrayString;
 use irtext_base::parsable::{ParseResult, TextStream};
+use irtext_memory::{OutOfMemory, string};
 use irtext_tokens::irfmt::parsers::{FromStrRadix, int_parse};
+use itoa::Buffer;
 use std::alloc::AllocError;
 use std::fmt;
-use std::fmt::Write;
 use std::hash::{Hash, Hasher};
 
 /// An integer type whose numbers can be parsed and printed in decimal.
-pub trait Integer: FromStrRadix + Copy + Eq + Hash + fmt::Display + fmt::Debug {
+pub trait Integer: FromStrRadix + itoa::Integer + Eq + Hash + fmt::Debug {
     // the number with this value
     ghost of: { ℤ → Self };
 
@@ -26,7 +26,7 @@ pub trait Integer: FromStrRadix + Copy + Eq + Hash + fmt::Display + fmt::Debug {
 
     ghost back: { (n : Self) → of (Self.number n) ≡ n };
 
-    ghost printed: { (n : Self) → Self.output n ≡ Some (signed_decimal (Self.number n)) };
+    ghost printed: { (n : Self) → Self.text n ≡ signed_decimal (Self.number n) };
 
     ghost decides: { (x y : Self) → IsTrue (Self.eq x y) ↔ (x ≡ y) };
 }
@@ -218,14 +218,13 @@ impl<N: Integer> Number<N> {
     }
 }
 
-/// Appends a number in decimal. Its digits are put together in place, and appended at once: no integer type has more than 40.
-fn write_number<N: Integer>(value: N, f: &mut String) -> fmt::Result
+/// Appends a number in decimal. Its digits are put together in place, and appended at once.
+fn write_number<N: Integer>(value: N, f: &mut String) -> Result<(), OutOfMemory>
     ensures text { OnOk result (string_bytes f.new ≡ string_bytes f.old ++ signed_decimal (N.number value)) }
     ensures appended { OnErr result (OnlyAppends f.old f.new) }
 {
-    let mut digits: ArrayString<40> = ArrayString::new();
-    write!(digits, "{value}")?;
-    f.push_str(digits.as_str())?;
+    let mut digits = Buffer::new();
+    string::push_str(f, digits.format(value))?;
     Ok(())
 }
 
@@ -252,7 +251,7 @@ impl<A, N: Integer> Part<A> for Number<N> {
         }
     }
 
-    fn write_text(&self, f: &mut String) -> fmt::Result {
+    fn write_text(&self, f: &mut String) -> Result<(), OutOfMemory> {
         write_number(self.value, f)
     }
 }

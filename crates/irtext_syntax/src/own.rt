@@ -2,9 +2,9 @@
 use crate::part::{Item, Last, Part, TryClone};
 use irtext_base::parsable::{ParseResult, TextStream};
 use irtext_base::text::IrText;
+use irtext_memory::OutOfMemory;
 use irtext_tokens::either::Either;
 use std::alloc::AllocError;
-use std::fmt;
 
 /// A type or an attribute of the caller, as a part.
 #[derive(PartialEq, Eq, Hash, Debug, Drop)]
@@ -31,7 +31,7 @@ impl<A, T: IrText<A>> Part<A> for Own<T> {
         }
     }
 
-    fn write_text(&self, f: &mut String) -> fmt::Result {
+    fn write_text(&self, f: &mut String) -> Result<(), OutOfMemory> {
         self.value.write_text(f)
     }
 }

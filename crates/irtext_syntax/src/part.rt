@@ -6,8 +6,8 @@ ghost use Rattle.irtext_tokens.specs.MustRead.{MayRead};
 ghost use Rattle.irtext_syntax.specs.PartLaws.{PartText, PartLaws, MissesClosers, EndsAnywhere};
 
 use irtext_base::parsable::{ParseResult, TextStream};
+use irtext_memory::OutOfMemory;
 use std::alloc::AllocError;
-use std::fmt;
 
 /// A part of a type's or an attribute's text, such as a number or a quoted string; a value of `Self` is what it is parsed as. Errors are
 /// those of a context whose attributes are `A`.
@@ -34,7 +34,7 @@ pub trait Part<A>: Sized + Drop + Eq {
 
     /// Appends the text of the value. Fails only when out of memory. The text that was there before stands then too, and what was appended
     /// up to the error remains.
-    fn write_text(&self, f: &mut String) -> fmt::Result
+    fn write_text(&self, f: &mut String) -> Result<(), OutOfMemory>
         ensures text { IfOk result (λ _. string_bytes f.new ≡ string_bytes f.old ++ encode_utf8_all
             (text.written self.now)) }
         ensures appended { OnErr result (OnlyAppends f.old f.new) };

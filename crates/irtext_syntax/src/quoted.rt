@@ -6,10 +6,10 @@ ghost use Rattle.irtext_syntax.specs.QuotedLaws.{characters_law, characters_deci
 use crate::characters::Characters;
 use crate::part::{Closed, Item, Last, Part, TryClone};
 use irtext_base::parsable::{ParseResult, TextStream};
+use irtext_memory::OutOfMemory;
 use irtext_tokens::irfmt::parsers::quoted_string_parse;
 use irtext_tokens::printable::fmt_quoted;
 use std::alloc::AllocError;
-use std::fmt;
 
 /// A quoted text: its characters between quotation marks, with escapes, as `quoted_string_parse` and `fmt_quoted` have them. Fails with
 /// `Unexpected`, uncommitted, if no quotation mark comes next. Every other error is committed.
@@ -23,7 +23,7 @@ impl<A> Part<A> for Characters {
         Ok(Characters::new(text))
     }
 
-    fn write_text(&self, f: &mut String) -> fmt::Result {
+    fn write_text(&self, f: &mut String) -> Result<(), OutOfMemory> {
         fmt_quoted(self.as_str(), f)
     }
 }

@@ -5,15 +5,15 @@ ghost use Rattle.irtext_tokens.specs.MustRead.{MayRead};
 ghost use Rattle.irtext_syntax.specs.Ranges.{Bounds, is_between, digits_at};
 
 use crate::part::{Item, Last, Part, Plain};
-use arrayvec::ArrayString;
 use irtext_base::parsable::{CharStream, ParseResult, TextStream};
 use irtext_base::result::{Cause, Expected};
+use irtext_memory::{OutOfMemory, string};
 use irtext_tokens::irfmt::faults::{begins, refuse, unexpected};
 use irtext_tokens::irfmt::parsers::Class;
 use irtext_tokens::irfmt::parsers::digits::{Radix, out_of_range, take_digits};
+use itoa::Buffer;
 use std::alloc::AllocError;
 use std::fmt;
-use std::fmt::Write;
 use std::marker::PhantomData;
 
 /// A range of numbers, both ends included. That they are numbers of 64 bits is computed: `ghost bounds = { from_to 1 100 refl }`.
@@ -115,13 +115,12 @@ impl<R: Range> FromDigits for Ranged<R> {
 }
 
 /// Appends a number in decimal. Its digits are put together in place, and appended at once. Fails only when out of memory.
-pub fn write_decimal(value: u64, f: &mut String) -> fmt::Result
+pub fn write_decimal(value: u64, f: &mut String) -> Result<(), OutOfMemory>
     ensures text { OnOk result (string_bytes f.new ≡ string_bytes f.old ++ decimal value) }
     ensures appended { OnErr result (OnlyAppends f.old f.new) }
 {
-    let mut digits: ArrayString<20> = ArrayString::new();
-    write!(digits, "{value}")?;
-    f.push_str(digits.as_str())?;
+    let mut digits = Buffer::new();
+    string::push_str(f, digits.format(value))?;
     Ok(())
 }
 
@@ -142,7 +141,7 @@ impl<A, R: Range> Part<A> for Ranged<R> {
         digits_parse(stream)
     }
 
-    fn write_text(&self, f: &mut String) -> fmt::Result {
+    fn write_text(&self, f: &mut String) -> Result<(), OutOfMemory> {
         write_decimal(self.value, f)
     }
 }

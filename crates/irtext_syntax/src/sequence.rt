@@ -8,9 +8,9 @@ ghost use Rattle.irtext_syntax.specs.Sequences.{then_text, second_at, within_tex
 use crate::fixed::{After, Between, Brackets, between_demanded, close_demanded, open_parse};
 use crate::part::{Closed, Item, Last, Part, TryClone};
 use irtext_base::parsable::{ParseResult, TextStream};
+use irtext_memory::{OutOfMemory, string};
 use irtext_tokens::irfmt::faults::committed;
 use std::alloc::AllocError;
-use std::fmt;
 use std::marker::PhantomData;
 
 /// Two parts with the fixed text of `W` between them, as `5: si32`.
@@ -62,13 +62,13 @@ pub fn write_then<P: Part<A>, W: Between, Q: Part<A>, A>(
     first: &P,
     second: &Q,
     f: &mut String,
-) -> fmt::Result
+) -> Result<(), OutOfMemory>
     ensures text { OnOk result (string_bytes f.new ≡ string_bytes f.old ++ encode_utf8_all
         (then_text P.text.written W.printed Q.text.written first.now second.now)) }
     ensures appended { OnErr result (OnlyAppends f.old f.new) }
 {
     first.write_text(f)?;
-    f.push_str(W::printed())?;
+    string::push_str(f, W::printed())?;
     second.write_text(f)?;
     Ok(())
 }
@@ -98,7 +98,7 @@ impl<A, P: Part<A>, W: After<A, P>, Q: Part<A>> Part<A> for Then<P, W, Q> {
         }
     }
 
-    fn write_text(&self, f: &mut String) -> fmt::Result {
+    fn write_text(&self, f: &mut String) -> Result<(), OutOfMemory> {
         write_then::<P, W, Q, A>(&self.first, &self.second, f)
     }
 }
@@ -117,14 +117,17 @@ fn inside_parse<B: Brackets, P: Part<A>, A>(stream: &mut TextStream) -> ParseRes
 }
 
 /// Appends a part in the brackets of `B`. Fails only when out of memory.
-pub fn write_within<B: Brackets, P: Part<A>, A>(inside: &P, f: &mut String) -> fmt::Result
+pub fn write_within<B: Brackets, P: Part<A>, A>(
+    inside: &P,
+    f: &mut String,
+) -> Result<(), OutOfMemory>
     ensures text { OnOk result (string_bytes f.new ≡ string_bytes f.old ++ encode_utf8_all
         (within_text B.opener_printed P.text.written B.closer_printed inside.now)) }
     ensures appended { OnErr result (OnlyAppends f.old f.new) }
 {
-    f.push_str(B::printed_opening())?;
+    string::push_str(f, B::printed_opening())?;
     inside.write_text(f)?;
-    f.push_str(B::printed_closing())?;
+    string::push_str(f, B::printed_closing())?;
     Ok(())
 }
 
@@ -152,7 +155,7 @@ impl<A, B: Brackets, P: Part<A>> Part<A> for Within<B, P> {
         }
     }
 
-    fn write_text(&self, f: &mut String) -> fmt::Result {
+    fn write_text(&self, f: &mut String) -> Result<(), OutOfMemory> {
         write_within::<B, P, A>(&self.inside, f)
     }
 }

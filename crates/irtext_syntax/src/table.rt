@@ -14,9 +14,9 @@ use crate::sequence::demanded;
 use crate::words::{dotted_parse, dotted_there};
 use irtext_base::parsable::{CharStream, ParseResult, TextStream};
 use irtext_base::result::{Cause, Expected};
+use irtext_memory::{OutOfMemory, string};
 use irtext_tokens::irfmt::faults::refuse;
 use irtext_tokens::irfmt::parsers::skip_white_space;
-use std::fmt;
 
 /// The words of a family `E` of types or attributes, each with what comes after it. Most impls are on an enum with a variant for each word.
 pub trait Table<E, A>: Copy {
@@ -175,22 +175,22 @@ pub fn word_alone<E: Drop, A>(stream: &mut TextStream, value: E) -> ParseResult<
 }
 
 /// Appends a word, a space and a part. Fails only when out of memory.
-pub fn write_row<P: Part<A>, A>(word: &str, part: &P, f: &mut String) -> fmt::Result
+pub fn write_row<P: Part<A>, A>(word: &str, part: &P, f: &mut String) -> Result<(), OutOfMemory>
     ensures text { OnOk result (string_bytes f.new ≡ string_bytes f.old ++ encode_utf8_all
         (characters word.now ++ (32 ∷ P.text.written part.now))) }
     ensures appended { OnErr result (OnlyAppends f.old f.new) }
 {
-    f.push_str(word)?;
-    f.push_str(" ")?;
+    string::push_str(f, word)?;
+    string::push_str(f, " ")?;
     part.write_text(f)?;
     Ok(())
 }
 
 /// Appends a word that has nothing after it. Fails only when out of memory.
-pub fn write_word(word: &str, f: &mut String) -> fmt::Result
+pub fn write_word(word: &str, f: &mut String) -> Result<(), OutOfMemory>
     ensures text { OnOk result (string_bytes f.new ≡ string_bytes f.old ++ encode_utf8_all (characters word.now)) }
     ensures appended { OnErr result (OnlyAppends f.old f.new) }
 {
-    f.push_str(word)?;
+    string::push_str(f, word)?;
     Ok(())
 }

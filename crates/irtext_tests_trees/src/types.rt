@@ -3,6 +3,7 @@ use crate::brackets::AngleComma;
 use irtext_base::parsable::{ParseResult, TextStream};
 use irtext_base::result::Expected;
 use irtext_base::text::Worded;
+use irtext_memory::OutOfMemory;
 use irtext_syntax::part::TryClone;
 use irtext_syntax::sequence::Within;
 use irtext_syntax::table::{Table, after_word, table_parse, word_alone, write_row, write_word};
@@ -10,7 +11,6 @@ use irtext_syntax::{Number, match_text, matches_text};
 use irtext_tree::marks::{mark_parse, more_parse, opened_parse, opening_parse, write_spaced_row};
 use irtext_tree::{AttrGrammar, Grammar, Grows, LedGrammar, Waits};
 use std::alloc::AllocError;
-use std::fmt;
 
 /// What comes after `llvm.array`: `<N, `.
 pub type ArrayText = Within<AngleComma, Number<u64>>;
@@ -159,7 +159,7 @@ impl<A> Grammar<LlvmHead, A> for LlvmPlace {
         }
     }
 
-    fn write_head(head: &LlvmHead, f: &mut String) -> fmt::Result {
+    fn write_head(head: &LlvmHead, f: &mut String) -> Result<(), OutOfMemory> {
         match head {
             LlvmHead::Int(part) => write_row::<Number<u32>, A>("llvm.int", part, f),
             LlvmHead::Ptr => write_word("llvm.ptr", f),

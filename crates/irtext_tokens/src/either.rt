@@ -17,8 +17,8 @@ ghost use Rattle.irtext_base.specs.Families.{is_one_of};
 use crate::irfmt::parsers::{Class, skip_class};
 use irtext_base::parsable::{CharStream, ParseResult, TextStream};
 use irtext_base::text::{Apart, AttrText, Family, IrText, Worded};
+use irtext_memory::OutOfMemory;
 use std::alloc::AllocError;
-use std::fmt;
 use std::marker::PhantomData;
 
 /// A type or an attribute of one of two families. `W` says that these have no word in common (`Apart`). A text whose first word is one of
@@ -91,7 +91,7 @@ impl<B, L: Family<B>, R: Family<B>, W: Apart<L, R>> IrText<B> for Either<L, R, W
         }
     }
 
-    fn write_text(&self, f: &mut String) -> fmt::Result {
+    fn write_text(&self, f: &mut String) -> Result<(), OutOfMemory> {
         match self {
             Either::Left(x) => x.write_text(f),
             Either::Right(y, _) => y.write_text(f),

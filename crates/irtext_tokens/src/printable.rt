@@ -4,7 +4,7 @@ ghost use Rattle.irtext_base.specs.Appending.{OnlyAppends};
 ghost use Rattle.irtext_base.specs.Quoted.{hexadecimal, image_of, images};
 ghost use Rattle.irtext_tokens.specs.QuotedBytes.{by_code, is_escaped, quoted_bytes};
 
-use std::fmt;
+use irtext_memory::{OutOfMemory, string};
 
 /// Whether a byte is a character that is escaped in a quoted string. All these characters are ASCII.
 fn is_escaped(byte: u8) -> bool
@@ -26,34 +26,34 @@ fn digit(number: u8) -> &'static str
 }
 
 /// Appends the code of an ASCII character in hexadecimal.
-fn fmt_code(byte: u8, f: &mut String) -> fmt::Result
+fn fmt_code(byte: u8, f: &mut String) -> Result<(), OutOfMemory>
     requires { byte < 128 }
     ensures text { OnOk result (string_bytes f.new ≡ string_bytes f.old ++ hexadecimal byte) }
     ensures appended { OnErr result (OnlyAppends f.old f.new) }
 {
     if byte >= 16 {
-        f.push_str(digit(byte / 16))?;
+        string::push_str(f, digit(byte / 16))?;
     }
-    f.push_str(digit(byte % 16))?;
+    string::push_str(f, digit(byte % 16))?;
     Ok(())
 }
 
 /// Appends an escape by the character's code, as `\u{1f}`.
 #[cold]
 #[inline(never)]
-fn fmt_by_code(byte: u8, f: &mut String) -> fmt::Result
+fn fmt_by_code(byte: u8, f: &mut String) -> Result<(), OutOfMemory>
     requires { byte < 128 }
     ensures text { OnOk result (string_bytes f.new ≡ string_bytes f.old ++ by_code byte) }
     ensures appended { OnErr result (OnlyAppends f.old f.new) }
 {
-    f.push_str("\\u{")?;
+    string::push_str(f, "\\u{")?;
     fmt_code(byte, f)?;
-    f.push_str("}")?;
+    string::push_str(f, "}")?;
     Ok(())
 }
 
 /// Appends the escape of such a character.
-fn fmt_escape(byte: u8, f: &mut String) -> fmt::Result
+fn fmt_escape(byte: u8, f: &mut String) -> Result<(), OutOfMemory>
     requires { is_escaped byte ≡ true }
     ensures text { OnOk result (string_bytes f.new ≡ string_bytes f.old ++ image_of byte) }
     ensures appended { OnErr result (OnlyAppends f.old f.new) }
@@ -67,12 +67,12 @@ fn fmt_escape(byte: u8, f: &mut String) -> fmt::Result
         b'\\' => "\\\\",
         _ => return fmt_by_code(byte, f),
     };
-    f.push_str(escape)?;
+    string::push_str(f, escape)?;
     Ok(())
 }
 
 /// Appends the characters of a text, each that must be escaped as its escape. The text between two escapes is copied in one piece.
-fn fmt_images(text: &str, f: &mut String) -> fmt::Result
+fn fmt_images(text: &str, f: &mut String) -> Result<(), OutOfMemory>
     ensures text { OnOk result (string_bytes f.new ≡ string_bytes f.old ++ images text.now) }
     ensures appended { OnErr result (OnlyAppends f.old f.new) }
 {
@@ -80,12 +80,12 @@ fn fmt_images(text: &str, f: &mut String) -> fmt::Result
     let mut begun = 0;
     for at in 0..bytes.len() {
         if is_escaped(bytes[at]) {
-            f.push_str(&text[begun..at])?;
+            string::push_str(f, &text[begun..at])?;
             fmt_escape(bytes[at], f)?;
             begun = at + 1;
         }
     }
-    f.push_str(&text[begun..])?;
+    string::push_str(f, &text[begun..])?;
     Ok(())
 }
 
@@ -93,12 +93,12 @@ fn fmt_images(text: &str, f: &mut String) -> fmt::Result
 /// backslash are printed as `\0`, `\t`, `\n`, `\r`, `\"` and `\\`, every other ASCII control character as `\u{N}` with N in lower-case
 /// hexadecimal, and every other character as itself. Fails only if an allocation fails; the text that was there stands then too, and
 /// what was appended up to the error remains.
-pub fn fmt_quoted(text: &str, f: &mut String) -> fmt::Result
+pub fn fmt_quoted(text: &str, f: &mut String) -> Result<(), OutOfMemory>
     ensures text { OnOk result (string_bytes f.new ≡ string_bytes f.old ++ quoted_bytes text.now) }
     ensures appended { OnErr result (OnlyAppends f.old f.new) }
 {
-    f.push_str("\"")?;
+    string::push_str(f, "\"")?;
     fmt_images(text, f)?;
-    f.push_str("\"")?;
+    string::push_str(f, "\"")?;
     Ok(())
 }

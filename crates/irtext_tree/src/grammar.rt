@@ -11,8 +11,8 @@ ghost use Rattle.irtext_tree.specs.Words.{HeadsLed, HeadsUnreserved};
 use crate::waits::Waits;
 use irtext_base::parsable::{ParseResult, TextStream};
 use irtext_base::text::Worded;
+use irtext_memory::OutOfMemory;
 use std::alloc::AllocError;
-use std::fmt;
 
 /// The places of a grammar, at each of which one of several heads `H` can come. `Self` is the place: most impls are on an enum, as one of a
 /// type, of `>`, and of `, ` or `>`.
@@ -51,7 +51,7 @@ pub trait Grammar<H: Eq, A>: Grows<H> {
 
     /// Appends the text of the head. Fails only when out of memory. The text that was there before stands then too, and what was appended up
     /// to the error remains.
-    fn write_head(head: &H, f: &mut String) -> fmt::Result
+    fn write_head(head: &H, f: &mut String) -> Result<(), OutOfMemory>
         ensures text { IfOk result (λ _. string_bytes f.new ≡ string_bytes f.old
             ++ encode_utf8_all (written head.now)) }
         ensures appended { OnErr result (OnlyAppends f.old f.new) };

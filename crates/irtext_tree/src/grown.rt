@@ -21,7 +21,6 @@ use irtext_syntax::part::TryClone;
 use irtext_tokens::irfmt::faults::{committed, out_of_memory, refuse};
 use irtext_tokens::irfmt::parsers::skip_white_space;
 use std::alloc::{AllocError, Global};
-use std::fmt;
 use std::marker::PhantomData;
 
 /// The places that wait, the next one last. Fails only if an allocation fails.
@@ -127,7 +126,7 @@ fn heads_parse<S: Grammar<H, A>, H: Eq + Drop, A: Drop>(
 }
 
 /// Appends the texts of the heads, one after another.
-fn write_heads<S: Grammar<H, A>, H: Eq, A>(heads: &[H], f: &mut String) -> fmt::Result
+fn write_heads<S: Grammar<H, A>, H: Eq, A>(heads: &[H], f: &mut String) -> Result<(), OutOfMemory>
     ensures text { OnOk result (string_bytes f.new ≡ string_bytes f.old
         ++ encode_utf8_all (heads_text S.written heads.now)) }
     ensures appended { OnErr result (OnlyAppends f.old f.new) }
@@ -139,7 +138,11 @@ fn write_heads<S: Grammar<H, A>, H: Eq, A>(heads: &[H], f: &mut String) -> fmt::
 }
 
 /// Appends the text of a head, and those of the heads after it.
-fn write_tree<S: Grammar<H, A>, H: Eq, A>(head: &H, rest: &[H], f: &mut String) -> fmt::Result
+fn write_tree<S: Grammar<H, A>, H: Eq, A>(
+    head: &H,
+    rest: &[H],
+    f: &mut String,
+) -> Result<(), OutOfMemory>
     ensures text { OnOk result (string_bytes f.new ≡ string_bytes f.old
         ++ encode_utf8_all (heads_text S.written (head.now ∷ rest.now))) }
     ensures appended { OnErr result (OnlyAppends f.old f.new) }
@@ -202,7 +205,7 @@ impl<A: Drop, S: Grammar<H, A>, H: Eq + Drop> IrText<A> for Tree<S, H> {
         tree_parse(stream)
     }
 
-    fn write_text(&self, f: &mut String) -> fmt::Result {
+    fn write_text(&self, f: &mut String) -> Result<(), OutOfMemory> {
         write_tree::<S, H, A>(self.head(), self.rest(), f)
     }
 }

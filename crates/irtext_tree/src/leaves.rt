@@ -4,8 +4,8 @@ use crate::places::Leaf;
 use crate::waits::Waits;
 use irtext_base::parsable::{ParseResult, TextStream};
 use irtext_base::text::{AttrText, Family, IrText};
+use irtext_memory::OutOfMemory;
 use std::alloc::AllocError;
-use std::fmt;
 
 impl<H> Grows<H> for Leaf {
     ghost use Rattle.irtext_tree.specs.Leaves.{leaf_growth};
@@ -47,7 +47,7 @@ impl<A, H: IrText<A>> Grammar<H, A> for Leaf {
         }
     }
 
-    fn write_head(head: &H, f: &mut String) -> fmt::Result {
+    fn write_head(head: &H, f: &mut String) -> Result<(), OutOfMemory> {
         <H as IrText<A>>::write_text(head, f)
     }
 }

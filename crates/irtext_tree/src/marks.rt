@@ -10,12 +10,12 @@ ghost use Rattle.irtext_tree.specs.Marks.{mark_at, more_at, opened_at};
 
 use irtext_base::parsable::{CharStream, ParseResult, TextStream};
 use irtext_base::result::Cause;
+use irtext_memory::OutOfMemory;
 use irtext_syntax::part::Part;
 use irtext_syntax::table::{write_row, write_word};
 use irtext_tokens::irfmt::demanded::text_demanded;
 use irtext_tokens::irfmt::faults::{next_is, refuse};
 use irtext_tokens::irfmt::parsers::{skip_white_space, text_parse};
-use std::fmt;
 
 /// Parses a fixed text, as `>`, and returns the head. If it does not come next, the error is `Unexpected`, uncommitted.
 pub fn mark_parse<H: Drop, A>(stream: &mut TextStream, text: &str, head: H) -> ParseResult<H, A>
@@ -89,7 +89,11 @@ pub fn opened_parse<H: Drop, A>(
 
 /// Appends a word, a space, a part and a space, as `my.array <4, `. Fails only when out of memory. The text that was there before stands
 /// then too, and what was appended up to the error remains.
-pub fn write_spaced_row<P: Part<A>, A>(word: &str, part: &P, f: &mut String) -> fmt::Result
+pub fn write_spaced_row<P: Part<A>, A>(
+    word: &str,
+    part: &P,
+    f: &mut String,
+) -> Result<(), OutOfMemory>
     ensures text { OnOk result (string_bytes f.new ≡ string_bytes f.old ++ encode_utf8_all
         (characters word.now ++ (32 ∷ (P.text.written part.now ++ (32 ∷ []))))) }
     ensures appended { OnErr result (OnlyAppends f.old f.new) }

@@ -9,10 +9,10 @@ use crate::places::Places;
 use crate::waits::Waits;
 use irtext_base::parsable::{CharStream, ParseResult, TextStream};
 use irtext_base::text::{Apart, Worded};
+use irtext_memory::OutOfMemory;
 use irtext_tokens::either::Either;
 use irtext_tokens::irfmt::parsers::{Class, skip_class};
 use std::alloc::AllocError;
-use std::fmt;
 
 /// Returns whether the dotted word that is next in the stream is one of the family's. The stream is unchanged.
 fn is_next_word_of<F: Worded>(stream: &mut TextStream) -> bool
@@ -147,7 +147,7 @@ impl<
         }
     }
 
-    fn write_head(head: &Either<L, R, W>, f: &mut String) -> fmt::Result {
+    fn write_head(head: &Either<L, R, W>, f: &mut String) -> Result<(), OutOfMemory> {
         match head {
             Either::Left(head) => <S as Grammar<L, A>>::write_head(head, f),
             Either::Right(head, _) => <T as Grammar<R, A>>::write_head(head, f),

@@ -157,7 +157,7 @@ module _ {T A : Type 0} (types : ir_text.Ghosts T A) (owns : ir_text.Ghosts A A)
     -- ---- why it is not printed
     -- the reason, if this is seen of the operation and what is nested in it
     abbrev Refuses : Refusal → Printing T A → List (Text × Table) → GraphOp T A → Regions (GraphOp T A) (GraphBlock T A) ⊤ → Type 0
-    Refuses Memory P ds o rs = ⊤
+    Refuses (Memory m) P ds o rs = ⊤
     Refuses Depth P ds o rs = RegionsFault P (isolated ds) s.width Depth s.indent (levels s.limit) rs
     Refuses Misfit P ds o rs = OperationFault P (isolated ds) s.width Misfit o rs ⊎ RegionsFault P (isolated ds) s.width Misfit s.indent (levels s.limit) rs
 
@@ -165,7 +165,7 @@ module _ {T A : Type 0} (types : ir_text.Ghosts T A) (owns : ir_text.Ghosts A A)
     refusal_is e c nested h = subst (λ ps. Refuses e (asked c c.dialects) c.dialects (itself c) (seen_regions owns.written c ps)) (sym (inside_is c.graph nested p)) (as_seen e h)
       where
         as_seen : (e : Refusal) → heads.RefusesUnder types owns attributes same c p s e → Refuses e (asked c c.dialects) c.dialects (itself c) (heads.regions_under types owns attributes same c p)
-        as_seen Memory h = tt
+        as_seen (Memory m) h = tt
         as_seen Depth h = h
         as_seen Misfit h = h
 
@@ -173,19 +173,19 @@ module _ {T A : Type 0} (types : ir_text.Ghosts T A) (owns : ir_text.Ghosts A A)
     is_refusal e c nested h = as_asked e (subst (λ ps. Refuses e (asked c c.dialects) c.dialects (itself c) (seen_regions owns.written c ps)) (inside_is c.graph nested p) h)
       where
         as_asked : (e : Refusal) → Refuses e (asked c c.dialects) c.dialects (itself c) (heads.regions_under types owns attributes same c p) → heads.RefusesUnder types owns attributes same c p s e
-        as_asked Memory h = tt
+        as_asked (Memory m) h = tt
         as_asked Depth h = h
         as_asked Misfit h = h
 
     -- the reasons of one context are those of the other
     forth : (e : Refusal) (o : GraphOp T A) (rs : Regions (GraphOp T A) (GraphBlock T A) ⊤) → Refuses e D old.dialects o rs → Refuses e C old.dialects o rs
-    forth Memory o rs h = tt
+    forth (Memory m) o rs h = tt
     forth Depth o rs h = regions_fault attributes.outlined attributes.print_once same (format_of old.dialects) (given_to old) (given_to new) (label_of old) (label_of new) (type_of old) (type_of new) (isolated old.dialects) s.width Depth s.indent (levels s.limit) rs h
     forth Misfit o rs (inl h) = inl (operation_fault attributes.outlined attributes.print_once same (format_of old.dialects) (given_to old) (given_to new) (label_of old) (label_of new) (type_of old) (type_of new) (isolated old.dialects) s.width Misfit o rs h)
     forth Misfit o rs (inr h) = inr (regions_fault attributes.outlined attributes.print_once same (format_of old.dialects) (given_to old) (given_to new) (label_of old) (label_of new) (type_of old) (type_of new) (isolated old.dialects) s.width Misfit s.indent (levels s.limit) rs h)
 
     back : (e : Refusal) (o : GraphOp T A) (rs : Regions (GraphOp T A) (GraphBlock T A) ⊤) → Refuses e C old.dialects o rs → Refuses e D old.dialects o rs
-    back Memory o rs h = tt
+    back (Memory m) o rs h = tt
     back Depth o rs h = regions_fault attributes.outlined attributes.print_once same (format_of old.dialects) (given_to new) (given_to old) (label_of new) (label_of old) (type_of new) (type_of old) (isolated old.dialects) s.width Depth s.indent (levels s.limit) rs h
     back Misfit o rs (inl h) = inl (operation_fault attributes.outlined attributes.print_once same (format_of old.dialects) (given_to new) (given_to old) (label_of new) (label_of old) (type_of new) (type_of old) (isolated old.dialects) s.width Misfit o rs h)
     back Misfit o rs (inr h) = inr (regions_fault attributes.outlined attributes.print_once same (format_of old.dialects) (given_to new) (given_to old) (label_of new) (label_of old) (type_of new) (type_of old) (isolated old.dialects) s.width Misfit s.indent (levels s.limit) rs h)

@@ -49,7 +49,7 @@ module _ {T A : Type 0} (own_outlined own_once : A → Bool) (same : A → A →
 
   module _ (width : ℕ) where
     pub operation_fault : (e : Refusal) (o : GraphOp T A) (rs : Regions (GraphOp T A) (GraphBlock T A) ⊤) → OperationFault d isolated width e o rs → OperationFault c isolated width e o rs
-    operation_fault Memory o rs h = absurd h
+    operation_fault (Memory m) o rs h = absurd h
     operation_fault Depth o rs h = absurd h
     operation_fault Misfit o rs h = λ f. h (fits_format (formats o.id) o (length (regions_list rs)) f)
 

@@ -10,7 +10,7 @@ use Rattle.irtext_grammar.specs.Graphs.Graph.{Graph, GraphOp, GraphBlock, Printi
 use Rattle.irtext_grammar.specs.Spelling.Section.{section, text}
 use Rattle.irtext_grammar.specs.Spelling.Spell.{spelled}
 use Rattle.irtext_print.specs.declared.printable.refusal.Refusal.{Refusal}
-use Rattle.irtext_print.specs.declared.printable.refusal.Refusal.TheVariants.{Memory}
+use Rattle.irtext_print.specs.declared.printable.refusal.Refusal.TheVariants.{Misfit}
 use Rattle.irtext_print_ops.specs.Faults.{RegionsFault, BlocksFault, OperationsFault}
 
 abbrev ShownRegions : {T A : Type 0} → Regions (Op ⊤ T A) (Head ⊤ T A) (Brace ⊤) → Type 0
@@ -138,7 +138,7 @@ module _ {T A : Type 0} (C : Printing T A) where
   -- the text is the same
   pub text_shown : (L : Language ⊤ T A) (g : Graph T A) (indentation width : ℕ) (l : Limit) → AllShown (written C l g) → text L C g indentation width l ≡ text L C g indentation width None
   text_shown L g indentation width l s =
-      let same = regions_same (λ i. false) 0 Memory l 0 g.regions s in
+      let same = regions_same (λ i. false) 0 Misfit l 0 g.regions s in
       let own = own_entry C g.own.location (op_outlined C g.own) in
       ap (λ z. spelled L width indentation (record { own = tree_op C z g.own; regions = tree_regions C l 0 g.regions }) ++ section L C (entries_of_regions C l g.regions ++ own)) same.marks
       ∙ (ap (λ z. spelled L width indentation (record { own = tree_op C (marks_in_regions C None g.regions) g.own; regions = z }) ++ section L C (entries_of_regions C l g.regions ++ own)) (same.tree 0)

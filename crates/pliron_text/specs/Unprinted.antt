@@ -48,7 +48,7 @@ module _ {A : Type 0} where
 
   -- the error of the library that says why an operation was not printed
   abbrev pub IsErrorOf : PrintError A → Error A → Type 0
-  IsErrorOf because.Memory error = error ≡ out_of_memory
+  IsErrorOf (because.Memory e) error = error ≡ out_of_memory
   IsErrorOf because.TooDeep error = error ≡ record { kind = InvalidArgument; err = cause.Fmt; loc = Unknown }
   IsErrorOf (because.Misfit misfit) error = IsErrorOfMisfit misfit error
 
@@ -70,6 +70,6 @@ module _ {T A : Type 0} (types : ir_text.Ghosts T A) (owns : ir_text.Ghosts A A)
   -- Why an operation was not printed: an operation in it does not fit its format, and this is the first one. Or all of them fit, and an
   -- indentation is too deep, or memory ran out.
   abbrev pub IsUnprinted : PrintError A → Type 0
-  IsUnprinted because.Memory = AllFit owns.written attributes same ctx p
+  IsUnprinted (because.Memory e) = AllFit owns.written attributes same ctx p
   IsUnprinted because.TooDeep = AllFit owns.written attributes same ctx p × heads.IsTooDeepUnder types owns attributes same ctx p plain
   IsUnprinted (because.Misfit misfit) = IsMisfitIn misfit

@@ -10,9 +10,9 @@ use crate::location::print::{fmt_metadata, fmt_place};
 use irtext_base::location::Location;
 use irtext_base::text::{AttrText, IrText};
 use irtext_context::base::Context;
+use irtext_memory::{OutOfMemory, string, vec};
 use irtext_tokens::printable::fmt_quoted;
 use std::alloc::AllocError;
-use std::fmt;
 
 /// What is still to be printed of a location's text.
 pub(super) enum Part<'l, A> {
@@ -40,12 +40,12 @@ impl<A> Clone for Part<'_, A> {
 }
 
 /// Appends `, `, except before the first item.
-fn fmt_comma(first: bool, f: &mut String) -> fmt::Result
+fn fmt_comma(first: bool, f: &mut String) -> Result<(), OutOfMemory>
     ensures text { OnOk result (string_bytes f.new ≡ string_bytes f.old ++ cond first [] comma) }
     ensures appended { OnErr result (OnlyAppends f.old f.new) }
 {
     if !first {
-        f.push_str(", ")?;
+        string::push_str(f, ", ")?;
     }
     Ok(())
 }
@@ -55,13 +55,13 @@ fn inside<'l, A>(
     location: &'l Location<A>,
     following: Part<'l, A>,
     waiting: &mut Vec<Part<'l, A>>,
-) -> Result<Option<Part<'l, A>>, fmt::Error>
+) -> Result<Option<Part<'l, A>>, OutOfMemory>
     ensures next { IfOk result (λ next. next ≡ Some (Whole location.entry)) }
     ensures waiting { OnOk result (waiting.new.items ≡ waiting.old.items ++ following.entry ∷ []) }
 {
-    match waiting.push(following) {
+    match vec::push(waiting, following) {
         Ok(()) => Ok(Some(Part::Whole(location))),
-        Err(refused) => Err(AllocError::from(refused).into()),
+        Err(refused) => Err(refused.into()),
     }
 }
 
@@ -71,7 +71,7 @@ fn fmt_whole<'l, T: IrText<A>, A: AttrText<A>>(
     ctx: &Context<T, A>,
     waiting: &mut Vec<Part<'l, A>>,
     f: &mut String,
-) -> Result<Option<Part<'l, A>>, fmt::Error>
+) -> Result<Option<Part<'l, A>>, OutOfMemory>
     ensures text { IfOk result (WritesPart A.written ctx.now.paths (Whole location.entry) waiting.old f.old
         waiting.new f.new) }
     ensures appended { OnlyAppends f.old f.new }
@@ -85,26 +85,26 @@ fn fmt_whole<'l, T: IrText<A>, A: AttrText<A>>(
             metadata,
             locations,
         } => {
-            f.push_str("fused")?;
+            string::push_str(f, "fused")?;
             fmt_metadata(metadata, f)?;
-            f.push_str("[")?;
+            string::push_str(f, "[")?;
             Ok(Some(Part::Row {
                 left: locations,
                 first: true,
             }))
         }
         Location::Named { name, child_loc } => {
-            f.push_str("name: ")?;
+            string::push_str(f, "name: ")?;
             fmt_quoted(name.as_str(), f)?;
-            f.push_str(", loc: (")?;
+            string::push_str(f, ", loc: (")?;
             inside(child_loc, Part::Closing, waiting)
         }
         Location::CallSite { callee, caller } => {
-            f.push_str("callsite(")?;
+            string::push_str(f, "callsite(")?;
             inside(callee, Part::Caller(caller), waiting)
         }
         Location::Unknown => {
-            f.push_str("?")?;
+            string::push_str(f, "?")?;
             Ok(waiting.pop())
         }
     }
@@ -117,7 +117,7 @@ pub(super) fn fmt_part<'l, T: IrText<A>, A: AttrText<A>>(
     ctx: &Context<T, A>,
     waiting: &mut Vec<Part<'l, A>>,
     f: &mut String,
-) -> Result<Option<Part<'l, A>>, fmt::Error>
+) -> Result<Option<Part<'l, A>>, OutOfMemory>
     ensures text { IfOk result (WritesPart A.written ctx.now.paths part.entry waiting.old f.old
         waiting.new f.new) }
     ensures appended { OnlyAppends f.old f.new }
@@ -126,7 +126,7 @@ pub(super) fn fmt_part<'l, T: IrText<A>, A: AttrText<A>>(
         Part::Whole(location) => fmt_whole(location, ctx, waiting, f),
         Part::Row { left, first } => {
             let Some((location, others)) = left.split_first() else {
-                f.push_str("]")?;
+                string::push_str(f, "]")?;
                 return Ok(waiting.pop());
             };
             fmt_comma(first, f)?;
@@ -137,11 +137,11 @@ pub(super) fn fmt_part<'l, T: IrText<A>, A: AttrText<A>>(
             inside(location, following, waiting)
         }
         Part::Caller(caller) => {
-            f.push_str(" at ")?;
+            string::push_str(f, " at ")?;
             inside(caller, Part::Closing, waiting)
         }
         Part::Closing => {
-            f.push_str(")")?;
+            string::push_str(f, ")")?;
             Ok(waiting.pop())
         }
     }

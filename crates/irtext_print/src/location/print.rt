@@ -18,8 +18,8 @@ use irtext_base::location::{Location, Source};
 use irtext_base::parsable::SourcePosition;
 use irtext_base::text::{AttrText, IrText};
 use irtext_context::base::Context;
+use irtext_memory::{OutOfMemory, string};
 use irtext_tokens::printable::fmt_quoted;
-use std::fmt;
 
 /// Returns the path of a file, if the context keeps it.
 fn path_of<'c, T: IrText<A>, A: AttrText<A>>(src: Source, ctx: &'c Context<T, A>) -> Option<&'c str>
@@ -39,14 +39,14 @@ pub fn fmt_source<T: IrText<A>, A: AttrText<A>>(
     src: Source,
     ctx: &Context<T, A>,
     f: &mut String,
-) -> fmt::Result
+) -> Result<(), OutOfMemory>
     ensures text { OnOk result (AppendsText f.old (source_text (path_of ctx.now.paths src)) f.new) }
     ensures appended { OnErr result (OnlyAppends f.old f.new) }
 {
     match path_of(src, ctx) {
         Some(path) => fmt_quoted(path, f),
         None => {
-            f.push_str("<in-memory>")?;
+            string::push_str(f, "<in-memory>")?;
             Ok(())
         }
     }
@@ -64,7 +64,7 @@ fn fmt_front<T: IrText<A>, A: AttrText<A>>(
     src: Source,
     ctx: &Context<T, A>,
     f: &mut String,
-) -> fmt::Result
+) -> Result<(), OutOfMemory>
     ensures text { OnOk result (AppendsText f.old
         (source_text (path_of ctx.now.paths src) ++ codes ": line: ") f.new) }
     ensures appended { OnErr result (OnlyAppends f.old f.new) }
@@ -72,23 +72,23 @@ fn fmt_front<T: IrText<A>, A: AttrText<A>>(
     match path_of(src, ctx) {
         Some(path) => {
             fmt_quoted(path, f)?;
-            f.push_str(": line: ")?;
+            string::push_str(f, ": line: ")?;
         }
-        None => f.push_str("<in-memory>: line: ")?,
+        None => string::push_str(f, "<in-memory>: line: ")?,
     }
     Ok(())
 }
 
 /// Appends the numbers of line and column, in characters from 1: `1, column: 21`. Fails only if out of memory.
 #[inline(always)]
-pub fn fmt_numbers(pos: &SourcePosition, f: &mut String) -> fmt::Result
+pub fn fmt_numbers(pos: &SourcePosition, f: &mut String) -> Result<(), OutOfMemory>
     ensures text { OnOk result (AppendsText f.old (numbers_text pos.now) f.new) }
     ensures appended { OnErr result (OnlyAppends f.old f.new) }
 {
     number_fits(&pos.line);
     number_fits(&pos.column);
     fmt_signed(pos.line, f)?;
-    f.push_str(", column: ")?;
+    string::push_str(f, ", column: ")?;
     fmt_signed(pos.column, f)
 }
 
@@ -96,14 +96,14 @@ pub fn fmt_numbers(pos: &SourcePosition, f: &mut String) -> fmt::Result
 pub(super) fn fmt_metadata<A: AttrText<A>>(
     metadata: &Option<AttrObj<A>>,
     f: &mut String,
-) -> fmt::Result
+) -> Result<(), OutOfMemory>
     ensures text { OnOk result (AppendsText f.old (metadata_text A.written (attr_view_in metadata.now)) f.new) }
     ensures appended { OnErr result (OnlyAppends f.old f.new) }
 {
     if let Some(attr) = metadata {
-        f.push_str("<")?;
+        string::push_str(f, "<")?;
         fmt_attr(attr, f)?;
-        f.push_str(">")?;
+        string::push_str(f, ">")?;
     }
     Ok(())
 }
@@ -115,7 +115,7 @@ pub(crate) fn fmt_place<T: IrText<A>, A: AttrText<A>>(
     pos: &SourcePosition,
     ctx: &Context<T, A>,
     f: &mut String,
-) -> fmt::Result
+) -> Result<(), OutOfMemory>
     ensures text { OnOk result (AppendsText f.old
         (source_text (path_of ctx.now.paths src) ++ (codes ": " ++ position_text pos.now)) f.new) }
     ensures appended { OnErr result (OnlyAppends f.old f.new) }
@@ -130,7 +130,7 @@ pub fn fmt_location<T: IrText<A>, A: AttrText<A>>(
     location: &Location<A>,
     ctx: &Context<T, A>,
     f: &mut String,
-) -> fmt::Result
+) -> Result<(), OutOfMemory>
     ensures text { OnOk result (AppendsText f.old (location_text A.written ctx.now.paths location.now) f.new) }
     ensures appended { OnErr result (OnlyAppends f.old f.new) }
 {
@@ -152,7 +152,7 @@ pub fn fmt_known<T: IrText<A>, A: AttrText<A>>(
     after: &str,
     ctx: &Context<T, A>,
     f: &mut String,
-) -> fmt::Result
+) -> Result<(), OutOfMemory>
     ensures text { OnOk result (string_bytes f.new ≡ string_bytes f.old ++ framed before.now after.now
         (known_text A.written ctx.now.paths location.now)) }
     ensures appended { OnErr result (OnlyAppends f.old f.new) }
@@ -160,8 +160,8 @@ pub fn fmt_known<T: IrText<A>, A: AttrText<A>>(
     if let Location::Unknown = location {
         return Ok(());
     }
-    f.push_str(before)?;
+    string::push_str(f, before)?;
     fmt_location(location, ctx, f)?;
-    f.push_str(after)?;
+    string::push_str(f, after)?;
     Ok(())
 }

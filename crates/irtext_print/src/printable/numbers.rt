@@ -6,8 +6,8 @@ ghost use Rattle.irtext_base.specs.Appending.{OnlyAppends};
 ghost use Rattle.irtext_print.specs.Printers.Appended.{AppendsText};
 
 use arrayvec::ArrayString;
+use irtext_memory::{OutOfMemory, string};
 use itoa::{Buffer, Integer};
-use std::fmt;
 
 /// The numbers below 100, two digits each.
 const PAIRS: &str = "\
@@ -38,16 +38,16 @@ fn digit(number: usize) -> &'static str
 
 /// Appends a number below 100.
 #[inline(always)]
-fn fmt_short(number: usize, f: &mut String) -> fmt::Result
+fn fmt_short(number: usize, f: &mut String) -> Result<(), OutOfMemory>
     requires { number < 100 }
     ensures text { OnOk result (string_bytes f.new ≡ string_bytes f.old ++ decimal number) }
     ensures appended { OnErr result (OnlyAppends f.old f.new) }
 {
     if number >= 10 {
-        f.push_str(pair(number))?;
+        string::push_str(f, pair(number))?;
         return Ok(());
     }
-    f.push_str(digit(number))?;
+    string::push_str(f, digit(number))?;
     Ok(())
 }
 
@@ -111,7 +111,7 @@ pub(crate) fn in_place(number: &i32) -> Option<usize>
 
 /// Appends three texts of at most eight bytes together.
 #[inline(always)]
-fn fmt_joined(front: &str, high: &str, low: &str, f: &mut String) -> fmt::Result
+fn fmt_joined(front: &str, high: &str, low: &str, f: &mut String) -> Result<(), OutOfMemory>
     requires { length front.now + (length high.now + length low.now) ≤ 8 }
     ensures text { OnOk result (string_bytes f.new ≡ string_bytes f.old ++ (front.now ++ (high.now ++ low.now))) }
     ensures appended { OnErr result (OnlyAppends f.old f.new) }
@@ -120,13 +120,13 @@ fn fmt_joined(front: &str, high: &str, low: &str, f: &mut String) -> fmt::Result
     joined.push_str(front);
     joined.push_str(high);
     joined.push_str(low);
-    f.push_str(joined.as_str())?;
+    string::push_str(f, joined.as_str())?;
     Ok(())
 }
 
 /// Appends a text of at most four bytes and a number below 10,000 together.
 #[inline(always)]
-fn fmt_led(front: &str, number: usize, f: &mut String) -> fmt::Result
+fn fmt_led(front: &str, number: usize, f: &mut String) -> Result<(), OutOfMemory>
     requires few { number < 10000 }
     requires short { length front.now ≤ 4 }
     ensures text { OnOk result (string_bytes f.new ≡ string_bytes f.old ++ (front.now ++ decimal number)) }
@@ -146,7 +146,7 @@ fn fmt_led(front: &str, number: usize, f: &mut String) -> fmt::Result
 
 /// Appends a number below 10,000. Its digits are appended at once.
 #[inline(always)]
-fn fmt_small(number: usize, f: &mut String) -> fmt::Result
+fn fmt_small(number: usize, f: &mut String) -> Result<(), OutOfMemory>
     requires { number < 10000 }
     ensures text { OnOk result (string_bytes f.new ≡ string_bytes f.old ++ decimal number) }
     ensures appended { OnErr result (OnlyAppends f.old f.new) }
@@ -159,18 +159,18 @@ fn fmt_small(number: usize, f: &mut String) -> fmt::Result
 
 /// Appends a number of any size, with its sign if it is negative.
 #[inline(never)]
-fn fmt_any<I: Integer>(number: I, f: &mut String) -> fmt::Result
+fn fmt_any<I: Integer>(number: I, f: &mut String) -> Result<(), OutOfMemory>
     ensures text { OnOk result (AppendsText f.old (I.text number) f.new) }
     ensures appended { OnErr result (OnlyAppends f.old f.new) }
 {
     let mut digits = Buffer::new();
-    f.push_str(digits.format(number))?;
+    string::push_str(f, digits.format(number))?;
     Ok(())
 }
 
 /// Appends a number from 10,000 on.
 #[inline(never)]
-fn fmt_large(number: u64, f: &mut String) -> fmt::Result
+fn fmt_large(number: u64, f: &mut String) -> Result<(), OutOfMemory>
     requires { 10000 ≤ number }
     ensures text { OnOk result (AppendsText f.old (decimal number) f.new) }
     ensures appended { OnErr result (OnlyAppends f.old f.new) }
@@ -192,7 +192,7 @@ fn has_room(f: &String, bytes: usize) -> bool {
 /// Appends a number below 10,000 where no room may be left.
 #[cold]
 #[inline(never)]
-fn fmt_slowly(number: usize, f: &mut String) -> fmt::Result
+fn fmt_slowly(number: usize, f: &mut String) -> Result<(), OutOfMemory>
     requires { number < 10000 }
     ensures text { OnOk result (string_bytes f.new ≡ string_bytes f.old ++ decimal number) }
     ensures appended { OnErr result (OnlyAppends f.old f.new) }
@@ -202,7 +202,7 @@ fn fmt_slowly(number: usize, f: &mut String) -> fmt::Result
 
 /// Appends a number. Numbers below 10,000 are appended by slices of a fixed text.
 #[inline(never)]
-pub fn fmt_number(number: u64, f: &mut String) -> fmt::Result
+pub fn fmt_number(number: u64, f: &mut String) -> Result<(), OutOfMemory>
     ensures text { OnOk result (AppendsText f.old (decimal number) f.new) }
     ensures appended { OnErr result (OnlyAppends f.old f.new) }
 {
@@ -217,7 +217,7 @@ pub fn fmt_number(number: u64, f: &mut String) -> fmt::Result
 
 /// Appends a text of at most four ASCII bytes and a number, together if the number is below 10,000.
 #[inline(always)]
-pub fn fmt_led_number(front: &str, number: u64, f: &mut String) -> fmt::Result
+pub fn fmt_led_number(front: &str, number: u64, f: &mut String) -> Result<(), OutOfMemory>
     requires short { length front.now ≤ 4 }
     requires ascii { IsAscii front.now }
     ensures text { OnOk result (AppendsText f.old (front.now ++ decimal number) f.new) }
@@ -226,13 +226,13 @@ pub fn fmt_led_number(front: &str, number: u64, f: &mut String) -> fmt::Result
     if number < 10_000 && has_room(f, 8) {
         return fmt_led(front, number as usize, f);
     }
-    f.push_str(front)?;
+    string::push_str(f, front)?;
     fmt_number(number, f)
 }
 
 /// Appends a number that may be negative, with its sign.
 #[inline(always)]
-pub fn fmt_signed(number: i32, f: &mut String) -> fmt::Result
+pub fn fmt_signed(number: i32, f: &mut String) -> Result<(), OutOfMemory>
     ensures text { OnOk result (AppendsText f.old (signed_decimal number) f.new) }
     ensures appended { OnErr result (OnlyAppends f.old f.new) }
 {

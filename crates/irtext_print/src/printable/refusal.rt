@@ -1,16 +1,16 @@
 //! Why a printing fails.
 
-ghost use Rattle.std.specs.Prelude.{◌≡◌, OnOk, OnErr, IfErr, IsOk, IsErr};
-ghost use Rattle.irtext_print.specs.declared.printable.refusal.Refusal.TheVariants as refusal;
+ghost use Rattle.std.specs.Prelude.{OnOk, OnErr, IfErr, IsOk, IsErr};
+ghost use Rattle.irtext_print.specs.Refusals.{IsMemory};
 
-use std::alloc::AllocError;
+use irtext_memory::OutOfMemory;
 use std::fmt;
 
 /// Why a printing fails.
-#[derive(Clone, Copy, PartialEq, Eq, Debug)]
+#[derive(PartialEq, Eq, Debug, Drop)]
 pub enum Refusal {
-    /// Out of memory.
-    Memory,
+    /// Out of memory: an allocation was refused.
+    Memory(OutOfMemory),
     /// An indentation is too deep: its spaces do not fit 16 bits.
     Depth,
     /// An operation does not fit its format.
@@ -18,24 +18,22 @@ pub enum Refusal {
 }
 
 /// Turns the result of a call that fails only if out of memory into one with the error `Memory`.
-pub fn memory_alone(answer: fmt::Result) -> Result<(), Refusal>
+pub fn memory_alone(answer: Result<(), OutOfMemory>) -> Result<(), Refusal>
     ensures ok { OnOk result (IsOk answer) }
     ensures err { OnErr result (IsErr answer) }
-    ensures refused { IfErr result (λ e. e ≡ refusal.Memory) }
+    ensures refused { IfErr result (λ e. IsMemory e) }
 {
     match answer {
         Ok(()) => Ok(()),
-        Err(_) => Err(Refusal::Memory),
+        Err(e) => Err(Refusal::Memory(e)),
     }
 }
 
-impl From<AllocError> for Refusal {
-    ghost use Rattle.irtext_print.specs.declared.printable.refusal.Refusal.TheVariants.{Memory};
+impl From<OutOfMemory> for Refusal {
+    ghost from_gives = { λ _ refusal. IsMemory refusal };
 
-    ghost from_gives = { λ _ refusal. refusal ≡ Memory };
-
-    fn from(_: AllocError) -> Refusal {
-        Refusal::Memory
+    fn from(error: OutOfMemory) -> Refusal {
+        Refusal::Memory(error)
     }
 }
 

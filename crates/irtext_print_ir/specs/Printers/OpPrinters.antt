@@ -1,5 +1,5 @@
 -- For callers: the texts of an operation's parts: its header, the header with a type, and its only region.
-use Rattle.std.specs.Prelude.{◌≡◌, ◌≢◌, ◌⊎◌, ℕ, Bool, List, [], ◌∷◌, ◌++◌, Option, Some, None, IsSomeAnd, codes, string_bytes, ⊤}
+use Rattle.std.specs.Prelude.{◌≡◌, ◌⊎◌, ℕ, Bool, List, [], ◌∷◌, ◌++◌, Option, Some, None, IsSomeAnd, codes, string_bytes, ⊤}
 use Rattle.std.specs.Option.{option_map, option_and_then}
 use Rattle.std.specs.Str.{encode_utf8_all}
 use Rattle.std.specs.declared.string.String.{String}
@@ -16,6 +16,7 @@ use Rattle.irtext_graph.specs.declared.object.Region.{Region}
 use Rattle.irtext_print.specs.Printers.PieceText.{symbol_name}
 use Rattle.irtext_print.specs.Printers.Shown.{Shown}
 use Rattle.irtext_grammar.specs.Contexts.Held.{entries_of}
+use Rattle.irtext_print.specs.Refusals.{IsOther}
 use Rattle.irtext_print.specs.declared.printable.refusal.Refusal.{Refusal}
 use Rattle.irtext_print.specs.declared.printable.refusal.Refusal.TheVariants.{Memory, Depth, Misfit}
 use Rattle.irtext_print_ir.specs.Printers.Printed.{PrintsRegion, region_gives}
@@ -37,7 +38,7 @@ module _ {T A : Type 0} where
   -- the reason of an error when a part is printed: out of memory is possible at any time; `Misfit` only if the operation has no such
   -- part
   abbrev pub RefusesPart : (OperationView T A → Option Text) → ContextView T A → Ptr Operation → Refusal → Type 0
-  RefusesPart part ctx p Memory = ⊤
+  RefusesPart part ctx p (Memory e) = ⊤
   RefusesPart part ctx p Depth = ⊥
   RefusesPart part ctx p Misfit = option_and_then part (operation ctx p) ≡ None
 
@@ -81,4 +82,4 @@ module _ {T A : Type 0} (types : ir_text.Ghosts T A) (owns : ir_text.Ghosts A A)
   -- the reason of an error when it is printed: out of memory is possible at any time; otherwise there is no such region, or printing
   -- the region fails with this reason
   abbrev pub RefusesOne : {U : Type 0} → Shown U → Refusal → Type 0
-  RefusesOne s e = e ≢ Memory → ((e ≡ Misfit) × (sole_region ctx p ≡ None)) ⊎ ((r : Ptr Region) × (sole_region ctx p ≡ Some r) × heads.RegionFaultUnder types owns attributes same ctx r s e)
+  RefusesOne s e = IsOther e → ((e ≡ Misfit) × (sole_region ctx p ≡ None)) ⊎ ((r : Ptr Region) × (sole_region ctx p ≡ Some r) × heads.RegionFaultUnder types owns attributes same ctx r s e)

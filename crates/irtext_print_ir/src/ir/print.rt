@@ -8,7 +8,7 @@ ghost use Rattle.irtext_graph.specs.Graph.{IsLive};
 ghost use Rattle.irtext_graph.specs.declared.object.Object.TheVariants.{TheRegion};
 ghost use Rattle.irtext_print.specs.Printers.Appended.{AppendsText};
 ghost use Rattle.irtext_print.specs.Printers.Printing.{gathered_of, with_gathered};
-ghost use Rattle.irtext_print.specs.declared.printable.refusal.Refusal.TheVariants as refusal;
+ghost use Rattle.irtext_print.specs.Refusals.{IsMemory};
 ghost use Rattle.irtext_print_ir.specs.Printers.Printed as printed;
 ghost use Rattle.irtext_print_ops.specs.Heads as heads;
 
@@ -145,7 +145,7 @@ fn fmt_end<T: IrText<A>, A: AttrText<A>, U>(
         (printed.end_text T.IrText.own A.IrText.own A.AttrText.own A.eq ctx.now op (gathered_of state.old))
         f.new) }
     ensures state { OnOk result (state.new ≡ with_gathered state.old []) }
-    ensures refused { IfErr result (λ e. e ≡ refusal.Memory) }
+    ensures refused { IfErr result (λ e. IsMemory e) }
     ensures rest { state.new ≡ with_gathered state.old (gathered_of state.new) }
     ensures appended { OnErr result (OnlyAppends f.old f.new) }
 {

@@ -20,6 +20,7 @@ impl<T: IrText<A>, A: AttrText<A>, U> Printable<U, T, A> for AttrObj<A> {
     ghost refuses = { λ _ _. HasAppended };
 
     fn fmt(&self, _ctx: &Context<T, A>, _state: &mut State<U>, f: &mut String) -> fmt::Result {
-        fmt_attr(self, f)
+        fmt_attr(self, f)?;
+        Ok(())
     }
 }

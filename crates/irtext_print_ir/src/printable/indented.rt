@@ -43,6 +43,7 @@ impl<T: IrText<A>, A: AttrText<A>, U> Printable<U, T, A> for IndentedNl {
     ghost refuses = { λ _ _. HasAppended };
 
     fn fmt(&self, _ctx: &Context<T, A>, _state: &mut State<U>, f: &mut String) -> fmt::Result {
-        fmt_newline(self.indent, f)
+        fmt_newline(self.indent, f)?;
+        Ok(())
     }
 }

@@ -47,7 +47,8 @@ impl<T: IrText<A>, A: AttrText<A>, U> Printable<U, T, A> for String {
     ghost refuses = { λ _ _. HasAppended };
 
     fn fmt(&self, _ctx: &Context<T, A>, _state: &mut State<U>, f: &mut String) -> fmt::Result {
-        fmt_quoted(self.as_str(), f)
+        fmt_quoted(self.as_str(), f)?;
+        Ok(())
     }
 }
 
@@ -87,10 +88,14 @@ impl<T: IrText<A>, A: AttrText<A>, U> Printable<U, T, A> for ListSeparator {
     fn fmt(&self, _ctx: &Context<T, A>, state: &mut State<U>, f: &mut String) -> fmt::Result {
         match self {
             ListSeparator::None => Ok(()),
-            ListSeparator::Newline => fmt_indented_newline(state, f),
+            ListSeparator::Newline => {
+                fmt_indented_newline(state, f)?;
+                Ok(())
+            }
             ListSeparator::CharNewline(c) => {
                 f.push(*c)?;
-                fmt_indented_newline(state, f)
+                fmt_indented_newline(state, f)?;
+                Ok(())
             }
             ListSeparator::Char(c) => {
                 f.push(*c)?;

@@ -11,6 +11,7 @@ use irtext_base::location::Location;
 use irtext_base::result::{Cause, Error, ErrorKind, StringError};
 use irtext_base::text::{AttrText, IrText};
 use irtext_context::base::{Context, Operation, OperationAccess, Ptr};
+use irtext_memory::{OutOfMemory, string};
 use irtext_print::printable::{Refusal, State};
 use irtext_print_ir::ir::print::print_root;
 use irtext_print_ops::fits::FitFault;
@@ -36,8 +37,8 @@ pub struct Misfit<'c, A> {
 /// Why an operation was not printed.
 #[derive(Drop)]
 pub enum PrintError<'c, A> {
-    /// Out of memory. All operations fit their formats.
-    Memory,
+    /// Out of memory: an allocation was refused. All operations fit their formats.
+    Memory(OutOfMemory),
     /// An indentation does not fit 16 bits: regions are nested too deep. All operations fit their formats.
     TooDeep,
     /// The operation, or one that is nested in it, does not fit its format. This is the first one in the order of the text.
@@ -85,7 +86,7 @@ impl<A: AttrText<A>> From<PrintError<'_, A>> for Error<A> {
 
     fn from(error: PrintError<'_, A>) -> Error<A> {
         match error {
-            PrintError::Memory => Error::from(AllocError),
+            PrintError::Memory(_) => Error::from(AllocError),
             PrintError::TooDeep => Error::from(fmt::Error),
             PrintError::Misfit(misfit) => misfit.to_error(),
         }
@@ -112,7 +113,7 @@ fn unprinted<'c, T: IrText<A>, A: AttrText<A>>(
             alloc: ctx.allocator(),
         }),
         None => match refusal {
-            Refusal::Memory => PrintError::Memory,
+            Refusal::Memory(error) => PrintError::Memory(error),
             Refusal::Depth => PrintError::TooDeep,
             Refusal::Misfit => unreachable!(),
         },
@@ -189,9 +190,9 @@ impl ToText for Ptr<Operation> {
             Ok(text) => text,
             Err(error) => return Err(error),
         };
-        match out.push_str(text.as_str()) {
+        match string::push_str(out, text.as_str()) {
             Ok(()) => Ok(()),
-            Err(_) => Err(unprinted(ctx, self, Refusal::Memory)),
+            Err(error) => Err(unprinted(ctx, self, Refusal::Memory(error))),
         }
     }
 }

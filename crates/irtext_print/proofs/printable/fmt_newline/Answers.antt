@@ -16,7 +16,7 @@ loop-block-init c =
 
 pub loop-block-preserved : goal.loop-block-preserved
 loop-block-preserved c =
-    newline-more (c.args.indent % 256) c.loop-block._block (string_bytes c.args.f.now) (string_bytes c.loop-block.f) (string_bytes c.push_str-in-loop-block.new.self) c.loop-block.invariant c.in_ok-push_str-2.ensures.bytes
+    newline-more (c.args.indent % 256) c.loop-block._block (string_bytes c.args.f.now) (string_bytes c.loop-block.f) (string_bytes c.push_str-in-loop-block.new.text) c.loop-block.invariant c.in_ok-push_str-2.ensures.bytes
 
 pub returns-clause-text : goal.returns-clause-text
 returns-clause-text c =

@@ -17,8 +17,8 @@ use irtext_base::format::Directive;
 use irtext_base::text::AttrText;
 use irtext_context::base;
 use irtext_context::base::AttributeDict;
+use irtext_memory::{OutOfMemory, string};
 use std::alloc::AllocError;
-use std::fmt;
 
 /// Whether there is no space before a word that begins with this character.
 fn joins_left(c: char) -> bool
@@ -38,14 +38,14 @@ fn word_joins_left(word: &str) -> bool
 }
 
 /// Appends a fixed word, after a space unless it joins what is before it.
-pub fn fmt_word(word: &str, f: &mut String) -> fmt::Result
+pub fn fmt_word(word: &str, f: &mut String) -> Result<(), OutOfMemory>
     ensures text { OnOk result (AppendsText f.old (pieces.word_text (chars word.now)) f.new) }
     ensures appended { OnErr result (OnlyAppends f.old f.new) }
 {
     if !word_joins_left(word) {
-        f.push_str(" ")?;
+        string::push_str(f, " ")?;
     }
-    f.push_str(word)?;
+    string::push_str(f, word)?;
     Ok(())
 }
 
@@ -58,13 +58,13 @@ pub fn is_outlined<A: AttrText<A>>(attr: &AttrObj<A>) -> bool
 }
 
 /// Appends the text of an attribute, or `!outlined` if it is outlined.
-fn fmt_inline<A: AttrText<A>>(attr: &AttrObj<A>, f: &mut String) -> fmt::Result
+fn fmt_inline<A: AttrText<A>>(attr: &AttrObj<A>, f: &mut String) -> Result<(), OutOfMemory>
     ensures text { OnOk result (AppendsText f.old (pieces.inline_text A.IrText.written A.outlined
         (attribute_of attr.now)) f.new) }
     ensures appended { OnErr result (OnlyAppends f.old f.new) }
 {
     if is_outlined(attr) {
-        f.push_str("!outlined")?;
+        string::push_str(f, "!outlined")?;
         return Ok(());
     }
     fmt_attr(attr, f)
@@ -75,7 +75,7 @@ pub fn fmt_keyed<A: AttrText<A>>(
     attributes: &AttributeDict<A>,
     key: &Identifier,
     f: &mut String,
-) -> fmt::Result
+) -> Result<(), OutOfMemory>
     ensures text { OnOk result (AppendsText f.old (pieces.keyed_text A.IrText.written A.outlined key.now
         (entries_of attributes.now)) f.new) }
     ensures appended { OnErr result (OnlyAppends f.old f.new) }
@@ -83,7 +83,7 @@ pub fn fmt_keyed<A: AttrText<A>>(
     let Some(attr) = attribute_under(attributes, key.as_str()) else {
         return Ok(());
     };
-    f.push_str(" ")?;
+    string::push_str(f, " ")?;
     fmt_inline(attr, f)
 }
 
@@ -124,15 +124,18 @@ pub fn symbol_of<A: AttrText<A>>(attributes: &AttributeDict<A>) -> Option<&Ident
 }
 
 /// Appends the symbol's name after a space and `@`, if there is one.
-pub fn fmt_symbol<A: AttrText<A>>(attributes: &AttributeDict<A>, f: &mut String) -> fmt::Result
+pub fn fmt_symbol<A: AttrText<A>>(
+    attributes: &AttributeDict<A>,
+    f: &mut String,
+) -> Result<(), OutOfMemory>
     ensures text { OnOk result (AppendsText f.old (pieces.header_text (entries_of attributes.now)) f.new) }
     ensures appended { OnErr result (OnlyAppends f.old f.new) }
 {
     let Some(symbol) = symbol_of(attributes) else {
         return Ok(());
     };
-    f.push_str(" @")?;
-    f.push_str(symbol.as_str())?;
+    string::push_str(f, " @")?;
+    string::push_str(f, symbol.as_str())?;
     Ok(())
 }
 
@@ -160,7 +163,7 @@ fn fmt_entry<A: AttrText<A>>(
     key: &Identifier,
     attr: &AttrObj<A>,
     f: &mut String,
-) -> fmt::Result
+) -> Result<(), OutOfMemory>
     ensures text { OnOk result (AppendsText f.old (pieces.next_text A.IrText.written first (
       key.now,
       attribute_of
@@ -169,10 +172,10 @@ fn fmt_entry<A: AttrText<A>>(
     ensures appended { OnErr result (OnlyAppends f.old f.new) }
 {
     if !first {
-        f.push_str(", ")?;
+        string::push_str(f, ", ")?;
     }
-    f.push_str(key.as_str())?;
-    f.push_str(": ")?;
+    string::push_str(f, key.as_str())?;
+    string::push_str(f, ": ")?;
     fmt_attr(attr, f)
 }
 
@@ -208,7 +211,7 @@ impl<'a, A: AttrText<A>> DictPrinter<'a, A> {
 
     /// Appends the entries that the dictionary prints, with `, ` between them.
     #[inline(always)]
-    pub fn fmt_entries(self, f: &mut String) -> fmt::Result
+    pub fn fmt_entries(self, f: &mut String) -> Result<(), OutOfMemory>
         ensures text { OnOk result (AppendsText f.old (pieces.listed_text A.IrText.written A.outlined
             (directives_of self.entry.directives.now) (entries_of self.entry.attributes.now)) f.new) }
         ensures appended { OnErr result (OnlyAppends f.old f.new) }
@@ -224,14 +227,14 @@ impl<'a, A: AttrText<A>> DictPrinter<'a, A> {
     }
 
     /// Appends the dictionary of the attributes that no other directive prints, after a space: ` [k: builtin.identifier x]`.
-    pub fn fmt_dictionary(self, f: &mut String) -> fmt::Result
+    pub fn fmt_dictionary(self, f: &mut String) -> Result<(), OutOfMemory>
         ensures text { OnOk result (AppendsText f.old (pieces.dictionary_text A.IrText.written A.outlined
             (directives_of self.entry.directives.now) (entries_of self.entry.attributes.now)) f.new) }
         ensures appended { OnErr result (OnlyAppends f.old f.new) }
     {
-        f.push_str(" [")?;
+        string::push_str(f, " [")?;
         self.fmt_entries(f)?;
-        f.push_str("]")?;
+        string::push_str(f, "]")?;
         Ok(())
     }
 }

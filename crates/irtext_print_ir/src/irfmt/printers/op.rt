@@ -13,6 +13,7 @@ use crate::printable::{Printable, Refusal, State};
 use irtext_base::text::{AttrText, IrText};
 use irtext_context::base::{Context, Operation, OperationAccess, Ptr};
 use irtext_graph::held::HasGraph;
+use irtext_memory::string;
 use irtext_print::ir::print::concrete::fmt_id;
 use irtext_print::ir::print::pieces::symbol_of;
 use irtext_print::printable::refusal::memory_alone;
@@ -83,8 +84,8 @@ pub fn print_symb_op_header<T: IrText<A>, A: AttrText<A>>(
         return Err(Refusal::Misfit);
     };
     fmt_id(id, f)?;
-    f.push_str(" @")?;
-    f.push_str(symbol.as_str())?;
+    string::push_str(f, " @")?;
+    string::push_str(f, symbol.as_str())?;
     Ok(())
 }
 
@@ -102,7 +103,7 @@ pub fn print_typed_symb_op_header<T: IrText<A>, A: AttrText<A>>(
     ensures appended { OnErr result (OnlyAppends f.old f.new) }
 {
     print_symb_op_header(ctx, op, f)?;
-    f.push_str(": ")?;
+    string::push_str(f, ": ")?;
     memory_alone(ty.write_text(f))
 }
 

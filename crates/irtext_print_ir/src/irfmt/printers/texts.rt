@@ -22,7 +22,8 @@ impl<T: IrText<A>, A: AttrText<A>, U> Printable<U, T, A> for Quoted<'_> {
     ghost refuses = { λ _ _. HasAppended };
 
     fn fmt(&self, _ctx: &Context<T, A>, _state: &mut State<U>, f: &mut String) -> fmt::Result {
-        fmt_quoted(self.text, f)
+        fmt_quoted(self.text, f)?;
+        Ok(())
     }
 }
 

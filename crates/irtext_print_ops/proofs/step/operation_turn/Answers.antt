@@ -80,7 +80,7 @@ pub returns-in_ok-push_str-in-Regions-clause-steps : goal.returns-in_ok-push_str
 returns-in_ok-push_str-in-Regions-clause-steps g c =
     let ctx = c.args.ctx.now in
     let stop = subst (StopsBefore (heads.printing_of g.T.IrText g.A.IrText g.A.AttrText g.A.PartialEq.eq ctx) (heads.operation_at g.T.IrText g.A.IrText g.A.AttrText g.A.PartialEq.eq ctx c.args.frame.now.op) c.args.frame.now.directive) c.in-Regions.is c.in_ok-fmt_pieces.ensures.stop in
-    regions_begin (heads.printing_of g.T.IrText g.A.IrText g.A.AttrText g.A.PartialEq.eq ctx) (heads.language_of g.T.IrText g.A.IrText g.A.AttrText g.A.PartialEq.eq ctx) ctx c.args.width c.args.frame.now c.args.items.now.items [] c.in-Regions.directive (string_bytes c.args.f.now) (string_bytes c.fmt_pieces.new.f) (string_bytes c.push_str.new.self) _
+    regions_begin (heads.printing_of g.T.IrText g.A.IrText g.A.AttrText g.A.PartialEq.eq ctx) (heads.language_of g.T.IrText g.A.IrText g.A.AttrText g.A.PartialEq.eq ctx) ctx c.args.width c.args.frame.now c.args.items.now.items [] c.in-Regions.directive (string_bytes c.args.f.now) (string_bytes c.fmt_pieces.new.f) (string_bytes c.push_str.new.text) _
     c.if-frame.false stop.0 stop.1.0 stop.1.1 c.requires.fits.0 c.in_ok-fmt_pieces.ensures.text c.in_ok-push_str-in-Regions.ensures.bytes refl
 
 pub returns-in_err-begun-clause-refused : goal.returns-in_err-begun-clause-refused

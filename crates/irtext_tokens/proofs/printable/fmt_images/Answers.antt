@@ -25,9 +25,9 @@ loop-at-preserved c =
           run-same bs (at + 1) (at + 1) c.if-is_escaped.begun (string_bytes w.fmt_escape.new.f) (string_bytes c.if-is_escaped.f) old w.begun-is (ap string_bytes w.f-is) (record {
             within = omega arith;
             boundary = IsCharBoundary-after_ascii bs at c.utf8.text inside (escaped-ascii (get_or bs at 0) escaped);
-            so_far = run-escaped bs begun at old (string_bytes c.loop-at.f) (string_bytes w.push_str.new.self) (string_bytes w.fmt_escape.new.f) inside kept.2
+            so_far = run-escaped bs begun at old (string_bytes c.loop-at.f) (string_bytes w.push_str.new.text) (string_bytes w.fmt_escape.new.f) inside kept.2
                 (w.in_ok-push_str.ensures.bytes ∙ ap (λ z. string_bytes c.loop-at.f ++ z) w.range.ensures.value)
-                (w.in_ok-fmt_escape.ensures.text ∙ ap (λ z. string_bytes w.push_str.new.self ++ image_of (get_or z at 0)) c.as_bytes-bytes.ensures.value);
+                (w.in_ok-fmt_escape.ensures.text ∙ ap (λ z. string_bytes w.push_str.new.text ++ image_of (get_or z at 0)) c.as_bytes-bytes.ensures.value);
           })
       | else-is_escaped w ↦
           let plain : is_escaped (get_or bs at 0) ≡ false = sym (c.is_escaped.ensures ∙ ap (λ z. is_escaped (get_or z at 0)) c.as_bytes-bytes.ensures.value) ∙ w.if-is_escaped.false in
@@ -39,7 +39,7 @@ loop-at-preserved c =
     ] in
     let more : OnlyAppends c.args.f.now c.if-is_escaped.f = elim c.if-is_escaped.branch [
       | then-is_escaped+in_ok-push_str+in_ok-fmt_escape w ↦
-          subst (λ f. OnlyAppends c.args.f.now f) (sym w.f-is) (appends_next (appends_next {new = w.push_str.new.self} kept.3 _ w.in_ok-push_str.ensures.bytes) _ w.in_ok-fmt_escape.ensures.text)
+          subst (λ f. OnlyAppends c.args.f.now f) (sym w.f-is) (appends_next (appends_next {new = w.push_str.new.text} kept.3 _ w.in_ok-push_str.ensures.bytes) _ w.in_ok-fmt_escape.ensures.text)
       | else-is_escaped w ↦ subst (λ f. OnlyAppends c.args.f.now f) (sym w.f-is) kept.3
     ] in
     (next.within, next.boundary, next.so_far, more)
@@ -53,5 +53,5 @@ returns-in_err-push_str-2-clause-appended c = if_failed _ (appends_still c.loop-
 pub returns-clause-text : goal.returns-clause-text
 returns-clause-text c =
     let end : c.loop-at.at ≡ length c.args.text.now = omega (arith, c.loop-at-test.false, c.loop-at.auto.at-end, c.as_bytes-bytes.ensures.len) in
-    run-last c.args.text.now c.loop-at.begun c.loop-at.at (string_bytes c.args.f.now) (string_bytes c.loop-at.f) (string_bytes c.push_str-2.new.self) end
+    run-last c.args.text.now c.loop-at.begun c.loop-at.at (string_bytes c.args.f.now) (string_bytes c.loop-at.f) (string_bytes c.push_str-2.new.text) end
     c.loop-at.invariant.2 (c.in_ok-push_str-2.ensures.bytes ∙ ap (λ z. string_bytes c.loop-at.f ++ z) c.range_from.ensures.value)

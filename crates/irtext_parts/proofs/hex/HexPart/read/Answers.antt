@@ -13,5 +13,5 @@ returns-in-Ok g c =
     let old = c.args.stream.now in
     let mid = c.hex_int_parse.new.stream in
     let found = c.new.result.number in
-    let made = ap (number_if n) (g.met.N.Integer.back c.in-Ok.value ∙ sym c.new.ensures) ∙ number_found n found in
-    record { answers = gives_seen (hex_of n) old.failed (hex_number_at n g.N.Integer.of old.rest) old mid found c.new.result refl (gives_narrowed (λ z. number_if n (g.N.Integer.of z)) old.failed (hex_int_at n.below old.rest) old mid (n.number c.in-Ok.value) found made c.in-Ok.ensures.answers) }
+    let made = ap (number_if n) (g.met.N.Integer-1.back c.in-Ok.value ∙ sym c.new.ensures) ∙ number_found n found in
+    record { answers = gives_seen (hex_of n) old.failed (hex_number_at n g.N.Integer-1.of old.rest) old mid found c.new.result refl (gives_narrowed (λ z. number_if n (g.N.Integer-1.of z)) old.failed (hex_int_at n.below old.rest) old mid (n.number c.in-Ok.value) found made c.in-Ok.ensures.answers) }

@@ -9,7 +9,7 @@ use Rattle.irtext_print.proofs.location.parts.fmt_part.Goals as goal
 pub returns-in_default-clause-text : goal.returns-in_default-clause-text
 returns-in_default-clause-text g c =
     let row = row_text g.A.IrText.written c.args.ctx.now.paths c.in-Row.first c.in-Row.left.now in
-    rw c.in-Row.is (ended g.A.IrText.written c.args.ctx.now.paths c.args.f.now c.push_str.new.self (codes "]") row (list_weight c.in-Row.left.now) c.args.waiting.now c.pop.new.self.items c.pop.result
+    rw c.in-Row.is (ended g.A.IrText.written c.args.ctx.now.paths c.args.f.now c.push_str.new.text (codes "]") row (list_weight c.in-Row.left.now) c.args.waiting.now c.pop.new.self.items c.pop.result
     (c.in_ok-push_str-in-Row.ensures.bytes ∙ ap (λ z. string_bytes c.args.f.now ++ z) (word (codes "]") refl)) (row_ends g.A.IrText.written c.args.ctx.now.paths c.in-Row.first c.in-Row.left.now c.in_default.ensures.cases)
     (row_weighs c.in-Row.left.now) c.pop.ensures.items c.pop.ensures.variant)
 
@@ -22,10 +22,10 @@ returns-in_ok-fmt_comma-in-Row-clause-text g c =
 
 pub returns-in_ok-push_str-in-Caller-clause-text : goal.returns-in_ok-push_str-in-Caller-clause-text
 returns-in_ok-push_str-in-Caller-clause-text g c =
-    rw c.in-Caller.is (entered g.A.IrText.written c.args.ctx.now.paths c.inside-in-Caller.result c.args.f.now c.push_str-in-Caller.new.self (codes " at ") (part_text g.A.IrText.written c.args.ctx.now.paths (Caller c.in-Caller.caller)) (part_weight (Caller c.in-Caller.caller))
+    rw c.in-Caller.is (entered g.A.IrText.written c.args.ctx.now.paths c.inside-in-Caller.result c.args.f.now c.push_str-in-Caller.new.text (codes " at ") (part_text g.A.IrText.written c.args.ctx.now.paths (Caller c.in-Caller.caller)) (part_weight (Caller c.in-Caller.caller))
     c.args.waiting.now.items c.inside-in-Caller.new.waiting.items (Whole c.in-Caller.caller) Closing (c.in_ok-push_str-in-Caller.ensures.bytes ∙ ap (λ z. string_bytes c.args.f.now ++ z) (word (codes " at ") refl)) refl (omega arith) c.inside-in-Caller.ensures.next c.inside-in-Caller.ensures.waiting)
 
 pub returns-in_ok-push_str-in-Closing-clause-text : goal.returns-in_ok-push_str-in-Closing-clause-text
 returns-in_ok-push_str-in-Closing-clause-text g c =
-    rw c.in-Closing.is (ended g.A.IrText.written c.args.ctx.now.paths c.args.f.now c.push_str-in-Closing.new.self (codes ")") (part_text g.A.IrText.written c.args.ctx.now.paths Closing) 1
+    rw c.in-Closing.is (ended g.A.IrText.written c.args.ctx.now.paths c.args.f.now c.push_str-in-Closing.new.text (codes ")") (part_text g.A.IrText.written c.args.ctx.now.paths Closing) 1
     c.args.waiting.now c.pop-in-Closing.new.self.items c.pop-in-Closing.result (c.in_ok-push_str-in-Closing.ensures.bytes ∙ ap (λ z. string_bytes c.args.f.now ++ z) (word (codes ")") refl)) refl (omega arith) c.pop-in-Closing.ensures.items c.pop-in-Closing.ensures.variant)

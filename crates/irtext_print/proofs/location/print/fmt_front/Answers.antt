@@ -8,7 +8,7 @@ use Rattle.irtext_print.proofs.location.print.fmt_front.Goals as goal
 pub returns-in_ok-push_str-in-Some-clause-text : goal.returns-in_ok-push_str-in-Some-clause-text
 returns-in_ok-push_str-in-Some-clause-text g c =
     let some : path_of c.args.ctx.now.paths c.args.src ≡ Some c.in-Some.path.now = sym c.path_of.ensures ∙ ap option_copied c.in-Some.is in
-    ending (string_bytes c.args.f.now) (string_bytes c.fmt_quoted.new.f) (string_bytes c.push_str.new.self) (source_text (path_of c.args.ctx.now.paths c.args.src)) (codes ": line: ") refl
+    ending (string_bytes c.args.f.now) (string_bytes c.fmt_quoted.new.f) (string_bytes c.push_str.new.text) (source_text (path_of c.args.ctx.now.paths c.args.src)) (codes ": line: ") refl
     (c.in_ok-fmt_quoted-in-Some.ensures.text ∙ ap (λ z. string_bytes c.args.f.now ++ encode_utf8_all (source_text z)) (sym some)) c.in_ok-push_str-in-Some.ensures.bytes
 
 pub returns-in_ok-push_str-in-None-clause-text : goal.returns-in_ok-push_str-in-None-clause-text

@@ -6,5 +6,5 @@ use Rattle.irtext_print.proofs.location.print.fmt_metadata.Goals as goal
 
 pub returns-in_ok-push_str-2-clause-text : goal.returns-in_ok-push_str-2-clause-text
 returns-in_ok-push_str-2-clause-text g c =
-    rw c.in-Some.is (enclosed (codes "<") (attr_text g.A.IrText.written (attr_view c.in-Some.attr)) (codes ">") (string_bytes c.args.f.now) (string_bytes c.push_str.new.self) (string_bytes c.fmt_attr.new.f)
-    (string_bytes c.push_str-in-Some.new.self) refl refl c.in_ok-push_str.ensures.bytes c.in_ok-fmt_attr.ensures.text c.in_ok-push_str-2.ensures.bytes)
+    rw c.in-Some.is (enclosed (codes "<") (attr_text g.A.IrText.written (attr_view c.in-Some.attr)) (codes ">") (string_bytes c.args.f.now) (string_bytes c.push_str.new.text) (string_bytes c.fmt_attr.new.f)
+    (string_bytes c.push_str-in-Some.new.text) refl refl c.in_ok-push_str.ensures.bytes c.in_ok-fmt_attr.ensures.text c.in_ok-push_str-2.ensures.bytes)

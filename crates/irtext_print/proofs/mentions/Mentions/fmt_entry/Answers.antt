@@ -21,7 +21,7 @@ returns-clause-writes g c =
       text = λ more.
           entry_put (words g.A.IrText.written) (mentions.asking g.A.AttrText.print_once g.A.PartialEq.eq) c.args.self.now.items (mentions.known_in c.fmt_pairs.new.self.known ++ more) c.args.index
           (known_text g.A.IrText.written c.args.ctx.now.paths c.args.given.now.location.now) (attributes_of g.A.AttrText.outlined c.args.given.now)
-          (string_bytes c.args.f.now) (string_bytes c.args.f.now ++ codes "!") marked (string_bytes c.fmt_front.new.f) (string_bytes c.fmt_pairs.new.f) (string_bytes c.push_str.new.self)
+          (string_bytes c.args.f.now) (string_bytes c.args.f.now ++ codes "!") marked (string_bytes c.fmt_front.new.f) (string_bytes c.fmt_pairs.new.f) (string_bytes c.push_str.new.text)
           refl (unworded (string_bytes c.args.f.now) marked (codes "!") (decimal c.args.index) refl refl) c.in_ok-fmt_front.ensures.text (c.in_ok-fmt_pairs.ensures.writes.text more) c.in_ok-push_str.ensures.bytes;
     }
 

@@ -16,7 +16,7 @@ returns-in_ok-push_str-in-Outlined-2-clause-writes g c =
     let W = words g.A.IrText.written in
     let items = c.args.self.now.items in
     let key = c.in-Outlined.key.now in
-    let named = identifier_appended key c.as_str.result.now (string_bytes c.args.f.now) (string_bytes c.push_str.new.self) c.as_str.ensures.fits c.as_str.ensures.text c.in_ok-push_str-in-Outlined.ensures.bytes in
+    let named = identifier_appended key c.as_str.result.now (string_bytes c.args.f.now) (string_bytes c.push_str.new.text) c.as_str.ensures.fits c.as_str.ensures.text c.in_ok-push_str-in-Outlined.ensures.bytes in
     then c.fmt_attribute.result
     (λ r. record {
       items = r.items;
@@ -24,7 +24,7 @@ returns-in_ok-push_str-in-Outlined-2-clause-writes g c =
       text = λ more.
           let once = mentions.known_in c.fmt_attribute.new.self.known ++ more in
           pair_appended W C items once (key, attribute_of c.in-Outlined.attr.now)
-          (string_bytes c.args.f.now) (string_bytes c.push_str.new.self) (string_bytes c.push_str-in-Outlined.new.self) (string_bytes c.fmt_attribute.new.f) named c.in_ok-push_str-in-Outlined-2.ensures.bytes (r.text more)
+          (string_bytes c.args.f.now) (string_bytes c.push_str.new.text) (string_bytes c.push_str-in-Outlined.new.text) (string_bytes c.fmt_attribute.new.f) named c.in_ok-push_str-in-Outlined-2.ensures.bytes (r.text more)
           ∙ ap (λ p. string_bytes c.args.f.now ++ encode_utf8_all (texts.pair_text C items once W (given_pair p))) (sym c.in-Outlined.is);
     })
     c.fmt_attribute.ensures.writes

@@ -9,5 +9,5 @@ returns-in-Ok-clause-known g c =
 
 pub returns-in-Ok-clause-place : goal.returns-in-Ok-clause-place
 returns-in-Ok-clause-place g c = λ more.
-    noted_place (mentions.asking g.A.AttrText.print_once g.A.PartialEq.eq) (λ a. (g.met.A.IrText.decides a a).1 refl) c.args.attr c.args.self.now.known.keys c.insert_full.new.self.keys c.in-Ok.place
+    noted_place (mentions.asking g.A.AttrText.print_once g.A.PartialEq.eq) (λ a. (g.met.A.IrText.decides a a).1 refl) c.args.attr c.args.self.now.known.keys c.insert_full.new.set.keys c.in-Ok.place
     c.in-Ok.ensures.keys c.in-Ok.ensures.index more

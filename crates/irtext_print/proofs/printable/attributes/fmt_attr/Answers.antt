@@ -12,7 +12,7 @@ returns-in_ok-push_str-in-GivenNames-2-clause-text g c =
     let old = string_bytes c.args.f.now in
     let names = joined comma (map or_question c.in-GivenNames.names.items) in
     let last = word_last _ _ (codes "]") (codes "]") (ascii-from (codes "]") refl) refl c.in_ok-push_str-in-GivenNames-2.ensures.bytes in
-    let written = c.in_ok-fmt_names-in-GivenNames.ensures.text ∙ ap (λ z. string_bytes c.push_str.new.self ++ encode_utf8_all (joined comma (map or_question z))) c.deref.ensures.value in
+    let written = c.in_ok-fmt_names-in-GivenNames.ensures.text ∙ ap (λ z. string_bytes c.push_str.new.text ++ encode_utf8_all (joined comma (map or_question z))) c.deref.ensures.value in
     let inside = bytes_more _ _ _ names (codes "]") written last in
     word_more old _ _ (codes "builtin.given_names [") (names ++ codes "]") (ascii-from (codes "builtin.given_names [") refl) c.in_ok-push_str-in-GivenNames.ensures.bytes inside
     ∙ ap (λ a. old ++ encode_utf8_all (attr_text g.A.IrText.written (attr_view a))) (sym c.in-GivenNames.is)

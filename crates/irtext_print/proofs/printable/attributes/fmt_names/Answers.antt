@@ -12,6 +12,6 @@ loop-name-init c = (
 
 pub loop-name-preserved : goal.loop-name-preserved
 loop-name-preserved c = (
-  names_next _ _ c.name-item.result (string_bytes c.loop-name.f) (string_bytes c.push_str.new.self) (string_bytes c.fmt_name-in-loop-name.new.f) _ (drop_more c.in-Some.rest.now c.loop-name.name-index c.name-item.result c.loop-name-test.true ∙ ap (λ z. z ∷ drop (c.loop-name.name-index + 1) c.in-Some.rest.now) (sym c.name-item.is)) c.in_ok-push_str.ensures.bytes c.in_ok-fmt_name-2.ensures.text c.loop-name.invariant.0,
-  appends_next (appends_next {new = c.push_str.new.self} c.loop-name.invariant.1 _ c.in_ok-push_str.ensures.bytes) _ c.in_ok-fmt_name-2.ensures.text,
+  names_next _ _ c.name-item.result (string_bytes c.loop-name.f) (string_bytes c.push_str.new.text) (string_bytes c.fmt_name-in-loop-name.new.f) _ (drop_more c.in-Some.rest.now c.loop-name.name-index c.name-item.result c.loop-name-test.true ∙ ap (λ z. z ∷ drop (c.loop-name.name-index + 1) c.in-Some.rest.now) (sym c.name-item.is)) c.in_ok-push_str.ensures.bytes c.in_ok-fmt_name-2.ensures.text c.loop-name.invariant.0,
+  appends_next (appends_next {new = c.push_str.new.text} c.loop-name.invariant.1 _ c.in_ok-push_str.ensures.bytes) _ c.in_ok-fmt_name-2.ensures.text,
 )

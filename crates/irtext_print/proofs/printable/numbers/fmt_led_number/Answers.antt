@@ -15,5 +15,5 @@ returns-then-has_room-clause-text c =
 
 pub returns-clause-text : goal.returns-clause-text
 returns-clause-text c =
-    then c.fmt_number.result (λ w. more (string_bytes c.args.f.now) (string_bytes c.push_str.new.self) (string_bytes c.fmt_number.new.f) c.args.front.now (decimal c.args.number)
+    then c.fmt_number.result (λ w. more (string_bytes c.args.f.now) (string_bytes c.push_str.new.text) (string_bytes c.fmt_number.new.f) c.args.front.now (decimal c.args.number)
     (c.in_ok-push_str.ensures.bytes ∙ ap (λ z. string_bytes c.args.f.now ++ z) (sym (encodes-ascii c.args.front.now c.requires.ascii))) w) c.fmt_number.ensures.text

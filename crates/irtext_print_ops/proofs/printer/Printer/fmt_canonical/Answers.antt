@@ -22,7 +22,7 @@ returns-clause-text g c =
     let operands = list_text g.T.IrText.written c.args.self.ctx.now (OperandTypes c.args.op) 0 in
     let results = list_text g.T.IrText.written c.args.self.ctx.now (ResultTypes c.args.op) 0 in
     let types =
-    two_framed (codes "]: <(") operands (codes ") -> (") results (codes ")>") (string_bytes c.fmt_entries.new.f) (string_bytes c.push_str.new.self) (string_bytes c.fmt_listed.new.f) (string_bytes c.push_str-2.new.self) (string_bytes c.fmt_listed-2.new.f) (string_bytes c.push_str-3.new.self) refl refl refl
+    two_framed (codes "]: <(") operands (codes ") -> (") results (codes ")>") (string_bytes c.fmt_entries.new.f) (string_bytes c.push_str.new.text) (string_bytes c.fmt_listed.new.f) (string_bytes c.push_str-2.new.text) (string_bytes c.fmt_listed-2.new.f) (string_bytes c.push_str-3.new.text) refl refl refl
     c.in_ok-push_str.ensures.bytes c.in_ok-fmt_listed.ensures.text c.in_ok-push_str-2.ensures.bytes c.in_ok-fmt_listed-2.ensures.text c.in_ok-push_str-3.ensures.bytes in
-    front_appended L g.A.AttrText.outlined g.A.AttrText.print_once g.A.PartialEq.eq g.A.IrText.written c.args.self.ctx.now c.args.op c.attributes.result.now (string_bytes c.args.f.now) (string_bytes c.fmt_uses.new.f) (string_bytes c.fmt_entries.new.f) (string_bytes c.push_str-3.new.self)
+    front_appended L g.A.AttrText.outlined g.A.AttrText.print_once g.A.PartialEq.eq g.A.IrText.written c.args.self.ctx.now c.args.op c.attributes.result.now (string_bytes c.args.f.now) (string_bytes c.fmt_uses.new.f) (string_bytes c.fmt_entries.new.f) (string_bytes c.push_str-3.new.text)
     c.attributes.ensures c.in_ok-fmt_uses.ensures.text c.in_ok-fmt_entries.ensures.text types

@@ -7,5 +7,5 @@ use Rattle.irtext_print_ops.proofs.printer.Printer.fmt_defined.Goals as goal
 
 pub returns-clause-text : goal.returns-clause-text
 returns-clause-text g c =
-    some_defined (known_types (texts_of g.T.IrText.written c.args.self.ctx.now (Results c.args.op))) (string_bytes c.args.f.now) (string_bytes c.fmt_listed.new.f) (string_bytes c.push_str.new.self)
+    some_defined (known_types (texts_of g.T.IrText.written c.args.self.ctx.now (Results c.args.op))) (string_bytes c.args.f.now) (string_bytes c.fmt_listed.new.f) (string_bytes c.push_str.new.text)
     (sym c.if-none.false ∙ c.in_ok-none.ensures.none) c.in_ok-none.ensures.text c.in_ok-push_str.ensures.bytes

@@ -7,6 +7,6 @@ pub returns-in_ok-push_str-in-Both-clause-text : goal.returns-in_ok-push_str-in-
 returns-in_ok-push_str-in-Both-clause-text g c =
     then c.write_text-in-Both.result
     (λ p. facet_written g.T.IrText.written c.args.self.ctx.now c.args.value c.args.facet c.args.of_type.now (string_bytes c.args.f.now) (string_bytes c.write_text-in-Both.new.f) c.in-Both.is
-    (both_written g.T.IrText.written c.args.self.ctx.now c.args.value c.args.of_type.now (string_bytes c.args.f.now) (string_bytes c.fmt_value_name-in-Both.new.f) (string_bytes c.push_str.new.self) (string_bytes c.write_text-in-Both.new.f)
+    (both_written g.T.IrText.written c.args.self.ctx.now c.args.value c.args.of_type.now (string_bytes c.args.f.now) (string_bytes c.fmt_value_name-in-Both.new.f) (string_bytes c.push_str.new.text) (string_bytes c.write_text-in-Both.new.f)
     c.in_ok-fmt_value_name-in-Both.ensures.text c.in_ok-push_str-in-Both.ensures.bytes p))
     c.write_text-in-Both.ensures.text

@@ -12,5 +12,5 @@ returns-then-index-count-clause-text g c =
 pub returns-clause-text : goal.returns-clause-text
 returns-clause-text g c =
     let less : c.args.index < length (texts_of g.T.IrText.written c.args.self.ctx.now c.args.list) = omega (arith, c.count.ensures, c.if-index-count.false) in
-    item_spaced (text_at g.T.IrText.written c.args.self.ctx.now c.args.list c.args.index) (c.requires.text less) (string_bytes c.args.f.now) (string_bytes c.push_str.new.self) (string_bytes c.fmt_item.new.f)
+    item_spaced (text_at g.T.IrText.written c.args.self.ctx.now c.args.list c.args.index) (c.requires.text less) (string_bytes c.args.f.now) (string_bytes c.push_str.new.text) (string_bytes c.fmt_item.new.f)
     c.in_ok-push_str.ensures.bytes c.in_ok-fmt_item.ensures.text

@@ -39,7 +39,7 @@ returns-then-left-eq0-clause-text g c =
     (reached texts c.loop-place.place c.loop-place.left (g.T.IrText.written c.in-Some.of_type.now) (slice_get (known_types texts) c.args.index)
     (sym (found_at (typed_text g.T.IrText.written c.args.self.ctx.now facet.Type) (results c.args.self.ctx.now.graph c.args.op) c.loop-place.place) ∙ sym c.known_type.ensures ∙ ap (option_map (λ (t : Bor _). g.T.IrText.written t.now)) c.in-Some.is)
     c.if-left-eq0.true c.loop-place.invariant.there)
-    (string_bytes c.args.f.now) (string_bytes c.push_str.new.self) (string_bytes c.write_text.new.f) (c.in_ok-push_str.ensures.bytes ∙ ap (λ z. z ++ codes " ") c.loop-place.invariant.same) p)
+    (string_bytes c.args.f.now) (string_bytes c.push_str.new.text) (string_bytes c.write_text.new.f) (c.in_ok-push_str.ensures.bytes ∙ ap (λ z. z ++ codes " ") c.loop-place.invariant.same) p)
     c.write_text.ensures.text
 
 pub returns-clause-text : goal.returns-clause-text

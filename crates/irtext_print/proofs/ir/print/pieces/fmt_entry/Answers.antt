@@ -21,9 +21,9 @@ returns-clause-text g c =
       | then-not-first+in_ok-push_str w ↦ ap string_bytes w.f-is ∙ w.in_ok-push_str.ensures.bytes ∙ ap (λ b. old ++ cond b [] comma) (sym w.if-not-first.true)
       | else-not-first w ↦ ap string_bytes w.f-is ∙ sym (append-nil old) ∙ ap (λ b. old ++ cond b [] comma) (sym w.if-not-first.false)
     ] in
-    let named = identifier_appended key c.as_str.result.now begun (string_bytes c.push_str-2.new.self) c.as_str.ensures.fits c.as_str.ensures.text c.in_ok-push_str-2.ensures.bytes in
+    let named = identifier_appended key c.as_str.result.now begun (string_bytes c.push_str-2.new.text) c.as_str.ensures.fits c.as_str.ensures.text c.in_ok-push_str-2.ensures.bytes in
     then c.fmt_attr.result
     (λ p. worded old begun new (cond c.args.first [] comma) (key ++ (codes ": " ++ value)) (comma_ascii c.args.first) before
-    (more begun (string_bytes c.push_str-2.new.self) new key (codes ": " ++ value) named
-    (worded (string_bytes c.push_str-2.new.self) (string_bytes c.push_str-3.new.self) new (codes ": ") value refl c.in_ok-push_str-3.ensures.bytes (p ∙ ap (λ z. string_bytes c.push_str-3.new.self ++ encode_utf8_all z) (attribute_text g.A.IrText.written c.args.attr.now)))))
+    (more begun (string_bytes c.push_str-2.new.text) new key (codes ": " ++ value) named
+    (worded (string_bytes c.push_str-2.new.text) (string_bytes c.push_str-3.new.text) new (codes ": ") value refl c.in_ok-push_str-3.ensures.bytes (p ∙ ap (λ z. string_bytes c.push_str-3.new.text ++ encode_utf8_all z) (attribute_text g.A.IrText.written c.args.attr.now)))))
     c.fmt_attr.ensures.text

@@ -19,6 +19,6 @@ returns-clause-text g c =
     let found : lookup c.args.key.now (entries_of c.args.attributes.now) ≡ Some (attribute_of c.in-Some.attr.now)
     = found_under c.args.key.now c.args.attributes.now (option_copied c.attribute_under.result) (Some c.in-Some.attr.now) (c.attribute_under.ensures ∙ ap (λ k. dictionary.lookup (bytes_eq k) c.args.attributes.now) c.as_str.ensures.text) (ap option_copied c.in-Some.is) in
     then c.fmt_inline.result
-    (λ p. worded (string_bytes c.args.f.now) (string_bytes c.push_str.new.self) (string_bytes c.fmt_inline.new.f) (codes " ") (inline_text g.A.IrText.written g.A.AttrText.outlined (attribute_of c.in-Some.attr.now)) refl c.in_ok-push_str.ensures.bytes p
+    (λ p. worded (string_bytes c.args.f.now) (string_bytes c.push_str.new.text) (string_bytes c.fmt_inline.new.f) (codes " ") (inline_text g.A.IrText.written g.A.AttrText.outlined (attribute_of c.in-Some.attr.now)) refl c.in_ok-push_str.ensures.bytes p
     ∙ ap (λ o. string_bytes c.args.f.now ++ encode_utf8_all (spaced_if (inline_text_in g.A.IrText.written g.A.AttrText.outlined o))) (sym found))
     c.fmt_inline.ensures.text

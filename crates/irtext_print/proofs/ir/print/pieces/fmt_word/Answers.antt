@@ -11,4 +11,4 @@ returns-clause-text c =
       | then-not-word_joins_left+in_ok-push_str w ↦ ap string_bytes w.f-is ∙ w.in_ok-push_str.ensures.bytes ∙ ap (λ b. old ++ cond b [] (codes " ")) (sym w.if-not-word_joins_left.true)
       | else-not-word_joins_left w ↦ ap string_bytes w.f-is ∙ sym (append-nil old) ∙ ap (λ b. old ++ cond b [] (codes " ")) (sym w.if-not-word_joins_left.false)
     ] in
-    word_appended c.args.word.now c.word_joins_left.result old (string_bytes c.if-not-word_joins_left.f) (string_bytes c.push_str-2.new.self) c.utf8.word c.word_joins_left.ensures before c.in_ok-push_str-2.ensures.bytes
+    word_appended c.args.word.now c.word_joins_left.result old (string_bytes c.if-not-word_joins_left.f) (string_bytes c.push_str-2.new.text) c.utf8.word c.word_joins_left.ensures before c.in_ok-push_str-2.ensures.bytes

@@ -15,9 +15,9 @@ returns-clause-prints g c =
     record {
       view = v.0;
       alive = v.1;
-      text = header_appended v.0 c.get_opid-id.result.now c.attributes-attributes.result.now name (string_bytes c.args.f.now) (string_bytes c.fmt_id.new.f) (string_bytes c.push_str-2.new.self)
+      text = header_appended v.0 c.get_opid-id.result.now c.attributes-attributes.result.now name (string_bytes c.args.f.now) (string_bytes c.fmt_id.new.f) (string_bytes c.push_str-2.new.text)
           (seen (λ op. op.id) o v.0 c.get_opid-id.result.now v.1 c.get_opid-id.ensures) (seen (λ op. op.attributes) o v.0 c.attributes-attributes.result.now v.1 c.attributes-attributes.ensures)
           (sym c.symbol_of.ensures ∙ ap option_copied c.in-Some.is) c.in_ok-fmt_id.ensures.text
-          (worded (string_bytes c.fmt_id.new.f) (string_bytes c.push_str.new.self) (string_bytes c.push_str-2.new.self) (codes " @") name refl c.in_ok-push_str.ensures.bytes
-          (identifier_appended name c.as_str.result.now (string_bytes c.push_str.new.self) (string_bytes c.push_str-2.new.self) c.as_str.ensures.fits c.as_str.ensures.text c.in_ok-push_str-2.ensures.bytes));
+          (worded (string_bytes c.fmt_id.new.f) (string_bytes c.push_str.new.text) (string_bytes c.push_str-2.new.text) (codes " @") name refl c.in_ok-push_str.ensures.bytes
+          (identifier_appended name c.as_str.result.now (string_bytes c.push_str.new.text) (string_bytes c.push_str-2.new.text) c.as_str.ensures.fits c.as_str.ensures.text c.in_ok-push_str-2.ensures.bytes));
     }

@@ -28,12 +28,12 @@ returns-clause-prints g c =
     after_call c.memory_alone.result c.write_text.result c.memory_alone.ensures.ok c.write_text.ensures.text (λ p. record {
       view = header.view;
       alive = header.alive;
-      text = typed_appended header.view (g.T.IrText.written c.args.ty.now) (string_bytes c.args.f.now) (string_bytes c.print_symb_op_header.new.f) (string_bytes c.push_str.new.self) (string_bytes c.write_text.new.f)
+      text = typed_appended header.view (g.T.IrText.written c.args.ty.now) (string_bytes c.args.f.now) (string_bytes c.print_symb_op_header.new.f) (string_bytes c.push_str.new.text) (string_bytes c.write_text.new.f)
           header.text c.in_ok-push_str.ensures.bytes p;
     })
 
 pub returns-clause-appended : goal.returns-clause-appended
 returns-clause-appended g c =
     let header = c.in_ok-print_symb_op_header.ensures.prints in
-    failed_after c.memory_alone.result c.write_text.new.f (appends_next {now = c.print_symb_op_header.new.f} {new = c.push_str.new.self} (part_appended _ header.text) _ c.in_ok-push_str.ensures.bytes)
+    failed_after c.memory_alone.result c.write_text.new.f (appends_next {now = c.print_symb_op_header.new.f} {new = c.push_str.new.text} (part_appended _ header.text) _ c.in_ok-push_str.ensures.bytes)
     (failed_call _ c.memory_alone.result c.write_text.result c.memory_alone.ensures.err c.write_text.ensures.appended)

@@ -8,5 +8,5 @@ use Rattle.irtext_print.proofs.ir.print.pieces.DictPrinter.fmt_dictionary.Goals 
 pub returns-clause-text : goal.returns-clause-text
 returns-clause-text g c =
     enclosed (codes " [") (rows_text g.A.IrText.written (dictionary_entries g.A.AttrText.outlined (directives_of c.args.self.directives.now) (entries_of c.args.self.attributes.now))) (codes "]")
-    (string_bytes c.args.f.now) (string_bytes c.push_str.new.self) (string_bytes c.fmt_entries.new.f) (string_bytes c.push_str-2.new.self) refl refl
+    (string_bytes c.args.f.now) (string_bytes c.push_str.new.text) (string_bytes c.fmt_entries.new.f) (string_bytes c.push_str-2.new.text) refl refl
     c.in_ok-push_str.ensures.bytes c.in_ok-fmt_entries.ensures.text c.in_ok-push_str-2.ensures.bytes
