@@ -1,5 +1,5 @@
 -- What is closed stays closed.
-use Rattle.std.proofs.Common.{◌≡◌, ◌≢◌, ◌∙◌, ◌+◌, ◌-◌, ℕ, zero, suc, arith, inl, inr, refl, sym, ap, subst, Bool, true, false, cond, List, [], Option}
+use Rattle.std.proofs.Common.{◌≡◌, ◌≢◌, ◌∙◌, ◌+◌, ◌-◌, ◌∷◌, ◌⊎◌, ℕ, zero, suc, arith, inl, inr, refl, sym, ap, subst, Bool, true, false, cond, List, [], Option, map, get_or}
 use Rattle.std.proofs.Common.{Some, None, IsSome, slice_get}
 use Rattle.std.specs.Option.{option_map}
 use Rattle.irtext_graph.specs.declared.arena.Entry.{Entry}
@@ -13,24 +13,26 @@ use Rattle.irtext_graph.specs.declared.object.Operation.{Operation}
 use Rattle.irtext_graph.specs.declared.object.Region.{Region}
 use Rattle.irtext_graph.specs.declared.object.Site.{Site}
 use Rattle.irtext_graph.specs.declared.object.Site.TheVariants.{AtOperand, AtSuccessor}
+use Rattle.irtext_graph.specs.declared.object.Value.{Value}
 use Rattle.irtext_graph.specs.declared.object.Value.TheVariants.{Result, Argument}
+use Rattle.irtext_graph_edits.specs.Replacing.{instead, ReplacesOperation}
 use Rattle.irtext_closed.specs.Closing.{is_isolated, IsBarrier, Reaches, IsSelfContained}
 use Rattle.irtext_graph.specs.Content.{Content, Content.{AnOperation, ABlock, ARegion}, Node, OperationContent, BlockContent, RegionContent}
 use Rattle.irtext_graph.specs.Data.{EditsOperation, with_data}
 use Rattle.irtext_graph.specs.Edits.{Redirects, InsertsAt}
 use Rattle.irtext_graph.specs.Erasing.{owner, user, Erases}
-use Rattle.irtext_graph.specs.Graph.{GraphView, parent, children, ancestor, content, parent_of, content_of, IsInside, CanInsert}
+use Rattle.irtext_graph.specs.Graph.{GraphView, parent, children, ancestor, content, parent_of, children_of, content_of, IsInside, CanInsert}
 use Rattle.irtext_graph.specs.Nested.{climb, Nested}
-use Rattle.irtext_graph.specs.Objects.{eq_object}
+use Rattle.irtext_graph.specs.Objects.{eq_object, eq_ptr}
 use Rattle.irtext_graph.specs.Parts.{operands_of, successors_of, results_of, arguments_of}
 use Rattle.irtext_graph.specs.Store.{get, object_of}
 use Rattle.irtext_graph.specs.Used.{used_at, replaced, Replaces, IsUse, IsDefined, without_uses, without_uses_in}
 use Rattle.irtext_graph.proofs.Bare.{parent_bare}
 use Rattle.irtext_graph.proofs.Frames.{operation_content_same}
 use Rattle.irtext_graph.proofs.Inside.{within_or, within_self, within_up, within_on, carried}
-use Rattle.irtext_graph.proofs.Nests.{climb-same, climb-none, climb-add, same_or_other, some_eq, seen}
+use Rattle.irtext_graph.proofs.Nests.{climb-same, climb-none, climb-add, same_or_other, some_eq, seen, renested}
 use Rattle.irtext_graph.proofs.Moves.{lower}
-use Rattle.irtext_graph.proofs.Same.{object_tells}
+use Rattle.irtext_graph.proofs.Same.{object_tells, ptr_tells}
 use Rattle.irtext_graph.specs.Uses.{eq_defined}
 use Rattle.irtext_graph.proofs.Linked.{site_tells, defined_tells}
 use Rattle.irtext_graph.proofs.Stores.{get_mapped, edited_same}
@@ -286,6 +288,73 @@ module _ {O B T : Type 0} (isolated : O → Bool) where
               now false f =
                   let gives : replaced d e y ≡ y = ap (λ b. cond b e y) f in
                   subst (Reaches isolated old w) (sym gives ∙ is_replaced) (c.uses w in_o y was)
+
+  -- ---- an operation is replaced by values
+
+  -- behind the end of a list there is nothing else
+  past_end : {X : Type 0} (xs : List X) (j : ℕ) (d : X) → (slice_get xs j ≡ Some (get_or xs j d)) ⊎ (get_or xs j d ≡ d)
+  past_end [] j d = inr refl
+  past_end (x ∷ xs) zero d = inl refl
+  past_end (x ∷ xs) (suc j) d = past_end xs j d
+
+  children_bare : (g : GraphView O B T) (q : Object) → children (without_uses g) q ≡ children g q
+  children_bare g (TheOperation p) = ap (λ s. map TheRegion (children_of s)) (get_mapped without_uses_in g.operations p) ∙ go (get g.operations p)
+    where
+      go : (s : Option (Entry (Node BasicBlock Region (OperationContent O T)))) → map TheRegion (children_of (option_map (object_of without_uses_in) s)) ≡ map TheRegion (children_of s)
+      go None = refl
+      go (Some e) = refl
+  children_bare g (TheBlock p) = refl
+  children_bare g (TheRegion p) = refl
+
+  -- a closed object stays closed if an operation in it, or apart from it, is replaced by values that its users reach
+  pub operation_replaced_closed : (old new : GraphView O B T) (p : Ptr Operation) (values : List Value) (o : Object) → IsSelfContained isolated old o
+      → ReplacesOperation old new p values → (IsInside old (TheOperation p) o → ⊥) → Nested (children old) (parent old)
+      → ((u : Site) (d : Defined) → IsUse new d u → IsDefined new d)
+      → ((u : Site) (i : ℕ) (v : Value) → IsUse old (OfValue (Result p i)) u → slice_get values i ≡ Some v → IsInside old o (user u) → Reaches isolated old u (OfValue v))
+      → IsSelfContained isolated new o
+  operation_replaced_closed old new p values o c r apart nested there reaches =
+      erased_closed mid new (TheOperation p) o (closed_on old mid up same o c bare uses) r.erased (λ w. apart (inside_back old mid up same (TheOperation p) o w))
+      (renested eq_object object_tells nested kids up) there
+    where
+      mid : GraphView O B T
+      mid = r.between
+
+      up : (q : Object) → parent mid q ≡ parent old q
+      up q = sym (parent_bare mid q) ∙ ap (λ g. parent g q) r.replaced.rest ∙ parent_bare old q
+
+      kids : (q : Object) → children mid q ≡ children old q
+      kids q = sym (children_bare mid q) ∙ ap (λ g. children g q) r.replaced.rest ∙ children_bare old q
+
+      same : (q : Object) → is_isolated isolated (content mid q) ≡ is_isolated isolated (content old q)
+      same q = sym (bare_isolated mid q) ∙ ap (λ g. is_isolated isolated (content g q)) r.replaced.rest ∙ bare_isolated old q
+
+      bare : (w : Site) (x : Defined) → user w ≡ o → used_at mid w ≡ Some x → ⊥
+      bare w x at is = go (used_at old w) refl
+        where
+          go : (s : Option Defined) → used_at old w ≡ s → ⊥
+          go None was = let k = r.replaced.uses w ∙ ap (option_map (instead p values)) was in cc
+          go (Some y) was = c.bare w y at was
+
+      uses : (w : Site) (x : Defined) → IsInside old o (user w) → used_at mid w ≡ Some x → Reaches isolated old w x
+      uses w x in_o is = go (used_at old w) refl
+        where
+          now : (y : Defined) → used_at old w ≡ Some y → Reaches isolated old w (instead p values y)
+          now (OfBlock b) was = c.uses w in_o (OfBlock b) was
+          now (OfValue (Argument b j)) was = c.uses w in_o (OfValue (Argument b j)) was
+          now (OfValue (Result q j)) was = cases (eq_ptr q p) refl
+            where
+              cases : (t : Bool) → eq_ptr q p ≡ t → Reaches isolated old w (cond t (OfValue (get_or values j (Result q j))) (OfValue (Result q j)))
+              cases false e = c.uses w in_o (OfValue (Result q j)) was
+              cases true e = elim (past_end values j (Result q j)) [
+                | inl at ↦ reaches w j (get_or values j (Result q j)) (was ∙ ap (λ r. Some (OfValue (Result r j))) (ptr_tells.sound q p e)) at in_o
+                | inr none ↦ subst (λ v. Reaches isolated old w (OfValue v)) (sym none) (c.uses w in_o (OfValue (Result q j)) was)
+              ]
+
+          go : (s : Option Defined) → used_at old w ≡ s → Reaches isolated old w x
+          go None was = absurd (let k = r.replaced.uses w ∙ ap (option_map (instead p values)) was in cc)
+          go (Some y) was =
+              let k : instead p values y ≡ x = some_eq (sym (r.replaced.uses w ∙ ap (option_map (instead p values)) was) ∙ is) in
+              subst (Reaches isolated old w) k (now y was)
 
   -- ---- something is inserted
 

@@ -1,5 +1,5 @@
 //! Laws of the edits: what is closed stays closed. Each is stated of the records in the contracts of the edits.
-ghost use Rattle.std.specs.Prelude.{◌≡◌, ◌≢◌, ℕ, Some, Bool, IsSome};
+ghost use Rattle.std.specs.Prelude.{◌≡◌, ◌≢◌, ℕ, List, Some, Bool, IsSome, slice_get};
 ghost use Rattle.irtext_closed.specs.Closing.{IsSelfContained, Reaches};
 ghost use Rattle.irtext_graph.specs.Data.{EditsOperation};
 ghost use Rattle.irtext_graph.specs.Edits.{Redirects, InsertsAt};
@@ -9,11 +9,15 @@ ghost use Rattle.irtext_graph.specs.Nested.{Nested};
 ghost use Rattle.irtext_graph.specs.Used.{used_at, IsUse, Replaces};
 ghost use Rattle.irtext_graph.specs.declared.arena.Ptr.{Ptr};
 ghost use Rattle.irtext_graph.specs.declared.object.Defined.{Defined};
+ghost use Rattle.irtext_graph.specs.declared.object.Defined.TheVariants.{OfValue};
 ghost use Rattle.irtext_graph.specs.declared.object.Object.{Object};
 ghost use Rattle.irtext_graph.specs.declared.object.Object.TheVariants.{TheOperation, TheRegion};
 ghost use Rattle.irtext_graph.specs.declared.object.Operation.{Operation};
 ghost use Rattle.irtext_graph.specs.declared.object.Region.{Region};
 ghost use Rattle.irtext_graph.specs.declared.object.Site.{Site};
+ghost use Rattle.irtext_graph.specs.declared.object.Value.{Value};
+ghost use Rattle.irtext_graph.specs.declared.object.Value.TheVariants.{Result};
+ghost use Rattle.irtext_graph_edits.specs.Replacing.{ReplacesOperation};
 
 use irtext_graph::graph::Graph;
 
@@ -49,6 +53,18 @@ pub fn replaced_stays_closed<O: Drop, B: Drop, T: Drop>()
         → ((u : Site) → IsUse old d u → IsInside old o (user u) → Reaches isolated old u e)
         → IsSelfContained isolated new o }
 {}
+
+/// What is closed stays closed if something else in it, or apart from it, is replaced by values that its users reach, as by
+/// `replace_operation`.
+pub fn replaced_operation_stays_closed<O: Drop, B: Drop, T: Drop>(graph: &Graph<O, B, T>)
+    ensures { (isolated : O → Bool) (old : GraphView O B T) (p : Ptr Operation) (values : List Value) (o : Object)
+        → IsSelfContained isolated old o → ReplacesOperation old graph.now p values
+        → (IsInside old (TheOperation p) o → ⊥) → Nested (children old) (parent old)
+        → ((u : Site) (i : ℕ) (v : Value) → IsUse old (OfValue (Result p i)) u → slice_get values i ≡ Some v
+        → IsInside old o (user u) → Reaches isolated old u (OfValue v)) → IsSelfContained isolated graph.now o }
+{
+    graph.keeps_nesting();
+}
 
 /// What is closed stays closed if an operation or a block is inserted in it, each use in which reaches what it names there.
 pub fn inserted_stays_closed<O: Drop, B: Drop, T: Drop>()
