@@ -6,6 +6,7 @@ use irtext_graph::arena::Ptr;
 use irtext_graph::graph::Graph;
 use irtext_graph::held::HasGraph;
 use irtext_graph::object::{BasicBlock, Object, Operation, Value};
+use irtext_graph_edits::replacing::ReplaceOperation;
 use irtext_graph_queries::block::BlockParts;
 use irtext_graph_queries::contained::{contains_blocks, contains_values};
 use irtext_graph_queries::edits::{ObjectEdits, OperationEdits};
@@ -279,6 +280,55 @@ fn uses(holder: &Holder, user: Ptr<Operation>) -> Option<(Value, Value, Ptr<Basi
     Some((operands.0, operands.1, user.get_successor(holder, 0)))
 }
 
+/// The two operands of an operation.
+fn two_operands(holder: &Holder, user: Ptr<Operation>) -> Option<(Value, Value)> {
+    if !holder.graph.contains(Object::TheOperation(user)) || user.get_num_operands(holder) != 2 {
+        return None;
+    }
+    Some((user.get_operand(holder, 0), user.get_operand(holder, 1)))
+}
+
+/// Whether an operation is replaced by as many values as it has results, and not by fewer, nor by a result of its own.
+fn is_replaced(
+    holder: &mut Holder,
+    old: Ptr<Operation>,
+    new: Ptr<Operation>,
+    user: Ptr<Operation>,
+) -> bool {
+    let (first, second) = (Value::Result(new, 0), Value::Result(new, 1));
+    if old.can_replace_with_values(holder, &[first])
+        || old.can_replace_with_values(holder, &[first, Value::Result(old, 1)])
+    {
+        return false;
+    }
+    let values = &[first, second];
+    if !old.can_replace_with_values(holder, values) {
+        return false;
+    }
+    old.replace_with_values(holder, values);
+    !holder.graph.contains(Object::TheOperation(old))
+        && two_operands(holder, user) == Some((second, first))
+}
+
+/// Makes an operation and its user, and replaces the operation by the results of another.
+fn replaces(rt: &impl Abort, holder: &mut Holder) -> bool {
+    let graph = &mut holder.graph;
+    let old = graph
+        .make_operation(5, Few::two(1, 2), &[], &[])
+        .expect(rt, "out of memory");
+    let new = graph
+        .make_operation(6, Few::two(1, 2), &[], &[])
+        .expect(rt, "out of memory");
+    let used = &[Value::Result(old, 1), Value::Result(old, 0)];
+    if !contains_values(graph, used) {
+        return false;
+    }
+    let user = graph
+        .make_operation(7, Few::none(), used, &[])
+        .expect(rt, "out of memory");
+    is_replaced(holder, old, new, user)
+}
+
 /// Makes an operation that has nothing but its data.
 fn operation(rt: &impl Abort, graph: &mut Graph<u32, u32, u8>, value: u32) -> Ptr<Operation> {
     graph
@@ -306,6 +356,7 @@ fn holds_row(rt: &impl Abort, holder: &mut Holder, row: Row) -> bool {
     has(holder, scene.blocks.0, row.first)
         & has(holder, scene.blocks.1, row.second)
         & uses_are_set(rt, holder, scene)
+        & replaces(rt, holder)
 }
 
 /// Whether a row holds in a graph of its own.
