@@ -48,6 +48,12 @@ no_items : {P C E V Y : Type 0} (f : ℕ × E → V) (items : Option E → List 
 no_items f items none None n = none
 no_items f items none (Some x) n = absurd (cc)
 
+-- behind the end of a list there is nothing else
+past_end : {X : Type 0} (xs : List X) (j : ℕ) (d : X) → (slice_get xs j ≡ Some (get_or xs j d)) ⊎ (get_or xs j d ≡ d)
+past_end [] j d = inr refl
+past_end (x ∷ xs) zero d = inl refl
+past_end (x ∷ xs) (suc j) d = past_end xs j d
+
 content_part : {P C E : Type 0} (s : Option (Entry (Node P C E))) → option_map (λ e. e.content.content) s ≡ option_map (λ (d : ℕ × E). d.1) (content_of s)
 content_part None = refl
 content_part (Some x) = refl
@@ -61,6 +67,16 @@ module _ {O B T : Type 0} where
 
   abbrev a_region : ℕ × RegionContent → Content O B T
   a_region d = ARegion d.0 d.1
+
+  -- the children do not depend on what operations use
+  children_bare : (g : GraphView O B T) (q : Object) → children (without_uses g) q ≡ children g q
+  children_bare g (TheOperation p) = ap (λ s. map TheRegion (children_of s)) (get_mapped without_uses_in g.operations p) ∙ go (get g.operations p)
+    where
+      go : (s : Option (Entry (Node BasicBlock Region (OperationContent O T)))) → map TheRegion (children_of (option_map (object_of without_uses_in) s)) ≡ map TheRegion (children_of s)
+      go None = refl
+      go (Some e) = refl
+  children_bare g (TheBlock p) = refl
+  children_bare g (TheRegion p) = refl
 
   gone_parent : (g : GraphView O B T) (q : Object) → content g q ≡ None → parent g q ≡ None
   gone_parent g (TheOperation q) n = no_parent an_operation TheBlock (get g.operations q) n
@@ -290,21 +306,6 @@ module _ {O B T : Type 0} (isolated : O → Bool) where
                   subst (Reaches isolated old w) (sym gives ∙ is_replaced) (c.uses w in_o y was)
 
   -- ---- an operation is replaced by values
-
-  -- behind the end of a list there is nothing else
-  past_end : {X : Type 0} (xs : List X) (j : ℕ) (d : X) → (slice_get xs j ≡ Some (get_or xs j d)) ⊎ (get_or xs j d ≡ d)
-  past_end [] j d = inr refl
-  past_end (x ∷ xs) zero d = inl refl
-  past_end (x ∷ xs) (suc j) d = past_end xs j d
-
-  children_bare : (g : GraphView O B T) (q : Object) → children (without_uses g) q ≡ children g q
-  children_bare g (TheOperation p) = ap (λ s. map TheRegion (children_of s)) (get_mapped without_uses_in g.operations p) ∙ go (get g.operations p)
-    where
-      go : (s : Option (Entry (Node BasicBlock Region (OperationContent O T)))) → map TheRegion (children_of (option_map (object_of without_uses_in) s)) ≡ map TheRegion (children_of s)
-      go None = refl
-      go (Some e) = refl
-  children_bare g (TheBlock p) = refl
-  children_bare g (TheRegion p) = refl
 
   -- a closed object stays closed if an operation in it, or apart from it, is replaced by values that its users reach
   pub operation_replaced_closed : (old new : GraphView O B T) (p : Ptr Operation) (values : List Value) (o : Object) → IsSelfContained isolated old o

@@ -28,7 +28,7 @@ use Rattle.irtext_graph_edits.specs.Replacing.{instead, CanReplace, ReplacesResu
 use Rattle.irtext_graph.proofs.Bare.{parent_bare}
 use Rattle.irtext_graph.proofs.Inside.{within_self, within_up}
 use Rattle.irtext_graph.proofs.Linked.{defined_tells}
-use Rattle.irtext_graph.proofs.Nests.{climb-same, climb-none, same_or_other, some_eq, seen}
+use Rattle.irtext_graph.proofs.Nests.{climb-same, climb-none, climb-add, same_or_other, some_eq, seen}
 use Rattle.irtext_graph.proofs.Same.{ptr_tells, object_tells}
 use Rattle.irtext_graph.proofs.Stores.{get_mapped}
 use Rattle.irtext_graph.proofs.UsesSeen.{defined_bare}
@@ -153,11 +153,20 @@ child_around up o (suc n) x ne e = elim (seen (up x)) [
 ]
 
 module _ {O B T : Type 0} where
+  abbrev an_operation : ℕ × OperationContent O T → Content O B T
+  an_operation d = AnOperation d.0 d.1
+
+  abbrev a_block : ℕ × BlockContent B T → Content O B T
+  a_block d = ABlock d.0 d.1
+
+  abbrev a_region : ℕ × RegionContent → Content O B T
+  a_region d = ARegion d.0 d.1
+
   -- an operation is live without its uses where it is live with them
   live_bare : (g : GraphView O B T) (p : Ptr Operation) → IsLive (without_uses g) (TheOperation p) ≡ IsLive g (TheOperation p)
-  live_bare g p = ap (λ s. IsSome (option_map (λ d. AnOperation {O = O} {B = B} {T = T} d.0 d.1) (content_of s))) (get_mapped without_uses_in g.operations p) ∙ go (get g.operations p)
+  live_bare g p = ap (λ s. IsSome (option_map (an_operation {O = O} {B = B} {T = T}) (content_of s))) (get_mapped without_uses_in g.operations p) ∙ go (get g.operations p)
     where
-      go : (s : Option (Entry (Node BasicBlock Region (OperationContent O T)))) → IsSome (option_map (λ d. AnOperation {O = O} {B = B} {T = T} d.0 d.1) (content_of (option_map (object_of without_uses_in) s))) ≡ IsSome (option_map (λ d. AnOperation {O = O} {B = B} {T = T} d.0 d.1) (content_of s))
+      go : (s : Option (Entry (Node BasicBlock Region (OperationContent O T)))) → IsSome (option_map (an_operation {O = O} {B = B} {T = T}) (content_of (option_map (object_of without_uses_in) s))) ≡ IsSome (option_map (an_operation {O = O} {B = B} {T = T}) (content_of s))
       go None = refl
       go (Some e) = refl
 
@@ -166,7 +175,7 @@ module _ {O B T : Type 0} where
 
   -- what is defined stays so
   pub still_defined : (old new : GraphView O B T) (d : Defined) → without_uses new ≡ without_uses old → IsDefined old d → IsDefined new d
-  still_defined old new d rest s = rw (defined_bare new d) (subst (λ g. IsDefined g d) (sym rest) (rw (defined_bare old d) s))
+  still_defined old new d rest s = rw (← defined_bare new d) (subst (λ g. IsDefined g d) (sym rest) (rw (defined_bare old d) s))
 
   module _ (g : GraphView O B T) (p : Ptr Operation) (values : List Value) (can : CanReplace g p values) where
     no_result : (i : ℕ) (v : Value) (j : ℕ) → slice_get values i ≡ Some v → v ≢ Result p j
@@ -204,15 +213,7 @@ module _ {O B T : Type 0} where
       kept u d is ne w =
           let k = child_around (parent g) (TheOperation p) w.0 (owner d) ne w.1 in
           let v = can.regions k.0 k.1 u d (named_used g u ∙ is) k.2 in
-          (v.0 + 1, ended v.0 (user u) k.0 v.1 k.1)
-        where
-          ended : (n : ℕ) (x r : Object) → climb (parent g) n (Some x) ≡ Some r → parent g r ≡ Some (TheOperation p) → climb (parent g) (n + 1) (Some x) ≡ Some (TheOperation p)
-          ended zero x r e f = ap (parent g) (some_eq e) ∙ f
-          ended (suc n) x r e f = step (parent g x) refl e
-            where
-              step : (o : Option Object) → parent g x ≡ o → climb (parent g) n o ≡ Some r → climb (parent g) (n + 1) o ≡ Some (TheOperation p)
-              step None h k = absurd (let l = climb-none (parent g) n in cc)
-              step (Some y) h k = ended n y r k f
+          (v.0 + 1, climb-add (parent g) v.0 1 (Some (user u)) ∙ ap (climb (parent g) 1) v.1 ∙ k.1)
 
       not_inside : (u : Site) (q : Ptr Operation) (j : ℕ) → used_at g u ≡ Some (OfValue (Result q j)) → q ≡ p → IsInside g (TheOperation p) (owner (OfValue (get_or values j (Result q j)))) → ⊥
       not_inside u q j is same w =
@@ -244,19 +245,10 @@ module _ {O B T : Type 0} where
               inside_now (TheOperation p) (user u) (stays u x e (subst (λ y. IsInside g (TheOperation p) (owner y)) (sym same) (inside_was (TheOperation p) (owner d) w)))
 
       pub still_live : IsLive new (TheOperation p)
-      still_live = rw (live_bare new p) (subst (λ h. IsLive h (TheOperation p)) (sym r.rest) (rw (live_bare g p) can.alive))
+      still_live = rw (← live_bare new p) (subst (λ h. IsLive h (TheOperation p)) (sym r.rest) (rw (live_bare g p) can.alive))
 
 -- what is defined is of a live object, and what has a parent is live
 module _ {O B T : Type 0} where
-  abbrev an_operation : ℕ × OperationContent O T → Content O B T
-  an_operation d = AnOperation d.0 d.1
-
-  abbrev a_block : ℕ × BlockContent B T → Content O B T
-  a_block d = ABlock d.0 d.1
-
-  abbrev a_region : ℕ × RegionContent → Content O B T
-  a_region d = ARegion d.0 d.1
-
   pub owner_live : (g : GraphView O B T) (v : Value) → IsDefinedValue g v → IsLive g (owner (OfValue v))
   owner_live g (Result p i) s = go (get g.operations p) s
     where

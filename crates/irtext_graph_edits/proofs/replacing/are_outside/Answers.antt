@@ -27,6 +27,6 @@ returns-then-not-is_outside g c = (
 
 pub returns : goal.returns
 returns g c = (
-  λ t j v e. c.loop-index.invariant.so_far j v (let low = slice_get_within c.args.values.now j v e in let done = c.loop-index-test.false in let n = c.len.ensures in omega (arith, low, done, n)) e,
+  λ t j v e. c.loop-index.invariant.so_far j v (let low = slice_get_within c.args.values.now j v e in let done = c.loop-index-test.false in omega (arith, low, done)) e,
   λ all. refl,
 )

@@ -37,7 +37,7 @@ returns g c = (
       let i = c.keeps_nesting.ensures.forest.listed r (TheOperation c.args.op) e in
       let low = slice_get_within (children c.args.graph.now (TheOperation c.args.op)) i.0 r i.1 in
       let done = c.loop-index-test.false in
-      let n = c.num_children.ensures in
+      let n = c.num_children-index-end.ensures in
       c.loop-index.invariant.so_far i.0 r (omega (arith, low, done, n)) i.1,
   λ all. refl,
 )
