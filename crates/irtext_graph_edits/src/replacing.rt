@@ -64,10 +64,7 @@ fn are_outside<O: Drop, B: Drop, T: Drop>(
 }
 
 /// Whether nothing that is nested in an operation is used outside of the region of the operation that it is in.
-fn are_regions_apart<O: Drop, B: Drop, T: Drop>(
-    graph: &Graph<O, B, T>,
-    op: Ptr<Operation>,
-) -> bool
+fn are_regions_apart<O: Drop, B: Drop, T: Drop>(graph: &Graph<O, B, T>, op: Ptr<Operation>) -> bool
     requires { IsLive graph.now (TheOperation op) }
     ensures { IsTrue result ↔ AreRegionsApart graph.now op }
 {

@@ -16,9 +16,9 @@ pub use irtext_context::base::{
 };
 pub use irtext_few::Few;
 pub use irtext_graph::object::{Site, Value};
+pub use irtext_graph_edits::replacing::ReplaceOperation;
 pub use irtext_graph_queries::ancestors::Ancestors;
 pub use irtext_graph_queries::block::BlockParts;
-pub use irtext_graph_edits::replacing::ReplaceOperation;
 pub use irtext_graph_queries::edits::{ObjectEdits, OperationEdits};
 pub use irtext_graph_queries::nested::NestedOperations;
 pub use irtext_graph_queries::operation::OperationParts;

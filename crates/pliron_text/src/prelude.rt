@@ -9,8 +9,8 @@ pub use crate::base::{
     BlockSiblings, BlockWalks, ContainsParts, Context, Few, Identifier, NestedOperations,
     NewBareOperation, NewBlock, NewOperation, ObjectEdits, OpDraft, OpId, Operation,
     OperationAccess, OperationEdits, OperationParts, OperationSiblings, OperationTypes,
-    OperationWalks, Ptr, Region, RegionEnds, RegionParts, ReplaceOperation, Siblings, Site, TryAccess,
-    TryBlockAccess, TryInsert, TryMove, TryNewOperation, TrySetUses, UseSite, Value, ValueType,
-    ValueUses, Walk,
+    OperationWalks, Ptr, Region, RegionEnds, RegionParts, ReplaceOperation, Siblings, Site,
+    TryAccess, TryBlockAccess, TryInsert, TryMove, TryNewOperation, TrySetUses, UseSite, Value,
+    ValueType, ValueUses, Walk,
 };
 pub use crate::ir::{OperationText, ToText};
