@@ -164,11 +164,41 @@ module _ {O B T : Type 0} where
 
   -- an operation is live without its uses where it is live with them
   live_bare : (g : GraphView O B T) (p : Ptr Operation) → IsLive (without_uses g) (TheOperation p) ≡ IsLive g (TheOperation p)
-  live_bare g p = ap (λ s. IsSome (option_map (an_operation {O = O} {B = B} {T = T}) (content_of s))) (get_mapped without_uses_in g.operations p) ∙ go (get g.operations p)
+  live_bare g p = ap (λ s. IsSome (option_map an_operation (content_of s))) (get_mapped without_uses_in g.operations p) ∙ go (get g.operations p)
     where
-      go : (s : Option (Entry (Node BasicBlock Region (OperationContent O T)))) → IsSome (option_map (an_operation {O = O} {B = B} {T = T}) (content_of (option_map (object_of without_uses_in) s))) ≡ IsSome (option_map (an_operation {O = O} {B = B} {T = T}) (content_of s))
+      go : (s : Option (Entry (Node BasicBlock Region (OperationContent O T)))) → IsSome (option_map an_operation (content_of (option_map (object_of without_uses_in) s))) ≡ IsSome (option_map an_operation (content_of s))
       go None = refl
       go (Some e) = refl
+
+  -- what is defined is of a live object, and what has a parent is live
+  pub owner_live : (g : GraphView O B T) (v : Value) → IsDefinedValue g v → IsLive g (owner (OfValue v))
+  owner_live g (Result p i) s = go (get g.operations p) s
+    where
+      go : (e : Option (Entry (Node BasicBlock Region (OperationContent O T)))) → IsSome (slice_get (results_of (option_map (λ x. x.content.content) e)) i) → IsSome (option_map an_operation (content_of e))
+      go None h = absurd (cc)
+      go (Some x) h = refl
+  owner_live g (Argument b i) s = go (get g.blocks b) s
+    where
+      go : (e : Option (Entry (Node Region Operation (BlockContent B T)))) → IsSome (slice_get (arguments_of (option_map (λ x. x.content.content) e)) i) → IsSome (option_map a_block (content_of e))
+      go None h = absurd (cc)
+      go (Some x) h = refl
+
+  pub child_live : (g : GraphView O B T) (q k : Object) → parent g q ≡ Some k → IsLive g q
+  child_live g (TheOperation q) k e = go (get g.operations q) e
+    where
+      go : (s : Option (Entry (Node BasicBlock Region (OperationContent O T)))) → option_map TheBlock (parent_of s) ≡ Some k → IsSome (option_map an_operation (content_of s))
+      go None h = absurd (cc)
+      go (Some x) h = refl
+  child_live g (TheBlock q) k e = go (get g.blocks q) e
+    where
+      go : (s : Option (Entry (Node Region Operation (BlockContent B T)))) → option_map TheRegion (parent_of s) ≡ Some k → IsSome (option_map a_block (content_of s))
+      go None h = absurd (cc)
+      go (Some x) h = refl
+  child_live g (TheRegion q) k e = go (get g.regions q) e
+    where
+      go : (s : Option (Entry (Node Operation BasicBlock RegionContent))) → option_map TheOperation (parent_of s) ≡ Some k → IsSome (option_map a_region (content_of s))
+      go None h = absurd (cc)
+      go (Some x) h = refl
 
   pub replaces_none : (g : GraphView O B T) (p : Ptr Operation) → ReplacesResults g g p []
   replaces_none g p = record { uses = λ u. map_same (instead p []) (none_instead p) (used_at g u); rest = refl }
@@ -246,34 +276,3 @@ module _ {O B T : Type 0} where
 
       pub still_live : IsLive new (TheOperation p)
       still_live = rw (← live_bare new p) (subst (λ h. IsLive h (TheOperation p)) (sym r.rest) (rw (live_bare g p) can.alive))
-
--- what is defined is of a live object, and what has a parent is live
-module _ {O B T : Type 0} where
-  pub owner_live : (g : GraphView O B T) (v : Value) → IsDefinedValue g v → IsLive g (owner (OfValue v))
-  owner_live g (Result p i) s = go (get g.operations p) s
-    where
-      go : (e : Option (Entry (Node BasicBlock Region (OperationContent O T)))) → IsSome (slice_get (results_of (option_map (λ x. x.content.content) e)) i) → IsSome (option_map an_operation (content_of e))
-      go None h = absurd (cc)
-      go (Some x) h = refl
-  owner_live g (Argument b i) s = go (get g.blocks b) s
-    where
-      go : (e : Option (Entry (Node Region Operation (BlockContent B T)))) → IsSome (slice_get (arguments_of (option_map (λ x. x.content.content) e)) i) → IsSome (option_map a_block (content_of e))
-      go None h = absurd (cc)
-      go (Some x) h = refl
-
-  pub child_live : (g : GraphView O B T) (q k : Object) → parent g q ≡ Some k → IsLive g q
-  child_live g (TheOperation q) k e = go (get g.operations q) e
-    where
-      go : (s : Option (Entry (Node BasicBlock Region (OperationContent O T)))) → option_map TheBlock (parent_of s) ≡ Some k → IsSome (option_map an_operation (content_of s))
-      go None h = absurd (cc)
-      go (Some x) h = refl
-  child_live g (TheBlock q) k e = go (get g.blocks q) e
-    where
-      go : (s : Option (Entry (Node Region Operation (BlockContent B T)))) → option_map TheRegion (parent_of s) ≡ Some k → IsSome (option_map a_block (content_of s))
-      go None h = absurd (cc)
-      go (Some x) h = refl
-  child_live g (TheRegion q) k e = go (get g.regions q) e
-    where
-      go : (s : Option (Entry (Node Operation BasicBlock RegionContent))) → option_map TheOperation (parent_of s) ≡ Some k → IsSome (option_map a_region (content_of s))
-      go None h = absurd (cc)
-      go (Some x) h = refl
