@@ -1,11 +1,13 @@
 //! Lists that seldom have more than one element: one is stored in place, and more in a vector.
-ghost use Rattle.std.specs.Prelude.{◌≡◌, ◌<◌, ◌∷◌, [], IfOk, length, slice_index_or, slice_set};
+ghost use Rattle.std.specs.Prelude.{◌≡◌, ◌<◌, ◌∷◌, ◌++◌, ◌-◌, [], IfOk, OnOk, OnErr, length, slice_index_or, slice_set, take};
+ghost use Rattle.std.specs.List.{swap};
 ghost use Rattle.std.specs.Borrow.{Lends, sem};
 
 use crate::{Few, Items};
 use irtext_memory::{OutOfMemory, vec};
 use std::alloc::Global;
 use std::marker::Model;
+use std::mem;
 use std::ops::{Index, IndexMut};
 
 /// The elements of a list: up to one in place, or a vector.
@@ -80,6 +82,38 @@ impl<X> OneOrMany<X> {
     }
 }
 
+impl<X: Drop> OneOrMany<X> {
+    ghost use Rattle.irtext_few.specs.Lone.{items_of, form};
+
+    /// Puts the only element into a vector with room for more. If an allocation fails, the list is unchanged.
+    fn to_vector(&mut self, alloc: Global) -> Result<(), OutOfMemory>
+        requires { form self.old ≡ 1 }
+        ensures ok { OnOk result (form self.new ≡ 2) }
+        ensures same { OnOk result (items_of self.new ≡ items_of self.old) }
+        ensures err { OnErr result (self.new ≡ self.old) }
+    {
+        let mut items = vec::with_capacity(alloc, 4)?;
+        if let OneOrMany::One(only) = mem::replace(self, OneOrMany::Nothing) {
+            items.push_reserved(only);
+        }
+        *self = OneOrMany::Many(items);
+        Ok(())
+    }
+
+    /// Appends an element to a vector. If an allocation fails, the list is unchanged.
+    fn push_to_many(&mut self, x: X) -> Result<(), OutOfMemory>
+        requires { form self.old ≡ 2 }
+        ensures ok { OnOk result (items_of self.new ≡ items_of self.old ++ x ∷ []) }
+        ensures err { OnErr result (items_of self.new ≡ items_of self.old) }
+    {
+        match self {
+            OneOrMany::Many(xs) => vec::push(xs, x)?,
+            _ => unreachable!(),
+        }
+        Ok(())
+    }
+}
+
 impl<X> Lone<X> {
     ghost use Rattle.irtext_few.specs.Lone.{items_of};
 
@@ -119,6 +153,52 @@ impl<X: Drop> Lone<X> {
         ensures { self.new ≡ [] }
     {
         self.items = OneOrMany::Nothing;
+    }
+
+    /// Appends an element. The first takes no allocation. Fails only if an allocation fails, and then the list is unchanged.
+    pub fn push(&mut self, alloc: Global, x: X) -> Result<(), OutOfMemory>
+        ensures ok { OnOk result (self.new ≡ self.old ++ x ∷ []) }
+        ensures err { OnErr result (self.new ≡ self.old) }
+    {
+        match &self.items {
+            OneOrMany::Nothing => {
+                self.items = OneOrMany::One(x);
+                Ok(())
+            }
+            OneOrMany::One(_) => {
+                self.items.to_vector(alloc)?;
+                self.items.push_to_many(x)
+            }
+            OneOrMany::Many(_) => self.items.push_to_many(x),
+        }
+    }
+
+    /// Removes and drops the last element. There must be one.
+    pub fn pop(&mut self)
+        requires { 0 < length self.old }
+        ensures { self.new ≡ take (length self.old - 1) self.old }
+    {
+        match &mut self.items {
+            OneOrMany::Nothing => unreachable!(),
+            OneOrMany::One(_) => self.items = OneOrMany::Nothing,
+            OneOrMany::Many(xs) => {
+                let last = xs.len() - 1;
+                xs.truncate(last);
+            }
+        }
+    }
+
+    /// Exchanges two elements.
+    pub fn swap(&mut self, i: usize, j: usize)
+        requires first { i < length self.old }
+        requires second { j < length self.old }
+        ensures { self.new ≡ swap self.old i j }
+    {
+        match &mut self.items {
+            OneOrMany::Nothing => unreachable!(),
+            OneOrMany::One(_) => {}
+            OneOrMany::Many(xs) => xs.swap(i, j),
+        }
     }
 
     /// Returns a list of the elements of a vector, which it keeps.

@@ -1,10 +1,11 @@
 //! Lists that are mostly empty: a tag and a pointer in place, and the elements in a box.
-ghost use Rattle.std.specs.Prelude.{◌≡◌, ◌<◌, ◌∷◌, [], IfOk, length, slice_index_or, slice_set};
+ghost use Rattle.std.specs.Prelude.{◌≡◌, ◌<◌, ◌∷◌, ◌++◌, ◌-◌, [], IfOk, OnOk, OnErr, length, slice_index_or, slice_set, take};
 ghost use Rattle.std.specs.Borrow.{Lends, sem};
 
-use irtext_memory::{OutOfMemory, boxed};
+use irtext_memory::{OutOfMemory, boxed, vec};
 use std::alloc::Global;
 use std::marker::Model;
+use std::mem;
 use std::ops::{Index, IndexMut};
 
 /// The elements of a list: none, one in a box, or a vector in a box.
@@ -79,6 +80,39 @@ impl<X> NoneOrBoxed<X> {
     }
 }
 
+impl<X: Drop> NoneOrBoxed<X> {
+    ghost use Rattle.irtext_few.specs.Rare.{items_of, form};
+
+    /// Puts the only element into a vector with room for more. If an allocation fails, the list is unchanged.
+    fn to_vector(&mut self, alloc: Global) -> Result<(), OutOfMemory>
+        requires { form self.old ≡ 1 }
+        ensures ok { OnOk result (form self.new ≡ 2) }
+        ensures same { OnOk result (items_of self.new ≡ items_of self.old) }
+        ensures err { OnErr result (self.new ≡ self.old) }
+    {
+        let items = vec::with_capacity(alloc, 4)?;
+        let mut many = boxed::new(alloc, items)?;
+        if let NoneOrBoxed::One(only) = mem::replace(self, NoneOrBoxed::Nothing) {
+            many.push_reserved(Box::into_inner(only));
+        }
+        *self = NoneOrBoxed::Many(many);
+        Ok(())
+    }
+
+    /// Appends an element to a vector. If an allocation fails, the list is unchanged.
+    fn push_to_many(&mut self, x: X) -> Result<(), OutOfMemory>
+        requires { form self.old ≡ 2 }
+        ensures ok { OnOk result (items_of self.new ≡ items_of self.old ++ x ∷ []) }
+        ensures err { OnErr result (items_of self.new ≡ items_of self.old) }
+    {
+        match self {
+            NoneOrBoxed::Many(xs) => vec::push(xs, x)?,
+            _ => unreachable!(),
+        }
+        Ok(())
+    }
+}
+
 impl<X> Rare<X> {
     /// Returns an empty list.
     pub fn none() -> Rare<X>
@@ -116,6 +150,39 @@ impl<X: Drop> Rare<X> {
     {
         let items = NoneOrBoxed::Many(boxed::new(alloc, xs)?);
         Ok(Rare { items })
+    }
+
+    /// Appends an element. Fails only if an allocation fails, and then the list is unchanged.
+    pub fn push(&mut self, alloc: Global, x: X) -> Result<(), OutOfMemory>
+        ensures ok { OnOk result (self.new ≡ self.old ++ x ∷ []) }
+        ensures err { OnErr result (self.new ≡ self.old) }
+    {
+        match &self.items {
+            NoneOrBoxed::Nothing => {
+                self.items = NoneOrBoxed::One(boxed::new(alloc, x)?);
+                Ok(())
+            }
+            NoneOrBoxed::One(_) => {
+                self.items.to_vector(alloc)?;
+                self.items.push_to_many(x)
+            }
+            NoneOrBoxed::Many(_) => self.items.push_to_many(x),
+        }
+    }
+
+    /// Removes and drops the last element. There must be one.
+    pub fn pop(&mut self)
+        requires { 0 < length self.old }
+        ensures { self.new ≡ take (length self.old - 1) self.old }
+    {
+        match &mut self.items {
+            NoneOrBoxed::Nothing => unreachable!(),
+            NoneOrBoxed::One(_) => self.items = NoneOrBoxed::Nothing,
+            NoneOrBoxed::Many(xs) => {
+                let last = xs.len() - 1;
+                xs.truncate(last);
+            }
+        }
     }
 
     /// Removes and drops all elements.

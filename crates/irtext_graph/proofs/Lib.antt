@@ -59,6 +59,7 @@ pub mod Alone
 pub mod Numbers
 pub mod Indexed
 pub mod Redirects
+pub mod AtEnds
 pub mod Inserting
 pub mod Moving
 pub mod Rooms

@@ -57,7 +57,7 @@ first_changed (d ∷ ds) zero z h = refl
 first_changed (d ∷ ds) (suc i) z h = first_changed ds i z (omega (arith, h))
 
 -- where one object has another content: what is the same of both contents under this pointer is the same
-changed_view : {X K V : Type 0} {old new : Arena X} {p : Ptr K} {x w : X} (view : Option (Entry X) → V) → Replaced old new p x w → (q : Ptr K)
+pub changed_view : {X K V : Type 0} {old new : Arena X} {p : Ptr K} {x w : X} (view : Option (Entry X) → V) → Replaced old new p x w → (q : Ptr K)
     → (q ≡ p → (b : ℕ) → view (Some (record { born = b; content = w })) ≡ view (Some (record { born = b; content = x }))) → view (get new q) ≡ view (get old q)
 changed_view {old = old} {new = new} {p = p} view r q same = go (ptr_or q p)
   where

@@ -25,3 +25,4 @@ pub mod Back
 pub mod Throughout
 pub mod Places
 pub mod Edits
+pub mod Ends

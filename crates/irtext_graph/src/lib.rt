@@ -2,6 +2,7 @@
 #![tactic(auto)]
 
 pub mod arena;
+mod ends;
 mod erasing;
 pub mod graph;
 pub mod held;

@@ -29,7 +29,7 @@ pub(crate) fn site_at(side: Side, p: Ptr<Operation>, i: usize) -> Site
 
 /// Makes a use of this that is in no use list.
 #[inline(always)]
-fn unlinked_use<D>(def: D) -> Use<D>
+pub(crate) fn unlinked_use<D>(def: D) -> Use<D>
     ensures { result ≡ unlinked def }
 {
     Use {
