@@ -226,7 +226,7 @@ const ERRORS: [&str; 15] = [
     "Unexpected `@`, expected identifier",
     "Unregistered dialect none",
     "Unregistered Op test.none",
-    "an operand or a successor is not in the context",
+    "an operand is not in the context",
     "Unexpected end of input, expected identifier",
     "Unexpected `-`, expected identifier",
     "Unexpected `-`, expected identifier",
